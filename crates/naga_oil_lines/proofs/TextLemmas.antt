@@ -1,0 +1,52 @@
+-- Characters of a text from its front.
+use Rattle.std.proofs.Common.{◌≡◌, ℕ, suc, ◌+◌, ◌-◌, Bool, true, false, cond, List, [], ◌∷◌, ◌++◌, length, take, drop, refl, sym, ap, subst, ◌∙◌, arith, length-append}
+use Rattle.std.specs.Char.{is_whitespace, encode_utf8}
+use Rattle.std.specs.List.{prefix_len}
+use Rattle.std.specs.Str.{IsUtf8, IsCharBoundary, chars, encode_utf8_all, skip_leading_whitespace, trim_start}
+use Rattle.std.proofs.lemmas.Str.{IsUtf8-past_char, chars_from_encodes, chars_past_char, chars-append, length-encode, len_utf8_bounds, IsCharBoundary-at_seam}
+use Rattle.std.proofs.lemmas.List.{append_cancel_right, take-append-drop}
+use Rattle.naga_oil_lines.specs.Text.{BeginsWithChar}
+
+pub first_char : (bs rest : List ℕ) (c : ℕ) → IsUtf8 bs → bs ≡ encode_utf8 c ++ rest → BeginsWithChar bs c rest
+first_char bs rest c u e = record {
+  bytes = e;
+  spelled = chars_past_char bs rest c u e;
+  utf8 = IsUtf8-past_char bs rest c u e;
+  shorter = omega (arith, ap length e, length-append (encode_utf8 c) rest, length-encode c, len_utf8_bounds c);
+}
+
+skip_is_drop : (cs : List ℕ) → skip_leading_whitespace cs ≡ drop (prefix_len is_whitespace cs) cs
+skip_is_drop [] = refl
+skip_is_drop (c ∷ cs) =
+    elim (is_whitespace c) as (λ b. cond b (skip_leading_whitespace cs) (c ∷ cs) ≡ drop (cond b (1 + prefix_len is_whitespace cs) 0) (c ∷ cs)) [
+      | true ↦ let one : 1 + prefix_len is_whitespace cs ≡ suc (prefix_len is_whitespace cs) = omega arith in rw one (skip_is_drop cs)
+      | false ↦ refl
+    ]
+
+-- what is left of a text that is trimmed at its start
+pub chars_trimmed : (bs r : List ℕ) → IsUtf8 r → r ≡ trim_start bs → chars r ≡ drop (prefix_len is_whitespace (chars bs)) (chars bs)
+unfolding trim_start
+chars_trimmed bs r u e = sym (chars_from_encodes (skip_leading_whitespace (chars bs)) r u (sym e)) ∙ skip_is_drop (chars bs)
+
+pub cut_before_rest : (bs front rest : List ℕ) → bs ≡ front ++ rest → IsUtf8 rest → IsCharBoundary bs (length bs - length rest)
+cut_before_rest bs front rest e u =
+    let at : length front ≡ length bs - length rest = omega (arith, ap length e, length-append front rest) in
+    subst (IsCharBoundary bs) at (IsCharBoundary-at_seam bs front rest e u)
+
+-- ---- a run of characters that pass
+abbrev pub after_run : (ℕ → Bool) → List ℕ → List ℕ
+after_run p cs = drop (prefix_len p cs) cs
+
+pub after_run_pass : (p : ℕ → Bool) (c : ℕ) (cs : List ℕ) → p c ≡ true → after_run p (c ∷ cs) ≡ after_run p cs
+after_run_pass p c cs e =
+    let one : 1 + prefix_len p cs ≡ suc (prefix_len p cs) = omega arith in
+    rw (e, one)
+
+pub after_run_stop : (p : ℕ → Bool) (c : ℕ) (cs : List ℕ) → p c ≡ false → after_run p (c ∷ cs) ≡ c ∷ cs
+after_run_stop p c cs e = rw e
+
+-- the characters of a text before a rest
+pub chars_before : (bs front rest : List ℕ) (k : ℕ) → bs ≡ front ++ rest → IsUtf8 front → chars rest ≡ drop k (chars bs) → chars front ≡ take k (chars bs)
+chars_before bs front rest k e u d =
+    append_cancel_right (chars front) (take k (chars bs)) (chars rest)
+    (sym (chars-append front rest u) ∙ sym (ap chars e) ∙ sym (take-append-drop k (chars bs)) ∙ ap (λ l. take k (chars bs) ++ l) (sym d))

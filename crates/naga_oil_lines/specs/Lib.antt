@@ -1,0 +1,6 @@
+pub mod Text
+pub mod Cover
+pub mod CoveredLines
+pub mod Tokens
+pub mod Tokenizer
+pub mod TokenGrammar

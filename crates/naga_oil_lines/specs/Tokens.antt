@@ -1,0 +1,48 @@
+-- The tokens of a text, by its characters: each is as long as it can be.
+use Rattle.std.specs.Prelude.{ℕ, zero, suc, ◌+◌, Bool, true, false, ◌||◌, ◌&&◌, ◌==◌, not, if◌then◌else◌, List, [], ◌∷◌, length, take, filter}
+use Rattle.std.specs.List.{prefix_len}
+use Rattle.std.specs.Char.{is_whitespace, len_utf8}
+use Rattle.std.specs.Str.{encode_utf8_all}
+use Rattle.unicode_ident.specs.Ident.{is_xid_start, is_xid_continue}
+
+-- a token: its bytes, or its one character, and the place of its first byte
+pub data Lexeme : Type 0 where
+  identifier : List ℕ → ℕ → Lexeme
+  other : ℕ → ℕ → Lexeme
+  whitespace : List ℕ → ℕ → Lexeme
+
+abbrev pub starts_identifier : ℕ → Bool
+starts_identifier c = is_xid_start c || (c == 34)
+
+-- how many characters go on an identifier, inside a quoted part or not: XID_Continue, `::` and quoted parts
+unfoldable pub continued : Bool → List ℕ → ℕ
+continued quoted [] = 0
+continued true (c ∷ cs) = suc (continued (not (c == 34)) cs)
+continued false (c ∷ []) = if c == 34 then 1 else (if is_xid_continue c then 1 else 0)
+continued false (c ∷ d ∷ cs) =
+    if c == 34 then suc (continued true (d ∷ cs))
+    else (if is_xid_continue c then suc (continued false (d ∷ cs))
+    else (if (c == 58) && (d == 58) then suc (suc (continued false cs)) else 0))
+
+-- how many characters follow the first one in its token
+unfoldable pub more_in_token : ℕ → List ℕ → ℕ
+more_in_token c cs = if starts_identifier c then continued (c == 34) cs else (if is_whitespace c then prefix_len is_whitespace cs else 0)
+
+-- the token that begins with the character c and has this text
+abbrev pub lexeme_at : ℕ → ℕ → List ℕ → Lexeme
+lexeme_at at c text = if starts_identifier c then identifier text at else (if is_whitespace c then whitespace text at else other c at)
+
+-- the tokens of characters that begin at a place, where the first few belong to a token that has been told
+unfoldable pub lexemes : ℕ → ℕ → List ℕ → List Lexeme
+lexemes told at [] = []
+lexemes (suc told) at (c ∷ cs) = lexemes told (at + len_utf8 c) cs
+lexemes zero at (c ∷ cs) = lexeme_at at c (encode_utf8_all (c ∷ take (more_in_token c cs) cs)) ∷ lexemes (more_in_token c cs) (at + len_utf8 c) cs
+
+abbrev pub is_whitespace_lexeme : Lexeme → Bool
+is_whitespace_lexeme (identifier text at) = false
+is_whitespace_lexeme (other c at) = false
+is_whitespace_lexeme (whitespace text at) = true
+
+-- the tokens that are asked for
+abbrev pub shown : Bool → List Lexeme → List Lexeme
+shown emit_whitespace ts = if emit_whitespace then ts else filter (λ t. not (is_whitespace_lexeme t)) ts

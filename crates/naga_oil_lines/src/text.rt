@@ -1,0 +1,32 @@
+//! Text from its front: the first character, a front before a rest, and what follows white space.
+ghost use Rattle.std.specs.Prelude.{◌≡◌, ℕ, ◌++◌, List, length, drop, MatchOption};
+ghost use Rattle.std.specs.Char.{is_whitespace};
+ghost use Rattle.std.specs.Str.{chars};
+ghost use Rattle.std.specs.List.{prefix_len};
+ghost use Rattle.naga_oil_lines.specs.Text.{BeginsWithChar};
+
+/// The first character of the text, and what follows it. An empty text has none.
+pub fn split_first_char(text: &str) -> Option<(char, &str)>
+    ensures { MatchOption result (length text.now ≡ 0) (λ r. BeginsWithChar text.now r.0 r.1.now) }
+{
+    let mut chars = text.chars();
+    let first = chars.next()?;
+    Some((first, chars.as_str()))
+}
+
+/// The text before a rest that it ends in.
+pub fn text_before<'a>(text: &'a str, rest: &str) -> &'a str
+    requires { (front : List ℕ) × (text.now ≡ front ++ rest.now) }
+    ensures { text.now ≡ result.now ++ rest.now }
+{
+    let (front, _) = text.split_at(text.len() - rest.len());
+    front
+}
+
+/// What is left of a text behind the white space that it begins with.
+pub fn after_whitespace(text: &str) -> &str
+    ensures chars { chars result.now ≡ drop (prefix_len is_whitespace (chars text.now)) (chars text.now) }
+    ensures suffix { (front : List ℕ) × (text.now ≡ front ++ result.now) }
+{
+    text.trim_start()
+}

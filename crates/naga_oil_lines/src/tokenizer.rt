@@ -1,0 +1,126 @@
+// Cuts a text into identifiers, white space and single characters.
+ghost use Rattle.std.specs.Prelude.{◌≡◌, ℕ, ◌+◌, ◌<◌, ◌≤◌, ◌^◌, ◌++◌, ◌∷◌, ◌==◌, List, length, drop, MatchOption, true, false, Bool};
+ghost use Rattle.std.specs.Char.{encode_utf8, is_whitespace};
+ghost use Rattle.std.specs.Str.{chars};
+ghost use Rattle.std.specs.List.{prefix_len};
+ghost use Rattle.naga_oil_lines.specs.Tokens.{continued, starts_identifier};
+
+use crate::text::{after_whitespace, split_first_char};
+use unicode_ident::{is_xid_continue, is_xid_start};
+
+/// A piece of a text, with the place of its first byte.
+#[derive(Clone, Copy, Debug)]
+pub enum Token<'a> {
+    Identifier(&'a str, usize),
+    Other(char, usize),
+    Whitespace(&'a str, usize),
+}
+
+fn starts_identifier(first: char) -> bool
+    ensures { result ≡ starts_identifier first }
+{
+    is_xid_start(first) || first == '"'
+}
+
+// What is left of a text behind the characters that go on an identifier.
+fn after_identifier(text: &str, begins_quoted: bool) -> &str
+    ensures chars { chars result.now ≡ drop (continued begins_quoted (chars text.now)) (chars text.now) }
+    ensures suffix { (front : List ℕ) × (text.now ≡ front ++ result.now) }
+{
+    let mut quoted = begins_quoted;
+    let mut rest = text;
+    while let Some((first, more)) = split_first_char(rest) {
+        if quoted {
+            quoted = first != '"';
+            rest = more;
+        } else if first == '"' {
+            quoted = true;
+            rest = more;
+        } else if is_xid_continue(first) {
+            rest = more;
+        } else {
+            if first != ':' {
+                return rest;
+            }
+            let Some((second, after)) = split_first_char(more) else {
+                return rest;
+            };
+            if second != ':' {
+                return rest;
+            }
+            rest = after;
+        }
+    }
+    rest
+}
+
+/// The tokens of a text in order.
+#[derive(Drop)]
+pub struct Tokenizer<'a> {
+    rest: &'a str,
+    at: usize,
+    emit_whitespace: bool,
+    ghost fits: { at + length rest.now < 2 ^ 64 },
+}
+
+impl<'a> Tokenizer<'a> {
+    ghost use Rattle.naga_oil_lines.specs.Tokenizer.{tokens_left};
+    ghost use Rattle.naga_oil_lines.specs.Tokens.{lexemes, shown};
+    ghost use Rattle.naga_oil_lines.specs.TokenGrammar.{AreTokens};
+
+    pub fn new(src: &'a str, emit_whitespace: bool) -> Tokenizer<'a>
+        ensures left { tokens_left result ≡ shown emit_whitespace (lexemes 0 0 (chars src.now)) }
+        ensures tokens { AreTokens 0 (chars src.now) (lexemes 0 0 (chars src.now)) }
+    {
+        let _len = src.len();
+        Tokenizer {
+            rest: src,
+            at: 0,
+            emit_whitespace,
+        }
+    }
+
+    // Moves on to the rest, and gives the text before it.
+    fn advance(&mut self, rest: &'a str) -> &'a str
+        requires { (front : List ℕ) × (self.old.rest.now ≡ front ++ rest.now) }
+        ensures text { self.old.rest.now ≡ result.now ++ rest.now }
+        ensures rest { self.new.rest.now ≡ rest.now }
+        ensures at { self.new.at ≡ self.old.at + length result.now }
+        ensures same { self.new.emit_whitespace ≡ self.old.emit_whitespace }
+    {
+        let (text, rest) = self.rest.split_at(self.rest.len() - rest.len());
+        self.at += text.len();
+        self.rest = rest;
+        text
+    }
+}
+
+impl<'a> Iterator for Tokenizer<'a> {
+    ghost use Rattle.std.specs.Iterator.{YieldsFirstBy, item_count};
+    ghost use Rattle.naga_oil_lines.specs.Tokenizer.{lexeme_of, tokens_left};
+
+    type Item = Token<'a>;
+
+    ghost next_gives = { YieldsFirstBy lexeme_of tokens_left };
+
+    ghost remaining = { item_count tokens_left };
+
+    fn next(&mut self) -> Option<Token<'a>> {
+        while let Some((first, more)) = split_first_char(self.rest) {
+            let at = self.at;
+            if starts_identifier(first) {
+                let text = self.advance(after_identifier(more, first == '"'));
+                return Some(Token::Identifier(text, at));
+            }
+            if !first.is_whitespace() {
+                self.advance(more);
+                return Some(Token::Other(first, at));
+            }
+            let text = self.advance(after_whitespace(more));
+            if self.emit_whitespace {
+                return Some(Token::Whitespace(text, at));
+            }
+        }
+        None
+    }
+}
