@@ -1,4 +1,5 @@
 pub mod Text
+pub mod Declared
 pub mod Cover
 pub mod CoveredLines
 pub mod Tokens
