@@ -5,3 +5,4 @@ pub mod CoveredLinesLemmas
 pub mod TokenLemmas
 pub mod GrammarLemmas
 pub mod XidLemmas
+pub mod Base32Lemmas
