@@ -1,5 +1,5 @@
 //! Names of the items of modules, as they stand in the one shader.
-ghost use Rattle.std.specs.Prelude.{◌≡◌, ℕ, ◌+◌, ◌<◌, ◌≤◌, ◌++◌, List, option_map, IfOk, OnOk};
+ghost use Rattle.std.specs.Prelude.{◌≡◌, ℕ, ◌+◌, ◌<◌, ◌≤◌, ◌++◌, List, All, Some, option_map, IfOk, OnOk};
 ghost use Rattle.std.specs.String.{string_bytes};
 ghost use Rattle.naga_oil_lines.specs.Decorate.{bits, letter, letters, base32, decorated_name};
 
@@ -83,4 +83,39 @@ pub fn decorated_name(
     push_base32(&mut name, module_name.as_bytes())?;
     name.push_str(DECORATION_POST)?;
     Ok(name)
+}
+
+/// A name that was decorated with a module tells the item and the module.
+pub fn one_decoration()
+    ensures { (f g m n : List ℕ) → All (λ b. b < 256) m → All (λ b. b < 256) n → decorated_name (Some m) f ≡ decorated_name (Some n) g → (f ≡ g) × (m ≡ n) }
+{}
+
+#[cfg(test)]
+mod tests {
+    use super::*;
+    use std::test::Fail;
+
+    // Under an empty item name the code of a module is seen alone: these are the test vectors of RFC 4648 section 10.
+    #[test]
+    fn decorates_names(rt: HostRuntime) -> Result<(), Fail> {
+        let cases = [
+            (None, "f", "f"),
+            (None, "", ""),
+            (Some("a"), "f", "fX_naga_oil_mod_XMEX"),
+            (Some("a::b"), "g", "gX_naga_oil_mod_XME5DUYQX"),
+            (Some(""), "f", "fX_naga_oil_mod_XX"),
+            (Some("f"), "", "X_naga_oil_mod_XMYX"),
+            (Some("fo"), "", "X_naga_oil_mod_XMZXQX"),
+            (Some("foo"), "", "X_naga_oil_mod_XMZXW6X"),
+            (Some("foob"), "", "X_naga_oil_mod_XMZXW6YQX"),
+            (Some("fooba"), "", "X_naga_oil_mod_XMZXW6YTBX"),
+            (Some("foobar"), "", "X_naga_oil_mod_XMZXW6YTBOIX"),
+        ];
+        for (module_name, item, want) in cases {
+            let name = decorated_name(rt.alloc(), module_name, item)?;
+            assert_eq!(rt; name.as_str(), want);
+        }
+        assert_eq!(rt; DECORATION_PRE.len(), DECORATION_OVERRIDE_PRE.len());
+        Ok(())
+    }
 }
