@@ -20,8 +20,9 @@ ghost use Rattle.naga_oil_pre.specs.declared.scope.ScopeLevel.{ScopeLevel};
 ghost use Rattle.std.specs.Str.Iter.{lines_rest};
 
 mod fault;
-mod line_kind;
 pub mod laws;
+mod line_kind;
+mod replace;
 mod scope;
 
 pub use fault::{ComposerErrorInner, ShaderDefValue};
@@ -222,9 +223,8 @@ fn read_line(
     ensures err { IfErr result (λ e. (more : List Line) → Notes e ((step (get_by_text definitions.now) scope.old (record { at = offset; text = line.now }) (kind_of line.now) more).0)) }
 {
     match line_kind(line) {
-        LineKind::Version { is_known: true }
-        | LineKind::ImportPath(_)
-        | LineKind::Define { .. } => Ok(Treatment::Blank),
+        LineKind::Version { is_known: true } | LineKind::ImportPath(_) | LineKind::Define { .. } =>
+            Ok(Treatment::Blank),
         LineKind::Version { is_known: false } => Err(ComposerErrorInner::GlslInvalidVersion(
             offset,
         )),
