@@ -234,3 +234,203 @@ impl Preprocessor {
         })
     }
 }
+
+#[cfg(test)]
+mod tests {
+    use super::*;
+    use std::alloc::Global;
+    use std::test::Fail;
+
+    type Definition = (&'static str, ShaderDefValue);
+
+    const NONE: &[Definition] = &[];
+
+    const A: &[Definition] = &[("A", ShaderDefValue::Bool(true))];
+
+    const FALSE: &[Definition] = &[("T", ShaderDefValue::Bool(false))];
+
+    const TRUE: &[Definition] = &[("T", ShaderDefValue::Bool(true))];
+
+    const THREE: &[Definition] = &[("T", ShaderDefValue::Int(3))];
+
+    const SEVEN: &[Definition] = &[("T", ShaderDefValue::Int(7))];
+
+    const SECOND: &[Definition] = &[("SECOND", ShaderDefValue::Bool(true))];
+
+    const SECOND_THIRD: &[Definition] = &[
+        ("SECOND", ShaderDefValue::Bool(true)),
+        ("THIRD", ShaderDefValue::Bool(true)),
+    ];
+
+    const VALUES: &[Definition] = &[
+        ("FIRST_VALUE", ShaderDefValue::Int(5)),
+        ("SECOND_VALUE", ShaderDefValue::Int(3)),
+        ("UINT", ShaderDefValue::UInt(4294967295)),
+        ("INT", ShaderDefValue::Int(-1)),
+        ("BOOL", ShaderDefValue::Bool(false)),
+    ];
+
+    fn preprocessed(
+        alloc: Global,
+        source: &str,
+        definitions: &[Definition],
+    ) -> Result<PreprocessOutput, ComposerErrorInner> {
+        let mut shader_defs = BTreeMap::new(alloc);
+        for (name, value) in definitions.iter() {
+            shader_defs.insert(String::from_str(alloc, *name)?, *value)?;
+        }
+        Preprocessor::default().preprocess(alloc, source, &shader_defs)
+    }
+
+    const TEXTURES: &str =
+        "#ifdef TEXTURE\na\n#else ifdef SECOND\nb\n#else ifdef THIRD\nc\n#else\nd\n#endif";
+
+    // Expected texts have `~` for a space.
+    #[test]
+    fn writes_what_the_arms_that_hold_become(rt: HostRuntime) -> Result<(), Fail> {
+        let table = [
+            ("", NONE, ""),
+            ("\n", NONE, "\n"),
+            ("a\r\nb", NONE, "a\nb\n"),
+            (
+                "\n#define A\n#ifdef A\ndefined\n#endif\n",
+                A,
+                "\n~~~~~~~~~\n~~~~~~~~\ndefined\n~~~~~~\n",
+            ),
+            (
+                "#ifdef A\na\n#else if X\nb\n#endif",
+                NONE,
+                "~~~~~~~~\n~\n~~~~~~~~~~\nb\n~~~~~~\n",
+            ),
+            (
+                "#ifdef A\na\n#else ifndef B\nb\n#else\nc\n#endif",
+                NONE,
+                "~~~~~~~~\n~\n~~~~~~~~~~~~~~\nb\n~~~~~\n~\n~~~~~~\n",
+            ),
+            (
+                TEXTURES,
+                NONE,
+                "~~~~~~~~~~~~~~\n~\n~~~~~~~~~~~~~~~~~~\n~\n~~~~~~~~~~~~~~~~~\n~\n~~~~~\nd\n~~~~~~\n",
+            ),
+            (
+                TEXTURES,
+                SECOND,
+                "~~~~~~~~~~~~~~\n~\n~~~~~~~~~~~~~~~~~~\nb\n~~~~~~~~~~~~~~~~~\n~\n~~~~~\n~\n~~~~~~\n",
+            ),
+            (
+                TEXTURES,
+                SECOND_THIRD,
+                "~~~~~~~~~~~~~~\n~\n~~~~~~~~~~~~~~~~~~\nb\n~~~~~~~~~~~~~~~~~\n~\n~~~~~\n~\n~~~~~~\n",
+            ),
+            ("#if T == 3\na\n#endif", THREE, "~~~~~~~~~~\na\n~~~~~~\n"),
+            ("#if T == 3\na\n#endif", SEVEN, "~~~~~~~~~~\n~\n~~~~~~\n"),
+            ("#if T <= 3\na\n#endif", THREE, "~~~~~~~~~~\na\n~~~~~~\n"),
+            (
+                "#if T != false\na\n#endif",
+                TRUE,
+                "~~~~~~~~~~~~~~\na\n~~~~~~\n",
+            ),
+            (
+                "#if T != false\na\n#endif",
+                FALSE,
+                "~~~~~~~~~~~~~~\n~\n~~~~~~\n",
+            ),
+            (
+                "#ifdef A\n#ifdef B\na\n#else\n#ifdef B\nb\n#else ifdef A\nc\n#endif\n#endif\n#endif",
+                A,
+                "~~~~~~~~\n~~~~~~~~\n~\n~~~~~\n~~~~~~~~\n~\n~~~~~~~~~~~~~\nc\n~~~~~~\n~~~~~~\n~~~~~~\n",
+            ),
+            (
+                "/* #ifdef A\n*/ #ifdef B\nb // #endif\n#endif",
+                NONE,
+                "/* #ifdef A\n~~~~~~~~~~~\n~~~~~~~~~~~\n~~~~~~\n",
+            ),
+            (
+                "#ifdef A\n#import a::{\"\n#if XX == 1\n#endif\n\"}\n#endif",
+                A,
+                "~~~~~~~~\n~~~~~~~~~~~~~\n~~~~~~~~~~~\n~~~~~~\n~~\n~~~~~~\n",
+            ),
+            (
+                "    var b: i32 = #FIRST_VALUE * #SECOND_VALUE;",
+                VALUES,
+                "~~~~var~b:~i32~=~5~*~3;~~~~~~~~~~~~~~~~~~~~~~~\n",
+            ),
+            (
+                "#MISSING * #FIRST_VALUE",
+                VALUES,
+                "#MISSING~*~5~~~~~~~~~~~\n",
+            ),
+            (
+                "#UINT\n# {INT};\n#BOOL",
+                VALUES,
+                "4294967295\n-1;~~~~~\nfalse\n",
+            ),
+        ];
+        for (source, definitions, expected) in table.iter() {
+            let output = preprocessed(rt.alloc(), *source, *definitions)?;
+            let mut spaced = String::new(rt.alloc());
+            for c in expected.chars() {
+                spaced.push(if c == '~' { ' ' } else { c })?;
+            }
+            assert_eq!(rt;
+                output.preprocessed_source.as_str(),
+                spaced.as_str(),
+                "{source}"
+            );
+        }
+        Ok(())
+    }
+
+    #[test]
+    fn answers_the_earliest_fault(rt: HostRuntime) -> Result<(), Fail> {
+        let table = [
+            (
+                "#if FOO",
+                NONE,
+                "UnknownShaderDef { pos: 0, shader_def_name: \"FO\" }",
+            ),
+            (
+                "#if T !! true",
+                TRUE,
+                "UnknownShaderDefOperator { pos: 0, operator: \"!!\" }",
+            ),
+            (
+                "a\n#if T !! true",
+                SEVEN,
+                "InvalidShaderDefComparisonValue { pos: 2, shader_def_name: \"T\", expected: \"int\", value: \"true\" }",
+            ),
+            (
+                "#if T == 3",
+                TRUE,
+                "InvalidShaderDefComparisonValue { pos: 0, shader_def_name: \"T\", expected: \"bool\", value: \"3\" }",
+            ),
+            ("#ifdef A\nx", NONE, "NotEnoughEndIfs(11)"),
+            ("#ifdef A\nx\n", A, "NotEnoughEndIfs(11)"),
+            (
+                "#ifdef A\n#version 300\n#endif",
+                NONE,
+                "GlslInvalidVersion(9)",
+            ),
+            ("a\n#endif\n#else", NONE, "TooManyEndIfs(2)"),
+            ("a\n#else\n#endif", NONE, "ElseWithoutCondition(2)"),
+            (
+                "#else if XX\n#else",
+                NONE,
+                "UnknownShaderDef { pos: 0, shader_def_name: \"X\" }",
+            ),
+            (
+                "#ifdef Z\n#import a::{\"\n#if XX == 1\n#endif\n\"}\n#endif",
+                NONE,
+                "UnknownShaderDef { pos: 23, shader_def_name: \"XX\" }",
+            ),
+        ];
+        for (source, definitions, expected) in table.iter() {
+            let Err(error) = preprocessed(rt.alloc(), *source, *definitions) else {
+                panic!(rt; "no fault: {source}")
+            };
+            let shown = format!(in rt.alloc(); "{error:?}")?;
+            assert_eq!(rt; shown.as_str(), *expected, "{source}");
+        }
+        Ok(())
+    }
+}
