@@ -1,4 +1,5 @@
 pub mod TextLemmas
+pub mod UsesLemmas
 pub mod CoverLemmas
 pub mod LineLemmas
 pub mod CoveredLinesLemmas

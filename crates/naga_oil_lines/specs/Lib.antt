@@ -1,5 +1,8 @@
 pub mod Text
-pub mod Declared
+pub mod Declarations
+pub mod Uses
+pub mod Substituted
+pub mod SubstituteFault
 pub mod Cover
 pub mod CoveredLines
 pub mod Tokens
