@@ -6,3 +6,4 @@ pub mod CoveredLinesLemmas
 pub mod TokenLemmas
 pub mod GrammarLemmas
 pub mod XidLemmas
+pub mod Base32Lemmas

@@ -28,7 +28,9 @@ pub enum SubstituteFault {
 }
 
 impl From<AllocError> for SubstituteFault {
-    ghost from_gives = { λ _ r. r ≡ SubstituteFault.Memory };
+    ghost use Rattle.naga_oil_lines.specs.declared.substitute.SubstituteFault.TheVariants.{Memory};
+
+    ghost from_gives = { λ _ r. r ≡ Memory };
 
     fn from(_error: AllocError) -> SubstituteFault {
         SubstituteFault::Memory
