@@ -40,16 +40,21 @@ abbrev pub paths_or : List (List ℕ) → List ℕ → List (List ℕ)
 paths_or [] name = name ∷ []
 paths_or (path ∷ more) name = path ∷ more
 
+abbrev pub all_extended : List (List ℕ) → (behind : List ℕ) → List (List ℕ)
+all_extended paths behind = map (λ path. extended path behind) paths
+
 -- the paths that an identifier stands for: those declared for its first part, or that part, each with what follows
 unfoldable pub paths_for : Declared → List ℕ → List (List ℕ)
-paths_for declared name = map (λ path. extended path (behind_first name)) (paths_or (paths_of declared (first_part name)) (first_part name))
+paths_for declared name = all_extended (paths_or (paths_of declared (first_part name)) (first_part name)) (behind_first name)
+
+-- what is written for a path with this module and item
+abbrev pub written_as : (name path : List ℕ) → Option (List ℕ × List ℕ) → List ℕ
+written_as name path (Some p) = decorated_name (Some p.0) p.1
+written_as name path None = if list_any (λ b. b == 34) path then name else path
 
 -- what is written for a path that an identifier stands for
 unfoldable pub written : (name path : List ℕ) → List ℕ
-written name path = elim (module_and_item path) [
-  | Some p ↦ decorated_name (Some p.0) p.1
-  | None ↦ if list_any (λ b. b == 34) path then name else path
-]
+written name path = written_as name path (module_and_item path)
 
 -- the use of an item of a module, at a place
 pub record Mention : Type 0 where
@@ -57,12 +62,13 @@ pub record Mention : Type 0 where
   pub item : List ℕ
   pub place : ℕ
 
--- the use that a path makes
+abbrev pub mention_of : ℕ → Option (List ℕ × List ℕ) → List Mention
+mention_of place (Some p) = record { import = p.0; item = p.1; place = place } ∷ []
+mention_of place None = []
+
+-- the use that a path makes, if it has a module
 unfoldable pub mentions_at : ℕ → List ℕ → List Mention
-mentions_at place path = elim (module_and_item path) [
-  | Some p ↦ record { import = p.0; item = p.1; place = place } ∷ []
-  | None ↦ []
-]
+mentions_at place path = mention_of place (module_and_item path)
 
 -- the uses after each of these is recorded in turn
 abbrev pub recorded : Uses → List Mention → Uses
@@ -73,6 +79,11 @@ recorded uses (m ∷ more) = recorded (with_use uses m.import m.item m.place) mo
 pub record Site : Type 0 where
   pub name : List ℕ
   pub place : ℕ
+
+abbrev pub place_of : Lexeme → ℕ
+place_of (identifier text at) = at
+place_of (other c at) = at
+place_of (whitespace text at) = at
 
 -- behind `.` or `@` an identifier is kept
 abbrev pub keeps_next : Lexeme → Bool

@@ -8,12 +8,13 @@ ghost use Rattle.std.specs.String.{string_bytes};
 ghost use Rattle.naga_oil_lines.specs.Declarations.{declared_of};
 ghost use Rattle.naga_oil_lines.specs.Decorate.{decorated_name};
 ghost use Rattle.naga_oil_lines.specs.SubstituteFault.{Refuses};
-ghost use Rattle.naga_oil_lines.specs.Substituted.{module_and_item, first_part, behind_first, extended, paths_for, written, mentions_at, recorded, Site, keeps_next, site_at, written_token, substituted, sites, mentions_of, first_ambiguous, used_by, BeginsUses};
+ghost use Rattle.naga_oil_lines.specs.Substituted.{module_and_item, first_part, behind_first, extended, all_extended, paths_for, written, mentions_at, recorded, Site, keeps_next, site_at, written_token, substituted, sites, mentions_of, first_ambiguous, is_refused, used_by, BeginsUses};
 ghost use Rattle.naga_oil_lines.specs.Tokenizer.{lexeme_of};
 ghost use Rattle.naga_oil_lines.specs.Tokens.{lexemes};
 ghost use Rattle.naga_oil_lines.specs.Uses.{uses_of, with_use};
 
 use crate::import_definition::ImportDefWithOffset;
+use crate::decorate::push_decorated;
 use crate::tokenizer::{Token, Tokenizer};
 use indexmap::IndexMap;
 use std::alloc::{AllocError, Global};
@@ -87,4 +88,59 @@ fn extended<'a>(alloc: Global, path: &'a str, behind: &str) -> Result<CowStr<'a>
     whole.push_str("::")?;
     whole.push_str(behind)?;
     Ok(CowStr::Owned(whole))
+}
+
+// How the identifiers of a text are substituted.
+#[derive(Clone, Copy)]
+struct Substitution<'a> {
+    alloc: Global,
+    declared_imports: &'a IndexMap<String, Vec<String>>,
+    allow_ambiguous: bool,
+    offset: usize,
+}
+
+impl Substitution<'_> {
+    // Writes a path that an identifier stands for, and records its use.
+    fn write_path(
+        &self,
+        identifier: &str,
+        path: &str,
+        place: usize,
+        used_imports: &mut IndexMap<String, ImportDefWithOffset>,
+        output: &mut String,
+    ) -> Result<(), AllocError>
+        ensures text { OnOk result (string_bytes output.new ≡ string_bytes output.old ++ written identifier.now path.now) }
+        ensures used { OnOk result (uses_of used_imports.new ≡ recorded (uses_of used_imports.old) (mentions_at place path.now)) }
+        ensures begun { OnErr result (BeginsUses (mentions_at place path.now) (uses_of used_imports.old) (uses_of used_imports.new)) }
+    {
+        if let Some((module_name, item)) = module_and_item(path) {
+            record_use(self.alloc, used_imports, module_name, item, place)?;
+            return push_decorated(output, module_name, item);
+        }
+        if path.as_bytes().contains(&b'"') {
+            return output.push_str(identifier);
+        }
+        output.push_str(path)
+    }
+
+    // Writes the paths that an identifier stands for one after another, each with what follows, and records their uses.
+    fn write_paths(
+        &self,
+        identifier: &str,
+        paths: &[String],
+        behind: &str,
+        place: usize,
+        used_imports: &mut IndexMap<String, ImportDefWithOffset>,
+        output: &mut String,
+    ) -> Result<(), AllocError>
+        ensures text { OnOk result (string_bytes output.new ≡ string_bytes output.old ++ flat_map (written identifier.now) (all_extended (map string_bytes paths.now) behind.now)) }
+        ensures used { OnOk result (uses_of used_imports.new ≡ recorded (uses_of used_imports.old) (flat_map (mentions_at place) (all_extended (map string_bytes paths.now) behind.now))) }
+        ensures begun { OnErr result (BeginsUses (flat_map (mentions_at place) (all_extended (map string_bytes paths.now) behind.now)) (uses_of used_imports.old) (uses_of used_imports.new)) }
+    {
+        for path in paths {
+            let whole = extended(self.alloc, path.as_str(), behind)?;
+            self.write_path(identifier, whole.as_str(), place, used_imports, output)?;
+        }
+        Ok(())
+    }
 }
