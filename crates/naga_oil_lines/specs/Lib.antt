@@ -1,5 +1,11 @@
 pub mod Text
 pub mod Declarations
+<<<<<<< HEAD
+=======
+pub mod Uses
+pub mod Substituted
+pub mod SubstituteFault
+>>>>>>> subst
 pub mod Cover
 pub mod CoveredLines
 pub mod Tokens

@@ -3,5 +3,7 @@
 
 pub mod comment_strip_iter;
 pub mod decorate;
+pub mod import_definition;
+pub mod substitute;
 pub mod text;
 pub mod tokenizer;
