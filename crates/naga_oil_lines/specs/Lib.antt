@@ -1,11 +1,10 @@
 pub mod Text
 pub mod Declarations
-<<<<<<< HEAD
-=======
+pub mod Leaves
+pub mod ImportView
 pub mod Uses
 pub mod Substituted
 pub mod SubstituteFault
->>>>>>> subst
 pub mod Cover
 pub mod CoveredLines
 pub mod Tokens

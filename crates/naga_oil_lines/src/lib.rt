@@ -4,6 +4,7 @@
 pub mod comment_strip_iter;
 pub mod decorate;
 pub mod import_definition;
+pub mod parse_imports;
 pub mod substitute;
 pub mod text;
 pub mod tokenizer;

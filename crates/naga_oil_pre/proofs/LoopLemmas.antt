@@ -1,79 +1,155 @@
--- One turn of the loops over the lines.
-use Rattle.std.proofs.Common.{◌≡◌, ℕ, zero, suc, ◌<◌, Bool, List, [], ◌∷◌, ◌++◌, length, replicate, refl, sym, ap, ◌∙◌, append_assoc, Option, Some, None, MatchOption, Result, Ok, Err, arith}
+-- What a line and the lines that it takes become, before what is left.
+use Rattle.std.proofs.Common.{◌≡◌, ℕ, zero, suc, ◌+◌, ◌<◌, Bool, true, false, List, [], ◌∷◌, ◌++◌, map, length, replicate, refl, sym, ap, subst, ◌∙◌, append_assoc, append-nil, Option, Some, None, MatchOption, Result, Ok, Err, arith}
+use Rattle.naga_oil_lines.specs.Declarations.{Declared}
+use Rattle.naga_oil_lines.specs.Leaves.{Leaf, SyntaxFault, import_leaves, with_leaves, imported as declared_behind}
+use Rattle.naga_oil_lines.specs.Uses.{Uses}
+use Rattle.naga_oil_lines.specs.Substituted.{Site, substituted, sites, first_ambiguous, is_refused, used_by}
 use Rattle.naga_oil_pre.specs.declared.scope.ScopeLevel.{ScopeLevel}
 use Rattle.naga_oil_pre.specs.declared.fault.ComposerErrorInner.{ComposerErrorInner}
 use Rattle.naga_oil_pre.specs.declared.preprocess.Treatment.{Treatment}
-use Rattle.naga_oil_pre.specs.declared.preprocess.Treatment.TheVariants.{Blank, Show, Import}
 use Rattle.naga_oil_pre.specs.Line.{Line, source_lines, end_place}
 use Rattle.naga_oil_pre.specs.Kind.{kind_of}
 use Rattle.naga_oil_pre.specs.Fault.{Fault, Definitions}
-use Rattle.naga_oil_pre.specs.Reading.{braces_after, reading}
-use Rattle.naga_oil_pre.specs.Preprocessed.{Status, noted, written, ended, piece, behind, joined, preprocessed}
-use Rattle.naga_oil_pre.specs.Step.{Step, step, opened, scanned, shown_text}
-use Rattle.naga_oil_pre.specs.Treatment.{status_of, is_show, open_after}
+use Rattle.naga_oil_pre.specs.Reading.{braces_after, reading, taken, behind_taken}
+use Rattle.naga_oil_pre.specs.Replaced.{replaced}
+use Rattle.naga_oil_pre.specs.Preprocessed.{Status, blanked, shown, imported, noted, Known, nothing_known, Output, Piece, written, ended, spaces, padded, blanks, import_text, tokens_of, using_tokens, shown_text, shown_piece, imported_piece, piece, behind, joined, preprocessed}
+use Rattle.naga_oil_pre.specs.Step.{Step, step, opened, scanned}
+use Rattle.naga_oil_pre.specs.Treatment.{status_of, open_after}
 use Rattle.naga_oil_pre.specs.View.{Fails, fault_of}
 use Rattle.naga_oil_pre.proofs.Machine.{scanned_reading}
 use Rattle.naga_oil_pre.proofs.ReadingLemmas.{IsReading-reading}
 
-behind_behind : (front text : List ℕ) (r : Result (List ℕ) Fault) → behind (front ++ text) r ≡ behind front (behind text r)
-behind_behind front text (Ok more) = ap Ok (append_assoc front text more)
+behind_behind : (front text : List ℕ) (r : Result Output Fault) → behind (front ++ text) r ≡ behind front (behind text r)
+behind_behind front text (Ok o) = ap (λ t. Ok (record o { text = t })) (append_assoc front text o.text)
 behind_behind front text (Err f) = refl
 
-behind_nothing : (r : Result (List ℕ) Fault) → behind [] r ≡ r
-behind_nothing (Ok text) = refl
+behind_nothing : (r : Result Output Fault) → behind [] r ≡ r
+behind_nothing (Ok o) = refl
 behind_nothing (Err f) = refl
 
--- what is written for a line that is treated so
-status_piece : (defs : Definitions) (t : Treatment) (l : Line) (ls : List Line) → piece defs (status_of t l ls) ≡ Ok (ended (shown_text defs (is_show t) l.text))
-status_piece defs Blank l ls = refl
-status_piece defs Show l ls = refl
-status_piece defs (Import n) l ls = refl
+-- the status of a line that is treated so, and those of what is left
+pub scanned_first : (defs : Definitions) (end : ℕ) (levels next : List ScopeLevel) (l : Line) (more : List Line) (t : Treatment)
+    → ((ls : List Line) → (let s : Step = (status_of t l ls, next) in step defs levels l (kind_of l.covered) ls ≡ s)) → opened levels l (kind_of l.covered) ≡ open_after t
+    → scanned defs end levels 0 (l ∷ more) ≡ status_of t l more ∷ scanned defs end next (open_after t) more
+scanned_first defs end levels next l more t e o =
+    ap (λ (s : Step). s.0 ∷ scanned defs end s.1 (opened levels l (kind_of l.covered)) more) (e more) ∙ ap (λ n. status_of t l more ∷ scanned defs end next n more) o
 
-pub line_turn : (defs : Definitions) (end : ℕ) (levels next : List ScopeLevel) (l : Line) (more : List Line) (out out' : List ℕ) (t : Treatment) (is_shown : Bool)
-    → ((ls : List Line) → (let s : Step = (status_of t l ls, next) in step defs levels l (kind_of l.covered) ls ≡ s)) → opened levels l (kind_of l.covered) ≡ open_after t → is_shown ≡ is_show t → out' ≡ out ++ ended (shown_text defs is_shown l.text)
-    → behind out' (written defs (scanned defs end next (open_after t) more)) ≡ behind out (written defs (scanned defs end levels 0 (l ∷ more)))
-line_turn defs end levels next l more out out' t is_shown e o i p =
-    let left : List Status = scanned defs end next (open_after t) more in
-    ap (λ v. behind v (written defs left)) (p ∙ ap (λ b. out ++ ended (shown_text defs b l.text)) i) ∙ behind_behind out (ended (shown_text defs (is_show t) l.text)) (written defs left)
-    ∙ ap (λ v. behind out (joined v (written defs left))) (sym (status_piece defs t l more))
-    ∙ ap (λ n. behind out (written defs (status_of t l more ∷ scanned defs end next n more))) (sym o)
-    ∙ ap (λ (s : Step). behind out (written defs (s.0 ∷ scanned defs end s.1 (opened levels l (kind_of l.covered)) more))) (sym (e more))
+-- the lines that an import takes, and those behind them
+scanned_behind : (defs : Definitions) (end : ℕ) (levels : List ScopeLevel) (n : ℕ) (ls : List Line) → scanned defs end levels n ls ≡ map blanked (taken n ls) ++ scanned defs end levels 0 (behind_taken n ls)
+scanned_behind defs end levels zero ls = refl
+scanned_behind defs end levels (suc n) [] = refl
+scanned_behind defs end levels (suc n) (l ∷ ls) = ap (λ v. blanked l ∷ v) (scanned_behind defs end levels (braces_after (suc n) l.covered) ls)
 
--- a line that an import takes
-pub taken_turn : (defs : Definitions) (end n : ℕ) (levels : List ScopeLevel) (l : Line) (more : List Line) (out out' : List ℕ) → 0 < n → out' ≡ out ++ ended (replicate (length l.text) 32)
-    → behind out' (written defs (scanned defs end levels (braces_after n l.covered) more)) ≡ behind out (written defs (scanned defs end levels n (l ∷ more)))
-taken_turn defs end zero levels l more out out' some p = absurd (omega arith)
-taken_turn defs end (suc n) levels l more out out' some p =
-    let left : Result (List ℕ) Fault = written defs (scanned defs end levels (braces_after (suc n) l.covered) more) in
-    ap (λ v. behind v left) p ∙ behind_behind out (ended (replicate (length l.text) 32)) left
+written_blanks : (defs : Definitions) (k : Known) (ls : List Line) (rest : List Status) → written defs k (map blanked ls ++ rest) ≡ behind (blanks ls) (written defs k rest)
+written_blanks defs k [] rest = sym (behind_nothing (written defs k rest))
+written_blanks defs k (l ∷ ls) rest = ap (behind (ended (spaces l))) (written_blanks defs k ls rest) ∙ sym (behind_behind (ended (spaces l)) (blanks ls) (written defs k rest))
 
-fails_along : (o : Option Fault) (a : Status) (b : Result (List ℕ) Fault) → ((f : Fault) → a ≡ noted f → b ≡ Err f) → MatchOption o (Unit {0}) (λ f. a ≡ noted f) → MatchOption o (Unit {0}) (λ f. b ≡ Err f)
+-- ---- a blanked line
+pub blank_turn : (defs : Definitions) (k : Known) (l : Line) (rest all : List Status) (out out' : List ℕ) → all ≡ blanked l ∷ rest → out' ≡ out ++ ended (spaces l)
+    → behind out' (written defs k rest) ≡ behind out (written defs k all)
+blank_turn defs k l rest all out out' e p =
+    ap (λ v. behind v (written defs k rest)) p ∙ behind_behind out (ended (spaces l)) (written defs k rest) ∙ ap (λ v. behind out (written defs k v)) (sym e)
+
+-- ---- a shown line
+pub shown_turn : (defs : Definitions) (k next : Known) (l : Line) (rest : List Status) (out out' : List ℕ)
+    → first_ambiguous k.declared false (sites l.at (using_tokens defs l)) ≡ None
+    → next.declared ≡ k.declared → next.uses ≡ used_by k.declared l.at (using_tokens defs l) k.uses
+    → out' ≡ out ++ ended (padded (length l.text) (substituted next.declared (tokens_of (replaced defs l.text))))
+    → behind out' (written defs next rest) ≡ behind out (written defs k (shown l ∷ rest))
+shown_turn defs k next l rest out out' clear same uses p =
+    let then : Known = record k { uses = used_by k.declared l.at (using_tokens defs l) k.uses } in
+    let is_then : next ≡ then = (λ i. record { declared = same i; uses = uses i }) in
+    let text : Known → List ℕ = λ kk. ended (padded (length l.text) (substituted kk.declared (tokens_of (replaced defs l.text)))) in
+    ap (λ v. behind v (written defs next rest)) p ∙ behind_behind out (text next) (written defs next rest)
+    ∙ ap (λ (kk : Known). behind out (behind (text kk) (written defs kk rest))) is_then
+    ∙ ap (λ o. behind out (joined (shown_piece defs k l o) (λ kk. written defs kk rest))) (sym clear)
+
+-- where several paths are allowed, nothing is ambiguous
+pub none_refused : (declared : Declared) (ss : List Site) → first_ambiguous declared true ss ≡ None
+none_refused declared [] = refl
+none_refused declared (s ∷ ss) = none_refused declared ss
+
+-- ---- an import
+declared_piece : (k : Known) (l : Line) (r : Result (List Leaf) SyntaxFault) (declared : Declared) → declared_behind k.declared r ≡ Ok declared
+    → (let p : Piece = (ended (spaces l), record k { declared = declared }) in imported_piece k l r ≡ Ok p)
+declared_piece k l (Ok ls) declared e = let same : with_leaves k.declared ls ≡ declared = cc in ap (λ d. (let p : Piece = (ended (spaces l), record k { declared = d }) in Ok p)) same
+declared_piece k l (Err f) declared e = cc
+
+pub import_turn : (defs : Definitions) (end : ℕ) (levels : List ScopeLevel) (k next : Known) (l : Line) (n : ℕ) (left after : List Line) (out first out' import : List ℕ)
+    → after ≡ behind_taken n left → import ≡ import_text (l ∷ taken n left)
+    → declared_behind k.declared (import_leaves import) ≡ Ok next.declared → next.uses ≡ k.uses
+    → first ≡ out ++ ended (spaces l) → out' ≡ first ++ blanks (taken n left)
+    → behind out' (written defs next (scanned defs end levels 0 after)) ≡ behind out (written defs k (imported l (taken n left) ∷ scanned defs end levels n left))
+import_turn defs end levels k next l n left after out first out' import behind_is text_is declares uses p q =
+    let then : Known = record k { declared = next.declared } in
+    let is_then : next ≡ then = (λ i. record { declared = next.declared; uses = uses i }) in
+    let rest : List Status = scanned defs end levels 0 (behind_taken n left) in
+    let reads : (let p : Piece = (ended (spaces l), then) in imported_piece k l (import_leaves (import_text (l ∷ taken n left))) ≡ Ok p) =
+        declared_piece k l (import_leaves (import_text (l ∷ taken n left))) next.declared (ap (λ t. declared_behind k.declared (import_leaves t)) (sym text_is) ∙ declares) in
+    ap (λ ls. behind out' (written defs next (scanned defs end levels 0 ls))) behind_is
+    ∙ ap (λ v. behind v (written defs next rest)) (q ∙ ap (λ v. v ++ blanks (taken n left)) p)
+    ∙ behind_behind (out ++ ended (spaces l)) (blanks (taken n left)) (written defs next rest)
+    ∙ behind_behind out (ended (spaces l)) (behind (blanks (taken n left)) (written defs next rest))
+    ∙ ap (λ v. behind out (behind (ended (spaces l)) v)) (sym (written_blanks defs next (taken n left) rest) ∙ ap (written defs next) (sym (scanned_behind defs end levels n left)))
+    ∙ ap (λ (kk : Known). behind out (behind (ended (spaces l)) (written defs kk (scanned defs end levels n left)))) is_then
+    ∙ ap (λ r. behind out (joined r (λ kk. written defs kk (scanned defs end levels n left)))) (sym reads)
+
+-- ---- the lines that an import takes, one by one
+pub taken_first : (n : ℕ) (l : Line) (ls : List Line) → 0 < n → taken n (l ∷ ls) ≡ l ∷ taken (braces_after n l.covered) ls
+taken_first zero l ls some = absurd (omega arith)
+taken_first (suc n) l ls some = refl
+
+pub behind_first : (n : ℕ) (l : Line) (ls : List Line) → 0 < n → behind_taken n (l ∷ ls) ≡ behind_taken (braces_after n l.covered) ls
+behind_first zero l ls some = absurd (omega arith)
+behind_first (suc n) l ls some = refl
+
+pub taken_none : (n : ℕ) → taken n [] ≡ []
+taken_none zero = refl
+taken_none (suc n) = refl
+
+pub behind_none : (n : ℕ) → behind_taken n [] ≡ []
+behind_none zero = refl
+behind_none (suc n) = refl
+
+-- ---- faults
+fails_along : {Y : Type 0} (o : Option Fault) (a : Status) (b : Result Y Fault) → ((f : Fault) → a ≡ noted f → b ≡ Err f) → MatchOption o (Unit {0}) (λ f. a ≡ noted f) → MatchOption o (Unit {0}) (λ f. b ≡ Err f)
 fails_along None a b go h = tt
 fails_along (Some f) a b go h = go f h
 
--- a line that fails is the first that does
-pub line_fails : (defs : Definitions) (end : ℕ) (levels : List ScopeLevel) (l : Line) (more : List Line) (error : ComposerErrorInner)
-    → ((ls : List Line) → MatchOption (fault_of error) (Unit {0}) (λ f. (step defs levels l (kind_of l.covered) ls).0 ≡ noted f)) → Fails error (written defs (scanned defs end levels 0 (l ∷ more)))
-line_fails defs end levels l more error h =
+-- a line that is noted is the first that fails
+pub line_fails : (defs : Definitions) (k : Known) (end : ℕ) (levels : List ScopeLevel) (l : Line) (more : List Line) (error : ComposerErrorInner)
+    → ((ls : List Line) → MatchOption (fault_of error) (Unit {0}) (λ f. (step defs levels l (kind_of l.covered) ls).0 ≡ noted f)) → Fails error (written defs k (scanned defs end levels 0 (l ∷ more)))
+line_fails defs k end levels l more error h =
     let s : Step = step defs levels l (kind_of l.covered) more in
-    let rest : Result (List ℕ) Fault = written defs (scanned defs end s.1 (opened levels l (kind_of l.covered)) more) in
-    fails_along (fault_of error) s.0 (written defs (scanned defs end levels 0 (l ∷ more))) (λ f is_f. ap (λ v. joined (piece defs v) rest) is_f) (h more)
+    let rest : List Status = scanned defs end s.1 (opened levels l (kind_of l.covered)) more in
+    fails_along (fault_of error) s.0 (written defs k (scanned defs end levels 0 (l ∷ more))) (λ f is_f. ap (λ v. joined (piece defs k v) (λ kk. written defs kk rest)) is_f) (h more)
 
-fails_on : (o : Option Fault) (out : List ℕ) (r total : Result (List ℕ) Fault) → behind out r ≡ total → MatchOption o (Unit {0}) (λ f. r ≡ Err f) → MatchOption o (Unit {0}) (λ f. total ≡ Err f)
+fails_joined : (o : Option Fault) (p : Result Piece Fault) (rest : Known → Result Output Fault) → MatchOption o (Unit {0}) (λ f. p ≡ Err f) → MatchOption o (Unit {0}) (λ f. joined p rest ≡ Err f)
+fails_joined None p rest h = tt
+fails_joined (Some f) p rest h = ap (λ v. joined v rest) h
+
+-- a line whose piece is refused is the first that fails
+pub piece_fails : (defs : Definitions) (k : Known) (s : Status) (rest all : List Status) (error : ComposerErrorInner) → all ≡ s ∷ rest → Fails error (piece defs k s) → Fails error (written defs k all)
+piece_fails defs k s rest all error e h =
+    subst (λ v. Fails error (written defs k v)) (sym e) (fails_joined (fault_of error) (piece defs k s) (λ kk. written defs kk rest) h)
+
+fails_on : (o : Option Fault) (out : List ℕ) (r total : Result Output Fault) → behind out r ≡ total → MatchOption o (Unit {0}) (λ f. r ≡ Err f) → MatchOption o (Unit {0}) (λ f. total ≡ Err f)
 fails_on None out r total e h = tt
 fails_on (Some f) out r total e h = sym e ∙ ap (behind out) h
 
 -- a fault of the first line that is left is that of the whole
-pub fails_first : (defs : Definitions) (end : ℕ) (levels : List ScopeLevel) (l : Line) (left more : List Line) (out : List ℕ) (total : Result (List ℕ) Fault) (error : ComposerErrorInner)
-    → left ≡ l ∷ more → behind out (written defs (scanned defs end levels 0 left)) ≡ total
-    → ((end : ℕ) (more : List Line) → Fails error (written defs (scanned defs end levels 0 (l ∷ more)))) → Fails error total
-fails_first defs end levels l left more out total error first told h =
-    fails_on (fault_of error) out (written defs (scanned defs end levels 0 (l ∷ more))) total (ap (λ v. behind out (written defs (scanned defs end levels 0 v))) (sym first) ∙ told) (h end more)
+pub fails_first : (defs : Definitions) (k : Known) (end : ℕ) (levels : List ScopeLevel) (l : Line) (left more : List Line) (out : List ℕ) (total : Result Output Fault) (error : ComposerErrorInner)
+    → left ≡ l ∷ more → behind out (written defs k (scanned defs end levels 0 left)) ≡ total
+    → ((end : ℕ) → Fails error (written defs k (scanned defs end levels 0 (l ∷ more)))) → Fails error total
+fails_first defs k end levels l left more out total error first told h =
+    fails_on (fault_of error) out (written defs k (scanned defs end levels 0 (l ∷ more))) total (ap (λ v. behind out (written defs k (scanned defs end levels 0 v))) (sym first) ∙ told) (h end)
 
 -- before the first line
-pub told_first : (defs : Definitions) (text out : List ℕ) → out ≡ [] → behind out (written defs (scanned defs (end_place 0 (source_lines text)) [] 0 (source_lines text))) ≡ preprocessed defs text
+pub told_first : (defs : Definitions) (k : Known) (text out : List ℕ) → k ≡ nothing_known → out ≡ [] → behind out (written defs k (scanned defs (end_place 0 (source_lines text)) [] 0 (source_lines text))) ≡ preprocessed defs text
 unfolding preprocessed
-told_first defs text out e =
-    ap (λ v. behind v (written defs (scanned defs (end_place 0 (source_lines text)) [] 0 (source_lines text)))) e
-    ∙ behind_nothing (written defs (scanned defs (end_place 0 (source_lines text)) [] 0 (source_lines text)))
-    ∙ scanned_reading defs (end_place 0 (source_lines text)) (source_lines text) (reading defs (source_lines text)) (IsReading-reading defs (source_lines text))
+told_first defs k text out n e =
+    let end : ℕ = end_place 0 (source_lines text) in
+    ap (λ v. behind v (written defs k (scanned defs end [] 0 (source_lines text)))) e
+    ∙ behind_nothing (written defs k (scanned defs end [] 0 (source_lines text)))
+    ∙ ap (λ kk. written defs kk (scanned defs end [] 0 (source_lines text))) n
+    ∙ scanned_reading defs end (source_lines text) (reading defs (source_lines text)) (IsReading-reading defs (source_lines text))

@@ -6,7 +6,7 @@ use Rattle.naga_oil_pre.specs.Line.{Line}
 use Rattle.naga_oil_pre.specs.Kind.{LineKind, version, condition, endif, imports, import_path, define, other, kind_of}
 use Rattle.naga_oil_pre.specs.Fault.{Definitions, evaluated, outcome, is_met, holds}
 use Rattle.naga_oil_pre.specs.Reading.{Block, nothing, line, import, chain, unclosed, Arms, last_arm, arm, lines_of, arm_lines, begins_arm, ends_chain, is_import, is_plain, braces_after, taken, Takes, is_nothing, IsBlock, AreArms, IsReading, is_unclosed}
-use Rattle.naga_oil_pre.specs.Preprocessed.{Status, blanked, imported, condition_status, plain_status, statuses, arm_statuses, written, end_status, read_so}
+use Rattle.naga_oil_pre.specs.Preprocessed.{Status, blanked, imported, condition_status, plain_status, statuses, arm_statuses, written, nothing_known, end_status, read_so}
 use Rattle.naga_oil_pre.specs.Scope.{level, is_active_level, has_met, is_active, is_open}
 use Rattle.naga_oil_pre.specs.Step.{Step, step, opened, scanned}
 
@@ -256,7 +256,7 @@ mutual
       ∙ sym (append_assoc block (arm_statuses defs a (met || holds defs l) arms) (end_status end true)))
 
 -- what the loop gives from no levels on is what the reading says
-pub scanned_reading : (defs : Definitions) (end : ℕ) (lines : List Line) (b : Block) → IsReading defs lines b → written defs (scanned defs end [] 0 lines) ≡ read_so defs end b
+pub scanned_reading : (defs : Definitions) (end : ℕ) (lines : List Line) (b : Block) → IsReading defs lines b → written defs nothing_known (scanned defs end [] 0 lines) ≡ read_so defs end b
 scanned_reading defs end lines b h =
-    ap (λ ls. written defs (scanned defs end [] 0 ls)) (sym h.whole)
-    ∙ ap (written defs) (open_block defs end false [] b (λ e. refl) h.placed ∙ ap (λ v. statuses defs true b ++ end_status end v) (or_false (is_unclosed b)))
+    ap (λ ls. written defs nothing_known (scanned defs end [] 0 ls)) (sym h.whole)
+    ∙ ap (written defs nothing_known) (open_block defs end false [] b (λ e. refl) h.placed ∙ ap (λ v. statuses defs true b ++ end_status end v) (or_false (is_unclosed b)))

@@ -84,7 +84,7 @@ line_fits w x rest some within h more =
     omega (arith, length-drop n w, length-take n w)
 
 -- the next place is one of a `usize`, and the one behind what is left too
-pub room_on : (at : ℕ) (w x rest : List ℕ) → 0 < length w → length x + length rest ≤ length w → IsFirstLine w x rest → (0 < length w → at + length w + 1 < 2 ^ 64) → 0 < length rest → (at + (length x + 1)) + length rest + 1 < 2 ^ 64
+pub room_on : (at : ℕ) (w x rest : List ℕ) → 0 < length w → length x + length rest ≤ length w → IsFirstLine w x rest → (0 < length w → at + length w < 2 ^ 63) → 0 < length rest → (at + (length x + 1)) + length rest < 2 ^ 63
 room_on at w x rest some within first room more = omega (arith, line_fits w x rest some within first more, room some)
 
 pub even_none : (at : ℕ) (texts covers : List (List ℕ)) → covers ≡ [] → All IsEven (placed at texts covers)

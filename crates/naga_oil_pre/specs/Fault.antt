@@ -18,6 +18,7 @@ pub data Fault : Type 0 where
   not_enough_end_ifs : (at : ℕ) → Fault
   invalid_version : (at : ℕ) → Fault
   invalid_definition : (at : ℕ) (name value : List ℕ) → Fault
+  invalid_import : (text : List ℕ) (at : ℕ) → Fault
 
 -- what each name is defined as
 abbrev pub Definitions : Type 0

@@ -1,8 +1,15 @@
 -- What a text becomes, by its reading.
-use Rattle.std.specs.Prelude.{ℕ, Bool, true, false, ◌&&◌, ◌||◌, not, if◌then◌else◌, List, [], ◌∷◌, ◌++◌, ◌-◌, map, length, replicate, Result, Ok, Err}
+use Rattle.std.specs.Prelude.{ℕ, ◌+◌, ◌-◌, Bool, true, false, ◌&&◌, ◌||◌, not, if◌then◌else◌, Option, Some, None, List, [], ◌∷◌, ◌++◌, map, length, replicate, codes, Result, Ok, Err}
+use Rattle.std.specs.List.{flat_map}
+use Rattle.std.specs.Str.{chars}
+use Rattle.naga_oil_lines.specs.Tokens.{Lexeme, lexemes}
+use Rattle.naga_oil_lines.specs.Declarations.{Declared}
+use Rattle.naga_oil_lines.specs.Leaves.{Leaf, SyntaxFault, import_leaves, with_leaves}
+use Rattle.naga_oil_lines.specs.Uses.{Use, Uses}
+use Rattle.naga_oil_lines.specs.Substituted.{substituted, sites, first_ambiguous, used_by}
 use Rattle.naga_oil_pre.specs.Line.{Line, source_lines, end_place}
 use Rattle.naga_oil_pre.specs.Kind.{LineKind, version, condition, endif, imports, import_path, define, other, kind_of}
-use Rattle.naga_oil_pre.specs.Fault.{Fault, else_without_condition, too_many_end_ifs, not_enough_end_ifs, invalid_version, Definitions, outcome, evaluated, holds}
+use Rattle.naga_oil_pre.specs.Fault.{Fault, else_without_condition, too_many_end_ifs, not_enough_end_ifs, invalid_version, invalid_import, Definitions, outcome, evaluated, holds}
 use Rattle.naga_oil_pre.specs.Reading.{Block, nothing, line, import, chain, unclosed, Arms, last_arm, arm, is_unclosed, reading}
 use Rattle.naga_oil_pre.specs.Replaced.{replaced}
 
@@ -66,32 +73,80 @@ padded size text = text ++ replicate (size - length text) 32
 abbrev pub ended : List ℕ → List ℕ
 ended text = text ++ 10 ∷ []
 
+-- what the imports so far declare, and what the lines so far use of them
+pub record Known : Type 0 where
+  pub declared : Declared
+  pub uses : Uses
+
+-- before the first line
+abbrev pub nothing_known : Known
+nothing_known = record { declared = []; uses = [] }
+
+-- the tokens of a text
+abbrev pub tokens_of : List ℕ → List Lexeme
+tokens_of text = lexemes 0 0 (chars text)
+
+-- the text of a shown line: its `#` names replaced, then its identifiers substituted, filled up to its length
+abbrev pub shown_text : Definitions → Known → Line → List ℕ
+shown_text defs known l = padded (length l.text) (substituted known.declared (tokens_of (replaced defs l.text)))
+
+-- the tokens that a shown line uses items by: those of its covered line
+abbrev pub using_tokens : Definitions → Line → List Lexeme
+using_tokens defs l = tokens_of (replaced defs l.covered)
+
+-- the covered lines of an import, each ended
+abbrev pub import_text : List Line → List ℕ
+import_text ls = flat_map (λ l. ended l.covered) ls
+
+-- spaces for each of the lines, ended
+abbrev pub blanks : List Line → List ℕ
+blanks ls = flat_map (λ l. ended (spaces l)) ls
+
+-- what a line becomes, and what is known behind it
+abbrev pub Piece : Type 0
+Piece = List ℕ × Known
+
+-- a shown line; the place is that of its first ambiguous identifier, if it has one
+abbrev pub shown_piece : Definitions → Known → Line → (ambiguous : Option ℕ) → Result Piece Fault
+shown_piece defs known l (Some place) = Err (invalid_import (codes "Ambiguous import path for item") place)
+shown_piece defs known l None = Ok (ended (shown_text defs known l), record known { uses = used_by known.declared l.at (using_tokens defs l) known.uses })
+
+-- the first line of an import that has these leaves
+abbrev pub imported_piece : Known → Line → Result (List Leaf) SyntaxFault → Result Piece Fault
+imported_piece known l (Ok leaves) = Ok (ended (spaces l), record known { declared = with_leaves known.declared leaves })
+imported_piece known l (Err f) = Err (invalid_import f.0 (l.at + f.1))
+
 -- what a line becomes, or its fault
-abbrev pub piece : Definitions → Status → Result (List ℕ) Fault
-piece defs (blanked l) = Ok (ended (spaces l))
-piece defs (shown l) = Ok (ended (padded (length l.text) (replaced defs l.text)))
-piece defs (imported l taken) = Ok (ended (spaces l))
-piece defs (noted f) = Err f
+abbrev pub piece : Definitions → Known → Status → Result Piece Fault
+piece defs known (blanked l) = Ok (ended (spaces l), known)
+piece defs known (shown l) = shown_piece defs known l (first_ambiguous known.declared false (sites l.at (using_tokens defs l)))
+piece defs known (imported l taken) = imported_piece known l (import_leaves (import_text (l ∷ taken)))
+piece defs known (noted f) = Err f
+
+-- a text, and what is used in it of each module
+pub record Output : Type 0 where
+  pub text : List ℕ
+  pub uses : List Use
 
 -- a text, and what comes behind it
-abbrev pub behind : List ℕ → Result (List ℕ) Fault → Result (List ℕ) Fault
-behind front (Ok text) = Ok (front ++ text)
+abbrev pub behind : List ℕ → Result Output Fault → Result Output Fault
+behind front (Ok more) = Ok (record more { text = front ++ more.text })
 behind front (Err f) = Err f
 
--- the same of a text that may have a fault, which is then the earlier one
-abbrev pub joined : Result (List ℕ) Fault → Result (List ℕ) Fault → Result (List ℕ) Fault
-joined (Ok front) rest = behind front rest
+-- the same of a piece that may have a fault, which is then the earlier one
+abbrev pub joined : Result Piece Fault → (Known → Result Output Fault) → Result Output Fault
+joined (Ok p) rest = behind p.0 (rest p.1)
 joined (Err f) rest = Err f
 
--- the earliest note, or else what the lines become
-abbrev pub written : Definitions → List Status → Result (List ℕ) Fault
-written defs [] = Ok []
-written defs (s ∷ more) = joined (piece defs s) (written defs more)
+-- the earliest fault, or else what the lines become
+abbrev pub written : Definitions → Known → List Status → Result Output Fault
+written defs known [] = Ok (record { text = []; uses = map (λ u. u.1) known.uses })
+written defs known (s ∷ more) = joined (piece defs known s) (λ next. written defs next more)
 
 -- what the lines become that are read so and end at the place
-abbrev pub read_so : Definitions → ℕ → Block → Result (List ℕ) Fault
-read_so defs end block = written defs (statuses defs true block ++ end_status end (is_unclosed block))
+abbrev pub read_so : Definitions → ℕ → Block → Result Output Fault
+read_so defs end block = written defs nothing_known (statuses defs true block ++ end_status end (is_unclosed block))
 
 -- what a text becomes
-unfoldable pub preprocessed : Definitions → List ℕ → Result (List ℕ) Fault
+unfoldable pub preprocessed : Definitions → List ℕ → Result Output Fault
 preprocessed defs text = read_so defs (end_place 0 (source_lines text)) (reading defs (source_lines text))

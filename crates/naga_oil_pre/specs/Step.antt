@@ -1,12 +1,11 @@
 -- Line after line under the levels of the open chains, as the loop goes.
-use Rattle.std.specs.Prelude.{ℕ, zero, suc, Bool, true, false, if◌then◌else◌, List, [], ◌∷◌, Result, length, replicate}
+use Rattle.std.specs.Prelude.{ℕ, zero, suc, Bool, true, false, if◌then◌else◌, List, [], ◌∷◌, Result}
 use Rattle.naga_oil_pre.specs.declared.scope.ScopeLevel.{ScopeLevel}
 use Rattle.naga_oil_pre.specs.Line.{Line}
 use Rattle.naga_oil_pre.specs.Kind.{LineKind, version, condition, endif, imports, import_path, define, other, kind_of}
 use Rattle.naga_oil_pre.specs.Fault.{Fault, too_many_end_ifs, Definitions, evaluated, is_met}
 use Rattle.naga_oil_pre.specs.Reading.{braces_after, taken}
-use Rattle.naga_oil_pre.specs.Preprocessed.{Status, blanked, imported, noted, condition_status, stray_status, plain_status, end_status, padded}
-use Rattle.naga_oil_pre.specs.Replaced.{replaced}
+use Rattle.naga_oil_pre.specs.Preprocessed.{Status, blanked, imported, noted, condition_status, stray_status, plain_status, end_status}
 use Rattle.naga_oil_pre.specs.Scope.{level, has_met, is_active, is_open}
 
 -- one line under the levels: what is to be done with it, and the levels behind it
@@ -43,7 +42,3 @@ abbrev pub scanned : Definitions → ℕ → List ScopeLevel → (braces : ℕ) 
 scanned defs end levels braces [] = end_status end (is_open levels)
 scanned defs end levels zero (l ∷ more) = (step defs levels l (kind_of l.covered) more).0 ∷ scanned defs end (step defs levels l (kind_of l.covered) more).1 (opened levels l (kind_of l.covered)) more
 scanned defs end levels (suc n) (l ∷ more) = blanked l ∷ scanned defs end levels (braces_after (suc n) l.covered) more
-
--- what is written for a line: its text with values and padded, or spaces
-abbrev pub shown_text : Definitions → Bool → List ℕ → List ℕ
-shown_text defs is_shown text = if is_shown then padded (length text) (replaced defs text) else replicate (length text) 32

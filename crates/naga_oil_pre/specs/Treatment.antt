@@ -1,5 +1,5 @@
 -- What the code says of a line.
-use Rattle.std.specs.Prelude.{ℕ, Bool, true, false, List}
+use Rattle.std.specs.Prelude.{ℕ, List}
 use Rattle.naga_oil_pre.specs.declared.preprocess.Treatment.{Treatment}
 use Rattle.naga_oil_pre.specs.declared.preprocess.Treatment.TheVariants.{Blank, Show, Import}
 use Rattle.naga_oil_pre.specs.Line.{Line}
@@ -10,11 +10,6 @@ abbrev pub open_after : Treatment → ℕ
 open_after Blank = 0
 open_after Show = 0
 open_after (Import n) = n
-
-abbrev pub is_show : Treatment → Bool
-is_show Blank = false
-is_show Show = true
-is_show (Import n) = false
 
 abbrev pub status_of : Treatment → Line → List Line → Status
 status_of Blank l more = blanked l

@@ -10,9 +10,12 @@ pub enum ShaderDefValue {
     UInt(u32),
 }
 
-/// What is wrong with a text. Places are bytes from 0, those of the first byte of a line.
+/// What is wrong with a text. Places are bytes from 0; where nothing else is said, those of the first byte of a line.
 #[derive(Debug, Drop, Error)]
 pub enum ComposerErrorInner {
+    /// What is wrong with an import line, or with an identifier that stands for several paths, and the place of it.
+    #[error("{0}")]
+    ImportParseError(String, usize),
     /// The chains of conditions that are open at the end of the text, which is the place.
     #[error("Not enough '# endif' lines. Each if statement should be followed by an endif statement.")]
     NotEnoughEndIfs(usize),

@@ -7,6 +7,7 @@
 //! - `condition`: whether a condition holds.
 //! - `scope`: the chains of conditions that are open.
 //! - `replace`: values for the names of a line.
+//! - `imports`: what imports declare, and what lines use of them.
 //! - `source_lines`: the lines of a text with their covered lines.
 //! - `fault`: what can be wrong with a text.
 //! - `laws`: what holds of every text.
@@ -14,6 +15,7 @@
 
 mod condition;
 mod fault;
+mod imports;
 pub mod laws;
 mod line_kind;
 mod preprocess;

@@ -4,11 +4,12 @@ ghost use Rattle.std.specs.BTreeMap.{get_by_text};
 ghost use Rattle.std.specs.Cow.{cow_str_bytes};
 ghost use Rattle.naga_oil_pre.specs.Line.{Line, end_place};
 ghost use Rattle.naga_oil_pre.specs.Kind.{kind_of};
-ghost use Rattle.naga_oil_pre.specs.Step.{step, shown_text, opened, scanned};
+ghost use Rattle.naga_oil_pre.specs.Step.{step, opened, scanned};
 ghost use Rattle.naga_oil_pre.specs.Fault.{Definitions};
 ghost use Rattle.naga_oil_pre.specs.View.{Notes, Fails, Gives};
-ghost use Rattle.naga_oil_pre.specs.Preprocessed.{ended, behind, written, preprocessed};
-ghost use Rattle.naga_oil_pre.specs.Reading.{braces_after};
+ghost use Rattle.naga_oil_pre.specs.Preprocessed.{Status, shown, imported, behind, piece, written, preprocessed};
+ghost use Rattle.naga_oil_pre.specs.KnownView.{known_of, output_of};
+ghost use Rattle.naga_oil_pre.specs.Reading.{taken};
 ghost use Rattle.naga_oil_pre.specs.Treatment.{status_of, open_after};
 ghost use Rattle.naga_oil_pre.specs.SourceView.{line_of};
 ghost use Rattle.naga_oil_pre.specs.declared.scope.ScopeLevel.{ScopeLevel};
@@ -16,17 +17,21 @@ ghost use Rattle.naga_oil_pre.specs.declared.scope.ScopeLevel.{ScopeLevel};
 use crate::condition::evaluate;
 use crate::fault::{ComposerErrorInner, ShaderDefValue};
 use crate::line_kind::{LineKind, line_kind};
-use crate::replace::push_replaced;
+use crate::imports::{Imports, blank_line, braces_after, declare, push_shown, record_uses, take_lines};
 use crate::scope::Scope;
 use crate::source_lines::{SourceLine, SourceLines};
+use indexmap::IndexMap;
 use naga_oil_lines::comment_strip_iter::CommentReplaceExt;
-use std::alloc::{AllocError, Global};
+use naga_oil_lines::import_definition::ImportDefWithOffset;
+use std::alloc::Global;
 use std::collections::BTreeMap;
 
 /// What a text becomes.
 #[derive(Debug, Drop)]
 pub struct PreprocessOutput {
     pub preprocessed_source: String,
+    /// What is used of each module, in order of first use.
+    pub imports: Vec<ImportDefWithOffset>,
 }
 
 // What is to be done with a line.
@@ -36,37 +41,6 @@ enum Treatment {
     Show,
     /// An import, which leaves so many braces open.
     Import(usize),
-}
-
-impl Treatment {
-    ghost use Rattle.naga_oil_pre.specs.Treatment.{is_show, open_after};
-
-    fn is_show(self) -> bool
-        ensures { result ≡ is_show self }
-    {
-        matches!(self, Treatment::Show)
-    }
-
-    // How many braces the line leaves open.
-    fn braces(self) -> usize
-        ensures { result ≡ open_after self }
-    {
-        match self {
-            Treatment::Import(braces) => braces,
-            Treatment::Blank | Treatment::Show => 0,
-        }
-    }
-}
-
-// How many braces are open behind a covered line.
-fn braces_after(before: usize, covered: &str) -> usize
-    requires { before + length covered.now < 2 ^ 64 }
-    ensures value { result ≡ braces_after before covered.now }
-    ensures bound { result ≤ before + length covered.now }
-{
-    let opened = covered.as_bytes().iter().filter(|b| **b == b'{').count();
-    let closed = covered.as_bytes().iter().filter(|b| **b == b'}').count();
-    (before + opened).saturating_sub(closed)
 }
 
 // Reads a line under the scope. Says what is to be done with it.
@@ -120,85 +94,80 @@ fn read_line(
     }
 }
 
-fn push_spaces(out: &mut String, count: usize) -> Result<(), AllocError>
-    ensures { OnOk result (string_bytes out.new ≡ string_bytes out.old ++ replicate count 32) }
+// Writes an import as spaces, with the lines that it takes, and declares what it declares.
+fn write_import(
+    alloc: Global,
+    line: SourceLine<'_>,
+    braces: usize,
+    source: &mut SourceLines<'_, '_>,
+    imports: &mut Imports,
+    out: &mut String,
+) -> Result<(), ComposerErrorInner>
+    requires place { line.offset + length line.text.now + 1 ≡ source.old.place }
+    requires even { length (line_of line).covered ≤ length line.text.now }
+    requires room { source.old.place ≤ 2 ^ 63 }
+    requires braces { braces ≤ length (line_of line).covered }
+    ensures ok { OnOk result ((defs : Definitions) (end : ℕ) (levels : List ScopeLevel) →
+        behind (string_bytes out.new) (written defs (known_of imports.new) (scanned defs end levels 0 source.new.left))
+        ≡ behind (string_bytes out.old) (written defs (known_of imports.old) (imported (line_of line.entry) (taken braces source.old.left) ∷ scanned defs end levels braces source.old.left))) }
+    ensures end { OnOk result (end_place source.new.place source.new.left ≡ end_place source.old.place source.old.left) }
+    ensures shorter { OnOk result (length source.new.left ≤ length source.old.left) }
+    ensures err { IfErr result (λ e. (defs : Definitions) → Fails e (piece defs (known_of imports.old) (imported (line_of line.entry) (taken braces source.old.left)))) }
 {
-    for _ in 0..count {
-        out.push(' ')?;
-    }
+    let mut import = String::from_str(alloc, line.covered.as_str())?;
+    import.push('\n')?;
+    blank_line(out, line.text)?;
+    take_lines(source, braces, &mut import, out)?;
+    declare(alloc, import.as_str(), line.offset, &mut imports.declared)
+}
+
+// Writes a line with what stands for its names and identifiers, and records what it uses.
+fn write_shown(
+    alloc: Global,
+    line: &SourceLine<'_>,
+    definitions: &BTreeMap<String, ShaderDefValue>,
+    imports: &mut Imports,
+    out: &mut String,
+) -> Result<(), ComposerErrorInner>
+    requires { line.now.offset ≤ 2 ^ 63 }
+    ensures ok { OnOk result ((more : List Status) →
+        behind (string_bytes out.new) (written (get_by_text definitions.now) (known_of imports.new) more)
+        ≡ behind (string_bytes out.old) (written (get_by_text definitions.now) (known_of imports.old) (shown (line_of line.now) ∷ more))) }
+    ensures err { IfErr result (λ e. Fails e (piece (get_by_text definitions.now) (known_of imports.old) (shown (line_of line.now)))) }
+{
+    record_uses(alloc, line, definitions, imports)?;
+    push_shown(alloc, line, definitions, &imports.declared, out)?;
     Ok(())
 }
 
-// Writes a line with its values and fills it up to its length, or spaces in its place.
-fn push_line(
-    out: &mut String,
-    line: &str,
-    is_shown: bool,
-    definitions: &BTreeMap<String, ShaderDefValue>,
-) -> Result<(), AllocError>
-    ensures { OnOk result (string_bytes out.new ≡ string_bytes out.old ++ ended (shown_text (get_by_text definitions.now) is_shown line.now)) }
-{
-    let before = out.len();
-    if is_shown {
-        push_replaced(out, line, definitions)?;
-    }
-    let written = out.len() - before;
-    push_spaces(out, line.len().saturating_sub(written))?;
-    out.push('\n')
-}
-
-// Reads a line and writes what it becomes. Gives the braces that it leaves open for the lines behind it.
+// Reads a line and writes what it becomes, with the lines that it takes.
 fn write_line(
     alloc: Global,
     line: SourceLine<'_>,
+    source: &mut SourceLines<'_, '_>,
     definitions: &BTreeMap<String, ShaderDefValue>,
     scope: &mut Scope,
+    imports: &mut Imports,
     out: &mut String,
-) -> Result<usize, ComposerErrorInner>
-    ensures ok { IfOk result (λ braces. (end : ℕ) (more : List Line) →
-        behind (string_bytes out.new) (written (get_by_text definitions.now) (scanned (get_by_text definitions.now) end scope.new braces more))
-        ≡ behind (string_bytes out.old) (written (get_by_text definitions.now) (scanned (get_by_text definitions.now) end scope.old 0 (line_of line.entry ∷ more)))) }
-    ensures bound { IfOk result (λ braces. braces ≤ length (line_of line.entry).covered) }
-    ensures err { IfErr result (λ e. (end : ℕ) (more : List Line) → Fails e (written (get_by_text definitions.now) (scanned (get_by_text definitions.now) end scope.old 0 (line_of line.entry ∷ more)))) }
-{
-    let treatment = read_line(alloc, &line, definitions, scope)?;
-    push_line(out, line.text, treatment.is_show(), definitions)?;
-    Ok(treatment.braces())
-}
-
-// Writes spaces for a line that an import takes. Gives the braces that are open behind it.
-fn blank_line(out: &mut String, line: SourceLine<'_>, braces: usize) -> Result<usize, AllocError>
-    requires { braces + length (line_of line).covered < 2 ^ 64 }
-    ensures blank { OnOk result (string_bytes out.new ≡ string_bytes out.old ++ ended (replicate (length line.entry.text.now) 32)) }
-    ensures after { IfOk result (λ n. n ≡ braces_after braces (line_of line.entry).covered) }
-    ensures bound { IfOk result (λ n. n ≤ braces + length (line_of line.entry).covered) }
-{
-    push_spaces(out, line.text.len())?;
-    out.push('\n')?;
-    Ok(braces_after(braces, line.covered.as_str()))
-}
-
-// Blanks the lines that an import takes.
-fn take_import(
-    source: &mut SourceLines<'_, '_>,
-    out: &mut String,
-    braces: usize,
-) -> Result<(), AllocError>
-    requires { braces ≤ source.old.place }
+) -> Result<(), ComposerErrorInner>
+    requires place { line.offset + length line.text.now + 1 ≡ source.old.place }
+    requires even { length (line_of line).covered ≤ length line.text.now }
+    requires room { source.old.place ≤ 2 ^ 63 }
+    ensures ok { OnOk result ((end : ℕ) →
+        behind (string_bytes out.new) (written (get_by_text definitions.now) (known_of imports.new) (scanned (get_by_text definitions.now) end scope.new 0 source.new.left))
+        ≡ behind (string_bytes out.old) (written (get_by_text definitions.now) (known_of imports.old) (scanned (get_by_text definitions.now) end scope.old 0 (line_of line.entry ∷ source.old.left)))) }
     ensures end { OnOk result (end_place source.new.place source.new.left ≡ end_place source.old.place source.old.left) }
     ensures shorter { OnOk result (length source.new.left ≤ length source.old.left) }
-    ensures taken { OnOk result ((defs : Definitions) (end : ℕ) (levels : List ScopeLevel) →
-        behind (string_bytes out.new) (written defs (scanned defs end levels 0 source.new.left))
-        ≡ behind (string_bytes out.old) (written defs (scanned defs end levels braces source.old.left))) }
+    ensures err { IfErr result (λ e. (end : ℕ) → Fails e (written (get_by_text definitions.now) (known_of imports.old) (scanned (get_by_text definitions.now) end scope.old 0 (line_of line.entry ∷ source.old.left)))) }
 {
-    let mut braces = braces;
-    while braces > 0 {
-        let Some(line) = source.next()? else {
-            break;
-        };
-        braces = blank_line(out, line, braces)?;
+    match read_line(alloc, &line, definitions, scope)? {
+        Treatment::Blank => {
+            blank_line(out, line.text)?;
+            Ok(())
+        }
+        Treatment::Show => write_shown(alloc, &line, definitions, imports, out),
+        Treatment::Import(braces) => write_import(alloc, line, braces, source, imports, out),
     }
-    Ok(())
 }
 
 /// Preprocesses texts.
@@ -216,21 +185,25 @@ impl Preprocessor {
         shader_str: &str,
         shader_defs: &BTreeMap<String, ShaderDefValue>,
     ) -> Result<PreprocessOutput, ComposerErrorInner>
-        ensures source { Gives (λ o. string_bytes o.preprocessed_source) result (preprocessed (get_by_text shader_defs.now) shader_str.now) }
+        ensures { Gives output_of result (preprocessed (get_by_text shader_defs.now) shader_str.now) }
     {
         let mut out = String::with_capacity(alloc, shader_str.len() + 1)?;
         let mut scope = Scope::new(alloc);
         let mut commented = shader_str.lines();
         let mut source = SourceLines::new(shader_str, commented.replace_comments(alloc));
+        let mut imports = Imports {
+            declared: IndexMap::new(alloc),
+            used: IndexMap::new(alloc),
+        };
         while let Some(line) = source.next()? {
-            let braces = write_line(alloc, line, shader_defs, &mut scope, &mut out)?;
-            take_import(&mut source, &mut out, braces)?;
+            write_line(alloc, line, &mut source, shader_defs, &mut scope, &mut imports, &mut out)?;
         }
         if scope.is_open() {
             return Err(ComposerErrorInner::NotEnoughEndIfs(source.offset()));
         }
         Ok(PreprocessOutput {
             preprocessed_source: out,
+            imports: imports.used.into_values().collect(alloc)?,
         })
     }
 }

@@ -27,7 +27,7 @@ pub struct SourceLines<'b, 'a> {
     texts: Lines<'a>,
     covers: CommentReplaceIter<'b, 'a>,
     offset: usize,
-    ghost room: { 0 < length (lines_rest texts) → offset + length (lines_rest texts) + 1 < 2 ^ 64 },
+    ghost room: { 0 < length (lines_rest texts) → offset + length (lines_rest texts) < 2 ^ 63 },
     ghost even: { All (λ l. length l.covered ≤ length l.text) (placed offset (lines (lines_rest texts)) (covered_lines_left covers)) },
 }
 
@@ -66,7 +66,8 @@ impl<'b, 'a> SourceLines<'b, 'a> {
         ensures steps { IfOk result (λ r. MatchOption r ((self.old.left ≡ []) × (self.new.left ≡ [])) (λ line. self.old.left ≡ line_of line ∷ self.new.left)) }
         ensures place { IfOk result (λ r. MatchOption r (self.new.place ≡ self.old.place) (λ line. self.new.place ≡ next_place self.old.place line.text.now)) }
         ensures even { IfOk result (λ r. IfSome r (λ line. length (line_of line).covered ≤ length line.text.now)) }
-        ensures room { IfOk result (λ r. IfSome r (λ line. self.new.place < 2 ^ 64)) }
+        ensures at { IfOk result (λ r. IfSome r (λ line. line.offset ≡ self.old.place)) }
+        ensures room { IfOk result (λ r. IfSome r (λ line. self.new.place ≤ 2 ^ 63)) }
     {
         let Some(text) = self.texts.next() else {
             return Ok(None);

@@ -1,0 +1,180 @@
+// What imports declare, and what lines use of them.
+ghost use Rattle.std.specs.Prelude.{◌≡◌, ℕ, ◌+◌, ◌<◌, ◌≤◌, ◌^◌, ◌++◌, List, Some, None, Ok, length, string_bytes, replicate, map, OnOk, IfErr};
+ghost use Rattle.std.specs.BTreeMap.{get_by_text};
+ghost use Rattle.naga_oil_lines.specs.Declarations.{declared_of};
+ghost use Rattle.naga_oil_lines.specs.Uses.{uses_of};
+ghost use Rattle.naga_oil_lines.specs.Leaves.{import_leaves, imported};
+ghost use Rattle.naga_oil_lines.specs.Substituted.{substituted, sites, first_ambiguous, used_by};
+ghost use Rattle.naga_oil_pre.specs.Line.{Line, end_place};
+ghost use Rattle.naga_oil_pre.specs.Fault.{Definitions};
+ghost use Rattle.naga_oil_pre.specs.View.{Fails};
+ghost use Rattle.naga_oil_pre.specs.Preprocessed.{Known, ended, padded, blanks, import_text, tokens_of, using_tokens, imported_piece, shown_piece};
+ghost use Rattle.naga_oil_pre.specs.Replaced.{replaced};
+ghost use Rattle.naga_oil_pre.specs.Reading.{braces_after, taken, behind_taken};
+ghost use Rattle.naga_oil_pre.specs.SourceView.{line_of};
+
+use crate::fault::{ComposerErrorInner, ShaderDefValue};
+use crate::replace::replaced_text;
+use crate::source_lines::{SourceLine, SourceLines};
+use indexmap::IndexMap;
+use naga_oil_lines::import_definition::ImportDefWithOffset;
+use naga_oil_lines::parse_imports::{ImportFault, parse_imports};
+use naga_oil_lines::substitute::{SubstituteFault, substitute_identifiers};
+use std::alloc::{AllocError, Global};
+use std::collections::BTreeMap;
+
+/// What the imports so far declare, and what the lines so far use of them.
+#[derive(Drop)]
+pub struct Imports {
+    pub declared: IndexMap<String, Vec<String>>,
+    pub used: IndexMap<String, ImportDefWithOffset>,
+}
+
+// How many braces are open behind a covered line.
+pub fn braces_after(before: usize, covered: &str) -> usize
+    requires { before + length covered.now < 2 ^ 64 }
+    ensures value { result ≡ braces_after before covered.now }
+    ensures bound { result ≤ before + length covered.now }
+{
+    let opened = covered.as_bytes().iter().filter(|b| **b == b'{').count();
+    let closed = covered.as_bytes().iter().filter(|b| **b == b'}').count();
+    (before + opened).saturating_sub(closed)
+}
+
+pub fn push_spaces(out: &mut String, count: usize) -> Result<(), AllocError>
+    ensures { OnOk result (string_bytes out.new ≡ string_bytes out.old ++ replicate count 32) }
+{
+    for _ in 0..count {
+        out.push(' ')?;
+    }
+    Ok(())
+}
+
+// Writes spaces in a line's place.
+pub fn blank_line(out: &mut String, line: &str) -> Result<(), AllocError>
+    ensures { OnOk result (string_bytes out.new ≡ string_bytes out.old ++ ended (replicate (length line.now) 32)) }
+{
+    push_spaces(out, line.len())?;
+    out.push('\n')
+}
+
+// Declares what an import of this text declares; the text stands at the offset.
+pub fn declare(
+    alloc: Global,
+    import: &str,
+    offset: usize,
+    declared: &mut IndexMap<String, Vec<String>>,
+) -> Result<(), ComposerErrorInner>
+    requires { offset + length import.now < 2 ^ 64 }
+    ensures ok { OnOk result (imported (declared_of declared.old) (import_leaves import.now) ≡ Ok (declared_of declared.new)) }
+    ensures err { IfErr result (λ e. (known : Known) (l : Line) → l.at ≡ offset → Fails e (imported_piece known l (import_leaves import.now))) }
+{
+    match parse_imports(alloc, import, declared) {
+        Ok(()) => Ok(()),
+        Err(ImportFault::Syntax(text, place)) => Err(ComposerErrorInner::ImportParseError(
+            String::from_str(alloc, text)?,
+            offset + place,
+        )),
+        Err(ImportFault::Memory) => Err(ComposerErrorInner::Memory),
+    }
+}
+
+// Blanks a line that an import takes, and writes its covered line behind the import's own. Gives the braces that are open behind it.
+fn take_line(
+    line: SourceLine<'_>,
+    braces: usize,
+    import: &mut String,
+    out: &mut String,
+) -> Result<usize, AllocError>
+    requires { braces + length (line_of line).covered < 2 ^ 64 }
+    ensures blank { OnOk result (string_bytes out.new ≡ string_bytes out.old ++ ended (replicate (length line.entry.text.now) 32)) }
+    ensures import { OnOk result (string_bytes import.new ≡ string_bytes import.old ++ ended (line_of line.entry).covered) }
+    ensures after { IfOk result (λ n. n ≡ braces_after braces (line_of line.entry).covered) }
+    ensures bound { IfOk result (λ n. n ≤ braces + length (line_of line.entry).covered) }
+{
+    blank_line(out, line.text)?;
+    import.push_str(line.covered.as_str())?;
+    import.push('\n')?;
+    Ok(braces_after(braces, line.covered.as_str()))
+}
+
+// Blanks the lines that an import takes, and writes their covered lines behind its own.
+pub fn take_lines(
+    source: &mut SourceLines<'_, '_>,
+    braces: usize,
+    import: &mut String,
+    out: &mut String,
+) -> Result<(), AllocError>
+    requires { braces ≤ source.old.place }
+    ensures left { OnOk result (source.new.left ≡ behind_taken braces source.old.left) }
+    ensures blank { OnOk result (string_bytes out.new ≡ string_bytes out.old ++ blanks (taken braces source.old.left)) }
+    ensures import { OnOk result (string_bytes import.new ≡ string_bytes import.old ++ import_text (taken braces source.old.left)) }
+    ensures fits { OnOk result (length (string_bytes import.new) + source.old.place ≤ length (string_bytes import.old) + source.new.place) }
+    ensures room { OnOk result (source.old.place ≤ 2 ^ 63 → source.new.place ≤ 2 ^ 63) }
+    ensures end { OnOk result (end_place source.new.place source.new.left ≡ end_place source.old.place source.old.left) }
+    ensures shorter { OnOk result (length source.new.left ≤ length source.old.left) }
+{
+    let mut braces = braces;
+    while braces > 0 {
+        let Some(line) = source.next()? else {
+            break;
+        };
+        braces = take_line(line, braces, import, out)?;
+    }
+    Ok(())
+}
+
+// Records what a shown line uses, by its covered line.
+pub fn record_uses(
+    alloc: Global,
+    line: &SourceLine<'_>,
+    definitions: &BTreeMap<String, ShaderDefValue>,
+    imports: &mut Imports,
+) -> Result<(), ComposerErrorInner>
+    requires { line.now.offset ≤ 2 ^ 63 }
+    ensures ok { OnOk result (first_ambiguous (declared_of imports.old.declared) false (sites line.now.offset (using_tokens (get_by_text definitions.now) (line_of line.now))) ≡ None) }
+    ensures used { OnOk result (uses_of imports.new.used ≡ used_by (declared_of imports.old.declared) line.now.offset (using_tokens (get_by_text definitions.now) (line_of line.now)) (uses_of imports.old.used)) }
+    ensures declared { OnOk result (declared_of imports.new.declared ≡ declared_of imports.old.declared) }
+    ensures err { IfErr result (λ e. (known : Known) → Fails e (shown_piece (get_by_text definitions.now) known (line_of line.now)
+        (first_ambiguous (declared_of imports.old.declared) false (sites line.now.offset (using_tokens (get_by_text definitions.now) (line_of line.now)))))) }
+{
+    let covered = replaced_text(alloc, line.covered.as_str(), definitions)?;
+    match substitute_identifiers(
+        alloc,
+        covered.as_str(),
+        line.offset,
+        &imports.declared,
+        &mut imports.used,
+        false,
+    ) {
+        Ok(_) => Ok(()),
+        Err(SubstituteFault::Ambiguous(place)) => Err(ComposerErrorInner::ImportParseError(
+            String::from_str(alloc, "Ambiguous import path for item")?,
+            place,
+        )),
+        Err(SubstituteFault::Memory) => Err(ComposerErrorInner::Memory),
+    }
+}
+
+// Writes a shown line: its values, then what its identifiers stand for, filled up to its length.
+pub fn push_shown(
+    alloc: Global,
+    line: &SourceLine<'_>,
+    definitions: &BTreeMap<String, ShaderDefValue>,
+    declared: &IndexMap<String, Vec<String>>,
+    out: &mut String,
+) -> Result<(), AllocError>
+    ensures { OnOk result (string_bytes out.new ≡ string_bytes out.old
+        ++ ended (padded (length line.now.text.now) (substituted (declared_of declared.now) (tokens_of (replaced (get_by_text definitions.now) line.now.text.now))))) }
+{
+    let replaced = replaced_text(alloc, line.text, definitions)?;
+    let mut unused = IndexMap::new(alloc);
+    let shown = match substitute_identifiers(alloc, replaced.as_str(), 0, declared, &mut unused, true) {
+        Ok(shown) => shown,
+        Err(SubstituteFault::Ambiguous(_)) => unreachable!(),
+        Err(SubstituteFault::Memory) => return Err(AllocError),
+    };
+    out.push_str(shown.as_str())?;
+    push_spaces(out, line.text.len().saturating_sub(shown.len()))?;
+    out.push('\n')
+}
