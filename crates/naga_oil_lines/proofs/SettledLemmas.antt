@@ -251,7 +251,7 @@ pub refused_is : (declared : Declared) (allowed : Bool) (s : Site) (xs : List (S
 refused_is declared allowed s xs behind e =
     ap (λ n. not allowed && nat_lt 1 n) (ap length e ∙ length-map (map string_bytes xs) (λ path. extended path behind) ∙ length-map xs string_bytes)
 
--- want of memory as the answer
-pub memory_answer : (r : Result (Unit {0}) SubstituteFault) (P : SubstituteFault → Type 0) → IsErrAnd r (λ e. e ≡ Memory) → P Memory → IfErr r P
-memory_answer (Ok u) P h p = tt
-memory_answer (Err e) P h p = subst P (sym h) p
+-- a fault as the answer
+pub fault_answer : {T : Type 0} (r : Result T SubstituteFault) (P : SubstituteFault → Type 0) (fault : SubstituteFault) → IsErrAnd r (λ e. e ≡ fault) → P fault → IfErr r P
+fault_answer (Ok u) P fault h p = tt
+fault_answer (Err e) P fault h p = subst P (sym h) p

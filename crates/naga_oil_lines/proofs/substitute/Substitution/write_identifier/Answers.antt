@@ -2,10 +2,11 @@ use Rattle.std.proofs.Common.{◌≡◌, ◌<◌, ◌++◌, [], ◌∷◌, true,
 use Rattle.std.specs.List.{flat_map}
 use Rattle.std.proofs.lemmas.Bool.Decides.{nat_tests}
 use Rattle.std.proofs.lemmas.List.{nil_from_length, length-map}
+use Rattle.naga_oil_lines.specs.declared.substitute.SubstituteFault.TheVariants.{Memory}
 use Rattle.naga_oil_lines.specs.Declarations.{declared_of, paths_of}
 use Rattle.naga_oil_lines.specs.Substituted.{first_part, behind_first, all_extended, paths_for, written, mentions_at, mentioned, recorded, Site, is_refused}
 use Rattle.naga_oil_lines.specs.Uses.{uses_of}
-use Rattle.naga_oil_lines.proofs.SettledLemmas.{own_path, paths_for_own, paths_for_declared, one_path, refused_is, refused_one, refused_none, settled_one, memory_one, mentions_one, memory_answer}
+use Rattle.naga_oil_lines.proofs.SettledLemmas.{own_path, paths_for_own, paths_for_declared, one_path, refused_is, refused_one, refused_none, settled_one, memory_one, mentions_one, fault_answer}
 use Rattle.naga_oil_lines.proofs.substitute.Substitution.write_identifier.Goals as goal
 
 pub returns-then-is_empty-clause-text : goal.returns-then-is_empty-clause-text
@@ -47,7 +48,7 @@ returns-in_err-write_path-clause-fault c =
     let empty : c.declared_paths-paths.result.now ≡ [] = nil_from_length _ (grind (arith, nat_tests)) in
     let none : paths_of declared (first_part name) ≡ [] = ap (paths_of declared) (sym c.split_identifier.ensures.first) ∙ sym c.declared_paths-paths.ensures ∙ ap (map string_bytes) empty in
     let own : paths_for declared name ≡ own_path name ∷ [] = paths_for_own declared name none in
-    memory_answer c.from_residual.result _ c.from_residual.ensures.1
+    fault_answer c.from_residual.result _ Memory c.from_residual.ensures.1
     (memory_one declared c.args.self.now.allow_ambiguous site (mentions_at c.args.place c.own_path-path.result.now) (uses_of c.args.used_imports.now) (uses_of c.write_path.new.used_imports)
     (one_path declared c.args.self.now.allow_ambiguous site (own_path name) own)
     (mentions_one declared site (own_path name ∷ []) own ∙ append-nil (mentions_at c.args.place (own_path name)) ∙ ap (mentions_at c.args.place) (sym c.own_path-path.ensures))
@@ -62,7 +63,7 @@ returns-in_err-write_paths-clause-fault c =
     let paths : paths_for declared name ≡ all_extended (map string_bytes c.declared_paths-paths.result.now) (behind_first name) =
     paths_for_declared declared name (map string_bytes c.declared_paths-paths.result.now) (c.declared_paths-paths.ensures ∙ ap (paths_of declared) c.split_identifier.ensures.first)
     (omega (arith, some, length-map c.declared_paths-paths.result.now string_bytes)) in
-    memory_answer c.from_residual-in_err-write_paths.result _ c.from_residual-in_err-write_paths.ensures.1
+    fault_answer c.from_residual-in_err-write_paths.result _ Memory c.from_residual-in_err-write_paths.ensures.1
     (memory_one declared c.args.self.now.allow_ambiguous site (flat_map (mentions_at c.args.place) (all_extended (map string_bytes c.declared_paths-paths.result.now) c.split_identifier.result.1.now))
     (uses_of c.args.used_imports.now) (uses_of c.write_paths.new.used_imports)
     (refused_is declared c.args.self.now.allow_ambiguous site c.declared_paths-paths.result.now (behind_first name) paths ∙ sym c.is_refused.ensures ∙ c.if-is_refused.false)
