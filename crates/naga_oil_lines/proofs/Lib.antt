@@ -1,6 +1,7 @@
 pub mod TextLemmas
 pub mod UsesLemmas
 pub mod SiteLemmas
+pub mod SettledLemmas
 pub mod SubstituteLemmas
 pub mod CoverLemmas
 pub mod LineLemmas

@@ -1,14 +1,14 @@
 // Writes what identifiers stand for, and records what they use of imported modules.
-ghost use Rattle.std.specs.Prelude.{◌≡◌, ℕ, ◌+◌, ◌<◌, ◌^◌, ◌++◌, ◌∷◌, [], false, None, length, map, IfOk, IfErr, OnOk, OnErr};
+ghost use Rattle.std.specs.Prelude.{◌≡◌, ℕ, ◌+◌, ◌<◌, ◌^◌, ◌++◌, ◌∷◌, [], None, not, ◌&&◌, nat_lt, length, map, IfOk, IfErr, OnOk, OnErr};
 ghost use Rattle.std.specs.Cow.{cow_str_bytes};
 ghost use Rattle.std.specs.List.{flat_map};
 ghost use Rattle.std.specs.Option.{option_map};
 ghost use Rattle.std.specs.Str.{chars};
 ghost use Rattle.std.specs.String.{string_bytes};
-ghost use Rattle.naga_oil_lines.specs.Declarations.{declared_of};
+ghost use Rattle.naga_oil_lines.specs.Declarations.{declared_of, paths_of};
 ghost use Rattle.naga_oil_lines.specs.Decorate.{decorated_name};
 ghost use Rattle.naga_oil_lines.specs.SubstituteFault.{Refuses};
-ghost use Rattle.naga_oil_lines.specs.Substituted.{module_and_item, first_part, behind_first, extended, all_extended, paths_for, written, mentions_at, recorded, Site, keeps_next, site_at, written_token, substituted, sites, mentions_of, first_ambiguous, is_refused, used_by, BeginsUses};
+ghost use Rattle.naga_oil_lines.specs.Substituted.{module_and_item, first_part, behind_first, extended, all_extended, paths_for, written, mentions_at, recorded, Site, keeps_next, site_at, written_token, substituted, sites, mentioned, first_ambiguous, place_of, used_by, BeginsUses};
 ghost use Rattle.naga_oil_lines.specs.Tokenizer.{lexeme_of};
 ghost use Rattle.naga_oil_lines.specs.Tokens.{lexemes};
 ghost use Rattle.naga_oil_lines.specs.Uses.{uses_of, with_use};
@@ -90,6 +90,25 @@ fn extended<'a>(alloc: Global, path: &'a str, behind: &str) -> Result<CowStr<'a>
     Ok(CowStr::Owned(whole))
 }
 
+// The path of an identifier that is not declared.
+fn own_path<'a>(identifier: &'a str, first: &'a str, behind: &str) -> &'a str
+    requires first { first.now ≡ first_part identifier.now }
+    requires behind { behind.now ≡ behind_first identifier.now }
+    ensures { result.now ≡ extended (first_part identifier.now) (behind_first identifier.now) }
+{
+    if behind.is_empty() { first } else { identifier }
+}
+
+// Whether an identifier behind the token is kept.
+fn keeps_next(token: Token<'_>) -> bool
+    ensures { result ≡ keeps_next (lexeme_of token.entry) }
+{
+    match token {
+        Token::Other(other, _) => other == '.' || other == '@',
+        Token::Identifier(..) | Token::Whitespace(..) => false,
+    }
+}
+
 // How the identifiers of a text are substituted.
 #[derive(Clone, Copy)]
 struct Substitution<'a> {
@@ -143,4 +162,114 @@ impl Substitution<'_> {
         }
         Ok(())
     }
+
+    // The paths that are declared for a name.
+    fn declared_paths(&self, name: &str) -> &[String]
+        ensures { map string_bytes result.now ≡ paths_of (declared_of self.now.declared_imports.now) name.now }
+    {
+        match self.declared_imports.get(name) {
+            Some(paths) => paths.as_slice(),
+            None => &[],
+        }
+    }
+
+    // Whether there are too many paths for one identifier.
+    fn is_refused(&self, paths: &[String]) -> bool
+        ensures { result ≡ (not self.now.allow_ambiguous && nat_lt 1 (length paths.now)) }
+    {
+        !self.allow_ambiguous && paths.len() > 1
+    }
+
+    // Writes what an identifier stands for, and records its uses.
+    fn write_identifier(
+        &self,
+        identifier: &str,
+        place: usize,
+        used_imports: &mut IndexMap<String, ImportDefWithOffset>,
+        output: &mut String,
+    ) -> Result<(), SubstituteFault>
+        ensures text { OnOk result (string_bytes output.new ≡ string_bytes output.old ++ flat_map (written identifier.now) (paths_for (declared_of self.now.declared_imports.now) identifier.now)) }
+        ensures used { OnOk result (uses_of used_imports.new ≡ recorded (uses_of used_imports.old) (mentioned (declared_of self.now.declared_imports.now) (record { name = identifier.now; place = place } ∷ []))) }
+        ensures allowed { OnOk result (first_ambiguous (declared_of self.now.declared_imports.now) self.now.allow_ambiguous (record { name = identifier.now; place = place } ∷ []) ≡ None) }
+        ensures fault { IfErr result (λ e. Refuses (declared_of self.now.declared_imports.now) self.now.allow_ambiguous (record { name = identifier.now; place = place } ∷ []) (uses_of used_imports.old) (uses_of used_imports.new) e) }
+    {
+        let (first, behind) = split_identifier(identifier);
+        let paths = self.declared_paths(first);
+        if paths.is_empty() {
+            let path = own_path(identifier, first, behind);
+            self.write_path(identifier, path, place, used_imports, output)?;
+            return Ok(());
+        }
+        if self.is_refused(paths) {
+            return Err(SubstituteFault::Ambiguous(place));
+        }
+        self.write_paths(identifier, paths, behind, place, used_imports, output)?;
+        Ok(())
+    }
+
+    // Writes a token, whose identifier is kept or substituted.
+    fn write_token(
+        &self,
+        token: Token<'_>,
+        kept: bool,
+        used_imports: &mut IndexMap<String, ImportDefWithOffset>,
+        output: &mut String,
+    ) -> Result<(), SubstituteFault>
+        requires { self.now.offset + place_of (lexeme_of token) < 2 ^ 64 }
+        ensures text { OnOk result (string_bytes output.new ≡ string_bytes output.old ++ written_token (declared_of self.now.declared_imports.now) kept (lexeme_of token.entry)) }
+        ensures used { OnOk result (uses_of used_imports.new ≡ recorded (uses_of used_imports.old) (mentioned (declared_of self.now.declared_imports.now) (site_at self.now.offset kept (lexeme_of token.entry)))) }
+        ensures allowed { OnOk result (first_ambiguous (declared_of self.now.declared_imports.now) self.now.allow_ambiguous (site_at self.now.offset kept (lexeme_of token.entry)) ≡ None) }
+        ensures fault { IfErr result (λ e. Refuses (declared_of self.now.declared_imports.now) self.now.allow_ambiguous (site_at self.now.offset kept (lexeme_of token.entry)) (uses_of used_imports.old) (uses_of used_imports.new) e) }
+    {
+        match token {
+            Token::Identifier(identifier, at) => {
+                if !kept {
+                    return self.write_identifier(
+                        identifier,
+                        self.offset + at,
+                        used_imports,
+                        output,
+                    );
+                }
+                output.push_str(identifier)?;
+            }
+            Token::Whitespace(text, _) => output.push_str(text)?,
+            Token::Other(other, _) => output.push(other)?,
+        }
+        Ok(())
+    }
+}
+
+/// Writes a text with what its identifiers stand for by the declared imports, and records in `used_imports` what they
+/// use, at their places, in bytes, counted from the offset. Behind `.` or `@` an identifier is kept. An identifier with
+/// several paths is refused, or these are written one after another.
+///
+/// After a refusal `used_imports` holds a beginning of the uses, and after `Ambiguous` those before its place.
+pub fn substitute_identifiers(
+    alloc: Global,
+    input: &str,
+    offset: usize,
+    declared_imports: &IndexMap<String, Vec<String>>,
+    used_imports: &mut IndexMap<String, ImportDefWithOffset>,
+    allow_ambiguous: bool,
+) -> Result<String, SubstituteFault>
+    requires { offset + length input.now < 2 ^ 64 }
+    ensures text { IfOk result (λ t. string_bytes t ≡ substituted (declared_of declared_imports.now) (lexemes 0 0 (chars input.now))) }
+    ensures used { OnOk result (uses_of used_imports.new ≡ used_by (declared_of declared_imports.now) offset (lexemes 0 0 (chars input.now)) (uses_of used_imports.old)) }
+    ensures allowed { OnOk result (first_ambiguous (declared_of declared_imports.now) allow_ambiguous (sites offset (lexemes 0 0 (chars input.now))) ≡ None) }
+    ensures fault { IfErr result (λ e. Refuses (declared_of declared_imports.now) allow_ambiguous (sites offset (lexemes 0 0 (chars input.now))) (uses_of used_imports.old) (uses_of used_imports.new) e) }
+{
+    let substitution = Substitution {
+        alloc,
+        declared_imports,
+        allow_ambiguous,
+        offset,
+    };
+    let mut output = String::with_capacity(alloc, input.len())?;
+    let mut kept = false;
+    for token in Tokenizer::new(input, true) {
+        substitution.write_token(token, kept, used_imports, &mut output)?;
+        kept = keeps_next(token);
+    }
+    Ok(output)
 }
