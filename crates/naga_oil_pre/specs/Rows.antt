@@ -1,6 +1,6 @@
 -- Rows, computed.
 use Rattle.std.specs.Prelude.{◌≡◌, ℕ, refl, true, List, [], ◌∷◌, ◌++◌, codes, bytes_eq, if◌then◌else◌, Some, None, Ok, Err, replicate}
-use Rattle.naga_oil_pre.specs.declared.fault.ShaderDefValue.TheVariants as def
+use Rattle.naga_oil_pre.specs.declared.shader_def.ShaderDefValue.TheVariants as def
 use Rattle.naga_oil_pre.specs.Computing.{line_kinds}
 use Rattle.naga_oil_pre.specs.Fault.{Definitions, Fault, comparison, not_enough_end_ifs, too_many_end_ifs, unknown_def, invalid_version}
 use Rattle.naga_oil_pre.specs.Reading.{reading, read_block, read_arms}

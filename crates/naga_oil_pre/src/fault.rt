@@ -1,14 +1,6 @@
 // What can be wrong with a text.
 use std::alloc::{AllocError, AllocFailed};
 
-/// What a name is defined as.
-#[derive(Clone, Copy, Debug, PartialEq, Eq)]
-pub enum ShaderDefValue {
-    Bool(bool),
-    Int(i32),
-    UInt(u32),
-}
-
 #[derive(Debug, Drop)]
 pub enum ComposerErrorInner {
     UnknownShaderDef {

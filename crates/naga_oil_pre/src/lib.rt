@@ -20,13 +20,15 @@ ghost use Rattle.naga_oil_pre.specs.declared.scope.ScopeLevel.{ScopeLevel};
 ghost use Rattle.std.specs.Str.Iter.{lines_rest};
 
 mod fault;
-mod line_kind;
+pub mod line_kind;
 pub mod laws;
 mod scope;
+mod shader_def;
 
-pub use fault::{ComposerErrorInner, ShaderDefValue};
+pub use fault::ComposerErrorInner;
 use line_kind::{Condition, LineKind, line_kind};
 use scope::Scope;
+pub use shader_def::{ShaderDefValue, defined_value};
 use std::alloc::{AllocError, Global};
 use std::cmp::Ordering;
 use std::collections::BTreeMap;
