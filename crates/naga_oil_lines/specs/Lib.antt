@@ -1,7 +1,9 @@
 pub mod Text
-pub mod Declared
+pub mod Declarations
 pub mod Cover
 pub mod CoveredLines
 pub mod Tokens
 pub mod Tokenizer
 pub mod TokenGrammar
+pub mod Decorate
+pub mod DecorateRows
