@@ -13,7 +13,7 @@ use Rattle.std.proofs.lemmas.List.Folds.{length-prefix_len}
 use Rattle.naga_oil_lines.specs.Text.{BeginsWithChar}
 use Rattle.naga_oil_lines.proofs.TextLemmas.{chars_before}
 use Rattle.naga_oil_lines.proofs.TokenLemmas.{suffix_more}
-use Rattle.naga_oil_pre.specs.declared.fault.ShaderDefValue.{ShaderDefValue}
+use Rattle.naga_oil_pre.specs.declared.shader_def.ShaderDefValue.{ShaderDefValue}
 use Rattle.naga_oil_pre.specs.Fault.{Definitions}
 use Rattle.naga_oil_pre.specs.Replaced.{HashName, is_name_char, begins_with, name_at, name_in_braces, hash_name, pieces, piece_text, value_text, value_or, replaced_from}
 use Rattle.naga_oil_pre.specs.Splits.{IsBehind, SplitsName, SplitsHashName, SplitsAtHash}

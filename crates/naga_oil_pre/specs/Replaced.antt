@@ -5,8 +5,8 @@ use Rattle.std.specs.List.{prefix_len, flat_map}
 use Rattle.std.specs.Char.{is_whitespace}
 use Rattle.std.specs.Fmt.{signed_decimal}
 use Rattle.ucd_perl.specs.Perl.{is_word_char}
-use Rattle.naga_oil_pre.specs.declared.fault.ShaderDefValue.{ShaderDefValue}
-use Rattle.naga_oil_pre.specs.declared.fault.ShaderDefValue.TheVariants as def
+use Rattle.naga_oil_pre.specs.declared.shader_def.ShaderDefValue.{ShaderDefValue}
+use Rattle.naga_oil_pre.specs.declared.shader_def.ShaderDefValue.TheVariants as def
 use Rattle.naga_oil_pre.specs.Fault.{Definitions}
 
 -- a character of a name

@@ -2,14 +2,6 @@
 use std::alloc::{AllocError, AllocFailed};
 use thiserror::Error;
 
-/// What a name is defined as.
-#[derive(Clone, Copy, Debug, PartialEq, Eq)]
-pub enum ShaderDefValue {
-    Bool(bool),
-    Int(i32),
-    UInt(u32),
-}
-
 /// What is wrong with a text. Places are bytes from 0, those of the first byte of a line.
 #[derive(Debug, Drop, Error)]
 pub enum ComposerErrorInner {

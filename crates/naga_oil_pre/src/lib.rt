@@ -8,6 +8,7 @@
 //! - `scope`: the chains of conditions that are open.
 //! - `replace`: values for the names of a line.
 //! - `source_lines`: the lines of a text with their covered lines.
+//! - `shader_def`: what a name is defined as.
 //! - `fault`: what can be wrong with a text.
 //! - `laws`: what holds of every text.
 #![tactic(auto)]
@@ -15,11 +16,13 @@
 mod condition;
 mod fault;
 pub mod laws;
-mod line_kind;
+pub mod line_kind;
 mod preprocess;
 mod replace;
 mod scope;
+mod shader_def;
 mod source_lines;
 
-pub use fault::{ComposerErrorInner, ShaderDefValue};
+pub use fault::ComposerErrorInner;
 pub use preprocess::{PreprocessOutput, Preprocessor};
+pub use shader_def::{ShaderDefValue, defined_value};

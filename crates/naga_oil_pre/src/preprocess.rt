@@ -14,10 +14,11 @@ ghost use Rattle.naga_oil_pre.specs.SourceView.{line_of};
 ghost use Rattle.naga_oil_pre.specs.declared.scope.ScopeLevel.{ScopeLevel};
 
 use crate::condition::evaluate;
-use crate::fault::{ComposerErrorInner, ShaderDefValue};
+use crate::fault::ComposerErrorInner;
 use crate::line_kind::{LineKind, line_kind};
 use crate::replace::push_replaced;
 use crate::scope::Scope;
+use crate::shader_def::ShaderDefValue;
 use crate::source_lines::{SourceLine, SourceLines};
 use naga_oil_lines::comment_strip_iter::CommentReplaceExt;
 use std::alloc::{AllocError, Global};

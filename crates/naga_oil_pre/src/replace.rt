@@ -8,7 +8,7 @@ ghost use Rattle.naga_oil_lines.specs.Text.{BeginsWithChar};
 ghost use Rattle.naga_oil_pre.specs.Replaced as spec;
 ghost use Rattle.naga_oil_pre.specs.Splits.{IsBehind, SplitsName, SplitsHashName, SplitsAtHash};
 
-use crate::fault::ShaderDefValue;
+use crate::shader_def::ShaderDefValue;
 use naga_oil_lines::text::{after_whitespace, split_first_char, text_before};
 use std::alloc::{AllocError, Global};
 use std::borrow::CowStr;
