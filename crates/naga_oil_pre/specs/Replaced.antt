@@ -74,14 +74,15 @@ piece_text defs (named name own) = value_or (defs (encode_utf8_all name)) (encod
 unfoldable pub replaced_from : Definitions → List ℕ → List ℕ
 replaced_from defs cs = flat_map (piece_text defs) (pieces 0 cs)
 
--- the line with its `#` names replaced
+-- a line with its `#` names replaced
 unfoldable pub replaced : Definitions → List ℕ → List ℕ
 replaced defs line = replaced_from defs (chars line)
 
+-- the name that a piece is, if it is one
 abbrev pub name_of : Piece → List (List ℕ)
 name_of (plain c) = []
-name_of (named name own) = name ∷ []
+name_of (named name own) = encode_utf8_all name ∷ []
 
--- the `#` names of a line, in order
+-- the `#` names of a line, in order, as bytes
 unfoldable pub hash_names : List ℕ → List (List ℕ)
 hash_names line = flat_map name_of (pieces 0 (chars line))
