@@ -5,3 +5,6 @@ pub mod CoveredLinesLemmas
 pub mod TokenLemmas
 pub mod GrammarLemmas
 pub mod XidLemmas
+pub mod OneTokenList
+pub mod Base32Lemmas
+pub mod DecorateLemmas

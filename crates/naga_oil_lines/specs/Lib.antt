@@ -5,3 +5,5 @@ pub mod CoveredLines
 pub mod Tokens
 pub mod Tokenizer
 pub mod TokenGrammar
+pub mod Decorate
+pub mod DecorateRows

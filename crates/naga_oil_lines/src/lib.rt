@@ -2,5 +2,6 @@
 #![tactic(auto)]
 
 pub mod comment_strip_iter;
+pub mod decorate;
 pub mod text;
 pub mod tokenizer;

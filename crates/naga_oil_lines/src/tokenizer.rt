@@ -1,9 +1,10 @@
 // Cuts a text into identifiers, white space and single characters.
-ghost use Rattle.std.specs.Prelude.{◌≡◌, ℕ, ◌+◌, ◌<◌, ◌≤◌, ◌^◌, ◌++◌, ◌∷◌, ◌==◌, List, length, drop, MatchOption, true, false, Bool};
+ghost use Rattle.std.specs.Prelude.{◌≡◌, ◌↔◌, ℕ, ◌+◌, ◌<◌, ◌≤◌, ◌^◌, ◌++◌, ◌∷◌, ◌==◌, List, length, drop, MatchOption, true, false, Bool};
 ghost use Rattle.std.specs.Char.{encode_utf8, is_whitespace};
 ghost use Rattle.std.specs.Str.{chars};
 ghost use Rattle.std.specs.List.{prefix_len};
-ghost use Rattle.naga_oil_lines.specs.Tokens.{continued, starts_identifier};
+ghost use Rattle.naga_oil_lines.specs.Tokens.{Lexeme, continued, lexemes, starts_identifier};
+ghost use Rattle.naga_oil_lines.specs.TokenGrammar.{AreTokens};
 
 use crate::text::{after_whitespace, split_first_char};
 use unicode_ident::{is_xid_continue, is_xid_start};
@@ -65,8 +66,7 @@ pub struct Tokenizer<'a> {
 
 impl<'a> Tokenizer<'a> {
     ghost use Rattle.naga_oil_lines.specs.Tokenizer.{tokens_left};
-    ghost use Rattle.naga_oil_lines.specs.Tokens.{lexemes, shown};
-    ghost use Rattle.naga_oil_lines.specs.TokenGrammar.{AreTokens};
+    ghost use Rattle.naga_oil_lines.specs.Tokens.{shown};
 
     pub fn new(src: &'a str, emit_whitespace: bool) -> Tokenizer<'a>
         ensures left { tokens_left result ≡ shown emit_whitespace (lexemes 0 0 (chars src.now)) }
@@ -124,3 +124,8 @@ impl<'a> Iterator for Tokenizer<'a> {
         None
     }
 }
+
+/// A text has one list of tokens.
+pub fn one_token_list()
+    ensures { (at : ℕ) (cs : List ℕ) (ts : List Lexeme) → AreTokens at cs ts ↔ (ts ≡ lexemes 0 at cs) }
+{}

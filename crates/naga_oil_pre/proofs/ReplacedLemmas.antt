@@ -17,7 +17,8 @@ use Rattle.naga_oil_lines.proofs.TextLemmas.{chars_before}
 use Rattle.naga_oil_lines.proofs.TokenLemmas.{suffix_more}
 use Rattle.naga_oil_pre.specs.declared.fault.ShaderDefValue.{ShaderDefValue}
 use Rattle.naga_oil_pre.specs.Fault.{Definitions}
-use Rattle.naga_oil_pre.specs.Replaced.{HashName, plain, named, is_name_char, begins_with, name_at, name_in_braces, hash_name, pieces, piece_text, value_text, value_or, replaced_from, replaced}
+use Rattle.naga_oil_pre.specs.LineKinds.{is_name_char}
+use Rattle.naga_oil_pre.specs.Replaced.{HashName, plain, named, begins_with, name_at, name_in_braces, hash_name, pieces, piece_text, value_text, value_or, replaced_from, replaced}
 use Rattle.naga_oil_pre.specs.Splits.{IsBehind, SplitsName, SplitsHashName, SplitsAtHash}
 use Rattle.std.specs.Fmt.{decimal, digits, digits_onto, digit_glyph}
 use Rattle.std.proofs.lemmas.List.Sums.{sum_by-append, sum_by-cons}

@@ -5,25 +5,20 @@ ghost use Rattle.std.specs.Cow.{cow_str_bytes, IsBorrowedStr};
 ghost use Rattle.std.specs.List.{prefix_len};
 ghost use Rattle.std.specs.Str.{chars, IsUtf8, NoCharPasses};
 ghost use Rattle.naga_oil_lines.specs.Text.{BeginsWithChar};
+ghost use Rattle.naga_oil_pre.specs.LineKinds.{is_name_char};
 ghost use Rattle.naga_oil_pre.specs.Replaced as spec;
 ghost use Rattle.naga_oil_pre.specs.Splits.{IsBehind, SplitsName, SplitsHashName, SplitsAtHash};
 
 use crate::fault::ShaderDefValue;
+use crate::line_kind::is_name_char;
 use naga_oil_lines::text::{after_whitespace, split_first_char, text_before};
 use std::alloc::{AllocError, Global};
 use std::borrow::CowStr;
 use std::collections::BTreeMap;
-use ucd_perl::is_word_character;
-
-fn is_name_char(c: char) -> bool
-    ensures { result ≡ spec.is_name_char c }
-{
-    is_word_character(c) || c == '|'
-}
 
 // What is left of a text behind the characters of names that it begins with.
 fn after_name(text: &str) -> &str
-    ensures chars { chars result.now ≡ drop (prefix_len spec.is_name_char (chars text.now)) (chars text.now) }
+    ensures chars { chars result.now ≡ drop (prefix_len is_name_char (chars text.now)) (chars text.now) }
     ensures suffix { (front : List ℕ) × (text.now ≡ front ++ result.now) }
 {
     let mut rest = text;
@@ -46,7 +41,7 @@ fn past_char(text: &str, wanted: char) -> Option<&str>
 
 // The name that the text begins with, and what follows it.
 fn split_name(text: &str) -> Option<(&str, &str)>
-    ensures { MatchOption result (prefix_len spec.is_name_char (chars text.now) ≡ 0) (λ r. SplitsName text.now r.0.now r.1.now) }
+    ensures { MatchOption result (prefix_len is_name_char (chars text.now) ≡ 0) (λ r. SplitsName text.now r.0.now r.1.now) }
 {
     let rest = after_name(text);
     let name = text_before(text, rest);

@@ -1,0 +1,38 @@
+-- How the items of a module are named in the one shader. Bits, letters and padding are those of base32 (RFC 4648 section 6).
+use Rattle.std.specs.Prelude.{ℕ, zero, suc, ◌+◌, ◌-◌, ◌*◌, ◌/◌, ◌%◌, ◌^◌, if◌then◌else◌, nat_lt, Option, Some, None, List, [], ◌∷◌, ◌++◌, fold, take, replicate, codes}
+use Rattle.std.specs.List.{flat_map}
+
+-- the lowest bits of a number, the highest of them first
+abbrev pub bits : ℕ → ℕ → List ℕ
+bits zero n = []
+bits (suc k) n = n / 2 ^ k % 2 ∷ bits k n
+
+-- the number with these bits
+abbrev pub number : List ℕ → ℕ
+number bs = fold (λ n b. 2 * n + b) 0 bs
+
+-- the letter of five bits: A to Z, then 2 to 7
+abbrev pub letter : ℕ → ℕ
+letter n = if nat_lt n 26 then 65 + n else 50 + (n - 26)
+
+-- the letters of bits, five to a letter, the last five filled with zero bits
+unfoldable pub letters : List ℕ → List ℕ
+letters [] = []
+letters (a ∷ b ∷ c ∷ d ∷ e ∷ more) = letter (number (a ∷ b ∷ c ∷ d ∷ e ∷ [])) ∷ letters more
+letters few = letter (number (take 5 (few ++ replicate 4 0))) ∷ []
+
+-- the bytes in base32, without padding
+abbrev pub base32 : List ℕ → List ℕ
+base32 bytes = letters (flat_map (bits 8) bytes)
+
+-- the marks between an item and its module: of an item, and of a function that overrides it
+abbrev pub module_mark : List ℕ
+module_mark = codes "X_naga_oil_mod_X"
+
+abbrev pub override_mark : List ℕ
+override_mark = codes "X_naga_oil_vrt_X"
+
+-- the name of a module's item; one of no module keeps its name
+abbrev pub decorated_name : Option (List ℕ) → List ℕ → List ℕ
+decorated_name None item = item
+decorated_name (Some module_name) item = item ++ module_mark ++ base32 module_name ++ codes "X"
