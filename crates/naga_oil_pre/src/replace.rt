@@ -7,7 +7,7 @@ ghost use Rattle.std.specs.Str.{chars, IsUtf8, NoCharPasses};
 ghost use Rattle.naga_oil_lines.specs.Text.{BeginsWithChar};
 ghost use Rattle.naga_oil_pre.specs.LineKinds.{is_name_char};
 ghost use Rattle.naga_oil_pre.specs.Replaced as spec;
-ghost use Rattle.naga_oil_pre.specs.Splits.{IsBehind, SplitsName, SplitsHashName, SplitsAtHash};
+ghost use Rattle.naga_oil_pre.specs.Splits.{SplitsName, SplitsHashName, SplitsAtHash};
 
 use crate::fault::ShaderDefValue;
 use crate::line_kind::is_name_char;
