@@ -1,4 +1,10 @@
 // What `oil` does with its words, its files and its streams.
+ghost use Rattle.std.specs.Prelude.{◌≡◌, ◌+◌, ◌≤◌, None, Err, IsSome, OnOk, IfErr, OnErr};
+ghost use Rattle.std.specs.Io.KnownBytes.{Appends};
+ghost use Rattle.naga_oil_mini.specs.declared.mini.refusal.Refusal.{Refusal};
+ghost use Rattle.naga_oil_mini.specs.Words.{texts, asked_file};
+ghost use Rattle.naga_oil_mini.specs.Told.{Refuses, Tells, status_of};
+
 mod definitions;
 mod pre;
 mod refusal;
@@ -19,6 +25,9 @@ fn answer<'a, F: FnMut(&str) -> Result<Option<Vec<u8>>, AllocError> + Drop, O: W
     out: &mut O,
 ) -> Result<(), Refusal<'a>>
     requires { F.IsAlwaysCallable read }
+    ensures ok { OnOk result (IsSome (asked_file (texts words.now))) }
+    ensures err { IfErr result (Refuses (texts words.now)) }
+    ensures untouched { asked_file (texts words.now) ≡ None → out.new ≡ out.old }
 {
     let Some((file, given)) = words::asked(words) else {
         return Err(Refusal::Usage);
@@ -34,13 +43,18 @@ fn answer<'a, F: FnMut(&str) -> Result<Option<Vec<u8>>, AllocError> + Drop, O: W
     write_to(out, source.as_bytes()).map_err(|_| Refusal::Write)
 }
 
-fn write_to<O: Write>(out: &mut O, bytes: &[u8]) -> io::Result<()> {
+fn write_to<O: Write>(out: &mut O, bytes: &[u8]) -> io::Result<()>
+    ensures { OnOk result (Appends (O.contents out.old) (O.contents out.new) bytes.now) }
+{
     out.write_all(bytes)?;
     out.flush()
 }
 
-fn report<E: Write>(refusal: &Refusal<'_>, err: &mut E) -> io::Result<()> {
-    writeln!(err, "{refusal}")?;
+// Tells why nothing is written, by a line.
+fn report<E: Write>(refusal: Refusal<'_>, err: &mut E) -> io::Result<()>
+    ensures { OnOk result (Tells refusal.entry (E.contents err.old) (E.contents err.new)) }
+{
+    err.writeln(refusal)?;
     err.flush()
 }
 
@@ -61,6 +75,12 @@ pub fn oil<
     err: &mut E,
 ) -> u8
     requires { F.IsAlwaysCallable read }
+    ensures statuses { result ≤ 2 }
+    ensures asked { result ≡ 0 → IsSome (asked_file (texts words.now)) }
+    // The words and the file are refused by a line.
+    ensures refused { result ≡ 2 → (e : Refusal) × Refuses (texts words.now) e × (status_of e ≡ 2) × Tells e (E.contents err.old) (E.contents err.new) }
+    ensures usage { asked_file (texts words.now) ≡ None → 1 ≤ result }
+    ensures untouched { asked_file (texts words.now) ≡ None → out.new ≡ out.old }
 {
     let Err(refusal) = answer(alloc, words, read, out) else {
         return 0;
@@ -68,8 +88,9 @@ pub fn oil<
     if let Refusal::Write = refusal {
         return 1;
     }
-    match report(&refusal, err) {
-        Ok(()) => refusal.status(),
+    let status = refusal.status();
+    match report(refusal, err) {
+        Ok(()) => status,
         Err(_) => 1,
     }
 }

@@ -1,4 +1,8 @@
 // Definitions that are given by words.
+ghost use Rattle.std.specs.Prelude.{IfErr};
+ghost use Rattle.naga_oil_mini.specs.Words.{texts};
+ghost use Rattle.naga_oil_mini.specs.Told.{RefusesDefinitions};
+
 use super::refusal::Refusal;
 use super::shim::{ShaderDefValue, defined_value, is_name};
 use super::words::is_definition;
@@ -40,7 +44,9 @@ pub fn define(
 }
 
 /// The definitions among the words. Of one name the last counts.
-pub fn given(alloc: Global, words: &[String]) -> Result<Definitions, Refusal<'_>> {
+pub fn given(alloc: Global, words: &[String]) -> Result<Definitions, Refusal<'_>>
+    ensures { IfErr result (RefusesDefinitions (texts words.now)) }
+{
     let mut definitions = BTreeMap::new(alloc);
     for word in words {
         let word = word.as_str();

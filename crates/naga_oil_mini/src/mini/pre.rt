@@ -1,18 +1,24 @@
 // A text behind preprocessing, under definitions and its own.
+ghost use Rattle.std.specs.Prelude.{◌≡◌, IfOk, string_bytes};
+ghost use Rattle.std.specs.List.{join_with_byte};
+ghost use Rattle.std.specs.Str.Lines.{lines};
+
 use super::definitions::{Definitions, define};
 use super::shim::{ComposerErrorInner, LineKind, Preprocessor, defined_value, line_kind};
 use naga_oil_lines::comment_strip_iter::CommentReplaceExt;
 use std::alloc::{AllocError, Global};
 
 // The lines joined, so that the last line's end goes.
-fn joined(alloc: Global, text: &str) -> Result<String, AllocError> {
+fn joined(alloc: Global, text: &str) -> Result<String, AllocError>
+    ensures { IfOk result (λ s. string_bytes s ≡ join_with_byte 10 (lines text.now)) }
+{
     let mut lines = text.lines();
     let mut out = String::with_capacity(alloc, text.len())?;
     let Some(first) = lines.next() else {
         return Ok(out);
     };
     out.push_str(first)?;
-    for line in lines {
+    while let Some(line) = lines.next() {
         out.push('\n')?;
         out.push_str(line)?;
     }

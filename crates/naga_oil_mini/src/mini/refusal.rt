@@ -16,7 +16,13 @@ pub enum Refusal<'a> {
 }
 
 impl Refusal<'_> {
-    pub fn status(&self) -> u8 {
+    ghost use Rattle.std.specs.Prelude.{◌≡◌};
+    ghost use Rattle.naga_oil_mini.specs.Told.{status_of};
+
+    /// The status that `oil` ends with.
+    pub fn status(&self) -> u8
+        ensures { result ≡ status_of self.now }
+    {
         match self {
             Refusal::Usage | Refusal::BadDefinition(_) | Refusal::CannotRead(_) => 2,
             Refusal::Fault(_) | Refusal::Write => 1,
@@ -25,6 +31,10 @@ impl Refusal<'_> {
 }
 
 impl fmt::Display for Refusal<'_> {
+    ghost use Rattle.naga_oil_mini.specs.Told.{message_of};
+
+    ghost output = { message_of };
+
     fn fmt<W: fmt::Write>(&self, f: &mut fmt::Formatter<W>) -> fmt::Result {
         match self {
             Refusal::Usage => write!(f, "usage: oil pre FILE [NAME=VALUE..] | oil make TOP [MODULE..] [+NAME..] [NAME=VALUE..]"),
@@ -37,12 +47,21 @@ impl fmt::Display for Refusal<'_> {
 }
 
 impl From<ComposerErrorInner> for Refusal<'_> {
+    ghost use Rattle.std.specs.Prelude.{◌≡◌};
+    ghost use Rattle.naga_oil_mini.specs.declared.mini.refusal.Refusal.TheVariants.{Fault};
+
+    ghost from_gives = { λ fault refusal. refusal ≡ Fault fault };
+
     fn from(fault: ComposerErrorInner) -> Self {
         Refusal::Fault(fault)
     }
 }
 
 impl From<AllocError> for Refusal<'_> {
+    ghost use Rattle.naga_oil_mini.specs.Told.{IsFault};
+
+    ghost from_gives = { λ _ refusal. IsFault refusal };
+
     fn from(error: AllocError) -> Self {
         Refusal::Fault(ComposerErrorInner::from(error))
     }
