@@ -1,6 +1,8 @@
 -- What a line is, by its text alone.
-use Rattle.std.specs.Prelude.{ℕ, Bool, true, false, ◌||◌, if◌then◌else◌, List, [], codes, bytes_eq, nat_eq, Option, Some, None, is_some, length, drop}
-use Rattle.std.specs.List.{starts_with}
+use Rattle.std.specs.Prelude.{ℕ, Bool, true, if◌then◌else◌, List, codes, Option, Some, None}
+use Rattle.std.specs.Str.{chars}
+use Rattle.naga_oil_pre.specs.LineKinds.{◌>>=◌}
+use Rattle.naga_oil_pre.specs.LineKinds as grammar
 
 pub data Condition : Type 0 where
   -- the name is defined, and is not
@@ -25,30 +27,33 @@ pub data LineKind : Type 0 where
   define : (name : List ℕ) (value : Option (List ℕ)) → LineKind
   other : LineKind
 
--- what follows a front that the line begins with
-abbrev pub after_front : List ℕ → List ℕ → Option (List ℕ)
-after_front front line = if starts_with nat_eq line front then Some (drop (length front) line) else None
-
 infixr 20 ◌or_else◌
 abbrev pub ◌or_else◌ : Option LineKind → LineKind → LineKind
 (Some k) or_else next = k
 None or_else next = next
 
-abbrev pub read_as : (List ℕ → LineKind) → Option (List ℕ) → Option LineKind
+-- a kind made of what was read, if it was
+abbrev pub read_as : {A : Type 0} → (A → LineKind) → Option A → Option LineKind
 read_as f None = None
-read_as f (Some rest) = Some (f rest)
+read_as f (Some groups) = Some (f groups)
 
--- the first kind that fits (simple forms)
+-- the kind by what follows the `#`: the first that fits
+unfoldable pub kind_behind_hash : List ℕ → LineKind
+kind_behind_hash cs =
+    read_as (λ r. condition r.0 (defined r.1)) (grammar.ifdef cs)
+    or_else (read_as (λ r. condition r.0 (undefined r.1)) (grammar.ifndef cs)
+    or_else (read_as (λ r. condition r.0 (compares r.1 r.2 r.3)) (grammar.if_condition cs)
+    or_else (if grammar.begins_with (codes "else") cs then condition true otherwise
+    else (if grammar.begins_with (codes "endif") cs then endif
+    else (if grammar.is_import cs then imports
+    else (read_as import_path (grammar.import_path cs)
+    or_else (read_as (λ r. define r.0 r.1) (grammar.define cs)
+    or_else other)))))))
+
+-- the kind of a line where versions are not read
+unfoldable pub unversioned_kind_of : List ℕ → LineKind
+unversioned_kind_of line = read_as kind_behind_hash (grammar.past_hash (chars line)) or_else other
+
+-- the kind of a line: a version, or else one of the others
 unfoldable pub kind_of : List ℕ → LineKind
-kind_of line =
-    read_as (λ v. version (bytes_eq v (codes "440") || bytes_eq v (codes "450"))) (after_front (codes "#version ") line)
-    or_else (read_as (λ name. condition false (defined name)) (after_front (codes "#ifdef ") line)
-    or_else (read_as (λ name. condition true (defined name)) (after_front (codes "#else ifdef ") line)
-    or_else (read_as (λ name. condition false (undefined name)) (after_front (codes "#ifndef ") line)
-    or_else (read_as (λ name. condition true (undefined name)) (after_front (codes "#else ifndef ") line)
-    or_else (read_as (λ name. condition false (compares name (codes "==") (codes "true"))) (after_front (codes "#if ") line)
-    or_else (read_as (λ name. condition true (compares name (codes "==") (codes "true"))) (after_front (codes "#else if ") line)
-    or_else (if is_some (after_front (codes "#else") line) then condition true otherwise
-    else (if is_some (after_front (codes "#endif") line) then endif
-    else (if is_some (after_front (codes "#import ") line) then imports
-    else (if is_some (after_front (codes "#define") line) then define [] None else other))))))))))
+kind_of line = read_as version (grammar.past_hash (chars line) >>= grammar.version) or_else unversioned_kind_of line

@@ -1,10 +1,22 @@
 -- The kind of a line as the code has it.
-use Rattle.std.specs.Prelude.{option_copied}
+use Rattle.std.specs.Prelude.{ℕ, Bool, option_copied}
+use Rattle.std.specs.Char.{is_not_whitespace, is_ascii_digit}
+use Rattle.naga_oil_pre.specs.LineKinds.{is_name_char, is_value_char, is_operator_char}
+use Rattle.naga_oil_pre.specs.declared.line_kind.CharClass.{CharClass}
+use Rattle.naga_oil_pre.specs.declared.line_kind.CharClass.TheVariants as class
 use Rattle.naga_oil_pre.specs.declared.line_kind.Condition as code
 use Rattle.naga_oil_pre.specs.declared.line_kind.Condition.TheVariants as c
 use Rattle.naga_oil_pre.specs.declared.line_kind.LineKind as kinds
 use Rattle.naga_oil_pre.specs.declared.line_kind.LineKind.TheVariants as k
 use Rattle.naga_oil_pre.specs.Kind.{LineKind, version, condition, endif, imports, import_path, define, other, Condition, defined, undefined, compares, otherwise}
+
+-- what is in a class of characters
+abbrev pub class_of : CharClass → ℕ → Bool
+class_of class.Digit = is_ascii_digit
+class_of class.Visible = is_not_whitespace
+class_of class.Name = is_name_char
+class_of class.Value = is_value_char
+class_of class.Operator = is_operator_char
 
 abbrev pub condition_of : code.Condition → Condition
 condition_of (c.Defined name) = defined name.now

@@ -1,0 +1,40 @@
+use Rattle.std.proofs.Common.{rules}
+use Rattle.std.specs.Str.{chars}
+use Rattle.naga_oil_pre.specs.Kind.{kind_behind_hash}
+use Rattle.naga_oil_pre.proofs.line_kind.kind_behind_hash.Goals as goal
+
+pub returns-in-Some : goal.returns-in-Some
+unfolding kind_behind_hash chars
+returns-in-Some c = search rules
+
+pub returns-in-Some-ifndef : goal.returns-in-Some-ifndef
+unfolding kind_behind_hash chars
+returns-in-Some-ifndef c = search rules
+
+pub returns-in-Some-if_condition : goal.returns-in-Some-if_condition
+unfolding kind_behind_hash chars
+returns-in-Some-if_condition c = search rules
+
+pub returns-then-begins_with : goal.returns-then-begins_with
+unfolding kind_behind_hash chars
+returns-then-begins_with c = search rules
+
+pub returns-then-begins_with-2 : goal.returns-then-begins_with-2
+unfolding kind_behind_hash chars
+returns-then-begins_with-2 c = search rules
+
+pub returns-then-is_some : goal.returns-then-is_some
+unfolding kind_behind_hash chars
+returns-then-is_some c = search rules
+
+pub returns-in-Some-import_path : goal.returns-in-Some-import_path
+unfolding kind_behind_hash chars
+returns-in-Some-import_path c = search rules
+
+pub returns-in-Some-define : goal.returns-in-Some-define
+unfolding kind_behind_hash chars
+returns-in-Some-define c = search rules
+
+pub returns-in_default-define : goal.returns-in_default-define
+unfolding kind_behind_hash chars
+returns-in_default-define c = search rules
