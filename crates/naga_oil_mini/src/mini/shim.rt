@@ -1,56 +1,41 @@
-// What the crate below is to give.
+// What the crate below doesn't give yet.
 use std::alloc::{AllocError, AllocFailed, Global};
 use std::collections::BTreeMap;
 use thiserror::Error;
 
-pub use naga_oil_pre::ShaderDefValue;
-
-#[derive(Drop)]
-pub enum LineKind<'a> {
-    Define {
-        name: &'a str,
-        value: Option<&'a str>,
-    },
-    Other,
-}
-
-pub fn line_kind(line: &str) -> LineKind<'_> {
-    let Some(rest) = line.strip_prefix("#define ") else {
-        return LineKind::Other;
-    };
-    match rest.split_once(' ') {
-        Some((name, value)) => LineKind::Define { name, value: Some(value) },
-        None => LineKind::Define { name: rest, value: None },
-    }
-}
-
-pub fn defined_value(value: Option<&str>) -> Option<ShaderDefValue> {
-    let Some(text) = value else {
-        return Some(ShaderDefValue::Bool(true));
-    };
-    if let Ok(number) = text.parse::<u32>() {
-        return Some(ShaderDefValue::UInt(number));
-    }
-    if let Ok(number) = text.parse::<i32>() {
-        return Some(ShaderDefValue::Int(number));
-    }
-    Some(ShaderDefValue::Bool(text.parse::<bool>().ok()?))
-}
-
-pub fn is_name(text: &str) -> bool {
-    !text.is_empty() && text.bytes().all(|b| b.is_ascii_alphanumeric() || b == b'_' || b == b'|')
-}
+use naga_oil_pre::ComposerErrorInner as Fault;
+use naga_oil_pre::ShaderDefValue;
 
 #[derive(Debug, Drop, Error)]
 pub enum ComposerErrorInner {
+    #[error("Not enough '# endif' lines. Each if statement should be followed by an endif statement.")]
+    NotEnoughEndIfs(usize),
+    #[error("Too many '# endif' lines. Each endif should be preceded by an if statement.")]
+    TooManyEndIfs(usize),
+    #[error("'#else' without preceding condition.")]
+    ElseWithoutCondition(usize),
+    #[error("Unknown shader def operator: '{operator}'")]
+    UnknownShaderDefOperator { pos: usize, operator: String },
+    #[error("Unknown shader def: '{shader_def_name}'")]
+    UnknownShaderDef {
+        pos: usize,
+        shader_def_name: String,
+    },
+    #[error("Invalid shader def comparison for '{shader_def_name}': expected {expected}, got {value}")]
+    InvalidShaderDefComparisonValue {
+        pos: usize,
+        shader_def_name: String,
+        expected: String,
+        value: String,
+    },
+    #[error("naga oil only supports glsl 440 and 450")]
+    GlslInvalidVersion(usize),
     #[error("Invalid value for `#define`d shader def {name}: {value}")]
     InvalidShaderDefDefinitionValue {
         name: String,
         value: String,
         pos: usize,
     },
-    #[error("Not enough '# endif' lines. Each if statement should be followed by an endif statement.")]
-    NotEnoughEndIfs(usize),
     #[error("out of memory")]
     Memory,
 }
@@ -75,6 +60,21 @@ pub struct PreprocessOutput {
     pub preprocessed_source: String,
 }
 
+fn fault_of(fault: Fault) -> ComposerErrorInner {
+    match fault {
+        Fault::NotEnoughEndIfs(at) => ComposerErrorInner::NotEnoughEndIfs(at),
+        Fault::TooManyEndIfs(at) => ComposerErrorInner::TooManyEndIfs(at),
+        Fault::ElseWithoutCondition(at) => ComposerErrorInner::ElseWithoutCondition(at),
+        Fault::UnknownShaderDefOperator { pos, operator } => ComposerErrorInner::UnknownShaderDefOperator { pos, operator },
+        Fault::UnknownShaderDef { pos, shader_def_name } => ComposerErrorInner::UnknownShaderDef { pos, shader_def_name },
+        Fault::InvalidShaderDefComparisonValue { pos, shader_def_name, expected, value } => {
+            ComposerErrorInner::InvalidShaderDefComparisonValue { pos, shader_def_name, expected, value }
+        }
+        Fault::GlslInvalidVersion(at) => ComposerErrorInner::GlslInvalidVersion(at),
+        Fault::Memory => ComposerErrorInner::Memory,
+    }
+}
+
 impl Preprocessor {
     pub fn preprocess(
         &self,
@@ -83,9 +83,10 @@ impl Preprocessor {
         definitions: &BTreeMap<String, ShaderDefValue>,
     ) -> Result<PreprocessOutput, ComposerErrorInner> {
         match naga_oil_pre::preprocess(alloc, text, definitions) {
-            Ok(output) => Ok(PreprocessOutput { preprocessed_source: output.preprocessed_source }),
-            Err(naga_oil_pre::ComposerErrorInner::NotEnoughEndIfs(at)) => Err(ComposerErrorInner::NotEnoughEndIfs(at)),
-            Err(_) => Err(ComposerErrorInner::Memory),
+            Ok(output) => Ok(PreprocessOutput {
+                preprocessed_source: output.preprocessed_source,
+            }),
+            Err(fault) => Err(fault_of(fault)),
         }
     }
 }
