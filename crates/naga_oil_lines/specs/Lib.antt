@@ -1,5 +1,5 @@
 pub mod Text
-pub mod Declared
+pub mod Declarations
 pub mod Cover
 pub mod CoveredLines
 pub mod Tokens

@@ -17,7 +17,7 @@ Turn = Step × ℕ
 abbrev turn : Definitions → List ScopeLevel → Line → LineKind → List Line → Turn
 turn defs levels l k more = (step defs levels l k more, opened levels l k)
 
-scanned_at : (defs : Definitions) (end : ℕ) (levels next : List ScopeLevel) (braces : ℕ) (l : Line) (s : Status) (more : List Line) → (let t : Turn = ((s, next), braces) in turn defs levels l (kind_of l.text) more ≡ t)
+scanned_at : (defs : Definitions) (end : ℕ) (levels next : List ScopeLevel) (braces : ℕ) (l : Line) (s : Status) (more : List Line) → (let t : Turn = ((s, next), braces) in turn defs levels l (kind_of l.covered) more ≡ t)
     → scanned defs end levels 0 (l ∷ more) ≡ s ∷ scanned defs end next braces more
 scanned_at defs end levels next braces l s more e = ap (λ (t : Turn). t.0.0 ∷ scanned defs end t.0.1 t.1 more) e
 
@@ -44,7 +44,7 @@ plain_turn defs in_arm levels l (define name value) more p f = refl
 plain_turn defs in_arm levels l other more p f = refl
 
 import_turn : (defs : Definitions) (levels : List ScopeLevel) (l : Line) (k : LineKind) (more : List Line) → is_import k ≡ true → is_active levels ≡ true
-    → (let t : Turn = ((imported l (taken (braces_after 0 l.text) more), levels), braces_after 0 l.text) in turn defs levels l k more ≡ t)
+    → (let t : Turn = ((imported l (taken (braces_after 0 l.covered) more), levels), braces_after 0 l.covered) in turn defs levels l k more ≡ t)
 import_turn defs levels l imports more p a = rw a refl
 import_turn defs levels l (version known) more p a = cc
 import_turn defs levels l (condition is_else c) more p a = cc
@@ -117,26 +117,26 @@ taken_whole : (n : ℕ) (ls rest : List Line) → Takes n false ls → taken n (
 taken_whole zero [] rest h = refl
 taken_whole zero (l ∷ ls) rest h = absurd h
 taken_whole (suc n) [] rest h = cc
-taken_whole (suc n) (l ∷ ls) rest h = ap (λ v. l ∷ v) (taken_whole (braces_after (suc n) l.text) ls rest h)
+taken_whole (suc n) (l ∷ ls) rest h = ap (λ v. l ∷ v) (taken_whole (braces_after (suc n) l.covered) ls rest h)
 
 scanned_taken : (defs : Definitions) (end : ℕ) (levels : List ScopeLevel) (n : ℕ) (ls rest : List Line) → Takes n false ls → scanned defs end levels n (ls ++ rest) ≡ map blanked ls ++ scanned defs end levels 0 rest
 scanned_taken defs end levels zero [] rest h = refl
 scanned_taken defs end levels zero (l ∷ ls) rest h = absurd h
 scanned_taken defs end levels (suc n) [] rest h = cc
-scanned_taken defs end levels (suc n) (l ∷ ls) rest h = ap (λ v. blanked l ∷ v) (scanned_taken defs end levels (braces_after (suc n) l.text) ls rest h)
+scanned_taken defs end levels (suc n) (l ∷ ls) rest h = ap (λ v. blanked l ∷ v) (scanned_taken defs end levels (braces_after (suc n) l.covered) ls rest h)
 
 -- at the end of the text
 taken_all : (n : ℕ) (e : Bool) (ls : List Line) → Takes n e ls → taken n ls ≡ ls
 taken_all zero e [] h = refl
 taken_all zero e (l ∷ ls) h = absurd h
 taken_all (suc n) e [] h = refl
-taken_all (suc n) e (l ∷ ls) h = ap (λ v. l ∷ v) (taken_all (braces_after (suc n) l.text) e ls h)
+taken_all (suc n) e (l ∷ ls) h = ap (λ v. l ∷ v) (taken_all (braces_after (suc n) l.covered) e ls h)
 
 scanned_all : (defs : Definitions) (end : ℕ) (levels : List ScopeLevel) (n : ℕ) (e : Bool) (ls : List Line) → Takes n e ls → scanned defs end levels n ls ≡ map blanked ls ++ end_status end (is_open levels)
 scanned_all defs end levels zero e [] h = refl
 scanned_all defs end levels zero e (l ∷ ls) h = absurd h
 scanned_all defs end levels (suc n) e [] h = refl
-scanned_all defs end levels (suc n) e (l ∷ ls) h = ap (λ v. blanked l ∷ v) (scanned_all defs end levels (braces_after (suc n) l.text) e ls h)
+scanned_all defs end levels (suc n) e (l ∷ ls) h = ap (λ v. blanked l ∷ v) (scanned_all defs end levels (braces_after (suc n) l.covered) e ls h)
 
 -- the same where a block follows that may be empty, and the text ends behind it
 import_open : (defs : Definitions) (end : ℕ) (levels : List ScopeLevel) (n : ℕ) (ls : List Line) (more : Block) → Takes n (is_nothing more) ls
@@ -155,7 +155,7 @@ import_open defs end levels n ls (unclosed a) h ih =
 
 -- the status and the level of the arm whose condition stands at the line
 abbrev arm_status : Definitions → Line → Status
-arm_status defs l = condition_status l (outcome defs l (kind_of l.text))
+arm_status defs l = condition_status l (outcome defs l (kind_of l.covered))
 
 abbrev arm_level : Definitions → (active met : Bool) → Line → ScopeLevel
 arm_level defs active met l = level active met (holds defs l)
@@ -165,12 +165,12 @@ mutual
       → scanned defs end levels 0 (lines_of b ++ rest) ≡ statuses defs (is_active levels) b ++ scanned defs end levels 0 rest
   closed_block defs end in_arm levels nothing rest f h = refl
   closed_block defs end in_arm levels (line l more) rest f h =
-      scanned_at defs end levels levels 0 l _ (lines_of more ++ rest) (plain_turn defs in_arm levels l (kind_of l.text) (lines_of more ++ rest) h.0 f)
-      ∙ ap (λ v. plain_status defs (is_active levels) l (kind_of l.text) ∷ v) (closed_block defs end in_arm levels more rest f h.1)
+      scanned_at defs end levels levels 0 l _ (lines_of more ++ rest) (plain_turn defs in_arm levels l (kind_of l.covered) (lines_of more ++ rest) h.0 f)
+      ∙ ap (λ v. plain_status defs (is_active levels) l (kind_of l.covered) ∷ v) (closed_block defs end in_arm levels more rest f h.1)
   closed_block defs end in_arm levels (import l ls more) rest f h =
-      let n = braces_after 0 l.text in
+      let n = braces_after 0 l.covered in
       ap (λ v. scanned defs end levels 0 (l ∷ v)) (append_assoc ls (lines_of more) rest)
-      ∙ scanned_at defs end levels levels n l _ (ls ++ (lines_of more ++ rest)) (import_turn defs levels l (kind_of l.text) (ls ++ (lines_of more ++ rest)) h.0 h.1)
+      ∙ scanned_at defs end levels levels n l _ (ls ++ (lines_of more ++ rest)) (import_turn defs levels l (kind_of l.covered) (ls ++ (lines_of more ++ rest)) h.0 h.1)
       ∙ ap (λ v. imported l v ∷ scanned defs end levels n (ls ++ (lines_of more ++ rest))) (taken_whole n ls (lines_of more ++ rest) h.2)
       ∙ ap (λ v. imported l ls ∷ v)
       (scanned_taken defs end levels n ls (lines_of more ++ rest) h.2
@@ -179,7 +179,7 @@ mutual
   closed_block defs end in_arm levels (chain arms last more) rest f h =
       ap (scanned defs end levels 0) (append_assoc (arm_lines arms) (last ∷ lines_of more) rest)
       ∙ closed_arms defs end false false Active levels arms (last ∷ (lines_of more ++ rest)) (blanked last ∷ (statuses defs (is_active levels) more ++ scanned defs end levels 0 rest)) refl h.0
-      (λ p. scanned_at defs end (p ∷ levels) levels 0 last (blanked last) (lines_of more ++ rest) (end_turn defs p levels last (kind_of last.text) (lines_of more ++ rest) h.1) ∙ ap (λ v. blanked last ∷ v) (closed_block defs end in_arm levels more rest f h.2))
+      (λ p. scanned_at defs end (p ∷ levels) levels 0 last (blanked last) (lines_of more ++ rest) (end_turn defs p levels last (kind_of last.covered) (lines_of more ++ rest) h.1) ∙ ap (λ v. blanked last ∷ v) (closed_block defs end in_arm levels more rest f h.2))
       ∙ sym (append_assoc (arm_statuses defs (is_active levels) false arms) (blanked last ∷ statuses defs (is_active levels) more) (scanned defs end levels 0 rest))
   closed_block defs end in_arm levels (unclosed arms) rest f h = let e = h.0 in cc
 
@@ -190,7 +190,7 @@ mutual
   closed_arms defs end is_else met previous levels (last_arm l b) rest r m h go =
       let a = is_active levels in
       let here = arm_level defs a met l in
-      scanned_at defs end (before is_else previous levels) (here ∷ levels) 0 l (arm_status defs l) (lines_of b ++ rest) (arm_turn defs is_else met previous levels l (kind_of l.text) (lines_of b ++ rest) h.0 m)
+      scanned_at defs end (before is_else previous levels) (here ∷ levels) 0 l (arm_status defs l) (lines_of b ++ rest) (arm_turn defs is_else met previous levels l (kind_of l.covered) (lines_of b ++ rest) h.0 m)
       ∙ ap (λ v. arm_status defs l ∷ v)
       (closed_block defs end true (here ∷ levels) b rest (in_arm_fits (here ∷ levels)) (subst (λ v. IsBlock defs v true false b) (sym (active_level a met (holds defs l))) h.1)
       ∙ ap (λ v. statuses defs v b ++ scanned defs end (here ∷ levels) 0 rest) (active_level a met (holds defs l))
@@ -199,7 +199,7 @@ mutual
       let a = is_active levels in
       let here = arm_level defs a met l in
       let block = statuses defs (a && (not met && holds defs l)) b in
-      scanned_at defs end (before is_else previous levels) (here ∷ levels) 0 l (arm_status defs l) ((lines_of b ++ arm_lines arms) ++ rest) (arm_turn defs is_else met previous levels l (kind_of l.text) ((lines_of b ++ arm_lines arms) ++ rest) h.0 m)
+      scanned_at defs end (before is_else previous levels) (here ∷ levels) 0 l (arm_status defs l) ((lines_of b ++ arm_lines arms) ++ rest) (arm_turn defs is_else met previous levels l (kind_of l.covered) ((lines_of b ++ arm_lines arms) ++ rest) h.0 m)
       ∙ ap (λ v. arm_status defs l ∷ v)
       (ap (scanned defs end (here ∷ levels) 0) (append_assoc (lines_of b) (arm_lines arms) rest)
       ∙ closed_block defs end true (here ∷ levels) b (arm_lines arms ++ rest) (in_arm_fits (here ∷ levels)) (subst (λ v. IsBlock defs v true false b) (sym (active_level a met (holds defs l))) h.1)
@@ -220,17 +220,17 @@ mutual
       → scanned defs end levels 0 (lines_of b) ≡ statuses defs (is_active levels) b ++ end_status end (is_unclosed b || is_open levels)
   open_block defs end in_arm levels nothing f h = refl
   open_block defs end in_arm levels (line l more) f h =
-      scanned_at defs end levels levels 0 l _ (lines_of more) (plain_turn defs in_arm levels l (kind_of l.text) (lines_of more) h.0 f)
-      ∙ ap (λ v. plain_status defs (is_active levels) l (kind_of l.text) ∷ v) (open_block defs end in_arm levels more f h.1)
+      scanned_at defs end levels levels 0 l _ (lines_of more) (plain_turn defs in_arm levels l (kind_of l.covered) (lines_of more) h.0 f)
+      ∙ ap (λ v. plain_status defs (is_active levels) l (kind_of l.covered) ∷ v) (open_block defs end in_arm levels more f h.1)
   open_block defs end in_arm levels (import l ls more) f h =
-      let n = braces_after 0 l.text in
+      let n = braces_after 0 l.covered in
       let both = import_open defs end levels n ls more h.2 (open_block defs end in_arm levels more f h.3) in
-      scanned_at defs end levels levels n l _ (ls ++ lines_of more) (import_turn defs levels l (kind_of l.text) (ls ++ lines_of more) h.0 h.1)
+      scanned_at defs end levels levels n l _ (ls ++ lines_of more) (import_turn defs levels l (kind_of l.covered) (ls ++ lines_of more) h.0 h.1)
       ∙ ap (λ v. imported l v ∷ scanned defs end levels n (ls ++ lines_of more)) both.0
       ∙ ap (λ v. imported l ls ∷ v) (both.1 ∙ sym (append_assoc (map blanked ls) (statuses defs (is_active levels) more) (end_status end (is_unclosed more || is_open levels))))
   open_block defs end in_arm levels (chain arms last more) f h =
       closed_arms defs end false false Active levels arms (last ∷ lines_of more) (blanked last ∷ (statuses defs (is_active levels) more ++ end_status end (is_unclosed more || is_open levels))) refl h.0
-      (λ p. scanned_at defs end (p ∷ levels) levels 0 last (blanked last) (lines_of more) (end_turn defs p levels last (kind_of last.text) (lines_of more) h.1) ∙ ap (λ v. blanked last ∷ v) (open_block defs end in_arm levels more f h.2))
+      (λ p. scanned_at defs end (p ∷ levels) levels 0 last (blanked last) (lines_of more) (end_turn defs p levels last (kind_of last.covered) (lines_of more) h.1) ∙ ap (λ v. blanked last ∷ v) (open_block defs end in_arm levels more f h.2))
       ∙ sym (append_assoc (arm_statuses defs (is_active levels) false arms) (blanked last ∷ statuses defs (is_active levels) more) (end_status end (is_unclosed more || is_open levels)))
   open_block defs end in_arm levels (unclosed arms) f h = open_arms defs end false false Active levels arms refl h.1
 
@@ -239,7 +239,7 @@ mutual
   open_arms defs end is_else met previous levels (last_arm l b) m h =
       let a = is_active levels in
       let here = arm_level defs a met l in
-      scanned_at defs end (before is_else previous levels) (here ∷ levels) 0 l (arm_status defs l) (lines_of b) (arm_turn defs is_else met previous levels l (kind_of l.text) (lines_of b) h.0 m)
+      scanned_at defs end (before is_else previous levels) (here ∷ levels) 0 l (arm_status defs l) (lines_of b) (arm_turn defs is_else met previous levels l (kind_of l.covered) (lines_of b) h.0 m)
       ∙ ap (λ v. arm_status defs l ∷ v)
       (open_block defs end true (here ∷ levels) b (in_arm_fits (here ∷ levels)) (subst (λ v. IsBlock defs v true true b) (sym (active_level a met (holds defs l))) h.1)
       ∙ ap (λ v. statuses defs v b ++ end_status end (is_unclosed b || true)) (active_level a met (holds defs l))
@@ -248,7 +248,7 @@ mutual
       let a = is_active levels in
       let here = arm_level defs a met l in
       let block = statuses defs (a && (not met && holds defs l)) b in
-      scanned_at defs end (before is_else previous levels) (here ∷ levels) 0 l (arm_status defs l) (lines_of b ++ arm_lines arms) (arm_turn defs is_else met previous levels l (kind_of l.text) (lines_of b ++ arm_lines arms) h.0 m)
+      scanned_at defs end (before is_else previous levels) (here ∷ levels) 0 l (arm_status defs l) (lines_of b ++ arm_lines arms) (arm_turn defs is_else met previous levels l (kind_of l.covered) (lines_of b ++ arm_lines arms) h.0 m)
       ∙ ap (λ v. arm_status defs l ∷ v)
       (closed_block defs end true (here ∷ levels) b (arm_lines arms) (in_arm_fits (here ∷ levels)) (subst (λ v. IsBlock defs v true false b) (sym (active_level a met (holds defs l))) h.1)
       ∙ ap (λ v. statuses defs v b ++ scanned defs end (here ∷ levels) 0 (arm_lines arms)) (active_level a met (holds defs l))
@@ -256,7 +256,7 @@ mutual
       ∙ sym (append_assoc block (arm_statuses defs a (met || holds defs l) arms) (end_status end true)))
 
 -- what the loop gives from no levels on is what the reading says
-pub scanned_reading : (defs : Definitions) (end : ℕ) (lines : List Line) (b : Block) → IsReading defs lines b → written (scanned defs end [] 0 lines) ≡ read_so defs end b
+pub scanned_reading : (defs : Definitions) (end : ℕ) (lines : List Line) (b : Block) → IsReading defs lines b → written defs (scanned defs end [] 0 lines) ≡ read_so defs end b
 scanned_reading defs end lines b h =
-    ap (λ ls. written (scanned defs end [] 0 ls)) (sym h.whole)
-    ∙ ap written (open_block defs end false [] b (λ e. refl) h.placed ∙ ap (λ v. statuses defs true b ++ end_status end v) (or_false (is_unclosed b)))
+    ap (λ ls. written defs (scanned defs end [] 0 ls)) (sym h.whole)
+    ∙ ap (written defs) (open_block defs end false [] b (λ e. refl) h.placed ∙ ap (λ v. statuses defs true b ++ end_status end v) (or_false (is_unclosed b)))

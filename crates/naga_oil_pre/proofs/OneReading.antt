@@ -55,7 +55,7 @@ taken_again zero e [] back h ends = (refl, refl)
 taken_again zero e (l ∷ ls) back h ends = absurd h
 taken_again (suc n) e [] back h ends = (ap (taken (suc n)) (ends h), ap (behind_taken (suc n)) (ends h) ∙ sym (ends h))
 taken_again (suc n) e (l ∷ ls) back h ends =
-    let r = taken_again (braces_after (suc n) l.text) e ls back h ends in
+    let r = taken_again (braces_after (suc n) l.covered) e ls back h ends in
     (ap (λ v. l ∷ v) r.0, r.1)
 
 -- nothing follows what the text ends with
@@ -81,36 +81,36 @@ arm_lines-first (last_arm l b) = refl
 arm_lines-first (arm l b arms) = refl
 
 -- the first line is the condition of such an arm
-first_begins : (defs : Definitions) (active met is_else at_end : Bool) (arms : Arms) → AreArms defs active met is_else at_end arms → begins_arm is_else (kind_of (first_line arms).text) ≡ true
+first_begins : (defs : Definitions) (active met is_else at_end : Bool) (arms : Arms) → AreArms defs active met is_else at_end arms → begins_arm is_else (kind_of (first_line arms).covered) ≡ true
 first_begins defs active met is_else at_end (last_arm l b) h = h.0
 first_begins defs active met is_else at_end (arm l b arms) h = h.0
 
 -- what follows the last arm: nothing, or an end
 abbrev StopsArms : List Line → Type 0
 StopsArms [] = Unit {0}
-StopsArms (l ∷ more) = ends_chain (kind_of l.text) ≡ true
+StopsArms (l ∷ more) = ends_chain (kind_of l.covered) ≡ true
 
 stops_of : (active : Bool) (rest : List Line) → StopsArms rest → Stops active true rest
 stops_of active [] h = tt
-stops_of active (l ∷ rest) h = (role_end active (kind_of l.text) h).0
+stops_of active (l ∷ rest) h = (role_end active (kind_of l.covered) h).0
 
 last_read : (arms : Line → List Line → ReadArms) (l : Line) (b : Block) (rest : List Line) → StopsArms rest → (let r : ReadArms = (last_arm l b, rest) in arms_read arms l (b, rest) ≡ r)
 last_read arms l b [] h = refl
-last_read arms l b (next ∷ more) h = ap (λ v. arms_on arms l b v next more) (role_end true (kind_of next.text) h).1
+last_read arms l b (next ∷ more) h = ap (λ v. arms_on arms l b v next more) (role_end true (kind_of next.covered) h).1
 
-arm_read : (arms : Line → List Line → ReadArms) (l : Line) (b : Block) (a : Arms) (rest : List Line) → begins_arm true (kind_of (first_line a).text) ≡ true → (let r : ReadArms = (a, rest) in arms (first_line a) (more_lines a ++ rest) ≡ r)
+arm_read : (arms : Line → List Line → ReadArms) (l : Line) (b : Block) (a : Arms) (rest : List Line) → begins_arm true (kind_of (first_line a).covered) ≡ true → (let r : ReadArms = (a, rest) in arms (first_line a) (more_lines a ++ rest) ≡ r)
     → (let r : ReadArms = (arm l b a, rest) in arms_read arms l (b, arm_lines a ++ rest) ≡ r)
 arm_read arms l b a rest begins e =
     ap (λ ls. arms_read arms l (b, ls ++ rest)) (arm_lines-first a)
     ∙ ap (λ v. arms_on arms l b v (first_line a) (more_lines a ++ rest)) begins
     ∙ ap (λ (r : ReadArms). let s : ReadArms = (arm l b r.0, r.1) in s) e
 
-unit_again : (block : List Line → Read) (arms : Line → List Line → ReadArms) (active in_arm : Bool) (k : Role) (l : Line) (more : List Line) → role active in_arm (kind_of l.text) ≡ k → block_read block arms active in_arm (l ∷ more) ≡ unit_read block arms k l more
+unit_again : (block : List Line → Read) (arms : Line → List Line → ReadArms) (active in_arm : Bool) (k : Role) (l : Line) (more : List Line) → role active in_arm (kind_of l.covered) ≡ k → block_read block arms active in_arm (l ∷ more) ≡ unit_read block arms k l more
 unit_again block arms active in_arm k l more e = ap (λ v. unit_read block arms v l more) e
 
-stops_arms : (active : Bool) (a : Arms) (rest : List Line) → begins_arm true (kind_of (first_line a).text) ≡ true → Stops active true (arm_lines a ++ rest)
-stops_arms active (last_arm l b) rest h = role_else active (kind_of l.text) h
-stops_arms active (arm l b a) rest h = role_else active (kind_of l.text) h
+stops_arms : (active : Bool) (a : Arms) (rest : List Line) → begins_arm true (kind_of (first_line a).covered) ≡ true → Stops active true (arm_lines a ++ rest)
+stops_arms active (last_arm l b) rest h = role_else active (kind_of l.covered) h
+stops_arms active (arm l b a) rest h = role_else active (kind_of l.covered) h
 
 mutual
   unfolding read_block read_arms
@@ -123,17 +123,17 @@ mutual
       unit_again (read_block defs active in_arm n) (read_arms defs active false n) active in_arm leaves l rest stops
   block_again defs active in_arm at_end zero (line l more) rest fits h ends stops = absurd (omega arith)
   block_again defs active in_arm at_end (suc n) (line l more) rest fits h ends stops =
-      unit_again (read_block defs active in_arm n) (read_arms defs active false n) active in_arm plain l (lines_of more ++ rest) (role_plain active in_arm (kind_of l.text) h.0)
+      unit_again (read_block defs active in_arm n) (read_arms defs active false n) active in_arm plain l (lines_of more ++ rest) (role_plain active in_arm (kind_of l.covered) h.0)
       ∙ ap (λ (r : Read). let s : Read = (line l r.0, r.1) in s) (block_again defs active in_arm at_end n more rest (omega arith) h.1 ends stops)
   block_again defs active in_arm at_end zero (import l ls more) rest fits h ends stops = absurd (omega arith)
   block_again defs active in_arm at_end (suc n) (import l ls more) rest fits h ends stops =
       let read = read_block defs active in_arm n in
-      let m = braces_after 0 l.text in
+      let m = braces_after 0 l.covered in
       let back = lines_of more ++ rest in
       let t = taken_again m (at_end && is_nothing more) ls back h.2 (nothing_back at_end more rest ends) in
       let size = ap length (append_assoc ls (lines_of more) rest) in
       ap (λ v. read_block defs active in_arm (suc n) (l ∷ v)) (append_assoc ls (lines_of more) rest)
-      ∙ unit_again read (read_arms defs active false n) active in_arm takes l (ls ++ back) (role_takes active in_arm (kind_of l.text) h.0 h.1)
+      ∙ unit_again read (read_arms defs active false n) active in_arm takes l (ls ++ back) (role_takes active in_arm (kind_of l.covered) h.0 h.1)
       ∙ ap (λ v. let s : Read = (import l (taken m (ls ++ back)) (read v).0, (read v).1) in s) t.1
       ∙ ap (λ v. let s : Read = (import l v (read back).0, (read back).1) in s) t.0
       ∙ ap (λ (r : Read). let s : Read = (import l ls r.0, r.1) in s) (block_again defs active in_arm at_end n more rest (omega (arith, length-append ls back)) h.3 ends stops)
@@ -146,7 +146,7 @@ mutual
       let split = append_assoc (arm_lines arms) (last ∷ lines_of more) rest ∙ ap (λ v. v ++ back) (arm_lines-first arms) in
       let size = ap length split in
       ap (read_block defs active in_arm (suc n)) split
-      ∙ unit_again read (read_arms defs active false n) active in_arm opens (first_line arms) (more_lines arms ++ back) (role_opens active in_arm (kind_of (first_line arms).text) (first_begins defs active false false false arms h.0))
+      ∙ unit_again read (read_arms defs active false n) active in_arm opens (first_line arms) (more_lines arms ++ back) (role_opens active in_arm (kind_of (first_line arms).covered) (first_begins defs active false false false arms h.0))
       ∙ ap (chain_read read) (arms_again defs active false false false n arms back (omega arith) h.0 (λ e. cc) h.1)
       ∙ ap (λ (r : Read). let s : Read = (chain arms last r.0, r.1) in s) (block_again defs active in_arm at_end n more rest (omega (arith, length-append (more_lines arms) back)) h.2 ends stops)
   block_again defs active in_arm at_end zero (unclosed arms) rest fits h ends stops =
@@ -157,7 +157,7 @@ mutual
       let split = ap (λ v. v ++ rest) (arm_lines-first arms) in
       let size = ap length split in
       ap (read_block defs active in_arm (suc n)) split
-      ∙ unit_again read (read_arms defs active false n) active in_arm opens (first_line arms) (more_lines arms ++ rest) (role_opens active in_arm (kind_of (first_line arms).text) (first_begins defs active false false true arms h.1))
+      ∙ unit_again read (read_arms defs active false n) active in_arm opens (first_line arms) (more_lines arms ++ rest) (role_opens active in_arm (kind_of (first_line arms).covered) (first_begins defs active false false true arms h.1))
       ∙ ap (chain_read read) (arms_again defs active false false true n arms rest (omega arith) h.1 (λ _. ends h.0) (subst StopsArms (sym (ends h.0)) tt))
       ∙ ap (λ v. let a : ReadArms = (arms, v) in chain_read read a) (ends h.0)
       ∙ ap (λ v. let s : Read = (unclosed arms, v) in s) (sym (ends h.0))

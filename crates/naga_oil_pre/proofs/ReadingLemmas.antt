@@ -12,7 +12,7 @@ is_empty (l ∷ more) = false
 -- what follows a block: nothing, or a line that leaves it
 abbrev pub Stops : (active in_arm : Bool) → List Line → Type 0
 Stops active in_arm [] = Unit {0}
-Stops active in_arm (l ∷ more) = role active in_arm (kind_of l.text) ≡ leaves
+Stops active in_arm (l ∷ more) = role active in_arm (kind_of l.covered) ≡ leaves
 
 record Reads (defs : Definitions) (active in_arm : Bool) (lines : List Line) (r : Read) : Type 0 where
   whole : lines_of r.0 ++ r.1 ≡ lines
@@ -22,7 +22,7 @@ record Reads (defs : Definitions) (active in_arm : Bool) (lines : List Line) (r 
 -- what follows arms: nothing, or an end
 abbrev pub StopsArms : List Line → Type 0
 StopsArms [] = Unit {0}
-StopsArms (l ∷ more) = ends_chain (kind_of l.text) ≡ true
+StopsArms (l ∷ more) = ends_chain (kind_of l.covered) ≡ true
 
 record ReadsArms (defs : Definitions) (active met is_else : Bool) (lines : List Line) (r : ReadArms) : Type 0 where
   whole : arm_lines r.0 ++ r.1 ≡ lines
@@ -96,12 +96,12 @@ leaves_ends active in_arm other e b = cc
 taken-behind : (n : ℕ) (ls : List Line) → taken n ls ++ behind_taken n ls ≡ ls
 taken-behind zero ls = refl
 taken-behind (suc n) [] = refl
-taken-behind (suc n) (l ∷ ls) = ap (λ v. l ∷ v) (taken-behind (braces_after (suc n) l.text) ls)
+taken-behind (suc n) (l ∷ ls) = ap (λ v. l ∷ v) (taken-behind (braces_after (suc n) l.covered) ls)
 
 takes_taken : (n : ℕ) (e : Bool) (ls : List Line) → (length (behind_taken n ls) ≡ 0 → e ≡ true) → Takes n e (taken n ls)
 takes_taken zero e ls h = tt
 takes_taken (suc n) e [] h = h refl
-takes_taken (suc n) e (l ∷ ls) h = takes_taken (braces_after (suc n) l.text) e ls h
+takes_taken (suc n) e (l ∷ ls) h = takes_taken (braces_after (suc n) l.covered) e ls h
 
 -- a block and rest without lines
 both_empty : (b : Block) (rest : List Line) → length (lines_of b ++ rest) ≡ 0 → (is_empty rest && is_nothing b) ≡ true
@@ -132,27 +132,27 @@ chain_good defs active in_arm size block lines (arms, end ∷ more) go short h =
     }
 
 unit_good : (defs : Definitions) (active in_arm : Bool) (block : List Line → Read) (arms : Line → List Line → ReadArms) (k : Role) (l : Line) (more : List Line) → ((ls : List Line) → length ls ≤ length more → Reads defs active in_arm ls (block ls))
-    → (begins_arm false (kind_of l.text) ≡ true → ReadsArms defs active false false (l ∷ more) (arms l more)) → role active in_arm (kind_of l.text) ≡ k → Reads defs active in_arm (l ∷ more) (unit_read block arms k l more)
+    → (begins_arm false (kind_of l.covered) ≡ true → ReadsArms defs active false false (l ∷ more) (arms l more)) → role active in_arm (kind_of l.covered) ≡ k → Reads defs active in_arm (l ∷ more) (unit_read block arms k l more)
 unit_good defs active in_arm block arms plain l more go go_arms e =
     let r = go more (omega arith) in
-    record { whole = ap (λ v. l ∷ v) r.whole; block = (plain_is active in_arm (kind_of l.text) e, r.block); stops = r.stops }
+    record { whole = ap (λ v. l ∷ v) r.whole; block = (plain_is active in_arm (kind_of l.covered) e, r.block); stops = r.stops }
 unit_good defs active in_arm block arms opens l more go go_arms e =
-    chain_good defs active in_arm (length more) block (l ∷ more) (arms l more) go (omega arith) (go_arms (opens_is active in_arm (kind_of l.text) e))
+    chain_good defs active in_arm (length more) block (l ∷ more) (arms l more) go (omega arith) (go_arms (opens_is active in_arm (kind_of l.covered) e))
 unit_good defs active in_arm block arms takes l more go go_arms e =
-    let n = braces_after 0 l.text in
+    let n = braces_after 0 l.covered in
     let back = behind_taken n more in
     let split = taken-behind n more in
     let r = go back (omega (arith, ap length split, length-append (taken n more) back)) in
     record {
       whole = ap (λ v. l ∷ v) (append_assoc (taken n more) (lines_of (block back).0) (block back).1 ∙ ap (λ v. taken n more ++ v) r.whole ∙ split);
-      block = (takes_is active in_arm (kind_of l.text) e, takes_active active in_arm (kind_of l.text) e, takes_taken n (is_empty (block back).1 && is_nothing (block back).0) more (λ none. both_empty (block back).0 (block back).1 (ap length r.whole ∙ none)), r.block);
+      block = (takes_is active in_arm (kind_of l.covered) e, takes_active active in_arm (kind_of l.covered) e, takes_taken n (is_empty (block back).1 && is_nothing (block back).0) more (λ none. both_empty (block back).0 (block back).1 (ap length r.whole ∙ none)), r.block);
       stops = r.stops;
     }
 unit_good defs active in_arm block arms leaves l more go go_arms e = record { whole = refl; block = tt; stops = e }
 
-arms_good_on : (defs : Definitions) (active met is_else : Bool) (arms : Line → List Line → ReadArms) (l : Line) (b : Block) (go_on : Bool) (next : Line) (more lines : List Line) → begins_arm is_else (kind_of l.text) ≡ true
-    → Reads defs (active && (not met && holds defs l)) true lines (b, next ∷ more) → (begins_arm true (kind_of next.text) ≡ true → ReadsArms defs active (met || holds defs l) true (next ∷ more) (arms next more))
-    → begins_arm true (kind_of next.text) ≡ go_on → ReadsArms defs active met is_else (l ∷ lines) (arms_on arms l b go_on next more)
+arms_good_on : (defs : Definitions) (active met is_else : Bool) (arms : Line → List Line → ReadArms) (l : Line) (b : Block) (go_on : Bool) (next : Line) (more lines : List Line) → begins_arm is_else (kind_of l.covered) ≡ true
+    → Reads defs (active && (not met && holds defs l)) true lines (b, next ∷ more) → (begins_arm true (kind_of next.covered) ≡ true → ReadsArms defs active (met || holds defs l) true (next ∷ more) (arms next more))
+    → begins_arm true (kind_of next.covered) ≡ go_on → ReadsArms defs active met is_else (l ∷ lines) (arms_on arms l b go_on next more)
 arms_good_on defs active met is_else arms l b true next more lines begins h go e =
     let r = go e in
     record {
@@ -161,15 +161,15 @@ arms_good_on defs active met is_else arms l b true next more lines begins h go e
       stops = r.stops;
     }
 arms_good_on defs active met is_else arms l b false next more lines begins h go e =
-    record { whole = ap (λ v. l ∷ v) h.whole; arms = (begins, h.block); stops = leaves_ends (active && (not met && holds defs l)) true (kind_of next.text) h.stops e }
+    record { whole = ap (λ v. l ∷ v) h.whole; arms = (begins, h.block); stops = leaves_ends (active && (not met && holds defs l)) true (kind_of next.covered) h.stops e }
 
-arms_good_of : (defs : Definitions) (active met is_else : Bool) (arms : Line → List Line → ReadArms) (l : Line) (r : Read) (lines : List Line) → begins_arm is_else (kind_of l.text) ≡ true
+arms_good_of : (defs : Definitions) (active met is_else : Bool) (arms : Line → List Line → ReadArms) (l : Line) (r : Read) (lines : List Line) → begins_arm is_else (kind_of l.covered) ≡ true
     → Reads defs (active && (not met && holds defs l)) true lines r
-    → ((next : Line) (more : List Line) → length more + 1 ≤ length lines → begins_arm true (kind_of next.text) ≡ true → ReadsArms defs active (met || holds defs l) true (next ∷ more) (arms next more))
+    → ((next : Line) (more : List Line) → length more + 1 ≤ length lines → begins_arm true (kind_of next.covered) ≡ true → ReadsArms defs active (met || holds defs l) true (next ∷ more) (arms next more))
     → ReadsArms defs active met is_else (l ∷ lines) (arms_read arms l r)
 arms_good_of defs active met is_else arms l (b, []) lines begins h go = record { whole = ap (λ v. l ∷ v) h.whole; arms = (begins, h.block); stops = tt }
 arms_good_of defs active met is_else arms l (b, next ∷ more) lines begins h go =
-    arms_good_on defs active met is_else arms l b (begins_arm true (kind_of next.text)) next more lines begins h (go next more (omega (arith, ap length h.whole, length-append (lines_of b) (next ∷ more)))) refl
+    arms_good_on defs active met is_else arms l b (begins_arm true (kind_of next.covered)) next more lines begins h (go next more (omega (arith, ap length h.whole, length-append (lines_of b) (next ∷ more)))) refl
 
 mutual
   unfolding read_block read_arms
@@ -179,10 +179,10 @@ mutual
   block_good defs active in_arm zero (l ∷ more) fits = absurd (omega arith)
   block_good defs active in_arm (suc n) [] fits = record { whole = refl; block = tt; stops = tt }
   block_good defs active in_arm (suc n) (l ∷ more) fits =
-      unit_good defs active in_arm (read_block defs active in_arm n) (read_arms defs active false n) (role active in_arm (kind_of l.text)) l more
+      unit_good defs active in_arm (read_block defs active in_arm n) (read_arms defs active false n) (role active in_arm (kind_of l.covered)) l more
       (λ ls short. block_good defs active in_arm n ls (omega arith)) (arms_good defs active false false n l more (omega arith)) refl
 
-  arms_good : (defs : Definitions) (active met is_else : Bool) (n : ℕ) (l : Line) (lines : List Line) → 2 * length lines + 1 ≤ n → begins_arm is_else (kind_of l.text) ≡ true → ReadsArms defs active met is_else (l ∷ lines) (read_arms defs active met n l lines)
+  arms_good : (defs : Definitions) (active met is_else : Bool) (n : ℕ) (l : Line) (lines : List Line) → 2 * length lines + 1 ≤ n → begins_arm is_else (kind_of l.covered) ≡ true → ReadsArms defs active met is_else (l ∷ lines) (read_arms defs active met n l lines)
   arms_good defs active met is_else zero l lines fits begins = absurd (omega arith)
   arms_good defs active met is_else (suc n) l lines fits begins =
       arms_good_of defs active met is_else (read_arms defs active (met || holds defs l) n) l (read_block defs (active && (not met && holds defs l)) true n lines) lines begins
@@ -191,7 +191,7 @@ mutual
 
 stops_empty : (active : Bool) (rest : List Line) → Stops active false rest → rest ≡ []
 stops_empty active [] h = refl
-stops_empty active (l ∷ rest) h = absurd (never_leaves active (kind_of l.text) h)
+stops_empty active (l ∷ rest) h = absurd (never_leaves active (kind_of l.covered) h)
 
 whole_of : (defs : Definitions) (lines : List Line) (r : Read) → Reads defs true false lines r → r.1 ≡ [] → IsReading defs lines r.0
 whole_of defs lines (b, []) h e = record { whole = sym (append-nil (lines_of b)) ∙ h.whole; placed = h.block }

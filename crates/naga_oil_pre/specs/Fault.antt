@@ -8,6 +8,7 @@ use Rattle.naga_oil_pre.specs.Values.{read_bool, read_i32, read_u32, operator_ho
 use Rattle.naga_oil_pre.specs.Line.{Line}
 use Rattle.naga_oil_pre.specs.Kind.{LineKind, condition, kind_of, Condition, defined, undefined, compares, otherwise}
 
+-- what is wrong with a text, and the place of its line
 pub data Fault : Type 0 where
   unknown_def : (at : ℕ) (name : List ℕ) → Fault
   invalid_value : (at : ℕ) (name value expected : List ℕ) → Fault
@@ -16,6 +17,7 @@ pub data Fault : Type 0 where
   too_many_end_ifs : (at : ℕ) → Fault
   not_enough_end_ifs : (at : ℕ) → Fault
   invalid_version : (at : ℕ) → Fault
+  invalid_definition : (at : ℕ) (name value : List ℕ) → Fault
 
 -- what each name is defined as
 abbrev pub Definitions : Type 0
@@ -65,4 +67,4 @@ is_met (Err own) = false
 
 -- whether the condition of an arm holds; one that can't be evaluated doesn't
 abbrev pub holds : Definitions → Line → Bool
-holds defs l = is_met (outcome defs l (kind_of l.text))
+holds defs l = is_met (outcome defs l (kind_of l.covered))

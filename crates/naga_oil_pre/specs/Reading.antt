@@ -68,19 +68,19 @@ braces_after n text = n + count_by (λ b. b == 123) text - count_by (λ b. b == 
 abbrev pub taken : ℕ → List Line → List Line
 taken zero lines = []
 taken (suc n) [] = []
-taken (suc n) (l ∷ more) = l ∷ taken (braces_after (suc n) l.text) more
+taken (suc n) (l ∷ more) = l ∷ taken (braces_after (suc n) l.covered) more
 
 abbrev pub behind_taken : ℕ → List Line → List Line
 behind_taken zero lines = lines
 behind_taken (suc n) [] = []
-behind_taken (suc n) (l ∷ more) = behind_taken (braces_after (suc n) l.text) more
+behind_taken (suc n) (l ∷ more) = behind_taken (braces_after (suc n) l.covered) more
 
 -- lines that are taken while braces are open, to the last of them or, where the text ends there, to the end
 abbrev pub Takes : ℕ → (at_end : Bool) → List Line → Type 0
 Takes zero at_end [] = Unit {0}
 Takes zero at_end (l ∷ more) = ⊥
 Takes (suc n) at_end [] = at_end ≡ true
-Takes (suc n) at_end (l ∷ more) = Takes (braces_after (suc n) l.text) at_end more
+Takes (suc n) at_end (l ∷ more) = Takes (braces_after (suc n) l.covered) at_end more
 
 abbrev pub is_nothing : Block → Bool
 is_nothing nothing = true
@@ -90,17 +90,17 @@ is_nothing _ = false
 abbrev mutual
   pub IsBlock : Definitions → (active in_arm at_end : Bool) → Block → Type 0
   IsBlock defs active in_arm at_end nothing = Unit {0}
-  IsBlock defs active in_arm at_end (line l more) = (is_plain active in_arm (kind_of l.text) ≡ true) × IsBlock defs active in_arm at_end more
-  IsBlock defs active in_arm at_end (import l taken more) = (is_import (kind_of l.text) ≡ true) × (active ≡ true) × Takes (braces_after 0 l.text) (at_end && is_nothing more) taken × IsBlock defs active in_arm at_end more
-  IsBlock defs active in_arm at_end (chain arms end more) = AreArms defs active false false false arms × (ends_chain (kind_of end.text) ≡ true) × IsBlock defs active in_arm at_end more
+  IsBlock defs active in_arm at_end (line l more) = (is_plain active in_arm (kind_of l.covered) ≡ true) × IsBlock defs active in_arm at_end more
+  IsBlock defs active in_arm at_end (import l taken more) = (is_import (kind_of l.covered) ≡ true) × (active ≡ true) × Takes (braces_after 0 l.covered) (at_end && is_nothing more) taken × IsBlock defs active in_arm at_end more
+  IsBlock defs active in_arm at_end (chain arms end more) = AreArms defs active false false false arms × (ends_chain (kind_of end.covered) ≡ true) × IsBlock defs active in_arm at_end more
   IsBlock defs active in_arm at_end (unclosed arms) = (at_end ≡ true) × AreArms defs active false false true arms
 
   -- of the arms of an active block the first whose condition holds is active, and in an inactive block none
   pub AreArms : Definitions → (active met is_else at_end : Bool) → Arms → Type 0
   AreArms defs active met is_else at_end (last_arm l block) =
-      (begins_arm is_else (kind_of l.text) ≡ true) × IsBlock defs (active && (not met && holds defs l)) true at_end block
+      (begins_arm is_else (kind_of l.covered) ≡ true) × IsBlock defs (active && (not met && holds defs l)) true at_end block
   AreArms defs active met is_else at_end (arm l block arms) =
-      (begins_arm is_else (kind_of l.text) ≡ true) × IsBlock defs (active && (not met && holds defs l)) true false block × AreArms defs active (met || holds defs l) true at_end arms
+      (begins_arm is_else (kind_of l.covered) ≡ true) × IsBlock defs (active && (not met && holds defs l)) true false block × AreArms defs active (met || holds defs l) true at_end arms
 
 -- the lines are read as this block
 pub record IsReading (defs : Definitions) (lines : List Line) (block : Block) : Type 0 where
@@ -146,12 +146,12 @@ chain_read block (arms, end ∷ more) = let r = block more in (chain arms end r.
 abbrev pub unit_read : (List Line → Read) → (Line → List Line → ReadArms) → Role → Line → List Line → Read
 unit_read block arms plain l more = let r = block more in (line l r.0, r.1)
 unit_read block arms opens l more = chain_read block (arms l more)
-unit_read block arms takes l more = let r = block (behind_taken (braces_after 0 l.text) more) in (import l (taken (braces_after 0 l.text) more) r.0, r.1)
+unit_read block arms takes l more = let r = block (behind_taken (braces_after 0 l.covered) more) in (import l (taken (braces_after 0 l.covered) more) r.0, r.1)
 unit_read block arms leaves l more = (nothing, l ∷ more)
 
 abbrev pub block_read : (List Line → Read) → (Line → List Line → ReadArms) → (active in_arm : Bool) → List Line → Read
 block_read block arms active in_arm [] = (nothing, [])
-block_read block arms active in_arm (l ∷ more) = unit_read block arms (role active in_arm (kind_of l.text)) l more
+block_read block arms active in_arm (l ∷ more) = unit_read block arms (role active in_arm (kind_of l.covered)) l more
 
 -- one arm and those behind it
 abbrev pub arms_on : (Line → List Line → ReadArms) → Line → Block → Bool → Line → List Line → ReadArms
@@ -160,7 +160,7 @@ arms_on arms l b false next more = (last_arm l b, next ∷ more)
 
 abbrev pub arms_read : (Line → List Line → ReadArms) → Line → Read → ReadArms
 arms_read arms l (b, []) = (last_arm l b, [])
-arms_read arms l (b, next ∷ more) = arms_on arms l b (begins_arm true (kind_of next.text)) next more
+arms_read arms l (b, next ∷ more) = arms_on arms l b (begins_arm true (kind_of next.covered)) next more
 
 -- in at most so many steps
 unfoldable mutual

@@ -1,11 +1,12 @@
 -- Line after line under the levels of the open chains, as the loop goes.
-use Rattle.std.specs.Prelude.{ℕ, zero, suc, Bool, true, false, if◌then◌else◌, List, [], ◌∷◌, ◌++◌, Result, Ok, Err, length, replicate}
+use Rattle.std.specs.Prelude.{ℕ, zero, suc, Bool, true, false, if◌then◌else◌, List, [], ◌∷◌, Result, length, replicate}
 use Rattle.naga_oil_pre.specs.declared.scope.ScopeLevel.{ScopeLevel}
 use Rattle.naga_oil_pre.specs.Line.{Line}
 use Rattle.naga_oil_pre.specs.Kind.{LineKind, version, condition, endif, imports, import_path, define, other, kind_of}
 use Rattle.naga_oil_pre.specs.Fault.{Fault, too_many_end_ifs, Definitions, evaluated, is_met}
 use Rattle.naga_oil_pre.specs.Reading.{braces_after, taken}
-use Rattle.naga_oil_pre.specs.Preprocessed.{Status, blanked, imported, noted, condition_status, stray_status, plain_status, end_status}
+use Rattle.naga_oil_pre.specs.Preprocessed.{Status, blanked, imported, noted, condition_status, stray_status, plain_status, end_status, padded}
+use Rattle.naga_oil_pre.specs.Replaced.{replaced}
 use Rattle.naga_oil_pre.specs.Scope.{level, has_met, is_active, is_open}
 
 -- one line under the levels: what is to be done with it, and the levels behind it
@@ -27,27 +28,22 @@ step defs levels l (version known) more = (plain_status defs (is_active levels) 
 step defs levels l (condition false c) more = (condition_status l (evaluated defs l.at c), level (is_active levels) false (is_met (evaluated defs l.at c)) ∷ levels)
 step defs levels l (condition true c) more = else_step l (evaluated defs l.at c) levels
 step defs levels l endif more = end_step l levels
-step defs levels l imports more = (if is_active levels then imported l (taken (braces_after 0 l.text) more) else blanked l, levels)
+step defs levels l imports more = (if is_active levels then imported l (taken (braces_after 0 l.covered) more) else blanked l, levels)
 step defs levels l (import_path name) more = (blanked l, levels)
 step defs levels l (define name value) more = (blanked l, levels)
 step defs levels l other more = (plain_status defs (is_active levels) l other, levels)
 
 -- how many braces a line leaves open for the lines behind it
 abbrev pub opened : List ScopeLevel → Line → LineKind → ℕ
-opened levels l imports = if is_active levels then braces_after 0 l.text else 0
+opened levels l imports = if is_active levels then braces_after 0 l.covered else 0
 opened levels l _ = 0
 
 -- the lines that are left, and the end
 abbrev pub scanned : Definitions → ℕ → List ScopeLevel → (braces : ℕ) → List Line → List Status
 scanned defs end levels braces [] = end_status end (is_open levels)
-scanned defs end levels zero (l ∷ more) = (step defs levels l (kind_of l.text) more).0 ∷ scanned defs end (step defs levels l (kind_of l.text) more).1 (opened levels l (kind_of l.text)) more
-scanned defs end levels (suc n) (l ∷ more) = blanked l ∷ scanned defs end levels (braces_after (suc n) l.text) more
+scanned defs end levels zero (l ∷ more) = (step defs levels l (kind_of l.covered) more).0 ∷ scanned defs end (step defs levels l (kind_of l.covered) more).1 (opened levels l (kind_of l.covered)) more
+scanned defs end levels (suc n) (l ∷ more) = blanked l ∷ scanned defs end levels (braces_after (suc n) l.covered) more
 
--- the text so far, and what the rest becomes
-abbrev pub behind : List ℕ → Result (List ℕ) Fault → Result (List ℕ) Fault
-behind front (Ok text) = Ok (front ++ text)
-behind front (Err f) = Err f
-
--- a line's text, or spaces
-abbrev pub shown_text : Bool → List ℕ → List ℕ
-shown_text is_shown text = if is_shown then text else replicate (length text) 32
+-- what is written for a line: its text with values and padded, or spaces
+abbrev pub shown_text : Definitions → Bool → List ℕ → List ℕ
+shown_text defs is_shown text = if is_shown then padded (length text) (replaced defs text) else replicate (length text) 32

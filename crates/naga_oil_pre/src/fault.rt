@@ -1,5 +1,6 @@
 // What can be wrong with a text.
 use std::alloc::{AllocError, AllocFailed};
+use thiserror::Error;
 
 /// What a name is defined as.
 #[derive(Clone, Copy, Debug, PartialEq, Eq)]
@@ -9,26 +10,45 @@ pub enum ShaderDefValue {
     UInt(u32),
 }
 
-#[derive(Debug, Drop)]
+/// What is wrong with a text. Places are bytes from 0, those of the first byte of a line.
+#[derive(Debug, Drop, Error)]
 pub enum ComposerErrorInner {
+    /// The chains of conditions that are open at the end of the text, which is the place.
+    #[error("Not enough '# endif' lines. Each if statement should be followed by an endif statement.")]
+    NotEnoughEndIfs(usize),
+    #[error("Too many '# endif' lines. Each endif should be preceded by an if statement.")]
+    TooManyEndIfs(usize),
+    #[error("'#else' without preceding condition.")]
+    ElseWithoutCondition(usize),
+    #[error("Unknown shader def operator: '{operator}'")]
+    UnknownShaderDefOperator {
+        pos: usize,
+        operator: String,
+    },
+    #[error("Unknown shader def: '{shader_def_name}'")]
     UnknownShaderDef {
         pos: usize,
         shader_def_name: String,
     },
+    /// A value that can't be read as the kind of the definition that it is compared to.
+    #[error("Invalid shader def comparison for '{shader_def_name}': expected {expected}, got {value}")]
     InvalidShaderDefComparisonValue {
         pos: usize,
         shader_def_name: String,
         expected: String,
         value: String,
     },
-    UnknownShaderDefOperator {
-        pos: usize,
-        operator: String,
-    },
-    ElseWithoutCondition(usize),
-    TooManyEndIfs(usize),
-    NotEnoughEndIfs(usize),
+    #[error("naga oil only supports glsl 440 and 450")]
     GlslInvalidVersion(usize),
+    /// A define's value that is no number and neither `true` nor `false`.
+    #[error("Invalid value for `#define`d shader def {name}: {value}")]
+    InvalidShaderDefDefinitionValue {
+        name: String,
+        value: String,
+        pos: usize,
+    },
+    /// A growth of memory was refused.
+    #[error("out of memory")]
     Memory,
 }
 

@@ -3,7 +3,7 @@ use Rattle.std.proofs.lemmas.Int.{to_z-of_z}
 use mir.Syntax.{w32}
 use mir.Val.{SFits}
 use Rattle.naga_oil_pre.proofs.ValueLemmas.{parses_i32}
-use Rattle.naga_oil_pre.proofs.order_of.Goals as goal
+use Rattle.naga_oil_pre.proofs.condition.order_of.Goals as goal
 
 pub returns-in_ok-ok-in-Int : goal.returns-in_ok-ok-in-Int
 returns-in_ok-ok-in-Int c =

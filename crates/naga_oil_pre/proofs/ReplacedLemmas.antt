@@ -1,0 +1,224 @@
+-- Lines with the values of their `#` names.
+use Rattle.std.proofs.Common.{◌≡◌, ◌≢◌, ℕ, zero, suc, ◌+◌, ◌<◌, true, false, cond, eqb, Option, Some, None, List, [], ◌∷◌, ◌++◌, length, take, drop, get_or, eq-eqb, refl, sym, ap, subst, ◌∙◌, arith, append_assoc, append-nil}
+use denote.Ref.{Bor}
+use lib.Utf8.{encode}
+use Rattle.std.specs.Option.{MatchOption}
+use Rattle.std.specs.List.{prefix_len, flat_map}
+use Rattle.std.specs.Char.{is_whitespace, encode_utf8}
+use Rattle.std.specs.Str.{IsUtf8, NoCharPasses, NonePass, chars, encode_utf8_all}
+use Rattle.std.proofs.lemmas.Bool.{lt-ltb}
+use Rattle.std.proofs.lemmas.Str.{chars-nil, chars-append, encodes-chars, chars_from_encodes, NoCharPasses-byte}
+use Rattle.std.proofs.lemmas.List.{nil_from_length, drop-drop}
+use Rattle.std.proofs.lemmas.List.Folds.{length-prefix_len}
+use Rattle.naga_oil_lines.specs.Text.{BeginsWithChar}
+use Rattle.naga_oil_lines.proofs.TextLemmas.{chars_before}
+use Rattle.naga_oil_lines.proofs.TokenLemmas.{suffix_more}
+use Rattle.naga_oil_pre.specs.declared.fault.ShaderDefValue.{ShaderDefValue}
+use Rattle.naga_oil_pre.specs.Fault.{Definitions}
+use Rattle.naga_oil_pre.specs.Replaced.{HashName, is_name_char, begins_with, name_at, name_in_braces, hash_name, pieces, piece_text, value_text, value_or, replaced_from}
+use Rattle.naga_oil_pre.specs.Splits.{IsBehind, SplitsName, SplitsHashName, SplitsAtHash}
+
+-- ---- what is left of a text
+pub behind_behind : (i j : ℕ) (text middle rest : List ℕ) → IsBehind i text middle → IsBehind j middle rest → IsBehind (i + j) text rest
+behind_behind i j text middle rest f s = record {
+  left = s.left ∙ ap (drop j) f.left ∙ drop-drop j i (chars text);
+  suffix = suffix_more _ _ _ _ _ f.suffix.1 s.suffix.1;
+  utf8 = s.utf8;
+}
+
+pub behind_char : (text rest : List ℕ) (c : ℕ) → BeginsWithChar text c rest → IsBehind 1 text rest
+behind_char text rest c b = record {
+  left = rw b.spelled refl;
+  suffix = (encode_utf8 c, b.bytes);
+  utf8 = b.utf8;
+}
+
+-- ---- a name at the front
+chars-none : (bs : List ℕ) → IsUtf8 bs → chars bs ≡ [] → length bs ≡ 0
+chars-none bs u e = ap length (sym (encodes-chars bs u) ∙ ap encode_utf8_all e)
+
+module _ (text front rest : List ℕ) (cut : text ≡ front ++ rest) (utf8 : IsUtf8 front) (after : chars rest ≡ drop (prefix_len is_name_char (chars text)) (chars text)) where
+  front_is : chars front ≡ take (prefix_len is_name_char (chars text)) (chars text)
+  front_is = chars_before text front rest (prefix_len is_name_char (chars text)) cut utf8 after
+
+  pub no_name : length front ≡ 0 → prefix_len is_name_char (chars text) ≡ 0
+  no_name e =
+      sym (length-prefix_len is_name_char (chars text)) ∙ ap length (sym front_is ∙ ap chars (nil_from_length front e) ∙ chars-nil)
+
+  pub a_name : length front ≢ 0 → IsUtf8 rest → SplitsName text front rest
+  a_name e u =
+      let some : prefix_len is_name_char (chars text) ≢ 0 = λ z. e (chars-none front utf8 (front_is ∙ ap (λ k. take k (chars text)) z)) in
+      record {
+        some = omega arith;
+        spelled = sym (encodes-chars front utf8) ∙ ap encode_utf8_all front_is;
+        behind = record { left = after; suffix = (front, cut); utf8 = u };
+      }
+
+-- ---- the grammar of a `#` name
+name_at_none : (before after : ℕ) (cs : List ℕ) → prefix_len is_name_char cs ≡ 0 → name_at before after cs ≡ None
+unfolding name_at
+name_at_none before after cs e = rw e refl
+
+name_at_some : (before after : ℕ) (cs : List ℕ) → 0 < prefix_len is_name_char cs
+    → name_at before after cs ≡ Some (record { name = take (prefix_len is_name_char cs) cs; taken = before + prefix_len is_name_char cs + after })
+unfolding name_at
+name_at_some before after cs some =
+    ap (λ b. cond b (Some (record { name = take (prefix_len is_name_char cs) cs; taken = before + prefix_len is_name_char cs + after })) None) (lt-ltb 0 (prefix_len is_name_char cs) some)
+
+in_braces_none : (before : ℕ) (cs : List ℕ) → prefix_len is_name_char cs ≡ 0 → name_in_braces before cs ≡ None
+unfolding name_in_braces
+in_braces_none before cs e =
+    elim (begins_with 125 (drop (prefix_len is_name_char cs) cs)) as (λ b. cond b (name_at before 1 cs) None ≡ None) [
+      | true ↦ name_at_none before 1 cs e
+      | false ↦ refl
+    ]
+
+in_braces_open : (before : ℕ) (cs : List ℕ) → begins_with 125 (drop (prefix_len is_name_char cs) cs) ≡ false → name_in_braces before cs ≡ None
+unfolding name_in_braces
+in_braces_open before cs e = rw e refl
+
+in_braces_closed : (before : ℕ) (cs : List ℕ) → begins_with 125 (drop (prefix_len is_name_char cs) cs) ≡ true → name_in_braces before cs ≡ name_at before 1 cs
+unfolding name_in_braces
+in_braces_closed before cs e = rw e refl
+
+hash_name_bare : (cs ds : List ℕ) → ds ≡ drop (prefix_len is_whitespace cs) cs → begins_with 123 ds ≡ false → hash_name cs ≡ name_at (prefix_len is_whitespace cs) 0 ds
+unfolding hash_name
+hash_name_bare cs ds e b = rw (← e, b) refl
+
+hash_name_braced : (cs ds es : List ℕ) → ds ≡ drop (prefix_len is_whitespace cs) cs → ds ≡ 123 ∷ es → hash_name cs ≡ name_in_braces (prefix_len is_whitespace cs + 1) es
+unfolding hash_name
+hash_name_braced cs ds es e b = rw (← e, b) refl
+
+-- ---- the pieces of a line
+told : (n : ℕ) (cs : List ℕ) → pieces n cs ≡ pieces 0 (drop n cs)
+unfolding pieces
+told zero cs = refl
+told (suc n) [] = refl
+told (suc n) (c ∷ cs) = told n cs
+
+plain_step : (defs : Definitions) (c : ℕ) (cs : List ℕ) → eqb c 35 ≡ false → replaced_from defs (c ∷ cs) ≡ encode_utf8 c ++ replaced_from defs cs
+unfolding replaced_from pieces
+plain_step defs c cs e = rw (e, pieces) refl
+
+pub replaced_at_bare : (defs : Definitions) (cs : List ℕ) → hash_name cs ≡ None → replaced_from defs (35 ∷ cs) ≡ 35 ∷ replaced_from defs cs
+unfolding replaced_from pieces encode
+replaced_at_bare defs cs e = rw (e, pieces) refl
+
+name_step : (defs : Definitions) (cs : List ℕ) (h : HashName) → hash_name cs ≡ Some h
+    → replaced_from defs (35 ∷ cs) ≡ value_or (defs (encode_utf8_all h.name)) (encode_utf8_all (35 ∷ take h.taken cs)) ++ flat_map (piece_text defs) (pieces h.taken cs)
+unfolding replaced_from pieces
+name_step defs cs h e = rw (e, pieces) refl
+
+pub replaced_at_name : (defs : Definitions) (cs : List ℕ) (h : HashName) → hash_name cs ≡ Some h
+    → replaced_from defs (35 ∷ cs) ≡ value_or (defs (encode_utf8_all h.name)) (encode_utf8_all (35 ∷ take h.taken cs)) ++ replaced_from defs (drop h.taken cs)
+unfolding replaced_from
+replaced_at_name defs cs h e =
+    name_step defs cs h e ∙ ap (λ ps. value_or (defs (encode_utf8_all h.name)) (encode_utf8_all (35 ∷ take h.taken cs)) ++ flat_map (piece_text defs) ps) (told h.taken cs)
+
+none_to_replace : (defs : Definitions) (cs ds : List ℕ) → NonePass (λ c. eqb c 35) cs → replaced_from defs (cs ++ ds) ≡ encode_utf8_all cs ++ replaced_from defs ds
+none_to_replace defs [] ds none = refl
+none_to_replace defs (c ∷ cs) ds none =
+    plain_step defs c (cs ++ ds) none.0 ∙ ap (λ l. encode_utf8 c ++ l) (none_to_replace defs cs ds none.1) ∙ sym (append_assoc (encode_utf8 c) (encode_utf8_all cs) (replaced_from defs ds))
+
+-- a front without `#` stands as it is
+pub replaced_front : (defs : Definitions) (front cs : List ℕ) → IsUtf8 front → NoCharPasses (λ c. eqb c 35) front → replaced_from defs (chars front ++ cs) ≡ front ++ replaced_from defs cs
+replaced_front defs front cs u none =
+    let spelled : chars front ≡ none.0 = sym (chars_from_encodes none.0 front u none.1) in
+    ap (λ l. replaced_from defs (l ++ cs)) spelled ∙ none_to_replace defs none.0 cs none.2 ∙ ap (λ l. l ++ replaced_from defs cs) none.1
+
+-- ---- how the code reads a `#` name
+pub bare_name : (text start : List ℕ) (r : Option (Bor (List ℕ) × Bor (List ℕ))) → IsBehind (prefix_len is_whitespace (chars text)) text start → begins_with 123 (chars start) ≡ false
+    → MatchOption r (prefix_len is_name_char (chars start) ≡ 0) (λ x. SplitsName start x.0.now x.1.now) → MatchOption r (hash_name (chars text) ≡ None) (λ x. SplitsHashName text x.0.now x.1.now)
+bare_name text start None white bare none =
+    hash_name_bare (chars text) (chars start) white.left bare ∙ name_at_none (prefix_len is_whitespace (chars text)) 0 (chars start) none
+bare_name text start (Some x) white bare name = record {
+  found = record { name = take (prefix_len is_name_char (chars start)) (chars start); taken = prefix_len is_whitespace (chars text) + prefix_len is_name_char (chars start) + 0 };
+  is = hash_name_bare (chars text) (chars start) white.left bare ∙ name_at_some (prefix_len is_whitespace (chars text)) 0 (chars start) name.some;
+  spelled = name.spelled;
+  behind =
+      let whole = behind_behind _ _ _ _ _ white name.behind in
+      let none : prefix_len is_whitespace (chars text) + prefix_len is_name_char (chars start) ≡ prefix_len is_whitespace (chars text) + prefix_len is_name_char (chars start) + 0 = omega arith in
+      subst (λ k. IsBehind k text x.1.now) none whole;
+}
+
+module _ (text start inner : List ℕ) (white : IsBehind (prefix_len is_whitespace (chars text)) text start) (brace : BeginsWithChar start 123 inner) where
+  in_braces : hash_name (chars text) ≡ name_in_braces (prefix_len is_whitespace (chars text) + 1) (chars inner)
+  in_braces = hash_name_braced (chars text) (chars start) (chars inner) white.left brace.spelled
+
+  pub no_braced_name : prefix_len is_name_char (chars inner) ≡ 0 → hash_name (chars text) ≡ None
+  no_braced_name none = in_braces ∙ in_braces_none (prefix_len is_whitespace (chars text) + 1) (chars inner) none
+
+  module _ (name closing : List ℕ) (split : SplitsName inner name closing) where
+    pub unclosed_name : begins_with 125 (chars closing) ≡ false → hash_name (chars text) ≡ None
+    unclosed_name at_end =
+        in_braces ∙ in_braces_open (prefix_len is_whitespace (chars text) + 1) (chars inner) (ap (begins_with 125) (sym split.behind.left) ∙ at_end)
+
+    pub braced_name : (rest : List ℕ) → BeginsWithChar closing 125 rest → SplitsHashName text name rest
+    braced_name rest close = record {
+      found = record { name = take (prefix_len is_name_char (chars inner)) (chars inner); taken = prefix_len is_whitespace (chars text) + 1 + prefix_len is_name_char (chars inner) + 1 };
+      is = in_braces
+          ∙ in_braces_closed (prefix_len is_whitespace (chars text) + 1) (chars inner) (ap (begins_with 125) (sym split.behind.left ∙ close.spelled))
+          ∙ name_at_some (prefix_len is_whitespace (chars text) + 1) 1 (chars inner) split.some;
+      spelled = split.spelled;
+      behind = behind_behind _ _ _ _ _ (behind_behind _ _ _ _ _ (behind_behind _ _ _ _ _ white (behind_char _ _ _ brace)) split.behind) (behind_char _ _ _ close);
+    }
+
+-- ---- what the code writes for a `#` name
+pub bare_written : (defs : Definitions) (text before after : List ℕ) → hash_name (chars text) ≡ None → after ≡ before ++ 35 ∷ [] → after ++ replaced_from defs (chars text) ≡ before ++ replaced_from defs (35 ∷ chars text)
+bare_written defs text before after none e =
+    ap (λ l. l ++ replaced_from defs (chars text)) e
+    ∙ append_assoc before (35 ∷ []) (replaced_from defs (chars text))
+    ∙ ap (λ l. before ++ l) (sym (replaced_at_bare defs (chars text) none))
+
+module _ (defs : Definitions) (text name rest before after : List ℕ) (s : SplitsHashName text name rest) where
+  own : List ℕ
+  own = encode_utf8_all (35 ∷ take s.found.taken (chars text))
+
+  written : (o : Option ShaderDefValue) → defs name ≡ o → after ≡ before ++ value_or o own → after ++ replaced_from defs (chars rest) ≡ before ++ replaced_from defs (35 ∷ chars text)
+  unfolding own
+  written o same e =
+      let known : defs (encode_utf8_all s.found.name) ≡ o = ap defs (sym s.spelled) ∙ same in
+      let whole : replaced_from defs (35 ∷ chars text) ≡ value_or o own ++ replaced_from defs (chars rest) =
+      replaced_at_name defs (chars text) s.found s.is
+      ∙ ap (λ x. value_or x own ++ replaced_from defs (drop s.found.taken (chars text))) known
+      ∙ ap (λ l. value_or o own ++ replaced_from defs l) (sym s.behind.left) in
+      ap (λ l. l ++ replaced_from defs (chars rest)) e ∙ append_assoc before (value_or o own) (replaced_from defs (chars rest)) ∙ ap (λ l. before ++ l) (sym whole)
+
+  pub value_written : (value : ShaderDefValue) → defs name ≡ Some value → after ≡ before ++ value_text value → after ++ replaced_from defs (chars rest) ≡ before ++ replaced_from defs (35 ∷ chars text)
+  value_written value same e = written (Some value) same e
+
+  -- a name that has no value stands as it is
+  pub name_written : (spelling : List ℕ) → defs name ≡ None → text ≡ spelling ++ rest → IsUtf8 spelling → after ≡ (before ++ 35 ∷ []) ++ spelling
+      → after ++ replaced_from defs (chars rest) ≡ before ++ replaced_from defs (35 ∷ chars text)
+  unfolding own encode
+  name_written spelling same cut u e =
+      let spelled : chars spelling ≡ take s.found.taken (chars text) = chars_before text spelling rest s.found.taken cut u s.behind.left in
+      let own_is : own ≡ 35 ∷ spelling = ap (λ l. 35 ∷ l) (ap encode_utf8_all (sym spelled) ∙ encodes-chars spelling u) in
+      written None same (e ∙ append_assoc before (35 ∷ []) spelling ∙ ap (λ l. before ++ l) (sym own_is))
+
+-- ---- the scan from one `#` to the next
+chars_hash : (bs : List ℕ) → chars (35 ∷ bs) ≡ 35 ∷ chars bs
+unfolding chars
+chars_hash [] = refl
+chars_hash (b ∷ bs) = refl
+
+pub to_next_hash : (defs : Definitions) (text front rest before after : List ℕ) → SplitsAtHash text front rest → after ≡ before ++ front
+    → after ++ replaced_from defs (35 ∷ chars rest) ≡ before ++ replaced_from defs (chars text)
+to_next_hash defs text front rest before after s e =
+    let spelled : chars text ≡ chars front ++ 35 ∷ chars rest = ap chars s.whole ∙ chars-append front (35 ∷ rest) s.front_utf8 ∙ ap (λ l. chars front ++ l) (chars_hash rest) in
+    let whole : replaced_from defs (chars text) ≡ front ++ replaced_from defs (35 ∷ chars rest) = ap (replaced_from defs) spelled ∙ replaced_front defs front (35 ∷ chars rest) s.front_utf8 s.plain in
+    ap (λ l. l ++ replaced_from defs (35 ∷ chars rest)) e ∙ append_assoc before front (replaced_from defs (35 ∷ chars rest)) ∙ ap (λ l. before ++ l) (sym whole)
+
+-- a text without `#` stands as it is
+pub replaced_plain : (defs : Definitions) (text : List ℕ) → IsUtf8 text → NoCharPasses (λ c. eqb c 35) text → replaced_from defs (chars text) ≡ text
+unfolding replaced_from pieces
+replaced_plain defs text u none = ap (replaced_from defs) (sym (append-nil (chars text))) ∙ replaced_front defs text [] u none ∙ append-nil text
+
+hash_is_there : (text : List ℕ) (k : ℕ) → k < length text → get_or text k 0 ≡ 35 → NoCharPasses (λ c. eqb c 35) text → ⊥
+hash_is_there text k inside at none =
+    let no : eqb (get_or text k 0) 35 ≡ false = NoCharPasses-byte (λ c. eqb c 35) text k none inside (omega arith) in
+    let yes : eqb (get_or text k 0) 35 ≡ true = eq-eqb (get_or text k 0) 35 at in
+    cc
+
+pub cannot_be_plain : (text : List ℕ) → (k : ℕ) × (k < length text) × (get_or text k 0 ≡ 35) → NoCharPasses (λ c. eqb c 35) text → ⊥
+cannot_be_plain text at none = hash_is_there text at.0 at.1 at.2 none
