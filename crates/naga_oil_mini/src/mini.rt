@@ -8,7 +8,6 @@ ghost use Rattle.naga_oil_mini.specs.Told.{Refuses, Tells, status_of};
 mod definitions;
 mod pre;
 mod refusal;
-mod shim;
 #[cfg(test)]
 mod tests;
 mod words;

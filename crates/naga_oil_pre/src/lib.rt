@@ -15,7 +15,7 @@
 mod condition;
 mod fault;
 pub mod laws;
-mod line_kind;
+pub mod line_kind;
 mod preprocess;
 mod replace;
 mod scope;

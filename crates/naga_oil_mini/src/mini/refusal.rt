@@ -1,5 +1,5 @@
 // Why nothing was written.
-use super::shim::ComposerErrorInner;
+use naga_oil_pre::ComposerErrorInner;
 use std::alloc::AllocError;
 use std::fmt;
 
