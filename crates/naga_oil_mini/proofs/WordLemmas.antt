@@ -1,6 +1,6 @@
 -- The files among words, word by word.
-use Rattle.std.proofs.Common.{◌≡◌, ℕ, suc, ◌+◌, ◌<◌, Bool, true, false, cond, not, List, [], ◌∷◌, ◌++◌, length, get_or, take, drop, refl, sym, ap, ◌∙◌, Option, Some, None, filter, map, string_bytes, String, arith, append_assoc, take-append-drop, drop-cons, option_copied, Bor}
-use Rattle.std.specs.Option.{option_to_list, ForSome, is_some}
+use Rattle.std.proofs.Common.{◌≡◌, ℕ, suc, ◌<◌, true, false, cond, not, List, [], ◌∷◌, ◌++◌, length, get_or, take, drop, refl, sym, ap, ◌∙◌, Option, Some, None, string_bytes, String, arith, take-append-drop, drop-cons, option_copied, Bor}
+use Rattle.std.specs.Option.{option_to_list, is_some}
 use Rattle.std.specs.declared.alloc.Global.{Global}
 use Rattle.std.proofs.lemmas.Grind.{common_steps}
 use Rattle.naga_oil_mini.specs.Words.{is_definition, adds_import, others, only_file, texts}

@@ -1,5 +1,5 @@
 -- What is told where nothing is written.
-use Rattle.std.specs.Prelude.{◌≡◌, ℕ, Bool, true, List, ◌++◌, ◌∷◌, [], codes, drop, Contains, Option, Some, None, IsSome, IfSome, ⊤}
+use Rattle.std.specs.Prelude.{◌≡◌, ℕ, true, List, ◌++◌, ◌∷◌, [], codes, drop, Contains, Option, Some, None, IsSome, IfSome, ⊤}
 use Rattle.std.specs.Io.KnownBytes.{Appends}
 use Rattle.naga_oil_mini.specs.Words.{is_definition, asked_file}
 use Rattle.naga_oil_mini.specs.declared.mini.refusal.Refusal.{Refusal}

@@ -62,11 +62,7 @@ fn report<E: Write>(refusal: Refusal<'_>, err: &mut E) -> io::Result<()>
 /// and 2 for words that it doesn't understand and a file that can't be read.
 /// `read` gives a file's bytes, or `None` where it can't be read.
 /// What went wrong is a line on `err`, except for a write.
-pub fn oil<
-    F: FnMut(&str) -> Result<Option<Vec<u8>>, AllocError> + Drop,
-    O: Write,
-    E: Write,
->(
+pub fn oil<F: FnMut(&str) -> Result<Option<Vec<u8>>, AllocError> + Drop, O: Write, E: Write>(
     alloc: Global,
     words: &[String],
     read: F,

@@ -37,7 +37,10 @@ impl fmt::Display for Refusal<'_> {
 
     fn fmt<W: fmt::Write>(&self, f: &mut fmt::Formatter<W>) -> fmt::Result {
         match self {
-            Refusal::Usage => write!(f, "usage: oil pre FILE [NAME=VALUE..] | oil make TOP [MODULE..] [+NAME..] [NAME=VALUE..]"),
+            Refusal::Usage => write!(
+                f,
+                "usage: oil pre FILE [NAME=VALUE..] | oil make TOP [MODULE..] [+NAME..] [NAME=VALUE..]"
+            ),
             Refusal::BadDefinition(word) => write!(f, "bad definition {word}"),
             Refusal::CannotRead(file) => write!(f, "cannot read {file}"),
             Refusal::Fault(fault) => write!(f, "error: {fault}"),

@@ -88,7 +88,8 @@ fn answers(
     Ok(())
 }
 
-const USAGE: &str = "usage: oil pre FILE [NAME=VALUE..] | oil make TOP [MODULE..] [+NAME..] [NAME=VALUE..]\n";
+const USAGE: &str =
+    "usage: oil pre FILE [NAME=VALUE..] | oil make TOP [MODULE..] [+NAME..] [NAME=VALUE..]\n";
 
 #[test]
 fn prints_the_text(rt: HostRuntime) -> Result<(), Fail> {
@@ -163,13 +164,21 @@ fn says_what_is_wrong_with_the_text(rt: HostRuntime) -> Result<(), Fail> {
         &rt,
         "pre t.txt",
         b"#define A x1",
-        (1, "", "error: Invalid value for `#define`d shader def A: x1\n"),
+        (
+            1,
+            "",
+            "error: Invalid value for `#define`d shader def A: x1\n",
+        ),
     )?;
     answers(
         &rt,
         "pre t.txt",
         b"#ifdef A",
-        (1, "", "error: Not enough '# endif' lines. Each if statement should be followed by an endif statement.\n"),
+        (
+            1,
+            "",
+            "error: Not enough '# endif' lines. Each if statement should be followed by an endif statement.\n",
+        ),
     )?;
     Ok(())
 }
