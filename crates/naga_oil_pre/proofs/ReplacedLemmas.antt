@@ -22,7 +22,7 @@ use Rattle.naga_oil_pre.specs.Replaced.{HashName, plain, named, begins_with, nam
 use Rattle.naga_oil_pre.specs.Splits.{IsBehind, SplitsName, SplitsHashName, SplitsAtHash}
 use Rattle.std.specs.Fmt.{decimal, digits, digits_onto, digit_glyph}
 use Rattle.std.proofs.lemmas.List.Sums.{sum_by-append, sum_by-cons}
-use Rattle.naga_oil_pre.specs.declared.fault.ShaderDefValue.TheVariants as def
+use Rattle.naga_oil_pre.specs.declared.shader_def.ShaderDefValue.TheVariants as def
 
 -- ---- what is left of a text
 pub behind_behind : (i j : ℕ) (text middle rest : List ℕ) → IsBehind i text middle → IsBehind j middle rest → IsBehind (i + j) text rest

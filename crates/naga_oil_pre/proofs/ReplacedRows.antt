@@ -4,7 +4,7 @@ use lib.Utf8.{encode}
 use Rattle.std.specs.Prelude.{codes, bytes_eq}
 use Rattle.std.specs.Str.{chars}
 use Rattle.ucd_perl.proofs.Computing.{ucd_perl}
-use Rattle.naga_oil_pre.specs.declared.fault.ShaderDefValue.TheVariants as def
+use Rattle.naga_oil_pre.specs.declared.shader_def.ShaderDefValue.TheVariants as def
 use Rattle.naga_oil_pre.specs.Fault.{Definitions}
 use Rattle.naga_oil_pre.specs.Replaced.{replaced, replaced_from, pieces, hash_name, name_at, name_in_braces, hash_names}
 
