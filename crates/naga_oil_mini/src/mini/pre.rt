@@ -3,10 +3,10 @@ ghost use Rattle.std.specs.Prelude.{◌≡◌, IfOk, string_bytes};
 ghost use Rattle.std.specs.List.{join_with_byte};
 ghost use Rattle.std.specs.Str.Lines.{lines};
 
-use super::definitions::{Definitions, define, defined_value};
+use super::definitions::{Definitions, define};
 use naga_oil_lines::comment_strip_iter::CommentReplaceExt;
 use naga_oil_pre::line_kind::{LineKind, line_kind};
-use naga_oil_pre::{ComposerErrorInner, Preprocessor};
+use naga_oil_pre::{ComposerErrorInner, Preprocessor, defined_value};
 use std::alloc::{AllocError, Global};
 
 // The lines joined, so that the last line's end goes.
