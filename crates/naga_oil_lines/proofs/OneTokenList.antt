@@ -1,15 +1,14 @@
 -- A text has one list of tokens.
-use Rattle.std.proofs.Common.{◌≡◌, ◌≢◌, ◌⊎◌, ℕ, ◌+◌, ◌<◌, Bool, true, false, eqb, ◌||◌, List, [], ◌∷◌, ◌++◌, length, take, drop, refl, sym, ap, subst, ◌∙◌, inl, inr, arith, append-nil, take-append-drop}
+use Rattle.std.proofs.Common.{◌≡◌, ◌≢◌, ◌⊎◌, ℕ, ◌+◌, true, false, ◌||◌, List, [], ◌∷◌, ◌++◌, length, take, drop, refl, sym, ap, subst, ◌∙◌, inl, inr, arith, append-nil, take-append-drop}
 use borrow.Author.Tests.{ne_eqb, eq-eqb}
-use Rattle.std.specs.Prelude.{All}
-use Rattle.std.specs.Char.{is_whitespace, len_utf8, encode_utf8}
+use Rattle.std.specs.Char.{is_whitespace, len_utf8}
 use Rattle.std.specs.Str.{encode_utf8_all}
 use Rattle.std.proofs.lemmas.List.Elements.{All-head}
 use Rattle.std.proofs.lemmas.Str.{length-encode}
-use Rattle.unicode_ident.specs.Ident.{is_xid_start, is_xid_continue}
+use Rattle.unicode_ident.specs.Ident.{is_xid_start}
 use Rattle.unicode_ident.proofs.IdentLemmas.{is_xid_start-is_xid_continue}
 use Rattle.naga_oil_lines.specs.Tokens.{Lexeme, identifier, other, whitespace, starts_identifier, more_in_token, lexeme_at, lexemes}
-use Rattle.naga_oil_lines.specs.TokenGrammar.{GoesOn, IsIdentifier, IsWhitespaceRun, IsLongest, AreTokens, end, an_identifier, white_space, a_character}
+use Rattle.naga_oil_lines.specs.TokenGrammar.{IsIdentifier, IsWhitespaceRun, IsLongest, AreTokens, end, an_identifier, white_space, a_character}
 use Rattle.naga_oil_lines.proofs.TokenLemmas.{lexemes_step, lexemes-nil, more_in_identifier, more_in_whitespace, more_in_other, lexeme_identifier, lexeme_whitespace, lexeme_other}
 use Rattle.naga_oil_lines.proofs.GrammarLemmas.{longest_identifier, longest_whitespace}
 use Rattle.naga_oil_lines.proofs.XidLemmas.{whitespace_continues_none}
@@ -68,10 +67,10 @@ no_start : (c : ℕ) → is_whitespace c ≡ true → starts_identifier c ≡ fa
 no_start c white =
     let quote : c ≢ 34 = λ e. let w : false ≡ true = subst (λ k. is_whitespace k ≡ true) e white in cc in
     let start : is_xid_start c ≡ false =
-        elim (is_xid_start c) as (λ b. is_xid_start c ≡ b → b ≡ false) [
-          | true ↦ λ e. let goes_on = is_xid_start-is_xid_continue c e in let stops = whitespace_continues_none c white in cc
-          | false ↦ λ e. refl
-        ] refl in
+    elim (is_xid_start c) as (λ b. is_xid_start c ≡ b → b ≡ false) [
+      | true ↦ λ e. let goes_on = is_xid_start-is_xid_continue c e in let stops = whitespace_continues_none c white in cc
+      | false ↦ λ e. refl
+    ] refl in
     rw (start, ne_eqb c 34 quote)
 
 whitespace_told : (at : ℕ) (front rest : List ℕ) (more : List Lexeme) → IsLongest IsWhitespaceRun front rest

@@ -1,10 +1,10 @@
 -- Tokens of a text.
-use Rattle.std.proofs.Common.{◌≡◌, ◌≢◌, ℕ, zero, suc, ◌+◌, ◌-◌, Bool, true, false, cond, not, eqb, ◌&&◌, List, [], ◌∷◌, ◌++◌, length, take, drop, refl, sym, ap, subst, ◌∙◌, arith, append_assoc, length-append, add-zero}
+use Rattle.std.proofs.Common.{◌≡◌, ◌≢◌, ℕ, zero, suc, ◌+◌, Bool, true, false, cond, not, eqb, ◌&&◌, List, [], ◌∷◌, ◌++◌, length, take, drop, refl, sym, ap, subst, ◌∙◌, arith, append_assoc, length-append, add-zero}
 use borrow.Author.Tests.{ne_eqb}
 use Rattle.std.specs.Char.{is_whitespace, len_utf8, encode_utf8}
 use Rattle.std.specs.List.{prefix_len}
-use Rattle.std.specs.Str.{IsUtf8, IsCharBoundary, chars, encode_utf8_all, skip_leading_whitespace, trim_start}
-use Rattle.std.proofs.lemmas.Str.{IsUtf8-past_char, chars_from_encodes, chars_past_char, chars-nil, length-encode, len_utf8_bounds, IsCharBoundary-at_seam, encodes-chars, encodes-append}
+use Rattle.std.specs.Str.{IsUtf8, chars, encode_utf8_all}
+use Rattle.std.proofs.lemmas.Str.{chars-nil, length-encode, encodes-chars, encodes-append}
 use Rattle.std.proofs.lemmas.List.{append_cancel_right, take-append-drop, nil_from_length}
 use Rattle.unicode_ident.specs.Ident.{is_xid_continue}
 use Rattle.naga_oil_lines.specs.Text.{BeginsWithChar}

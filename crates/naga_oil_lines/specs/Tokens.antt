@@ -1,5 +1,5 @@
 -- The tokens of a text, by its characters: each is as long as it can be.
-use Rattle.std.specs.Prelude.{ℕ, zero, suc, ◌+◌, Bool, true, false, ◌||◌, ◌&&◌, ◌==◌, not, if◌then◌else◌, List, [], ◌∷◌, length, take, filter}
+use Rattle.std.specs.Prelude.{ℕ, zero, suc, ◌+◌, Option, Some, None, Bool, true, false, ◌||◌, ◌&&◌, ◌==◌, not, if◌then◌else◌, List, [], ◌∷◌, take, filter}
 use Rattle.std.specs.List.{prefix_len}
 use Rattle.std.specs.Char.{is_whitespace, len_utf8}
 use Rattle.std.specs.Str.{encode_utf8_all}
@@ -10,6 +10,18 @@ pub data Lexeme : Type 0 where
   identifier : List ℕ → ℕ → Lexeme
   other : ℕ → ℕ → Lexeme
   whitespace : List ℕ → ℕ → Lexeme
+
+-- the place of a token's first byte
+abbrev pub place_of : Lexeme → ℕ
+place_of (identifier text at) = at
+place_of (other c at) = at
+place_of (whitespace text at) = at
+
+-- the text of an identifier, which other tokens lack
+abbrev pub identifier_text : Lexeme → Option (List ℕ)
+identifier_text (identifier text at) = Some text
+identifier_text (other c at) = None
+identifier_text (whitespace text at) = None
 
 abbrev pub starts_identifier : ℕ → Bool
 starts_identifier c = is_xid_start c || (c == 34)

@@ -10,11 +10,36 @@ use crate::text::{after_whitespace, split_first_char};
 use unicode_ident::{is_xid_continue, is_xid_start};
 
 /// A piece of a text, with the place of its first byte.
-#[derive(Clone, Copy, Debug)]
+#[derive(Clone, Copy, PartialEq, Eq, PartialOrd, Ord, Hash, Debug)]
 pub enum Token<'a> {
     Identifier(&'a str, usize),
     Other(char, usize),
     Whitespace(&'a str, usize),
+}
+
+impl Token<'_> {
+    ghost use Rattle.std.specs.Prelude.{option_map};
+    ghost use Rattle.naga_oil_lines.specs.Tokens.{place_of, identifier_text};
+    ghost use Rattle.naga_oil_lines.specs.Tokenizer.{lexeme_of};
+
+    /// The place of its first byte.
+    pub fn pos(&self) -> usize
+        ensures { result ≡ place_of (lexeme_of self.now) }
+    {
+        match self {
+            Token::Identifier(_, pos) | Token::Other(_, pos) | Token::Whitespace(_, pos) => *pos,
+        }
+    }
+
+    /// The text of an identifier. Other tokens have none.
+    pub fn identifier(&self) -> Option<&str>
+        ensures { option_map (λ text. text.now) result ≡ identifier_text (lexeme_of self.now) }
+    {
+        match self {
+            Token::Identifier(text, _) => Some(text),
+            _ => None,
+        }
+    }
 }
 
 fn starts_identifier(first: char) -> bool
@@ -129,3 +154,61 @@ impl<'a> Iterator for Tokenizer<'a> {
 pub fn one_token_list()
     ensures { (at : ℕ) (cs : List ℕ) (ts : List Lexeme) → AreTokens at cs ts ↔ (ts ≡ lexemes 0 at cs) }
 {}
+
+#[cfg(test)]
+mod tests {
+    use super::*;
+    use std::test::Fail;
+
+    #[test]
+    fn cuts_texts(rt: HostRuntime) -> Result<(), Fail> {
+        let quoted = [
+            Token::Identifier("a\"b::c\"d::", 0),
+            Token::Other(':', 10),
+            Token::Identifier("e", 11),
+        ];
+        let open = [Token::Identifier("x", 0), Token::Identifier("\"y z", 2)];
+        let spaced = [
+            Token::Whitespace(" ", 0),
+            Token::Identifier("é1", 1),
+            Token::Whitespace("\n\t", 4),
+            Token::Other('1', 6),
+            Token::Other(':', 7),
+            Token::Identifier("b", 8),
+        ];
+        let unspaced = [
+            Token::Identifier("é1", 1),
+            Token::Other('1', 6),
+            Token::Other(':', 7),
+            Token::Identifier("b", 8),
+        ];
+        let foo = [Token::Other('_', 0), Token::Identifier("foo", 1)];
+        let cases: [(&str, bool, &[Token]); 7] = [
+            ("a\"b::c\"d:::e", false, &quoted),
+            ("a\"b::c\"d:::e", true, &quoted),
+            ("_foo", true, &foo),
+            ("x \"y z", false, &open),
+            (" é1\n\t1:b", true, &spaced),
+            (" é1\n\t1:b", false, &unspaced),
+            ("", true, &[]),
+        ];
+        for (text, emit_whitespace, want) in cases {
+            let tokens: Vec<Token> = Tokenizer::new(text, emit_whitespace).collect(rt.alloc())?;
+            assert_eq!(rt; tokens.as_slice(), want, "at {text}");
+        }
+        Ok(())
+    }
+
+    #[test]
+    fn tells_places_and_texts(rt: HostRuntime) {
+        let cases = [
+            (Token::Identifier("a", 3), 3, Some("a")),
+            (Token::Other('b', 4), 4, None),
+            (Token::Whitespace(" ", 5), 5, None),
+        ];
+        for (token, pos, identifier) in cases {
+            assert_eq!(rt; token.pos(), pos);
+            assert_eq!(rt; token.identifier(), identifier);
+        }
+    }
+}

@@ -1,9 +1,11 @@
 -- Lines with the values of their `#` names.
-use Rattle.std.proofs.Common.{◌≡◌, ◌≢◌, ℕ, zero, suc, ◌+◌, ◌<◌, true, false, cond, eqb, Option, Some, None, List, [], ◌∷◌, ◌++◌, length, take, drop, get_or, eq-eqb, refl, sym, ap, subst, ◌∙◌, arith, append_assoc, append-nil}
+use Rattle.std.proofs.Common.{◌≡◌, ◌≢◌, ℕ, zero, suc, ◌+◌, ◌<◌, ◌/◌, ◌%◌, ◌==◌, nat_lt, Bool, true, false, cond, eqb, ltb, Option, Some, None, List, [], ◌∷◌, ◌++◌, length, take, drop, get_or, eq-eqb, refl, sym, ap, subst, ◌∙◌, arith, append_assoc, append-nil}
 use denote.Ref.{Bor}
-use lib.Utf8.{encode}
+use borrow.Author.Tests.{eqb-true, ne_eqb}
+use lib.Utf8.{encode, next}
+use lib.IntN.{pos, negsuc}
 use Rattle.std.specs.Option.{MatchOption}
-use Rattle.std.specs.List.{prefix_len, flat_map}
+use Rattle.std.specs.List.{prefix_len, flat_map, count_by}
 use Rattle.std.specs.Char.{is_whitespace, encode_utf8}
 use Rattle.std.specs.Str.{IsUtf8, NoCharPasses, NonePass, chars, encode_utf8_all}
 use Rattle.std.proofs.lemmas.Bool.{lt-ltb}
@@ -13,10 +15,14 @@ use Rattle.std.proofs.lemmas.List.Folds.{length-prefix_len}
 use Rattle.naga_oil_lines.specs.Text.{BeginsWithChar}
 use Rattle.naga_oil_lines.proofs.TextLemmas.{chars_before}
 use Rattle.naga_oil_lines.proofs.TokenLemmas.{suffix_more}
-use Rattle.naga_oil_pre.specs.declared.fault.ShaderDefValue.{ShaderDefValue}
+use Rattle.naga_oil_pre.specs.declared.shader_def.ShaderDefValue.{ShaderDefValue}
 use Rattle.naga_oil_pre.specs.Fault.{Definitions}
-use Rattle.naga_oil_pre.specs.Replaced.{HashName, is_name_char, begins_with, name_at, name_in_braces, hash_name, pieces, piece_text, value_text, value_or, replaced_from}
+use Rattle.naga_oil_pre.specs.LineKinds.{is_name_char}
+use Rattle.naga_oil_pre.specs.Replaced.{HashName, plain, named, begins_with, name_at, name_in_braces, hash_name, pieces, piece_text, value_text, value_or, replaced_from, replaced}
 use Rattle.naga_oil_pre.specs.Splits.{IsBehind, SplitsName, SplitsHashName, SplitsAtHash}
+use Rattle.std.specs.Fmt.{decimal, digits, digits_onto, digit_glyph}
+use Rattle.std.proofs.lemmas.List.Sums.{sum_by-append, sum_by-cons}
+use Rattle.naga_oil_pre.specs.declared.shader_def.ShaderDefValue.TheVariants as def
 
 -- ---- what is left of a text
 pub behind_behind : (i j : ℕ) (text middle rest : List ℕ) → IsBehind i text middle → IsBehind j middle rest → IsBehind (i + j) text rest
@@ -222,3 +228,111 @@ hash_is_there text k inside at none =
 
 pub cannot_be_plain : (text : List ℕ) → (k : ℕ) × (k < length text) × (get_or text k 0 ≡ 35) → NoCharPasses (λ c. eqb c 35) text → ⊥
 cannot_be_plain text at none = hash_is_there text at.0 at.1 at.2 none
+
+-- ---- line ends
+abbrev is_end : ℕ → Bool
+is_end b = eqb b 10
+
+no_end : (b : ℕ) → 10 < b → is_end b ≡ false
+no_end b above = ne_eqb b 10 (λ e. absurd (omega arith))
+
+another : (b : ℕ) (bs : List ℕ) → is_end b ≡ false → count_by is_end bs ≡ 0 → count_by is_end (b ∷ bs) ≡ 0
+another b bs e f = sum_by-cons (λ x. cond (is_end x) 1 0) b bs ∙ ap (λ t. cond t 1 0 + count_by is_end bs) e ∙ ap (λ n. 0 + n) f
+
+no_ends_in_both : (xs ys : List ℕ) → count_by is_end xs ≡ 0 → count_by is_end ys ≡ 0 → count_by is_end (xs ++ ys) ≡ 0
+no_ends_in_both xs ys e f =
+    let parts : count_by is_end (xs ++ ys) ≡ count_by is_end xs + count_by is_end ys = sum_by-append (λ b. cond (is_end b) 1 0) xs ys in
+    omega arith
+
+no_ends_in_character : (c : ℕ) → is_end c ≡ false → count_by is_end (encode_utf8 c) ≡ 0
+unfolding encode
+no_ends_in_character c e =
+    let last : (b : ℕ) → count_by is_end ((128 + b % 64) ∷ []) ≡ 0 = λ (b : ℕ). another (128 + b % 64) [] (no_end (128 + b % 64) (omega arith)) refl in
+    let three : (b d : ℕ) → count_by is_end ((128 + b % 64) ∷ (128 + d % 64) ∷ []) ≡ 0 = λ (b : ℕ) (d : ℕ). another (128 + b % 64) ((128 + d % 64) ∷ []) (no_end (128 + b % 64) (omega arith)) (last d) in
+    elim (ltb c 128) as (λ t. count_by is_end (cond t (c ∷ []) (cond (ltb c 2048) ((192 + c / 64) ∷ next c ∷ []) (cond (ltb c 65536) ((224 + c / 4096) ∷ next (c / 64) ∷ next c ∷ []) ((240 + c / 262144) ∷ next (c / 4096) ∷ next (c / 64) ∷ next c ∷ [])))) ≡ 0) [
+      | true ↦ another c [] e refl
+      | false ↦ elim (ltb c 2048) as (λ t. count_by is_end (cond t ((192 + c / 64) ∷ next c ∷ []) (cond (ltb c 65536) ((224 + c / 4096) ∷ next (c / 64) ∷ next c ∷ []) ((240 + c / 262144) ∷ next (c / 4096) ∷ next (c / 64) ∷ next c ∷ []))) ≡ 0) [
+        | true ↦ another (192 + c / 64) (next c ∷ []) (no_end (192 + c / 64) (omega arith)) (last c)
+        | false ↦ elim (ltb c 65536) as (λ t. count_by is_end (cond t ((224 + c / 4096) ∷ next (c / 64) ∷ next c ∷ []) ((240 + c / 262144) ∷ next (c / 4096) ∷ next (c / 64) ∷ next c ∷ [])) ≡ 0) [
+          | true ↦ another (224 + c / 4096) (next (c / 64) ∷ next c ∷ []) (no_end (224 + c / 4096) (omega arith)) (three (c / 64) c)
+          | false ↦ another (240 + c / 262144) (next (c / 4096) ∷ next (c / 64) ∷ next c ∷ []) (no_end (240 + c / 262144) (omega arith))
+              (another (next (c / 4096)) (next (c / 64) ∷ next c ∷ []) (no_end (next (c / 4096)) (omega arith)) (three (c / 64) c))
+        ]
+      ]
+    ]
+
+no_ends_in_text : (cs : List ℕ) → NonePass is_end cs → count_by is_end (encode_utf8_all cs) ≡ 0
+no_ends_in_text [] none = refl
+no_ends_in_text (c ∷ cs) none =
+    no_ends_in_both (encode_utf8 c) (encode_utf8_all cs) (no_ends_in_character c none.0) (no_ends_in_text cs none.1)
+
+is_no_end : (c : ℕ) (rest : List ℕ) → count_by is_end (encode_utf8 c ++ rest) ≡ 0 → is_end c ≡ false
+unfolding encode
+is_no_end c rest e =
+    elim (is_end c) as (λ b. is_end c ≡ b → b ≡ false) [
+      | true ↦ λ q.
+          let one : count_by is_end (encode_utf8 10 ++ rest) ≡ 0 = subst (λ x. count_by is_end (encode_utf8 x ++ rest) ≡ 0) (eqb-true c 10 q) e in
+          let positive : 1 + count_by is_end rest ≡ 0 = sym (sum_by-cons (λ x. cond (is_end x) 1 0) 10 rest) ∙ one in
+          absurd (omega arith)
+      | false ↦ λ q. refl
+    ] refl
+
+no_ends_among : (cs : List ℕ) → count_by is_end (encode_utf8_all cs) ≡ 0 → NonePass is_end cs
+no_ends_among [] e = tt
+no_ends_among (c ∷ cs) e =
+    let parts : count_by is_end (encode_utf8_all (c ∷ cs)) ≡ count_by is_end (encode_utf8 c) + count_by is_end (encode_utf8_all cs) =
+    sum_by-append (λ b. cond (is_end b) 1 0) (encode_utf8 c) (encode_utf8_all cs) in
+    (is_no_end c (encode_utf8_all cs) e, no_ends_among cs (omega arith))
+
+none_in_front : (n : ℕ) (cs : List ℕ) → NonePass is_end cs → NonePass is_end (take n cs)
+none_in_front zero cs none = tt
+none_in_front (suc n) [] none = tt
+none_in_front (suc n) (c ∷ cs) none = (none.0, none_in_front n cs none.1)
+
+no_ends_in_digits : (k n : ℕ) (acc : List ℕ) → count_by is_end acc ≡ 0 → count_by is_end (digits_onto k 10 false n acc) ≡ 0
+no_ends_in_digits zero n acc e = e
+no_ends_in_digits (suc k) n acc e =
+    let glyph : is_end (digit_glyph false (n % 10)) ≡ false =
+    elim (nat_lt (n % 10) 10) as (λ b. is_end (cond b (48 + n % 10) (87 + n % 10)) ≡ false) [
+      | true ↦ no_end (48 + n % 10) (omega arith)
+      | false ↦ no_end (87 + n % 10) (omega arith)
+    ] in
+    let more : count_by is_end (digit_glyph false (n % 10) ∷ acc) ≡ 0 = another (digit_glyph false (n % 10)) acc glyph e in
+    elim (n / 10 == 0) as (λ b. count_by is_end (cond b (digit_glyph false (n % 10) ∷ acc) (digits_onto k 10 false (n / 10) (digit_glyph false (n % 10) ∷ acc))) ≡ 0) [
+      | true ↦ more
+      | false ↦ no_ends_in_digits k (n / 10) (digit_glyph false (n % 10) ∷ acc) more
+    ]
+
+no_ends_in_decimal : (n : ℕ) → count_by is_end (decimal n) ≡ 0
+unfolding digits
+no_ends_in_decimal n = no_ends_in_digits 64 n [] refl
+
+no_ends_in_value : (value : ShaderDefValue) → count_by is_end (value_text value) ≡ 0
+no_ends_in_value (def.Bool true) = refl
+no_ends_in_value (def.Bool false) = refl
+no_ends_in_value (def.Int (pos n)) = no_ends_in_decimal n
+no_ends_in_value (def.Int (negsuc n)) = another 45 (decimal (suc n)) refl (no_ends_in_decimal (suc n))
+no_ends_in_value (def.UInt n) = no_ends_in_decimal n
+
+no_ends_in_either : (o : Option ShaderDefValue) (text : List ℕ) → count_by is_end text ≡ 0 → count_by is_end (value_or o text) ≡ 0
+no_ends_in_either (Some value) text e = no_ends_in_value value
+no_ends_in_either None text e = e
+
+no_ends_in_pieces : (defs : Definitions) (n : ℕ) (cs : List ℕ) → NonePass is_end cs → count_by is_end (flat_map (piece_text defs) (pieces n cs)) ≡ 0
+unfolding pieces
+no_ends_in_pieces defs zero [] none = refl
+no_ends_in_pieces defs (suc n) [] none = refl
+no_ends_in_pieces defs (suc n) (c ∷ cs) none = no_ends_in_pieces defs n cs none.1
+no_ends_in_pieces defs zero (c ∷ cs) none =
+    elim (cond (eqb c 35) (hash_name cs) None) as (λ o. count_by is_end (flat_map (piece_text defs) (elim o [ None ↦ plain c ∷ pieces zero cs | Some h ↦ named h.name (c ∷ take h.taken cs) ∷ pieces h.taken cs ])) ≡ 0) [
+      | None ↦ no_ends_in_both (encode_utf8 c) _ (no_ends_in_character c none.0) (no_ends_in_pieces defs zero cs none.1)
+      | Some h ↦ no_ends_in_both (value_or (defs (encode_utf8_all h.name)) (encode_utf8_all (c ∷ take h.taken cs))) _
+          (no_ends_in_either (defs (encode_utf8_all h.name)) _ (no_ends_in_text (c ∷ take h.taken cs) (none.0, none_in_front h.taken cs none.1)))
+          (no_ends_in_pieces defs h.taken cs none.1)
+    ]
+
+-- a line without a line end has none when its names are replaced
+pub replaced_holds_no_newline : (defs : Definitions) (line : List ℕ) → IsUtf8 line → count_by (λ b. eqb b 10) line ≡ 0 → count_by (λ b. eqb b 10) (replaced defs line) ≡ 0
+unfolding replaced replaced_from
+replaced_holds_no_newline defs line u e =
+    no_ends_in_pieces defs 0 (chars line) (no_ends_among (chars line) (ap (count_by is_end) (encodes-chars line u) ∙ e))

@@ -1,7 +1,7 @@
 -- The faults of a text, and which conditions hold.
 use Rattle.std.specs.Prelude.{ℕ, Bool, true, false, not, is_some, List, codes, Option, Some, None, option_map, Result, Ok, Err}
-use Rattle.naga_oil_pre.specs.declared.fault.ShaderDefValue.{ShaderDefValue}
-use Rattle.naga_oil_pre.specs.declared.fault.ShaderDefValue.TheVariants as def
+use Rattle.naga_oil_pre.specs.declared.shader_def.ShaderDefValue.{ShaderDefValue}
+use Rattle.naga_oil_pre.specs.declared.shader_def.ShaderDefValue.TheVariants as def
 use Rattle.std.specs.declared.cmp.Ordering.{Ordering}
 use Rattle.std.specs.Ordering.{nat_cmp, int_cmp, bool_cmp}
 use Rattle.naga_oil_pre.specs.Values.{read_bool, read_i32, read_u32, operator_holds}

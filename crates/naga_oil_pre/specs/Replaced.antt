@@ -1,17 +1,13 @@
 -- A line with the values of its `#` names.
-use Rattle.std.specs.Prelude.{ℕ, zero, suc, ◌+◌, Bool, true, false, ◌||◌, ◌==◌, nat_lt, if◌then◌else◌, List, [], ◌∷◌, take, drop, codes, encode_utf8, encode_utf8_all, decimal, Option, Some, None}
+use Rattle.std.specs.Prelude.{ℕ, zero, suc, ◌+◌, Bool, true, false, ◌==◌, nat_lt, if◌then◌else◌, List, [], ◌∷◌, take, drop, codes, encode_utf8, encode_utf8_all, decimal, Option, Some, None}
 use Rattle.std.specs.Str.{chars}
 use Rattle.std.specs.List.{prefix_len, flat_map}
 use Rattle.std.specs.Char.{is_whitespace}
 use Rattle.std.specs.Fmt.{signed_decimal}
-use Rattle.ucd_perl.specs.Perl.{is_word_char}
-use Rattle.naga_oil_pre.specs.declared.fault.ShaderDefValue.{ShaderDefValue}
-use Rattle.naga_oil_pre.specs.declared.fault.ShaderDefValue.TheVariants as def
+use Rattle.naga_oil_pre.specs.declared.shader_def.ShaderDefValue.{ShaderDefValue}
+use Rattle.naga_oil_pre.specs.declared.shader_def.ShaderDefValue.TheVariants as def
 use Rattle.naga_oil_pre.specs.Fault.{Definitions}
-
--- a character of a name
-abbrev pub is_name_char : ℕ → Bool
-is_name_char c = is_word_char c || (c == 124)
+use Rattle.naga_oil_pre.specs.LineKinds.{is_name_char}
 
 -- a name, and how many characters behind its `#` it takes
 pub record HashName : Type 0 where
@@ -74,14 +70,15 @@ piece_text defs (named name own) = value_or (defs (encode_utf8_all name)) (encod
 unfoldable pub replaced_from : Definitions → List ℕ → List ℕ
 replaced_from defs cs = flat_map (piece_text defs) (pieces 0 cs)
 
--- the line with its `#` names replaced
+-- a line with its `#` names replaced
 unfoldable pub replaced : Definitions → List ℕ → List ℕ
 replaced defs line = replaced_from defs (chars line)
 
+-- the name that a piece is, if it is one
 abbrev pub name_of : Piece → List (List ℕ)
 name_of (plain c) = []
-name_of (named name own) = name ∷ []
+name_of (named name own) = encode_utf8_all name ∷ []
 
--- the `#` names of a line, in order
+-- the `#` names of a line, in order, as bytes
 unfoldable pub hash_names : List ℕ → List (List ℕ)
 hash_names line = flat_map name_of (pieces 0 (chars line))

@@ -1,6 +1,6 @@
 -- Rows, computed.
 use Rattle.std.specs.Prelude.{◌≡◌, ℕ, refl, true, List, [], ◌∷◌, ◌++◌, codes, bytes_eq, if◌then◌else◌, Some, None, Ok, Err, replicate}
-use Rattle.naga_oil_pre.specs.declared.fault.ShaderDefValue.TheVariants as def
+use Rattle.naga_oil_pre.specs.declared.shader_def.ShaderDefValue.TheVariants as def
 use Rattle.naga_oil_lines.specs.Cover.{cover}
 use Rattle.naga_oil_pre.specs.Replaced.{replaced, replaced_from, pieces}
 use Rattle.naga_oil_pre.specs.Computing.{line_kinds}

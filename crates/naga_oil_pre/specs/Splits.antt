@@ -2,7 +2,8 @@
 use Rattle.std.specs.Prelude.{◌≡◌, ℕ, ◌<◌, ◌==◌, ◌++◌, ◌∷◌, List, drop, take, Some, encode_utf8_all}
 use Rattle.std.specs.Str.{chars, IsUtf8, NoCharPasses}
 use Rattle.std.specs.List.{prefix_len}
-use Rattle.naga_oil_pre.specs.Replaced.{HashName, hash_name, is_name_char}
+use Rattle.naga_oil_pre.specs.LineKinds.{is_name_char}
+use Rattle.naga_oil_pre.specs.Replaced.{HashName, hash_name}
 
 -- the rest is what is left of the text behind so many characters
 pub record IsBehind (count : ℕ) (text rest : List ℕ) : Type 0 where

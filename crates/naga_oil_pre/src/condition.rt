@@ -6,8 +6,9 @@ ghost use Rattle.naga_oil_pre.specs.KindView.{condition_of};
 ghost use Rattle.naga_oil_pre.specs.Values.{operator_holds};
 ghost use Rattle.naga_oil_pre.specs.View.{Gives, fault_of};
 
-use crate::fault::{ComposerErrorInner, ShaderDefValue};
+use crate::fault::ComposerErrorInner;
 use crate::line_kind::Condition;
+use crate::shader_def::ShaderDefValue;
 use std::alloc::{AllocError, Global};
 use std::cmp::Ordering;
 use std::collections::BTreeMap;

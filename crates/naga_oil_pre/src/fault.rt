@@ -2,21 +2,13 @@
 use std::alloc::{AllocError, AllocFailed};
 use thiserror::Error;
 
-/// What a name is defined as.
-#[derive(Clone, Copy, Debug, PartialEq, Eq)]
-pub enum ShaderDefValue {
-    Bool(bool),
-    Int(i32),
-    UInt(u32),
-}
-
 /// What is wrong with a text. Places are bytes from 0; where nothing else is said, those of the first byte of a line.
 #[derive(Debug, Drop, Error)]
 pub enum ComposerErrorInner {
     /// What is wrong with an import line, or with an identifier that stands for several paths, and the place of it.
     #[error("{0}")]
     ImportParseError(String, usize),
-    /// The chains of conditions that are open at the end of the text, which is the place.
+    /// A chain of conditions is open at the end of the text, which is the place.
     #[error("Not enough '# endif' lines. Each if statement should be followed by an endif statement.")]
     NotEnoughEndIfs(usize),
     #[error("Too many '# endif' lines. Each endif should be preceded by an if statement.")]
@@ -74,5 +66,71 @@ impl<T: Drop> From<AllocFailed<T>> for ComposerErrorInner {
 
     fn from(_error: AllocFailed<T>) -> ComposerErrorInner {
         ComposerErrorInner::Memory
+    }
+}
+
+#[cfg(test)]
+mod tests {
+    use super::*;
+    use std::test::Fail;
+
+    #[test]
+    fn says_what_is_wrong(rt: HostRuntime) -> Result<(), Fail> {
+        let text = |text: &str| String::from_str(rt.alloc(), text);
+        let table = [
+            (
+                ComposerErrorInner::NotEnoughEndIfs(1),
+                "Not enough '# endif' lines. Each if statement should be followed by an endif statement.",
+            ),
+            (
+                ComposerErrorInner::TooManyEndIfs(1),
+                "Too many '# endif' lines. Each endif should be preceded by an if statement.",
+            ),
+            (
+                ComposerErrorInner::ElseWithoutCondition(1),
+                "'#else' without preceding condition.",
+            ),
+            (
+                ComposerErrorInner::UnknownShaderDefOperator {
+                    pos: 1,
+                    operator: text("!!")?,
+                },
+                "Unknown shader def operator: '!!'",
+            ),
+            (
+                ComposerErrorInner::UnknownShaderDef {
+                    pos: 1,
+                    shader_def_name: text("FO")?,
+                },
+                "Unknown shader def: 'FO'",
+            ),
+            (
+                ComposerErrorInner::InvalidShaderDefComparisonValue {
+                    pos: 1,
+                    shader_def_name: text("T")?,
+                    expected: text("int")?,
+                    value: text("true")?,
+                },
+                "Invalid shader def comparison for 'T': expected int, got true",
+            ),
+            (
+                ComposerErrorInner::GlslInvalidVersion(1),
+                "naga oil only supports glsl 440 and 450",
+            ),
+            (
+                ComposerErrorInner::InvalidShaderDefDefinitionValue {
+                    name: text("A")?,
+                    value: text("x1")?,
+                    pos: 1,
+                },
+                "Invalid value for `#define`d shader def A: x1",
+            ),
+            (ComposerErrorInner::Memory, "out of memory"),
+        ];
+        for (error, expected) in table.iter() {
+            let shown = format!(in rt.alloc(); "{error}")?;
+            assert_eq!(rt; shown.as_str(), *expected);
+        }
+        Ok(())
     }
 }

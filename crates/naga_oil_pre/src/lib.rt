@@ -9,6 +9,7 @@
 //! - `replace`: values for the names of a line.
 //! - `imports`: what imports declare, and what lines use of them.
 //! - `source_lines`: the lines of a text with their covered lines.
+//! - `shader_def`: what a name is defined as.
 //! - `fault`: what can be wrong with a text.
 //! - `laws`: what holds of every text.
 #![tactic(auto)]
@@ -17,11 +18,13 @@ mod condition;
 mod fault;
 mod imports;
 pub mod laws;
-mod line_kind;
+pub mod line_kind;
 mod preprocess;
 mod replace;
 mod scope;
+mod shader_def;
 mod source_lines;
 
-pub use fault::{ComposerErrorInner, ShaderDefValue};
+pub use fault::ComposerErrorInner;
 pub use preprocess::{PreprocessOutput, Preprocessor};
+pub use shader_def::{ShaderDefValue, defined_value};

@@ -15,10 +15,11 @@ ghost use Rattle.naga_oil_pre.specs.SourceView.{line_of};
 ghost use Rattle.naga_oil_pre.specs.declared.scope.ScopeLevel.{ScopeLevel};
 
 use crate::condition::evaluate;
-use crate::fault::{ComposerErrorInner, ShaderDefValue};
+use crate::fault::ComposerErrorInner;
 use crate::line_kind::{LineKind, line_kind};
 use crate::imports::{Imports, blank_line, braces_after, declare, push_shown, record_uses, take_lines};
 use crate::scope::Scope;
+use crate::shader_def::ShaderDefValue;
 use crate::source_lines::{SourceLine, SourceLines};
 use indexmap::IndexMap;
 use naga_oil_lines::comment_strip_iter::CommentReplaceExt;

@@ -5,25 +5,20 @@ ghost use Rattle.std.specs.Cow.{cow_str_bytes, IsBorrowedStr};
 ghost use Rattle.std.specs.List.{prefix_len};
 ghost use Rattle.std.specs.Str.{chars, IsUtf8, NoCharPasses};
 ghost use Rattle.naga_oil_lines.specs.Text.{BeginsWithChar};
+ghost use Rattle.naga_oil_pre.specs.LineKinds.{is_name_char};
 ghost use Rattle.naga_oil_pre.specs.Replaced as spec;
-ghost use Rattle.naga_oil_pre.specs.Splits.{IsBehind, SplitsName, SplitsHashName, SplitsAtHash};
+ghost use Rattle.naga_oil_pre.specs.Splits.{SplitsName, SplitsHashName, SplitsAtHash};
 
-use crate::fault::ShaderDefValue;
+use crate::line_kind::is_name_char;
+use crate::shader_def::ShaderDefValue;
 use naga_oil_lines::text::{after_whitespace, split_first_char, text_before};
 use std::alloc::{AllocError, Global};
 use std::borrow::CowStr;
 use std::collections::BTreeMap;
-use ucd_perl::is_word_character;
-
-fn is_name_char(c: char) -> bool
-    ensures { result ≡ spec.is_name_char c }
-{
-    is_word_character(c) || c == '|'
-}
 
 // What is left of a text behind the characters of names that it begins with.
 fn after_name(text: &str) -> &str
-    ensures chars { chars result.now ≡ drop (prefix_len spec.is_name_char (chars text.now)) (chars text.now) }
+    ensures chars { chars result.now ≡ drop (prefix_len is_name_char (chars text.now)) (chars text.now) }
     ensures suffix { (front : List ℕ) × (text.now ≡ front ++ result.now) }
 {
     let mut rest = text;
@@ -46,7 +41,7 @@ fn past_char(text: &str, wanted: char) -> Option<&str>
 
 // The name that the text begins with, and what follows it.
 fn split_name(text: &str) -> Option<(&str, &str)>
-    ensures { MatchOption result (prefix_len spec.is_name_char (chars text.now) ≡ 0) (λ r. SplitsName text.now r.0.now r.1.now) }
+    ensures { MatchOption result (prefix_len is_name_char (chars text.now) ≡ 0) (λ r. SplitsName text.now r.0.now r.1.now) }
 {
     let rest = after_name(text);
     let name = text_before(text, rest);
@@ -140,4 +135,48 @@ pub(crate) fn replaced_text<'a>(
     let mut out = String::new(alloc);
     push_replaced(&mut out, line, definitions)?;
     Ok(CowStr::Owned(out))
+}
+
+#[cfg(test)]
+mod tests {
+    use super::*;
+    use std::test::Fail;
+
+    #[test]
+    fn replaces_names_by_their_values(rt: HostRuntime) -> Result<(), Fail> {
+        let mut definitions = BTreeMap::new(rt.alloc());
+        for (name, value) in [
+            ("FIRST", ShaderDefValue::Int(5)),
+            ("FIRST_VALUE", ShaderDefValue::Int(5)),
+            ("SECOND_VALUE", ShaderDefValue::Int(3)),
+            ("A", ShaderDefValue::Bool(true)),
+            ("|A", ShaderDefValue::Bool(false)),
+            ("MOST", ShaderDefValue::UInt(4294967295)),
+            ("LEAST", ShaderDefValue::Int(-2147483648)),
+            ("größe", ShaderDefValue::UInt(7)),
+            ("true", ShaderDefValue::UInt(1)),
+        ] {
+            definitions.insert(String::from_str(rt.alloc(), name)?, value)?;
+        }
+        for (line, want) in [
+            ("#MISSING * #FIRST", "#MISSING * 5"),
+            (
+                "    var b: i32 = #FIRST_VALUE * #SECOND_VALUE;",
+                "    var b: i32 = 5 * 3;",
+            ),
+            ("#{A}b #{A} b # A #\u{2003}{A}.", "trueb true b true true."),
+            ("#{A #{ A} #{A b} #{} #{", "#{A #{ A} #{A b} #{} #{"),
+            ("##A ###A# #", "#true ##true# #"),
+            ("#|A #A| #A", "false #A| true"),
+            ("##{A}true #{A}#A", "#truetrue truetrue"),
+            ("[#MOST, #LEAST]", "[4294967295, -2147483648]"),
+            ("é#größe…#GRÖSSE#{größe}é", "é7…#GRÖSSE7é"),
+            ("no name — at all", "no name — at all"),
+            ("", ""),
+        ] {
+            let text = replaced_text(rt.alloc(), line, &definitions)?;
+            assert_eq!(rt; text.as_str(), want, "at {line}");
+        }
+        Ok(())
+    }
 }

@@ -4,7 +4,7 @@ use Rattle.std.proofs.lemmas.Str.{chars-nil}
 use Rattle.std.proofs.lemmas.List.{nil_from_length}
 use Rattle.naga_oil_lines.proofs.TextLemmas.{after_run, after_run_pass}
 use Rattle.naga_oil_lines.proofs.TokenLemmas.{suffix_more}
-use Rattle.naga_oil_pre.specs.Replaced.{is_name_char}
+use Rattle.naga_oil_pre.specs.LineKinds.{is_name_char}
 use Rattle.naga_oil_pre.proofs.replace.after_name.Goals as goal
 
 pub loop-first-preserved : goal.loop-first-preserved

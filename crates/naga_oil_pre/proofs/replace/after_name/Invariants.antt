@@ -3,7 +3,7 @@ use denote.Text.{Utf8}
 use denote.Shadow.{shadow}
 use Rattle.std.specs.Str.{chars}
 use Rattle.naga_oil_lines.proofs.TextLemmas.{after_run}
-use Rattle.naga_oil_pre.specs.Replaced.{is_name_char}
+use Rattle.naga_oil_pre.specs.LineKinds.{is_name_char}
 use Rattle.naga_oil_pre.proofs.replace.after_name.Given as goal
 
 abbrev pub invariant-loop-first : goal.invariant-loop-first

@@ -1,0 +1,20 @@
+-- What words define.
+use Rattle.std.specs.Prelude.{ℕ, Bool, true, ◌==◌, if◌then◌else◌, nat_lt, List, length, slice_index, Option, Some, None, option_map}
+use Rattle.std.specs.List.{before_first, after_first, position_or_len}
+use Rattle.naga_oil_pre.specs.DefineValue.{defined_value}
+use Rattle.naga_oil_pre.specs.LineKinds.{is_name}
+use Rattle.naga_oil_pre.specs.declared.shader_def.ShaderDefValue.{ShaderDefValue}
+use Rattle.naga_oil_pre.specs.declared.shader_def.ShaderDefValue.TheVariants as def
+
+-- the value that a word gives: that of a define, but with no sign `+`, and true for the empty text
+abbrev pub given_value : List ℕ → Option ShaderDefValue
+given_value text = if length text == 0 then Some (def.Bool true) else (if slice_index text 0 == 43 then None else defined_value (Some text))
+
+-- whether the byte is `=`
+abbrev pub is_equals : ℕ → Bool
+is_equals b = b == 61
+
+-- the name before the first `=`, where it is one, and the value behind
+abbrev pub definition_word : List ℕ → Option (List ℕ × ShaderDefValue)
+definition_word word =
+    if nat_lt (position_or_len is_equals word) (length word) then (if is_name (before_first is_equals word) then option_map (λ value. (before_first is_equals word, value)) (given_value (after_first is_equals word)) else None) else None

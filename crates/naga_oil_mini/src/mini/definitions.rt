@@ -1,0 +1,68 @@
+// Definitions that are given by words.
+ghost use Rattle.std.specs.Prelude.{◌≡◌, IfErr, option_map};
+ghost use Rattle.naga_oil_mini.specs.Words.{texts};
+ghost use Rattle.naga_oil_mini.specs.Defined.{given_value, definition_word};
+ghost use Rattle.naga_oil_mini.specs.Told.{RefusesDefinitions};
+
+use super::refusal::Refusal;
+use super::words::is_definition;
+use naga_oil_pre::line_kind::is_name;
+use naga_oil_pre::{ShaderDefValue, defined_value};
+use std::alloc::{AllocError, Global};
+use std::collections::BTreeMap;
+
+pub type Definitions = BTreeMap<String, ShaderDefValue>;
+
+// The value that a word gives: that of a `#define`, and `true` for the empty text.
+fn value_of(text: &str) -> Option<ShaderDefValue>
+    ensures { result ≡ given_value text.now }
+{
+    if text.is_empty() {
+        return Some(ShaderDefValue::default());
+    }
+    if text.starts_with('+') {
+        return None;
+    }
+    defined_value(Some(text))
+}
+
+// The name and the value of a word `NAME=VALUE`.
+fn definition_word(word: &str) -> Option<(&str, ShaderDefValue)>
+    ensures { option_map (λ r. (r.0.now, r.1)) result ≡ definition_word word.now }
+{
+    let (name, text) = word.split_once('=')?;
+    if !is_name(name) {
+        return None;
+    }
+    Some((name, value_of(text)?))
+}
+
+/// Defines the name, in place of what it was.
+pub fn define(
+    alloc: Global,
+    definitions: &mut Definitions,
+    name: &str,
+    value: ShaderDefValue,
+) -> Result<(), AllocError> {
+    let name = String::from_str(alloc, name)?;
+    definitions.insert(name, value)?;
+    Ok(())
+}
+
+/// The definitions among the words. Of one name the last counts.
+pub fn given(alloc: Global, words: &[String]) -> Result<Definitions, Refusal<'_>>
+    ensures { IfErr result (RefusesDefinitions (texts words.now)) }
+{
+    let mut definitions = BTreeMap::new(alloc);
+    for word in words {
+        let word = word.as_str();
+        if !is_definition(word) {
+            continue;
+        }
+        let Some((name, value)) = definition_word(word) else {
+            return Err(Refusal::BadDefinition(word));
+        };
+        define(alloc, &mut definitions, name, value)?;
+    }
+    Ok(definitions)
+}
