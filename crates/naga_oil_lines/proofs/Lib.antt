@@ -5,3 +5,6 @@ pub mod CoveredLinesLemmas
 pub mod TokenLemmas
 pub mod GrammarLemmas
 pub mod XidLemmas
+pub mod LeavesLemmas
+pub mod PartLemmas
+pub mod DeclarationLemmas

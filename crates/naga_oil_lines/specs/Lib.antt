@@ -1,7 +1,11 @@
 pub mod Text
-pub mod Declared
+pub mod Declarations
 pub mod Cover
 pub mod CoveredLines
 pub mod Tokens
 pub mod Tokenizer
 pub mod TokenGrammar
+pub mod Leaves
+pub mod ImportReader
+pub mod ImportView
+pub mod ImportRows
