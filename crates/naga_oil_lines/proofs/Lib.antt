@@ -12,3 +12,6 @@ pub mod XidLemmas
 pub mod OneTokenList
 pub mod Base32Lemmas
 pub mod DecorateLemmas
+pub mod LeavesLemmas
+pub mod PartLemmas
+pub mod DeclarationLemmas

@@ -12,3 +12,5 @@ pub mod Tokenizer
 pub mod TokenGrammar
 pub mod Decorate
 pub mod DecorateRows
+pub mod ImportReader
+pub mod ImportRows

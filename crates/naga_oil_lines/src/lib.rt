@@ -1,4 +1,4 @@
-//! Lines of a shader's text with their comments covered, and the tokens of a text.
+//! Lines of a shader's text with their comments covered, the tokens of a text, and what import lines declare.
 #![tactic(auto)]
 
 pub mod comment_strip_iter;

@@ -13,7 +13,8 @@ ghost use Rattle.naga_oil_pre.specs.Replaced.{replaced};
 ghost use Rattle.naga_oil_pre.specs.Reading.{braces_after, taken, behind_taken};
 ghost use Rattle.naga_oil_pre.specs.SourceView.{line_of};
 
-use crate::fault::{ComposerErrorInner, ShaderDefValue};
+use crate::fault::ComposerErrorInner;
+use crate::shader_def::ShaderDefValue;
 use crate::replace::replaced_text;
 use crate::source_lines::{SourceLine, SourceLines};
 use indexmap::IndexMap;
