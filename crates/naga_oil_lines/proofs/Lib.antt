@@ -1,4 +1,8 @@
 pub mod TextLemmas
+pub mod UsesLemmas
+pub mod SiteLemmas
+pub mod SettledLemmas
+pub mod SubstituteLemmas
 pub mod CoverLemmas
 pub mod LineLemmas
 pub mod CoveredLinesLemmas
@@ -8,3 +12,6 @@ pub mod XidLemmas
 pub mod OneTokenList
 pub mod Base32Lemmas
 pub mod DecorateLemmas
+pub mod LeavesLemmas
+pub mod PartLemmas
+pub mod DeclarationLemmas

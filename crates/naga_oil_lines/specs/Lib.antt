@@ -1,5 +1,10 @@
 pub mod Text
 pub mod Declarations
+pub mod Leaves
+pub mod ImportView
+pub mod Uses
+pub mod Substituted
+pub mod SubstituteFault
 pub mod Cover
 pub mod CoveredLines
 pub mod Tokens
@@ -7,3 +12,5 @@ pub mod Tokenizer
 pub mod TokenGrammar
 pub mod Decorate
 pub mod DecorateRows
+pub mod ImportReader
+pub mod ImportRows

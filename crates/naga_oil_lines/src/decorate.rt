@@ -65,6 +65,20 @@ fn decorated_len(module_name: &str, item: &str) -> usize {
         .saturating_add(DECORATION_PRE.len() + DECORATION_POST.len())
 }
 
+// Pushes the name of an item of a module.
+pub(crate) fn push_decorated(
+    out: &mut String,
+    module_name: &str,
+    item: &str,
+) -> Result<(), AllocError>
+    ensures { OnOk result (string_bytes out.new ≡ string_bytes out.old ++ decorated_name (Some module_name.now) item.now) }
+{
+    out.push_str(item)?;
+    out.push_str(DECORATION_PRE)?;
+    push_base32(out, module_name.as_bytes())?;
+    out.push_str(DECORATION_POST)
+}
+
 /// The name of an item of a module: the item, `X_naga_oil_mod_X`, the module in base32 (RFC 4648 section 6) without
 /// padding, and `X`. With no module it is the item.
 pub fn decorated_name(
@@ -78,10 +92,7 @@ pub fn decorated_name(
         return String::from_str(alloc, item);
     };
     let mut name = String::with_capacity(alloc, decorated_len(module_name, item))?;
-    name.push_str(item)?;
-    name.push_str(DECORATION_PRE)?;
-    push_base32(&mut name, module_name.as_bytes())?;
-    name.push_str(DECORATION_POST)?;
+    push_decorated(&mut name, module_name, item)?;
     Ok(name)
 }
 

@@ -1,0 +1,275 @@
+// Writes what identifiers stand for, and records what they use of imported modules.
+ghost use Rattle.std.specs.Prelude.{◌≡◌, ℕ, ◌+◌, ◌<◌, ◌^◌, ◌++◌, ◌∷◌, [], None, not, ◌&&◌, nat_lt, length, map, IfOk, IfErr, OnOk, OnErr};
+ghost use Rattle.std.specs.Cow.{cow_str_bytes};
+ghost use Rattle.std.specs.List.{flat_map};
+ghost use Rattle.std.specs.Option.{option_map};
+ghost use Rattle.std.specs.Str.{chars};
+ghost use Rattle.std.specs.String.{string_bytes};
+ghost use Rattle.naga_oil_lines.specs.Declarations.{declared_of, paths_of};
+ghost use Rattle.naga_oil_lines.specs.Decorate.{decorated_name};
+ghost use Rattle.naga_oil_lines.specs.SubstituteFault.{Refuses};
+ghost use Rattle.naga_oil_lines.specs.Substituted.{module_and_item, first_part, behind_first, extended, all_extended, paths_for, written, mentions_at, recorded, Site, keeps_next, site_at, written_token, substituted, sites, mentioned, first_ambiguous, place_of, used_by, BeginsUses};
+ghost use Rattle.naga_oil_lines.specs.Tokenizer.{lexeme_of};
+ghost use Rattle.naga_oil_lines.specs.Tokens.{lexemes};
+ghost use Rattle.naga_oil_lines.specs.Uses.{uses_of, with_use};
+
+use crate::import_definition::ImportDefWithOffset;
+use crate::decorate::push_decorated;
+use crate::tokenizer::{Token, Tokenizer};
+use indexmap::IndexMap;
+use std::alloc::{AllocError, Global};
+use std::borrow::CowStr;
+
+/// Why identifiers are not substituted.
+#[derive(Debug, Drop, PartialEq, Eq)]
+pub enum SubstituteFault {
+    /// The identifier at this place, in bytes, stands for more than one path.
+    Ambiguous(usize),
+    Memory,
+}
+
+impl From<AllocError> for SubstituteFault {
+    ghost use Rattle.naga_oil_lines.specs.declared.substitute.SubstituteFault.TheVariants.{Memory};
+
+    ghost from_gives = { λ _ r. r ≡ Memory };
+
+    fn from(_error: AllocError) -> SubstituteFault {
+        SubstituteFault::Memory
+    }
+}
+
+// Records the use of an item at a place.
+fn record_use(
+    alloc: Global,
+    used_imports: &mut IndexMap<String, ImportDefWithOffset>,
+    module_name: &str,
+    item: &str,
+    place: usize,
+) -> Result<(), AllocError>
+    ensures ok { OnOk result (uses_of used_imports.new ≡ with_use (uses_of used_imports.old) module_name.now item.now place) }
+    ensures err { OnErr result (uses_of used_imports.new ≡ uses_of used_imports.old) }
+{
+    let item = String::from_str(alloc, item)?;
+    if let Some(used) = used_imports.get_mut(module_name) {
+        return used.push_item(item);
+    }
+    let key = String::from_str(alloc, module_name)?;
+    let first = ImportDefWithOffset::first_use(alloc, module_name, item, place)?;
+    used_imports.insert(key, first)?;
+    Ok(())
+}
+
+// The module and the item of a path.
+fn module_and_item(path: &str) -> Option<(&str, &str)>
+    ensures { option_map (λ p. (p.0.now, p.1.now)) result ≡ module_and_item path.now }
+{
+    path.rsplit_once("::")
+}
+
+// The part of an identifier before its first `::`, and what follows that.
+fn split_identifier(name: &str) -> (&str, &str)
+    ensures first { result.0.now ≡ first_part name.now }
+    ensures behind { result.1.now ≡ behind_first name.now }
+{
+    match name.split_once("::") {
+        Some(parts) => parts,
+        None => (name, ""),
+    }
+}
+
+// A path and what follows it.
+fn extended<'a>(alloc: Global, path: &'a str, behind: &str) -> Result<CowStr<'a>, AllocError>
+    ensures { IfOk result (λ whole. cow_str_bytes whole ≡ extended path.now behind.now) }
+{
+    if behind.is_empty() {
+        return Ok(CowStr::Borrowed(path));
+    }
+    let mut whole = String::from_str(alloc, path)?;
+    whole.push_str("::")?;
+    whole.push_str(behind)?;
+    Ok(CowStr::Owned(whole))
+}
+
+// The path of an identifier that is not declared.
+fn own_path<'a>(identifier: &'a str, first: &'a str, behind: &str) -> &'a str
+    requires first { first.now ≡ first_part identifier.now }
+    requires behind { behind.now ≡ behind_first identifier.now }
+    ensures { result.now ≡ extended (first_part identifier.now) (behind_first identifier.now) }
+{
+    if behind.is_empty() { first } else { identifier }
+}
+
+// Whether an identifier behind the token is kept.
+fn keeps_next(token: Token<'_>) -> bool
+    ensures { result ≡ keeps_next (lexeme_of token.entry) }
+{
+    match token {
+        Token::Other(other, _) => other == '.' || other == '@',
+        Token::Identifier(..) | Token::Whitespace(..) => false,
+    }
+}
+
+// How the identifiers of a text are substituted.
+#[derive(Clone, Copy)]
+struct Substitution<'a> {
+    alloc: Global,
+    declared_imports: &'a IndexMap<String, Vec<String>>,
+    allow_ambiguous: bool,
+    offset: usize,
+}
+
+impl Substitution<'_> {
+    // Writes a path that an identifier stands for, and records its use.
+    fn write_path(
+        &self,
+        identifier: &str,
+        path: &str,
+        place: usize,
+        used_imports: &mut IndexMap<String, ImportDefWithOffset>,
+        output: &mut String,
+    ) -> Result<(), AllocError>
+        ensures text { OnOk result (string_bytes output.new ≡ string_bytes output.old ++ written identifier.now path.now) }
+        ensures used { OnOk result (uses_of used_imports.new ≡ recorded (uses_of used_imports.old) (mentions_at place path.now)) }
+        ensures begun { OnErr result (BeginsUses (mentions_at place path.now) (uses_of used_imports.old) (uses_of used_imports.new)) }
+    {
+        if let Some((module_name, item)) = module_and_item(path) {
+            record_use(self.alloc, used_imports, module_name, item, place)?;
+            return push_decorated(output, module_name, item);
+        }
+        if path.as_bytes().contains(&b'"') {
+            return output.push_str(identifier);
+        }
+        output.push_str(path)
+    }
+
+    // Writes the paths that an identifier stands for one after another, each with what follows, and records their uses.
+    fn write_paths(
+        &self,
+        identifier: &str,
+        paths: &[String],
+        behind: &str,
+        place: usize,
+        used_imports: &mut IndexMap<String, ImportDefWithOffset>,
+        output: &mut String,
+    ) -> Result<(), AllocError>
+        ensures text { OnOk result (string_bytes output.new ≡ string_bytes output.old ++ flat_map (written identifier.now) (all_extended (map string_bytes paths.now) behind.now)) }
+        ensures used { OnOk result (uses_of used_imports.new ≡ recorded (uses_of used_imports.old) (flat_map (mentions_at place) (all_extended (map string_bytes paths.now) behind.now))) }
+        ensures begun { OnErr result (BeginsUses (flat_map (mentions_at place) (all_extended (map string_bytes paths.now) behind.now)) (uses_of used_imports.old) (uses_of used_imports.new)) }
+    {
+        for path in paths {
+            let whole = extended(self.alloc, path.as_str(), behind)?;
+            self.write_path(identifier, whole.as_str(), place, used_imports, output)?;
+        }
+        Ok(())
+    }
+
+    // The paths that are declared for a name.
+    fn declared_paths(&self, name: &str) -> &[String]
+        ensures { map string_bytes result.now ≡ paths_of (declared_of self.now.declared_imports.now) name.now }
+    {
+        match self.declared_imports.get(name) {
+            Some(paths) => paths.as_slice(),
+            None => &[],
+        }
+    }
+
+    // Whether there are too many paths for one identifier.
+    fn is_refused(&self, paths: &[String]) -> bool
+        ensures { result ≡ (not self.now.allow_ambiguous && nat_lt 1 (length paths.now)) }
+    {
+        !self.allow_ambiguous && paths.len() > 1
+    }
+
+    // Writes what an identifier stands for, and records its uses.
+    fn write_identifier(
+        &self,
+        identifier: &str,
+        place: usize,
+        used_imports: &mut IndexMap<String, ImportDefWithOffset>,
+        output: &mut String,
+    ) -> Result<(), SubstituteFault>
+        ensures text { OnOk result (string_bytes output.new ≡ string_bytes output.old ++ flat_map (written identifier.now) (paths_for (declared_of self.now.declared_imports.now) identifier.now)) }
+        ensures used { OnOk result (uses_of used_imports.new ≡ recorded (uses_of used_imports.old) (mentioned (declared_of self.now.declared_imports.now) (record { name = identifier.now; place = place } ∷ []))) }
+        ensures allowed { OnOk result (first_ambiguous (declared_of self.now.declared_imports.now) self.now.allow_ambiguous (record { name = identifier.now; place = place } ∷ []) ≡ None) }
+        ensures fault { IfErr result (λ e. Refuses (declared_of self.now.declared_imports.now) self.now.allow_ambiguous (record { name = identifier.now; place = place } ∷ []) (uses_of used_imports.old) (uses_of used_imports.new) e) }
+    {
+        let (first, behind) = split_identifier(identifier);
+        let paths = self.declared_paths(first);
+        if paths.is_empty() {
+            let path = own_path(identifier, first, behind);
+            self.write_path(identifier, path, place, used_imports, output)?;
+            return Ok(());
+        }
+        if self.is_refused(paths) {
+            return Err(SubstituteFault::Ambiguous(place));
+        }
+        self.write_paths(identifier, paths, behind, place, used_imports, output)?;
+        Ok(())
+    }
+
+    // Writes a token, whose identifier is kept or substituted.
+    fn write_token(
+        &self,
+        token: Token<'_>,
+        kept: bool,
+        used_imports: &mut IndexMap<String, ImportDefWithOffset>,
+        output: &mut String,
+    ) -> Result<(), SubstituteFault>
+        requires { self.now.offset + place_of (lexeme_of token) < 2 ^ 64 }
+        ensures text { OnOk result (string_bytes output.new ≡ string_bytes output.old ++ written_token (declared_of self.now.declared_imports.now) kept (lexeme_of token.entry)) }
+        ensures used { OnOk result (uses_of used_imports.new ≡ recorded (uses_of used_imports.old) (mentioned (declared_of self.now.declared_imports.now) (site_at self.now.offset kept (lexeme_of token.entry)))) }
+        ensures allowed { OnOk result (first_ambiguous (declared_of self.now.declared_imports.now) self.now.allow_ambiguous (site_at self.now.offset kept (lexeme_of token.entry)) ≡ None) }
+        ensures fault { IfErr result (λ e. Refuses (declared_of self.now.declared_imports.now) self.now.allow_ambiguous (site_at self.now.offset kept (lexeme_of token.entry)) (uses_of used_imports.old) (uses_of used_imports.new) e) }
+    {
+        match token {
+            Token::Identifier(identifier, at) => {
+                if !kept {
+                    return self.write_identifier(
+                        identifier,
+                        self.offset + at,
+                        used_imports,
+                        output,
+                    );
+                }
+                output.push_str(identifier)?;
+            }
+            Token::Whitespace(text, _) => output.push_str(text)?,
+            Token::Other(other, _) => output.push(other)?,
+        }
+        Ok(())
+    }
+}
+
+/// Writes a text with what its identifiers stand for by the declared imports, and records in `used_imports` what they
+/// use, at their places, in bytes, counted from the offset. Behind `.` or `@` an identifier is kept. An identifier with
+/// several paths is refused, or these are written one after another.
+///
+/// After a refusal `used_imports` holds a beginning of the uses, and after `Ambiguous` those before its place.
+pub fn substitute_identifiers(
+    alloc: Global,
+    input: &str,
+    offset: usize,
+    declared_imports: &IndexMap<String, Vec<String>>,
+    used_imports: &mut IndexMap<String, ImportDefWithOffset>,
+    allow_ambiguous: bool,
+) -> Result<String, SubstituteFault>
+    requires { offset + length input.now < 2 ^ 64 }
+    ensures text { IfOk result (λ t. string_bytes t ≡ substituted (declared_of declared_imports.now) (lexemes 0 0 (chars input.now))) }
+    ensures used { OnOk result (uses_of used_imports.new ≡ used_by (declared_of declared_imports.now) offset (lexemes 0 0 (chars input.now)) (uses_of used_imports.old)) }
+    ensures allowed { OnOk result (first_ambiguous (declared_of declared_imports.now) allow_ambiguous (sites offset (lexemes 0 0 (chars input.now))) ≡ None) }
+    ensures fault { IfErr result (λ e. Refuses (declared_of declared_imports.now) allow_ambiguous (sites offset (lexemes 0 0 (chars input.now))) (uses_of used_imports.old) (uses_of used_imports.new) e) }
+{
+    let substitution = Substitution {
+        alloc,
+        declared_imports,
+        allow_ambiguous,
+        offset,
+    };
+    let mut output = String::with_capacity(alloc, input.len())?;
+    let mut kept = false;
+    for token in Tokenizer::new(input, true) {
+        substitution.write_token(token, kept, used_imports, &mut output)?;
+        kept = keeps_next(token);
+    }
+    Ok(output)
+}
