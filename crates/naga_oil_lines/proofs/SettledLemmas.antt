@@ -1,5 +1,5 @@
 -- Identifiers that are substituted one after another, up to a refusal.
-use Rattle.std.proofs.Common.{◌≡◌, ℕ, zero, suc, take, length-append, IsErrAnd, ◌+◌, ◌<◌, ◌≤◌, nat_lt, Bool, true, false, cond, not, ◌&&◌, eqb, List, [], ◌∷◌, ◌++◌, length, map, Option, Some, None, Vec, String, string_bytes, bytes_eq, Result, Ok, Err, IfErr, refl, sym, ap, subst, ◌∙◌, arith, append_assoc, append-nil, lt-ltb, le-ltb}
+use Rattle.std.proofs.Common.{◌≡◌, ℕ, zero, suc, take, length-append, IsErrAnd, ◌+◌, ◌<◌, ◌≤◌, nat_lt, Bool, true, false, cond, not, ◌&&◌, eqb, List, [], ◌∷◌, ◌++◌, length, map, Option, Some, None, Vec, String, string_bytes, bytes_eq, Result, Ok, Err, IfErr, refl, sym, ap, subst, ◌∙◌, arith, append_assoc, append-nil}
 use Rattle.std.specs.declared.alloc.Global.{Global}
 use Rattle.std.specs.List.{flat_map}
 use Rattle.std.specs.Char.{encode_utf8, len_utf8, is_whitespace}
@@ -14,9 +14,9 @@ use Rattle.std.proofs.lemmas.Grind.{flat_map-append}
 use Rattle.std.proofs.lemmas.List.{length-map}
 use Rattle.naga_oil_lines.specs.declared.substitute.SubstituteFault.{SubstituteFault}
 use Rattle.naga_oil_lines.specs.declared.substitute.SubstituteFault.TheVariants.{Ambiguous, Memory}
-use Rattle.naga_oil_lines.specs.Declarations.{Declared, paths_of, declared_of}
+use Rattle.naga_oil_lines.specs.Declarations.{Declared, paths_of}
 use Rattle.naga_oil_lines.specs.SubstituteFault.{Refuses}
-use Rattle.naga_oil_lines.specs.Substituted.{cut_at_first, first_part, behind_first, extended, all_extended, paths_or, paths_for, written, mentions_at, Mention, recorded, Site, mentions_of, mentioned, is_refused, first_ambiguous, before_ambiguous, place_of, keeps_next, site_at, written_token, sites_from, substituted_from, BeginsUses}
+use Rattle.naga_oil_lines.specs.Substituted.{cut_at_first, first_part, behind_first, extended, all_extended, paths_or, paths_for, mentions_at, Mention, recorded, Site, mentions_of, mentioned, is_refused, first_ambiguous, before_ambiguous, place_of, keeps_next, site_at, written_token, sites_from, substituted_from, BeginsUses}
 use Rattle.naga_oil_lines.specs.Uses.{Uses}
 use Rattle.naga_oil_lines.proofs.SiteLemmas.{recorded-append, begins_later}
 

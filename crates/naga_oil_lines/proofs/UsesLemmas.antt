@@ -1,5 +1,5 @@
 -- Uses of imported modules, as the code's map holds them.
-use Rattle.std.proofs.Common.{◌≡◌, ℕ, Bool, true, false, cond, List, [], ◌∷◌, ◌++◌, map, Option, Some, None, Result, Ok, Err, OnOk, OnErr, String, Vec, string_bytes, bytes_eq, refl, sym, ap, subst, ◌∙◌}
+use Rattle.std.proofs.Common.{◌≡◌, ℕ, true, false, cond, List, [], ◌∷◌, map, Some, None, Result, Ok, Err, OnOk, OnErr, String, Vec, string_bytes, bytes_eq, refl, ap, subst, ◌∙◌}
 use Rattle.std.specs.declared.alloc.Global.{Global}
 use Rattle.std.specs.declared.alloc.AllocError.{AllocError}
 use Rattle.std.specs.List.{AllZip}
@@ -8,7 +8,7 @@ use Rattle.std.specs.String.{string_eq}
 use Rattle.indexmap.specs.IndexMap.{insert_entry}
 use Rattle.naga_oil_lines.specs.declared.import_definition.ImportDefinition.{ImportDefinition}
 use Rattle.naga_oil_lines.specs.declared.import_definition.ImportDefWithOffset.{ImportDefWithOffset}
-use Rattle.naga_oil_lines.specs.Uses.{Import, Use, Uses, first_use, with_item, with_use, import_of, use_of, use_entry, uses_of}
+use Rattle.naga_oil_lines.specs.Uses.{first_use, with_item, with_use, import_of, use_of, use_entry}
 
 -- texts that are the same one by one
 texts_again : (xs ys : List (String Global)) → AllZip (λ x y. string_bytes y ≡ string_bytes x) xs ys → map string_bytes ys ≡ map string_bytes xs

@@ -273,3 +273,6 @@ pub fn substitute_identifiers(
     }
     Ok(output)
 }
+
+#[cfg(test)]
+mod tests;
