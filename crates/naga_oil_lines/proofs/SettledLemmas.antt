@@ -1,5 +1,5 @@
 -- Identifiers that are substituted one after another, up to a refusal.
-use Rattle.std.proofs.Common.{◌≡◌, ℕ, zero, suc, take, length-append, IsErrAnd, ◌+◌, ◌<◌, ◌≤◌, nat_lt, Bool, true, false, cond, not, ◌&&◌, eqb, List, [], ◌∷◌, ◌++◌, length, map, Option, Some, None, Vec, String, string_bytes, bytes_eq, Result, Ok, Err, IfErr, refl, sym, ap, subst, ◌∙◌, arith, append_assoc, append-nil, lt-ltb, le-ltb}
+use Rattle.std.proofs.Common.{◌≡◌, ℕ, zero, suc, take, length-append, IsErrAnd, ◌+◌, ◌<◌, ◌≤◌, nat_lt, Bool, true, false, cond, not, ◌&&◌, eqb, List, [], ◌∷◌, ◌++◌, length, map, Option, Some, None, Vec, String, string_bytes, bytes_eq, Result, Ok, Err, IfErr, refl, sym, ap, subst, ◌∙◌, arith, append_assoc, append-nil}
 use Rattle.std.specs.declared.alloc.Global.{Global}
 use Rattle.std.specs.List.{flat_map}
 use Rattle.std.specs.Char.{encode_utf8, len_utf8, is_whitespace}
@@ -14,9 +14,9 @@ use Rattle.std.proofs.lemmas.Grind.{flat_map-append}
 use Rattle.std.proofs.lemmas.List.{length-map}
 use Rattle.naga_oil_lines.specs.declared.substitute.SubstituteFault.{SubstituteFault}
 use Rattle.naga_oil_lines.specs.declared.substitute.SubstituteFault.TheVariants.{Ambiguous, Memory}
-use Rattle.naga_oil_lines.specs.Declarations.{Declared, paths_of, declared_of}
+use Rattle.naga_oil_lines.specs.Declarations.{Declared, paths_of}
 use Rattle.naga_oil_lines.specs.SubstituteFault.{Refuses}
-use Rattle.naga_oil_lines.specs.Substituted.{cut_at_first, first_part, behind_first, extended, all_extended, paths_or, paths_for, written, mentions_at, Mention, recorded, Site, mentions_of, mentioned, is_refused, first_ambiguous, before_ambiguous, place_of, keeps_next, site_at, written_token, sites_from, substituted_from, BeginsUses}
+use Rattle.naga_oil_lines.specs.Substituted.{cut_at_first, first_part, behind_first, extended, all_extended, paths_or, paths_for, mentions_at, Mention, recorded, Site, mentions_of, mentioned, is_refused, first_ambiguous, before_ambiguous, place_of, keeps_next, site_at, written_token, sites_from, substituted_from, BeginsUses}
 use Rattle.naga_oil_lines.specs.Uses.{Uses}
 use Rattle.naga_oil_lines.proofs.SiteLemmas.{recorded-append, begins_later}
 
@@ -29,7 +29,7 @@ paths_of_map key (e ∷ es) =
     let turn : bytes_eq (string_bytes e.0) key ≡ bytes_eq key (string_bytes e.0) = nat_list_eq_equiv.symm (string_bytes e.0) key in
     ap (λ b. cond b (map string_bytes e.1.items) (paths_of (map (λ e. (string_bytes e.0, map string_bytes e.1.items)) es) key)) turn
     ∙ elim (bytes_eq key (string_bytes e.0)) as (λ b. cond b (map string_bytes e.1.items) (paths_of (map (λ e. (string_bytes e.0, map string_bytes e.1.items)) es) key)
-        ≡ option_map_or (λ v. map string_bytes v.items) (cond b (Some e.1) (lookup (λ k. bytes_eq key (string_bytes k)) es)) []) [
+    ≡ option_map_or (λ v. map string_bytes v.items) (cond b (Some e.1) (lookup (λ k. bytes_eq key (string_bytes k)) es)) []) [
       | true ↦ refl
       | false ↦ paths_of_map key es
     ]
@@ -51,6 +51,7 @@ parts_of (a ∷ b ∷ more) = by (eqb a 58) (eqb b 58) refl refl (cut_at_first (
     later : (r : Option (List ℕ × List ℕ)) → Parts (b ∷ more) r → Parts (a ∷ b ∷ more) (option_map (λ p. (a ∷ p.0, p.1)) r)
     later None h = tt
     later (Some p) h = ap (λ l. a ∷ l) h
+
     by : (x y : Bool) → eqb a 58 ≡ x → eqb b 58 ≡ y → (r : Option (List ℕ × List ℕ)) → Parts (b ∷ more) r → Parts (a ∷ b ∷ more) (cond (x && y) (Some ([], more)) (option_map (λ p. (a ∷ p.0, p.1)) r))
     by false y p q r h = later r h
     by true false p q r h = later r h
@@ -113,8 +114,8 @@ none_behind : (declared : Declared) (allowed : Bool) (xs ys : List Site) → fir
 none_behind declared allowed [] ys e = (refl, refl)
 none_behind declared allowed (s ∷ xs) ys e =
     elim (is_refused declared allowed s) as (λ b. cond b (Some s.place) (first_ambiguous declared allowed xs) ≡ None
-        → (cond b (Some s.place) (first_ambiguous declared allowed (xs ++ ys)) ≡ first_ambiguous declared allowed ys)
-        × (cond b [] (s ∷ before_ambiguous declared allowed (xs ++ ys)) ≡ s ∷ (xs ++ before_ambiguous declared allowed ys))) [
+    → (cond b (Some s.place) (first_ambiguous declared allowed (xs ++ ys)) ≡ first_ambiguous declared allowed ys)
+    × (cond b [] (s ∷ before_ambiguous declared allowed (xs ++ ys)) ≡ s ∷ (xs ++ before_ambiguous declared allowed ys))) [
       | true ↦ λ g. absurd (cc)
       | false ↦ λ g. (let more = none_behind declared allowed xs ys g in (more.0, ap (λ l. s ∷ l) more.1))
     ] e
@@ -124,8 +125,8 @@ some_first : (declared : Declared) (allowed : Bool) (xs ys : List Site) (place :
 some_first declared allowed [] ys place e = absurd (cc)
 some_first declared allowed (s ∷ xs) ys place e =
     elim (is_refused declared allowed s) as (λ b. cond b (Some s.place) (first_ambiguous declared allowed xs) ≡ Some place
-        → (cond b (Some s.place) (first_ambiguous declared allowed (xs ++ ys)) ≡ Some place)
-        × (cond b [] (s ∷ before_ambiguous declared allowed (xs ++ ys)) ≡ cond b [] (s ∷ before_ambiguous declared allowed xs))) [
+    → (cond b (Some s.place) (first_ambiguous declared allowed (xs ++ ys)) ≡ Some place)
+    × (cond b [] (s ∷ before_ambiguous declared allowed (xs ++ ys)) ≡ cond b [] (s ∷ before_ambiguous declared allowed xs))) [
       | true ↦ λ g. (g, refl)
       | false ↦ λ g. (let more = some_first declared allowed xs ys place g in (more.0, ap (λ l. s ∷ l) more.1))
     ] e
@@ -178,12 +179,13 @@ settled_refused declared allowed all old mid new one rest (Ambiguous place) s r 
     let first = some_first declared allowed one rest place r.0 in
     let behind = none_behind declared allowed s.done (one ++ rest) s.none in
     let before : before_ambiguous declared allowed all ≡ s.done ++ before_ambiguous declared allowed one =
-    ap (before_ambiguous declared allowed) (sym s.whole) ∙ behind.1 ∙ ap (λ l. s.done ++ l) first.1 in
-    (ap (first_ambiguous declared allowed) (sym s.whole) ∙ behind.0 ∙ first.0,
-    r.1 ∙ ap (λ u. recorded u (mentioned declared (before_ambiguous declared allowed one))) s.uses
-    ∙ sym (recorded-append old (mentioned declared s.done) (mentioned declared (before_ambiguous declared allowed one)))
-    ∙ ap (recorded old) (sym (flat_map-append (mentions_of declared) s.done (before_ambiguous declared allowed one)))
-    ∙ ap (λ ss. recorded old (mentioned declared ss)) (sym before))
+    ap (before_ambiguous declared allowed) (sym s.whole) ∙ behind.1 ∙ ap (λ l. s.done ++ l) first.1 in (
+      ap (first_ambiguous declared allowed) (sym s.whole) ∙ behind.0 ∙ first.0,
+      r.1 ∙ ap (λ u. recorded u (mentioned declared (before_ambiguous declared allowed one))) s.uses
+          ∙ sym (recorded-append old (mentioned declared s.done) (mentioned declared (before_ambiguous declared allowed one)))
+          ∙ ap (recorded old) (sym (flat_map-append (mentions_of declared) s.done (before_ambiguous declared allowed one)))
+          ∙ ap (λ ss. recorded old (mentioned declared ss)) (sym before),
+    )
 settled_refused declared allowed all old mid new one rest Memory s r =
     let behind = none_behind declared allowed s.done (one ++ rest) s.none in
     let more = before_more declared allowed one rest in

@@ -1,14 +1,13 @@
 -- Uses that are recorded one after another, and the identifiers that make them.
-use Rattle.std.proofs.Common.{◌≡◌, ℕ, suc, ◌+◌, ◌<◌, ◌≤◌, Bool, true, false, cond, List, [], ◌∷◌, ◌++◌, length, map, take, drop, get_or, Option, Some, None, String, string_bytes, Result, Ok, Err, OnOk, OnErr, ◌==◌, refl, sym, ap, subst, ◌∙◌, arith, append_assoc, append-nil, take-append-drop}
+use Rattle.std.proofs.Common.{◌≡◌, ℕ, ◌+◌, ◌<◌, Bool, true, false, cond, List, [], ◌∷◌, ◌++◌, length, map, take, drop, get_or, Some, None, String, string_bytes, Result, Ok, Err, OnOk, OnErr, ◌==◌, refl, sym, ap, ◌∙◌, append_assoc, append-nil, take-append-drop}
 use Rattle.std.specs.declared.alloc.Global.{Global}
 use Rattle.std.specs.declared.alloc.AllocError.{AllocError}
 use Rattle.std.specs.List.{flat_map, list_any}
 use Rattle.std.proofs.lemmas.Grind.{flat_map-append}
 use Rattle.std.proofs.lemmas.List.{take_more, map-append}
 use Rattle.naga_oil_lines.specs.Decorate.{decorated_name}
-use Rattle.naga_oil_lines.specs.Declarations.{Declared}
 use Rattle.naga_oil_lines.specs.Uses.{Uses, with_use}
-use Rattle.naga_oil_lines.specs.Substituted.{module_and_item, extended, all_extended, written_as, written, mention_of, mentions_at, Mention, recorded, Site, mentions_of, mentioned, is_refused, first_ambiguous, before_ambiguous, BeginsUses}
+use Rattle.naga_oil_lines.specs.Substituted.{module_and_item, extended, all_extended, written_as, written, mention_of, mentions_at, Mention, recorded, BeginsUses}
 
 pub recorded-append : (uses : Uses) (xs ys : List Mention) → recorded uses (xs ++ ys) ≡ recorded (recorded uses xs) ys
 recorded-append uses [] ys = refl

@@ -1,6 +1,6 @@
 -- Cuts around `::`.
-use Rattle.std.proofs.Common.{◌≡◌, ◌≢◌, ℕ, zero, suc, ◌+◌, ◌<◌, ◌≤◌, Bool, true, false, cond, eqb, ◌&&◌, List, [], ◌∷◌, ◌++◌, length, take, drop, Option, Some, None, MatchOption, Bor, refl, sym, ap, subst, ◌∙◌, arith}
-use borrow.Author.Tests.{ne_eqb, eqb-true}
+use Rattle.std.proofs.Common.{◌≡◌, ℕ, zero, suc, ◌<◌, ◌≤◌, Bool, true, false, eqb, ◌&&◌, List, [], ◌∷◌, length, take, drop, Option, Some, None, MatchOption, Bor, refl, sym, ap, ◌∙◌, arith}
+use borrow.Author.Tests.{eqb-true}
 use Rattle.std.specs.Option.{option_map}
 use Rattle.std.specs.Str.Pattern.{FindsText, RFindsText, LacksTextAt, SplitsAroundMatch}
 use Rattle.naga_oil_lines.specs.Substituted.{cut_at_first, module_and_item}

@@ -1,5 +1,5 @@
 -- Uses of imported modules, as the code's map holds them.
-use Rattle.std.proofs.Common.{◌≡◌, ℕ, Bool, true, false, cond, List, [], ◌∷◌, ◌++◌, map, Option, Some, None, Result, Ok, Err, OnOk, OnErr, String, Vec, string_bytes, bytes_eq, refl, sym, ap, subst, ◌∙◌}
+use Rattle.std.proofs.Common.{◌≡◌, ℕ, true, false, cond, List, [], ◌∷◌, map, Some, None, Result, Ok, Err, OnOk, OnErr, String, Vec, string_bytes, bytes_eq, refl, ap, subst, ◌∙◌}
 use Rattle.std.specs.declared.alloc.Global.{Global}
 use Rattle.std.specs.declared.alloc.AllocError.{AllocError}
 use Rattle.std.specs.List.{AllZip}
@@ -8,7 +8,7 @@ use Rattle.std.specs.String.{string_eq}
 use Rattle.indexmap.specs.IndexMap.{insert_entry}
 use Rattle.naga_oil_lines.specs.declared.import_definition.ImportDefinition.{ImportDefinition}
 use Rattle.naga_oil_lines.specs.declared.import_definition.ImportDefWithOffset.{ImportDefWithOffset}
-use Rattle.naga_oil_lines.specs.Uses.{Import, Use, Uses, first_use, with_item, with_use, import_of, use_of, use_entry, uses_of}
+use Rattle.naga_oil_lines.specs.Uses.{first_use, with_item, with_use, import_of, use_of, use_entry}
 
 -- texts that are the same one by one
 texts_again : (xs ys : List (String Global)) → AllZip (λ x y. string_bytes y ≡ string_bytes x) xs ys → map string_bytes ys ≡ map string_bytes xs
@@ -27,8 +27,8 @@ use_again : (name item : List ℕ) (place : ℕ) (es : List (String Global × Im
 use_again name item place [] v w f h = cc
 use_again name item place (e ∷ es) v w f h =
     elim (bytes_eq name (string_bytes e.0)) as (λ b. cond b (Some e.1) (lookup (λ k. bytes_eq name (string_bytes k)) es) ≡ Some v
-        → map use_entry (cond b ((e.0, w) ∷ es) (e ∷ set_value (λ k. bytes_eq name (string_bytes k)) es w))
-        ≡ cond b ((string_bytes e.0, with_item (use_of e.1) item) ∷ map use_entry es) (use_entry e ∷ with_use (map use_entry es) name item place)) [
+    → map use_entry (cond b ((e.0, w) ∷ es) (e ∷ set_value (λ k. bytes_eq name (string_bytes k)) es w))
+    ≡ cond b ((string_bytes e.0, with_item (use_of e.1) item) ∷ map use_entry es) (use_entry e ∷ with_use (map use_entry es) name item place)) [
       | true ↦ λ g. (let same : v ≡ e.1 = cc in let now : use_of w ≡ with_item (use_of e.1) item = h ∙ ap (λ u. with_item (use_of u) item) same in ap (λ u. (string_bytes e.0, u) ∷ map use_entry es) now)
       | false ↦ λ g. ap (λ l. use_entry e ∷ l) (use_again name item place es v w g h)
     ] f
@@ -39,7 +39,7 @@ use_kept : (name : List ℕ) (es : List (String Global × ImportDefWithOffset)) 
 use_kept name [] v w f h = cc
 use_kept name (e ∷ es) v w f h =
     elim (bytes_eq name (string_bytes e.0)) as (λ b. cond b (Some e.1) (lookup (λ k. bytes_eq name (string_bytes k)) es) ≡ Some v
-        → map use_entry (cond b ((e.0, w) ∷ es) (e ∷ set_value (λ k. bytes_eq name (string_bytes k)) es w)) ≡ use_entry e ∷ map use_entry es) [
+    → map use_entry (cond b ((e.0, w) ∷ es) (e ∷ set_value (λ k. bytes_eq name (string_bytes k)) es w)) ≡ use_entry e ∷ map use_entry es) [
       | true ↦ λ g. (let same : v ≡ e.1 = cc in let now : use_of w ≡ use_of e.1 = h ∙ ap use_of same in ap (λ u. (string_bytes e.0, u) ∷ map use_entry es) now)
       | false ↦ λ g. ap (λ l. use_entry e ∷ l) (use_kept name es v w g h)
     ] f
@@ -51,8 +51,8 @@ first_used : (key : String Global) (item : List ℕ) (place : ℕ) (es : List (S
 first_used key item place [] v f h = ap (λ u. (string_bytes key, u) ∷ []) h
 first_used key item place (e ∷ es) v f h =
     elim (bytes_eq (string_bytes key) (string_bytes e.0)) as (λ b. cond b (Some e.1) (lookup (λ k. bytes_eq (string_bytes key) (string_bytes k)) es) ≡ None
-        → map use_entry (cond b ((e.0, v) ∷ es) (e ∷ insert_entry string_eq es key v))
-        ≡ cond b ((string_bytes e.0, with_item (use_of e.1) item) ∷ map use_entry es) (use_entry e ∷ with_use (map use_entry es) (string_bytes key) item place)) [
+    → map use_entry (cond b ((e.0, v) ∷ es) (e ∷ insert_entry string_eq es key v))
+    ≡ cond b ((string_bytes e.0, with_item (use_of e.1) item) ∷ map use_entry es) (use_entry e ∷ with_use (map use_entry es) (string_bytes key) item place)) [
       | true ↦ λ g. cc
       | false ↦ λ g. ap (λ l. use_entry e ∷ l) (first_used key item place es v g h)
     ] f

@@ -1,5 +1,5 @@
 -- What a refused substitution says, and what it leaves.
-use Rattle.std.specs.Prelude.{◌≡◌, ℕ, Bool, Option, Some, List}
+use Rattle.std.specs.Prelude.{◌≡◌, Bool, Some, List}
 use Rattle.naga_oil_lines.specs.declared.substitute.SubstituteFault.{SubstituteFault}
 use Rattle.naga_oil_lines.specs.declared.substitute.SubstituteFault.TheVariants.{Ambiguous, Memory}
 use Rattle.naga_oil_lines.specs.Declarations.{Declared}

@@ -13,8 +13,8 @@ ghost use Rattle.naga_oil_lines.specs.Tokenizer.{lexeme_of};
 ghost use Rattle.naga_oil_lines.specs.Tokens.{lexemes};
 ghost use Rattle.naga_oil_lines.specs.Uses.{uses_of, with_use};
 
-use crate::import_definition::ImportDefWithOffset;
 use crate::decorate::push_decorated;
+use crate::import_definition::ImportDefWithOffset;
 use crate::tokenizer::{Token, Tokenizer};
 use indexmap::IndexMap;
 use std::alloc::{AllocError, Global};
@@ -273,3 +273,6 @@ pub fn substitute_identifiers(
     }
     Ok(output)
 }
+
+#[cfg(test)]
+mod tests;

@@ -162,39 +162,27 @@ mod tests {
 
     #[test]
     fn cuts_texts(rt: HostRuntime) -> Result<(), Fail> {
-        let quoted = [
-            Token::Identifier("a\"b::c\"d::", 0),
-            Token::Other(':', 10),
-            Token::Identifier("e", 11),
-        ];
-        let open = [Token::Identifier("x", 0), Token::Identifier("\"y z", 2)];
-        let spaced = [
-            Token::Whitespace(" ", 0),
-            Token::Identifier("é1", 1),
-            Token::Whitespace("\n\t", 4),
-            Token::Other('1', 6),
-            Token::Other(':', 7),
-            Token::Identifier("b", 8),
-        ];
-        let unspaced = [
-            Token::Identifier("é1", 1),
-            Token::Other('1', 6),
-            Token::Other(':', 7),
-            Token::Identifier("b", 8),
-        ];
-        let foo = [Token::Other('_', 0), Token::Identifier("foo", 1)];
-        let cases: [(&str, bool, &[Token]); 7] = [
-            ("a\"b::c\"d:::e", false, &quoted),
-            ("a\"b::c\"d:::e", true, &quoted),
-            ("_foo", true, &foo),
-            ("x \"y z", false, &open),
-            (" é1\n\t1:b", true, &spaced),
-            (" é1\n\t1:b", false, &unspaced),
-            ("", true, &[]),
+        let quoted = r#"[Identifier("a\"b::c\"d::", 0), Other(':', 10), Identifier("e", 11)]"#;
+        let spaced =
+            r#"[Whitespace(" ", 0), Identifier("é1", 1), Whitespace("\n\t", 4), Other('1', 6), Other(':', 7), Identifier("b", 8)]"#;
+        let unspaced = r#"[Identifier("é1", 1), Other('1', 6), Other(':', 7), Identifier("b", 8)]"#;
+        let cases = [
+            ("a\"b::c\"d:::e", false, quoted),
+            ("a\"b::c\"d:::e", true, quoted),
+            ("_foo", true, r#"[Other('_', 0), Identifier("foo", 1)]"#),
+            (
+                "x \"y z",
+                false,
+                r#"[Identifier("x", 0), Identifier("\"y z", 2)]"#,
+            ),
+            (" é1\n\t1:b", true, spaced),
+            (" é1\n\t1:b", false, unspaced),
+            ("", true, "[]"),
         ];
         for (text, emit_whitespace, want) in cases {
             let tokens: Vec<Token> = Tokenizer::new(text, emit_whitespace).collect(rt.alloc())?;
-            assert_eq!(rt; tokens.as_slice(), want, "at {text}");
+            let printed = format!(in rt.alloc(); "{tokens:?}")?;
+            assert_eq!(rt; printed.as_str(), want, "at {text}");
         }
         Ok(())
     }

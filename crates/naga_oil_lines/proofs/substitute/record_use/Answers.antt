@@ -1,5 +1,5 @@
 use Rattle.std.proofs.Common.{◌≡◌, sym, ap, ◌∙◌, rules, map}
-use Rattle.naga_oil_lines.specs.Uses.{use_entry, first_use, with_item, use_of}
+use Rattle.naga_oil_lines.specs.Uses.{use_entry, first_use, use_of}
 use Rattle.naga_oil_lines.proofs.UsesLemmas.{use_pushed, use_refused, use_first}
 use Rattle.naga_oil_lines.proofs.substitute.record_use.Goals as goal
 

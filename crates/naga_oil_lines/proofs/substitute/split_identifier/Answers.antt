@@ -1,6 +1,5 @@
-use Rattle.std.proofs.Common.{◌≡◌, ℕ, List, [], Some, None, ap, sym}
+use Rattle.std.proofs.Common.{[], Some, None, ap}
 use Rattle.std.specs.Option.{option_map_or}
-use Rattle.naga_oil_lines.specs.Substituted.{cut_at_first}
 use Rattle.naga_oil_lines.proofs.SubstituteLemmas.{split_first}
 use Rattle.naga_oil_lines.proofs.substitute.split_identifier.Goals as goal
 

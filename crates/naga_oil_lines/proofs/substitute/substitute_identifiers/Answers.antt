@@ -1,4 +1,4 @@
-use Rattle.std.proofs.Common.{◌≡◌, ◌++◌, [], false, length, subst, ap, sym, refl, ◌∙◌, rules}
+use Rattle.std.proofs.Common.{◌≡◌, ◌++◌, false, length, subst, ap, sym, refl, ◌∙◌}
 use Rattle.std.specs.Str.{chars}
 use Rattle.std.specs.String.{string_bytes}
 use Rattle.naga_oil_lines.specs.Declarations.{declared_of}

@@ -1,5 +1,3 @@
-use Rattle.std.proofs.Common.{sym}
-use Rattle.std.specs.String.{string_bytes}
 use Rattle.naga_oil_lines.proofs.UsesLemmas.{import_again}
 use Rattle.naga_oil_lines.proofs.import_definition.ImportDefinition.try_clone.Goals as goal
 

@@ -1,10 +1,10 @@
-use Rattle.std.proofs.Common.{◌≡◌, ◌<◌, ◌++◌, [], ◌∷◌, true, false, length, map, string_bytes, ap, sym, ◌∙◌, append-nil, arith}
+use Rattle.std.proofs.Common.{◌≡◌, ◌<◌, ◌++◌, [], ◌∷◌, true, length, map, string_bytes, ap, sym, ◌∙◌, append-nil, arith}
 use Rattle.std.specs.List.{flat_map}
 use Rattle.std.proofs.lemmas.Bool.Decides.{nat_tests}
 use Rattle.std.proofs.lemmas.List.{nil_from_length, length-map}
 use Rattle.naga_oil_lines.specs.declared.substitute.SubstituteFault.TheVariants.{Memory}
 use Rattle.naga_oil_lines.specs.Declarations.{declared_of, paths_of}
-use Rattle.naga_oil_lines.specs.Substituted.{first_part, behind_first, all_extended, paths_for, written, mentions_at, mentioned, recorded, Site, is_refused}
+use Rattle.naga_oil_lines.specs.Substituted.{first_part, behind_first, all_extended, paths_for, written, mentions_at, recorded, Site, is_refused}
 use Rattle.naga_oil_lines.specs.Uses.{uses_of}
 use Rattle.naga_oil_lines.proofs.SettledLemmas.{own_path, paths_for_own, paths_for_declared, one_path, refused_is, refused_one, refused_none, settled_one, memory_one, mentions_one, fault_answer}
 use Rattle.naga_oil_lines.proofs.substitute.Substitution.write_identifier.Goals as goal
