@@ -15,3 +15,4 @@ pub mod DecorateLemmas
 pub mod LeavesLemmas
 pub mod PartLemmas
 pub mod DeclarationLemmas
+pub mod ImportPlaceLemmas

@@ -1,19 +1,33 @@
 -- What a line and the lines that it takes become, before what is left.
-use Rattle.std.proofs.Common.{◌≡◌, ℕ, zero, suc, ◌+◌, ◌<◌, Bool, true, false, List, [], ◌∷◌, ◌++◌, map, length, replicate, refl, sym, ap, subst, ◌∙◌, append_assoc, append-nil, Option, Some, None, MatchOption, Result, Ok, Err, arith}
+use Rattle.std.specs.Prelude.{OnOk, IfErr, String}
+use Rattle.std.specs.declared.alloc.Global.{Global}
+use Rattle.naga_oil_lines.specs.declared.import_definition.ImportDefWithOffset.{ImportDefWithOffset}
+use Rattle.std.proofs.Common.{◌≡◌, ℕ, zero, suc, ◌+◌, ◌<◌, ◌≤◌, Bool, true, false, List, [], ◌∷◌, ◌++◌, map, length, replicate, refl, sym, ap, subst, ◌∙◌, append_assoc, append-nil, Option, Some, None, MatchOption, Result, Ok, Err, arith}
 use Rattle.naga_oil_lines.specs.Declarations.{Declared}
 use Rattle.naga_oil_lines.specs.Leaves.{Leaf, SyntaxFault, import_leaves, with_leaves, imported as declared_behind}
-use Rattle.naga_oil_lines.specs.Uses.{Uses}
+use Rattle.naga_oil_lines.specs.Uses.{Use, Uses, use_of, use_entry}
 use Rattle.naga_oil_lines.specs.Substituted.{Site, substituted, sites, first_ambiguous, is_refused, used_by}
+use denote.Ref.{Bor}
+use Rattle.std.specs.Str.{IsUtf8}
+use Rattle.naga_oil_lines.proofs.ImportPlaceLemmas.{fault_within}
+use Rattle.naga_oil_lines.specs.ImportView.{Refuses as Declines}
+use Rattle.naga_oil_lines.specs.declared.parse_imports.ImportFault.{ImportFault}
+use Rattle.naga_oil_lines.specs.declared.parse_imports.ImportFault.TheVariants.{Syntax, Memory as OutOfMemory}
+use Rattle.naga_oil_lines.specs.SubstituteFault.{Refuses}
+use Rattle.naga_oil_lines.specs.declared.substitute.SubstituteFault.{SubstituteFault}
+use Rattle.naga_oil_lines.specs.declared.substitute.SubstituteFault.TheVariants.{Ambiguous, Memory}
 use Rattle.naga_oil_pre.specs.declared.scope.ScopeLevel.{ScopeLevel}
 use Rattle.naga_oil_pre.specs.declared.fault.ComposerErrorInner.{ComposerErrorInner}
 use Rattle.naga_oil_pre.specs.declared.preprocess.Treatment.{Treatment}
+use Rattle.naga_oil_pre.specs.declared.preprocess.Treatment.TheVariants.{Blank, Show, Import}
 use Rattle.naga_oil_pre.specs.Line.{Line, source_lines, end_place}
 use Rattle.naga_oil_pre.specs.Kind.{kind_of}
 use Rattle.naga_oil_pre.specs.Fault.{Fault, Definitions}
 use Rattle.naga_oil_pre.specs.Reading.{braces_after, reading, taken, behind_taken}
 use Rattle.naga_oil_pre.specs.Replaced.{replaced}
-use Rattle.naga_oil_pre.specs.Preprocessed.{Status, blanked, shown, imported, noted, Known, nothing_known, Output, Piece, written, ended, spaces, padded, blanks, import_text, tokens_of, using_tokens, shown_text, shown_piece, imported_piece, piece, behind, joined, preprocessed}
+use Rattle.naga_oil_pre.specs.Preprocessed.{Status, blanked, shown, imported, noted, Known, nothing_known, Output, Piece, written, ended, spaces, padded, blanks, import_text, tokens_of, using_tokens, shown_text, shown_piece, imported_piece, piece, behind, joined, end_status, preprocessed}
 use Rattle.naga_oil_pre.specs.Step.{Step, step, opened, scanned}
+use Rattle.naga_oil_pre.specs.Scope.{is_open}
 use Rattle.naga_oil_pre.specs.Treatment.{status_of, open_after}
 use Rattle.naga_oil_pre.specs.View.{Fails, fault_of}
 use Rattle.naga_oil_pre.proofs.Machine.{scanned_reading}
@@ -69,7 +83,16 @@ pub none_refused : (declared : Declared) (ss : List Site) → first_ambiguous de
 none_refused declared [] = refl
 none_refused declared (s ∷ ss) = none_refused declared ss
 
+pub never_ambiguous : (declared : Declared) (ss : List Site) (old new : Uses) (e : SubstituteFault) (place : ℕ) → Refuses declared true ss old new e → e ≡ Ambiguous place → ⊥
+never_ambiguous declared ss old new (Ambiguous p) place h e = let none = none_refused declared ss in let some = h.0 in cc
+never_ambiguous declared ss old new Memory place h e = cc
+
 -- ---- an import
+-- a fault of an import line has its place in the line or at its end
+pub syntax_within : (text : List ℕ) (e : ImportFault) (said : Bor (List ℕ)) (place : ℕ) → IsUtf8 text → Declines e (import_leaves text) → e ≡ Syntax said place → place ≤ length text
+syntax_within text (Syntax s p) said place u h e = let same : p ≡ place = cc in let fits : p ≤ length text = fault_within text (s.now, p) u h in omega arith
+syntax_within text OutOfMemory said place u h e = cc
+
 declared_piece : (k : Known) (l : Line) (r : Result (List Leaf) SyntaxFault) (declared : Declared) → declared_behind k.declared r ≡ Ok declared
     → (let p : Piece = (ended (spaces l), record k { declared = declared }) in imported_piece k l r ≡ Ok p)
 declared_piece k l (Ok ls) declared e = let same : with_leaves k.declared ls ≡ declared = cc in ap (λ d. (let p : Piece = (ended (spaces l), record k { declared = d }) in Ok p)) same
@@ -85,7 +108,7 @@ import_turn defs end levels k next l n left after out first out' import behind_i
     let is_then : next ≡ then = (λ i. record { declared = next.declared; uses = uses i }) in
     let rest : List Status = scanned defs end levels 0 (behind_taken n left) in
     let reads : (let p : Piece = (ended (spaces l), then) in imported_piece k l (import_leaves (import_text (l ∷ taken n left))) ≡ Ok p) =
-        declared_piece k l (import_leaves (import_text (l ∷ taken n left))) next.declared (ap (λ t. declared_behind k.declared (import_leaves t)) (sym text_is) ∙ declares) in
+    declared_piece k l (import_leaves (import_text (l ∷ taken n left))) next.declared (ap (λ t. declared_behind k.declared (import_leaves t)) (sym text_is) ∙ declares) in
     ap (λ ls. behind out' (written defs next (scanned defs end levels 0 ls))) behind_is
     ∙ ap (λ v. behind v (written defs next rest)) (q ∙ ap (λ v. v ++ blanks (taken n left)) p)
     ∙ behind_behind (out ++ ended (spaces l)) (blanks (taken n left)) (written defs next rest)
@@ -153,3 +176,39 @@ told_first defs k text out n e =
     ∙ behind_nothing (written defs k (scanned defs end [] 0 (source_lines text)))
     ∙ ap (λ kk. written defs kk (scanned defs end [] 0 (source_lines text))) n
     ∙ scanned_reading defs end (source_lines text) (reading defs (source_lines text)) (IsReading-reading defs (source_lines text))
+
+-- an import that fails is the first line that does
+pub import_fails : (defs : Definitions) (k : Known) (end : ℕ) (levels next : List ScopeLevel) (l : Line) (left : List Line) (t : Treatment) (n : ℕ) (error : ComposerErrorInner)
+    → ((ls : List Line) → (let s : Step = (status_of t l ls, next) in step defs levels l (kind_of l.covered) ls ≡ s)) → opened levels l (kind_of l.covered) ≡ open_after t → t ≡ Import n
+    → Fails error (piece defs k (imported l (taken n left))) → Fails error (written defs k (scanned defs end levels 0 (l ∷ left)))
+import_fails defs k end levels next l left Blank n error e o is h = cc
+import_fails defs k end levels next l left Show n error e o is h = cc
+import_fails defs k end levels next l left (Import m) n error e o is h =
+    let same : n ≡ m = cc in
+    piece_fails defs k (imported l (taken m left)) (scanned defs end next m left) (scanned defs end levels 0 (l ∷ left)) error (scanned_first defs end levels next l left (Import m) e o)
+    (subst (λ v. Fails error (piece defs k (imported l (taken v left)))) same h)
+
+-- ---- what follows from a result
+pub on_ok : {X Y : Type 0} (r : Result X Y) (P Q : Type 0) → OnOk r P → (P → Q) → OnOk r Q
+on_ok (Ok x) P Q h go = go h
+on_ok (Err e) P Q h go = tt
+
+pub if_err : {X Y : Type 0} (r : Result X Y) (P Q : Y → Type 0) → IfErr r P → ((e : Y) → P e → Q e) → IfErr r Q
+if_err (Ok x) P Q h go = tt
+if_err (Err e) P Q h go = go e h
+
+-- ---- the end
+pub nothing_is : (k : Known) → k.declared ≡ [] → k.uses ≡ [] → k ≡ nothing_known
+nothing_is k d u = λ i. record { declared = d i; uses = u i }
+
+pub uses_of_values : (entries : List (String Global × ImportDefWithOffset)) → map use_of (map (λ e. e.1) entries) ≡ map (λ u. u.1) (map use_entry entries)
+uses_of_values [] = refl
+uses_of_values (e ∷ more) = ap (λ v. use_of e.1 ∷ v) (uses_of_values more)
+
+-- where no line is left and no chain is open
+pub told_last : (defs : Definitions) (k : Known) (end : ℕ) (levels : List ScopeLevel) (left : List Line) (out : List ℕ) (uses : List Use) (total : Result Output Fault)
+    → left ≡ [] → is_open levels ≡ false → behind out (written defs k (scanned defs end levels 0 left)) ≡ total → uses ≡ map (λ u. u.1) k.uses
+    → (let o : Output = record { text = out; uses = uses } in total ≡ Ok o)
+told_last defs k end levels left out uses total none closed told same =
+    sym told ∙ ap (λ ls. behind out (written defs k (scanned defs end levels 0 ls))) none ∙ ap (λ b. behind out (written defs k (end_status end b))) closed
+    ∙ (λ i. let o : Output = record { text = append-nil out i; uses = sym same i } in Ok o)

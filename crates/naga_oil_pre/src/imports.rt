@@ -14,8 +14,8 @@ ghost use Rattle.naga_oil_pre.specs.Reading.{braces_after, taken, behind_taken};
 ghost use Rattle.naga_oil_pre.specs.SourceView.{line_of};
 
 use crate::fault::ComposerErrorInner;
-use crate::shader_def::ShaderDefValue;
 use crate::replace::replaced_text;
+use crate::shader_def::ShaderDefValue;
 use crate::source_lines::{SourceLine, SourceLines};
 use indexmap::IndexMap;
 use naga_oil_lines::import_definition::ImportDefWithOffset;
@@ -56,6 +56,15 @@ pub fn blank_line(out: &mut String, line: &str) -> Result<(), AllocError>
     ensures { OnOk result (string_bytes out.new ≡ string_bytes out.old ++ ended (replicate (length line.now) 32)) }
 {
     push_spaces(out, line.len())?;
+    out.push('\n')
+}
+
+// Writes a text as a line, filled up by spaces to a length.
+fn push_padded(out: &mut String, text: &str, size: usize) -> Result<(), AllocError>
+    ensures { OnOk result (string_bytes out.new ≡ string_bytes out.old ++ ended (padded size text.now)) }
+{
+    out.push_str(text)?;
+    push_spaces(out, size.saturating_sub(text.len()))?;
     out.push('\n')
 }
 
@@ -170,12 +179,17 @@ pub fn push_shown(
 {
     let replaced = replaced_text(alloc, line.text, definitions)?;
     let mut unused = IndexMap::new(alloc);
-    let shown = match substitute_identifiers(alloc, replaced.as_str(), 0, declared, &mut unused, true) {
+    let shown = match substitute_identifiers(
+        alloc,
+        replaced.as_str(),
+        0,
+        declared,
+        &mut unused,
+        true,
+    ) {
         Ok(shown) => shown,
         Err(SubstituteFault::Ambiguous(_)) => unreachable!(),
         Err(SubstituteFault::Memory) => return Err(AllocError),
     };
-    out.push_str(shown.as_str())?;
-    push_spaces(out, line.text.len().saturating_sub(shown.len()))?;
-    out.push('\n')
+    push_padded(out, shown.as_str(), line.text.len())
 }

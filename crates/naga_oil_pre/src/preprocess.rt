@@ -16,8 +16,10 @@ ghost use Rattle.naga_oil_pre.specs.declared.scope.ScopeLevel.{ScopeLevel};
 
 use crate::condition::evaluate;
 use crate::fault::ComposerErrorInner;
+use crate::imports::{
+    Imports, blank_line, braces_after, declare, push_shown, record_uses, take_lines,
+};
 use crate::line_kind::{LineKind, line_kind};
-use crate::imports::{Imports, blank_line, braces_after, declare, push_shown, record_uses, take_lines};
 use crate::scope::Scope;
 use crate::shader_def::ShaderDefValue;
 use crate::source_lines::{SourceLine, SourceLines};
@@ -197,7 +199,15 @@ impl Preprocessor {
             used: IndexMap::new(alloc),
         };
         while let Some(line) = source.next()? {
-            write_line(alloc, line, &mut source, shader_defs, &mut scope, &mut imports, &mut out)?;
+            write_line(
+                alloc,
+                line,
+                &mut source,
+                shader_defs,
+                &mut scope,
+                &mut imports,
+                &mut out,
+            )?;
         }
         if scope.is_open() {
             return Err(ComposerErrorInner::NotEnoughEndIfs(source.offset()));
