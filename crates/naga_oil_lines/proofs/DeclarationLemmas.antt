@@ -1,5 +1,5 @@
 -- A map of the code after a path has been pushed at a key or taken away, as what it declares.
-use Rattle.std.proofs.Common.{◌≡◌, ℕ, zero, suc, ◌+◌, ◌-◌, ◌<◌, ◌≤◌, Bool, true, false, not, cond, List, [], ◌∷◌, ◌++◌, length, take, drop, map, Option, Some, None, unwrap_or, string_bytes, String, Vec, refl, sym, ap, subst, ◌∙◌, rules, arith, slice_get, get_or, ltb, nat_lt, Result, Ok, Err, OnErr, MatchOption, length-append}
+use Rattle.std.proofs.Common.{◌≡◌, ℕ, zero, suc, ◌+◌, ◌-◌, ◌<◌, ◌≤◌, Bool, true, false, not, cond, List, [], ◌∷◌, ◌++◌, length, take, map, Option, Some, None, unwrap_or, string_bytes, String, Vec, refl, sym, ap, subst, ◌∙◌, arith, slice_get, get_or, ltb, Result, Ok, Err, OnErr, MatchOption, length-append}
 use Rattle.std.specs.Prelude.{bytes_eq}
 use Rattle.std.specs.declared.alloc.Global.{Global}
 use Rattle.std.specs.List.{position, position_or_len}

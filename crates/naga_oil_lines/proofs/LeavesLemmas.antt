@@ -1,12 +1,12 @@
 -- Heads that are open by counting are those of a stack, and a reader with a stack gives the leaves.
-use Rattle.std.proofs.Common.{◌≡◌, ℕ, zero, suc, ◌+◌, ◌-◌, Bool, true, false, not, ◌&&◌, ◌||◌, cond, leb, nat_le, List, [], ◌∷◌, ◌++◌, length, take, drop, filter, map, Option, Some, None, Result, Ok, Err, refl, sym, ap, subst, ◌∙◌, rules, arith, append_assoc, append-nil}
+use Rattle.std.proofs.Common.{◌≡◌, ℕ, zero, suc, ◌+◌, ◌-◌, Bool, true, false, ◌&&◌, ◌||◌, cond, leb, List, [], ◌∷◌, ◌++◌, length, take, filter, map, Result, Ok, Err, refl, sym, ap, ◌∙◌, arith, append_assoc, append-nil}
 use Rattle.std.specs.List.{list_all, list_any, concat}
 use Rattle.std.proofs.lemmas.List.Folds.{list_all-map, list_any-append}
 use Rattle.std.proofs.lemmas.Bool.Decides.{nat_tests}
 use Rattle.std.specs.Prelude.{codes}
 use Rattle.naga_oil_lines.specs.Tokens.{Lexeme}
-use Rattle.naga_oil_lines.specs.Leaves.{SyntaxFault, Part, head, leaf, close, nothing, wrong, is_head, is_old_head, is_close, beginnings, has_no_more_closes, is_open, open_heads, Leaf, added, at_end, then_leaves, leaves_of, parts, behind_import, line_leaves}
-use Rattle.naga_oil_lines.specs.ImportReader.{Reader, at_start, step, finish, may_end, run}
+use Rattle.naga_oil_lines.specs.Leaves.{SyntaxFault, Part, head, leaf, close, nothing, wrong, is_head, is_old_head, is_close, beginnings, has_no_more_closes, is_open, open_heads, Leaf, then_leaves, leaves_of, parts, behind_import, line_leaves}
+use Rattle.naga_oil_lines.specs.ImportReader.{Reader, at_start, step, may_end, run}
 
 -- how many `}` find no head among the parts before them
 unmatched : List Part → ℕ

@@ -1,16 +1,16 @@
 -- The parts of an import line, read off the front of its tokens.
-use Rattle.std.proofs.Common.{◌≡◌, ◌≢◌, ℕ, zero, suc, ◌+◌, ◌-◌, ◌<◌, ◌≤◌, Bool, true, false, cond, List, [], ◌∷◌, ◌++◌, length, take, drop, map, get_or, Option, Some, None, unwrap_or, MatchOption, string_bytes, String, refl, sym, ap, subst, ◌∙◌, append-nil, take-append-drop, rules, arith, nat_eq}
-use Rattle.std.specs.Prelude.{codes, bytes_eq}
+use Rattle.std.proofs.Common.{◌≡◌, ℕ, zero, suc, ◌+◌, ◌<◌, ◌≤◌, Bool, true, false, List, [], ◌∷◌, ◌++◌, length, take, drop, map, get_or, Some, None, unwrap_or, string_bytes, String, refl, sym, ap, ◌∙◌, append-nil, take-append-drop, arith, nat_eq}
+use Rattle.std.specs.Prelude.{codes}
 use Rattle.std.specs.declared.alloc.Global.{Global}
 use Rattle.std.specs.List.{concat, starts_with}
-use Rattle.std.specs.Str.Pattern.{RFindsText, LacksTextAt, HasTextAt}
+use Rattle.std.specs.Str.Pattern.{RFindsText, LacksTextAt}
 use Rattle.std.proofs.lemmas.List.{map-append, take_more, nil_from_length}
 use Rattle.std.proofs.lemmas.List.Folds.{concat-append}
 use Rattle.std.proofs.lemmas.Slice.Eq.{bytes_eq-Decides}
 use Rattle.naga_oil_lines.specs.declared.tokenizer.Token.{Token}
 use Rattle.naga_oil_lines.specs.Tokens.{Lexeme, identifier, other, whitespace}
 use Rattle.naga_oil_lines.specs.Tokenizer.{lexeme_of}
-use Rattle.naga_oil_lines.specs.Leaves.{Part, nothing, Alias, alias_after, alias_len, unit_len, unit_part, mark_part, parts, behind_last_colons}
+use Rattle.naga_oil_lines.specs.Leaves.{Part, nothing, alias_after, alias_len, unit_len, unit_part, mark_part, parts, behind_last_colons}
 
 -- parts go on behind the tokens that have been told
 parts-told : (told : ℕ) (ts : List Lexeme) → parts told ts ≡ parts 0 (drop told ts)

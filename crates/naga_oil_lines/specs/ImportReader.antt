@@ -1,5 +1,5 @@
 -- Reading an import line part by part with a stack of heads, for the contracts of the private functions. The public ones speak of `Leaves`.
-use Rattle.std.specs.Prelude.{ℕ, ◌-◌, Bool, true, false, ◌||◌, if◌then◌else◌, nat_le, Result, Ok, Err, List, [], ◌∷◌, ◌++◌, length, take, codes, bytes_eq}
+use Rattle.std.specs.Prelude.{ℕ, ◌-◌, Bool, false, ◌||◌, if◌then◌else◌, nat_le, Result, Ok, Err, List, [], ◌∷◌, ◌++◌, length, take, codes, bytes_eq}
 use Rattle.std.specs.List.{concat}
 use Rattle.naga_oil_lines.specs.Declarations.{Declared}
 use Rattle.naga_oil_lines.specs.Leaves.{SyntaxFault, Part, head, leaf, close, nothing, wrong, Leaf}

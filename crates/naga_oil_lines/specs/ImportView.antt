@@ -1,5 +1,5 @@
 -- What the types of the import reader show.
-use Rattle.std.specs.Prelude.{ℕ, Bool, true, false, Option, Some, None, Result, Ok, Err, List, ◌++◌, ◌≡◌, map, codes, string_bytes, MatchOption}
+use Rattle.std.specs.Prelude.{ℕ, Bool, true, false, Option, Some, None, Result, Err, List, ◌++◌, ◌≡◌, map, codes, string_bytes, MatchOption}
 use Rattle.naga_oil_lines.specs.Leaves as lines
 use Rattle.naga_oil_lines.specs.Leaves.{SyntaxFault}
 use Rattle.naga_oil_lines.specs.ImportReader.{Reader}

@@ -1,7 +1,7 @@
-use Rattle.std.proofs.Common.{◌≡◌, List, false, ap, sym, ◌∙◌, map, length}
+use Rattle.std.proofs.Common.{◌≡◌, false, ap, sym, ◌∙◌, map, length}
 use Rattle.std.specs.Str.{chars}
 use Rattle.std.proofs.lemmas.Result.{err_from_is_err_and}
-use Rattle.naga_oil_lines.specs.Tokens.{Lexeme, lexemes, shown}
+use Rattle.naga_oil_lines.specs.Tokens.{lexemes, shown}
 use Rattle.naga_oil_lines.specs.Tokenizer.{lexeme_of}
 use Rattle.naga_oil_lines.specs.Leaves.{parts, line_leaves}
 use Rattle.naga_oil_lines.specs.ImportReader.{run}
