@@ -366,6 +366,40 @@ mod tests {
     }
 
     #[test]
+    fn substitutes_what_imports_declare(rt: HostRuntime) -> Result<(), Fail> {
+        let table = [
+            (
+                "#import a::f\nx.f + x. f",
+                "            \nx.f + x. fX_naga_oil_mod_XMEX\n",
+                "[ImportDefWithOffset { definition: ImportDefinition { import: \"a\", items: [\"f\"] }, offset: 22 }]",
+            ),
+            (
+                "#import a::{\n  b,\n  c\n}\nb() + c()",
+                "            \n    \n   \n \nbX_naga_oil_mod_XMEX() + cX_naga_oil_mod_XMEX()\n",
+                "[ImportDefWithOffset { definition: ImportDefinition { import: \"a\", items: [\"b\", \"c\"] }, offset: 24 }]",
+            ),
+            (
+                "#import a::f\nf() // f\nf()\n",
+                "            \nfX_naga_oil_mod_XMEX() // fX_naga_oil_mod_XMEX\nfX_naga_oil_mod_XMEX()\n",
+                "[ImportDefWithOffset { definition: ImportDefinition { import: \"a\", items: [\"f\", \"f\"] }, offset: 13 }]",
+            ),
+            (
+                "#ifdef A\n#import a::f\n#endif\nf() + a::g()",
+                "        \n            \n      \nf() + gX_naga_oil_mod_XMEX()\n",
+                "[ImportDefWithOffset { definition: ImportDefinition { import: \"a\", items: [\"g\"] }, offset: 35 }]",
+            ),
+        ];
+        for (source, text, uses) in table.iter() {
+            let output = preprocessed(rt.alloc(), *source, NONE)?;
+            assert_eq!(rt; output.preprocessed_source.as_str(), *text, "{source}");
+            let imports = output.imports;
+            let shown = format!(in rt.alloc(); "{imports:?}")?;
+            assert_eq!(rt; shown.as_str(), *uses, "{source}");
+        }
+        Ok(())
+    }
+
+    #[test]
     fn answers_the_earliest_fault(rt: HostRuntime) -> Result<(), Fail> {
         let table = [
             (
@@ -406,6 +440,21 @@ mod tests {
                 "#ifdef Z\n#import a::{\"\n#if XX == 1\n#endif\n\"}\n#endif",
                 NONE,
                 "UnknownShaderDef { pos: 23, shader_def_name: \"XX\" }",
+            ),
+            (
+                "#import a::{b, b}\nb",
+                NONE,
+                "ImportParseError(\"Ambiguous import path for item\", 18)",
+            ),
+            (
+                "#import a::{",
+                NONE,
+                "ImportParseError(\"missing close brace\", 13)",
+            ),
+            (
+                "x\n#import a::{b,\n#ifdef X\nc}\nb",
+                NONE,
+                "ImportParseError(\"unexpected token\", 17)",
             ),
         ];
         for (source, definitions, expected) in table.iter() {
