@@ -11,6 +11,7 @@ pub mod Tokens
 pub mod Tokenizer
 pub mod TokenGrammar
 pub mod Decorate
+pub mod Directives
 pub mod DecorateRows
 pub mod ImportReader
 pub mod ImportRows

@@ -8,3 +8,4 @@ pub mod parse_imports;
 pub mod substitute;
 pub mod text;
 pub mod tokenizer;
+pub mod wgsl_directives;
