@@ -1,3 +1,3 @@
 pub mod Words
-pub mod Told
 pub mod Defined
+pub mod Told

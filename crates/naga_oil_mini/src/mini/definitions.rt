@@ -1,7 +1,8 @@
 // Definitions that are given by words.
-ghost use Rattle.std.specs.Prelude.{◌≡◌, IfErr, option_map};
+ghost use Rattle.std.specs.Prelude.{◌≡◌, Ok, OnOk, IfOk, IfErr, option_map};
+ghost use Rattle.std.specs.BTreeMap.{get_by_text};
 ghost use Rattle.naga_oil_mini.specs.Words.{texts};
-ghost use Rattle.naga_oil_mini.specs.Defined.{given_value, definition_word};
+ghost use Rattle.naga_oil_mini.specs.Defined.{given_value, definition_word, nothing_defined, with_definition, defined_by};
 ghost use Rattle.naga_oil_mini.specs.Told.{RefusesDefinitions};
 
 use super::refusal::Refusal;
@@ -43,7 +44,9 @@ pub fn define(
     definitions: &mut Definitions,
     name: &str,
     value: ShaderDefValue,
-) -> Result<(), AllocError> {
+) -> Result<(), AllocError>
+    ensures { OnOk result (get_by_text definitions.new ≡ with_definition (get_by_text definitions.old) (name.now, value)) }
+{
     let name = String::from_str(alloc, name)?;
     definitions.insert(name, value)?;
     Ok(())
@@ -51,7 +54,8 @@ pub fn define(
 
 /// The definitions among the words. Of one name the last counts.
 pub fn given(alloc: Global, words: &[String]) -> Result<Definitions, Refusal<'_>>
-    ensures { IfErr result (RefusesDefinitions (texts words.now)) }
+    ensures ok { IfOk result (λ definitions. defined_by nothing_defined (texts words.now) ≡ Ok (get_by_text definitions)) }
+    ensures err { IfErr result (RefusesDefinitions (texts words.now)) }
 {
     let mut definitions = BTreeMap::new(alloc);
     for word in words {
