@@ -17,3 +17,5 @@ pub mod PartLemmas
 pub mod DeclarationLemmas
 pub mod ImportPlaceLemmas
 pub mod SubstitutedLines
+pub mod DirectiveLemmas
+pub mod NamesInOrder
