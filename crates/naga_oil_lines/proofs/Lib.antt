@@ -16,3 +16,6 @@ pub mod LeavesLemmas
 pub mod PartLemmas
 pub mod DeclarationLemmas
 pub mod ImportPlaceLemmas
+pub mod SubstitutedLines
+pub mod DirectiveLemmas
+pub mod NamesInOrder

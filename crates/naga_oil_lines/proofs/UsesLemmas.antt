@@ -11,7 +11,7 @@ use Rattle.naga_oil_lines.specs.declared.import_definition.ImportDefWithOffset.{
 use Rattle.naga_oil_lines.specs.Uses.{first_use, with_item, with_use, import_of, use_of, use_entry}
 
 -- texts that are the same one by one
-texts_again : (xs ys : List (String Global)) → AllZip (λ x y. string_bytes y ≡ string_bytes x) xs ys → map string_bytes ys ≡ map string_bytes xs
+pub texts_again : (xs ys : List (String Global)) → AllZip (λ x y. string_bytes y ≡ string_bytes x) xs ys → map string_bytes ys ≡ map string_bytes xs
 texts_again [] [] h = refl
 texts_again [] (y ∷ ys) h = absurd h
 texts_again (x ∷ xs) [] h = absurd h

@@ -12,6 +12,8 @@ pub mod Tokenizer
 pub mod TokenGrammar
 pub mod Decorate
 pub mod Directives
+pub mod DirectivesText
+pub mod DirectivesRows
 pub mod DecorateRows
 pub mod ImportReader
 pub mod ImportRows

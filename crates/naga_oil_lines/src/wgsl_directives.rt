@@ -1,22 +1,32 @@
 // The directives that a WGSL text may begin with.
-use std::alloc::Global;
+ghost use Rattle.std.specs.Prelude.{◌≡◌, ◌↔◌, ℕ, ◌++◌, List, [], IsTrue, IfOk, OnOk, codes, fold, map};
+ghost use Rattle.std.specs.Cmp.Lexicographic.{slice_cmp};
+ghost use Rattle.std.specs.List.{Contains, flat_map, join_by};
+ghost use Rattle.std.specs.List.Sorted.{IsStrictlySortedBy};
+ghost use Rattle.std.specs.Ordering.{nat_cmp};
+ghost use Rattle.std.specs.String.{string_bytes};
+ghost use Rattle.naga_oil_lines.specs.Directives.{enable_of, requires_of, diagnostic_of, directives_of, no_directives};
+ghost use Rattle.naga_oil_lines.specs.DirectivesText.{with_name, in_order, named, names_line, diagnostic_line, with_empty_line, directives_text, SaysNothing};
+
+use std::alloc::{AllocError, Global};
+use std::collections::BTreeSet;
 
 /// Extensions that a text enables. The place is the directive's line, from 0.
-#[derive(Debug, Drop, PartialEq, Eq)]
+#[derive(Debug, Drop, PartialEq, Eq, Hash)]
 pub struct EnableDirective {
     pub extensions: Vec<String>,
     pub source_location: usize,
 }
 
 /// Extensions that a text requires. The place is the directive's line, from 0.
-#[derive(Debug, Drop, PartialEq, Eq)]
+#[derive(Debug, Drop, PartialEq, Eq, Hash)]
 pub struct RequiresDirective {
     pub extensions: Vec<String>,
     pub source_location: usize,
 }
 
 /// How a diagnostic rule is treated. The place is the directive's line, from 0.
-#[derive(Debug, Drop, PartialEq, Eq)]
+#[derive(Debug, Drop, PartialEq, Eq, Hash)]
 pub struct DiagnosticDirective {
     pub severity: String,
     pub rule: String,
@@ -31,10 +41,187 @@ pub struct WgslDirectives {
     pub diagnostics: Vec<DiagnosticDirective>,
 }
 
-impl WgslDirectives {
-    ghost use Rattle.std.specs.Prelude.{◌≡◌};
-    ghost use Rattle.naga_oil_lines.specs.Directives.{directives_of, no_directives};
+impl EnableDirective {
+    /// An equal directive.
+    pub fn try_clone(&self) -> Result<EnableDirective, AllocError>
+        ensures { IfOk result (λ copy. enable_of copy ≡ enable_of self.now) }
+    {
+        Ok(EnableDirective {
+            extensions: self.extensions.clone()?,
+            source_location: self.source_location,
+        })
+    }
+}
 
+impl RequiresDirective {
+    /// An equal directive.
+    pub fn try_clone(&self) -> Result<RequiresDirective, AllocError>
+        ensures { IfOk result (λ copy. requires_of copy ≡ requires_of self.now) }
+    {
+        Ok(RequiresDirective {
+            extensions: self.extensions.clone()?,
+            source_location: self.source_location,
+        })
+    }
+}
+
+impl DiagnosticDirective {
+    /// An equal directive.
+    pub fn try_clone(&self) -> Result<DiagnosticDirective, AllocError>
+        ensures { IfOk result (λ copy. diagnostic_of copy ≡ diagnostic_of self.now) }
+    {
+        let DiagnosticDirective {
+            severity,
+            rule,
+            source_location,
+        } = self;
+        Ok(DiagnosticDirective {
+            severity: severity.clone()?,
+            rule: rule.clone()?,
+            source_location: *source_location,
+        })
+    }
+
+    // Writes its line.
+    fn push_line(&self, text: &mut String) -> Result<(), AllocError>
+        ensures { OnOk result (string_bytes text.new ≡ string_bytes text.old ++ diagnostic_line (diagnostic_of self.now)) }
+    {
+        text.push_str("diagnostic(")?;
+        text.push_str(self.severity.as_str())?;
+        text.push_str(", ")?;
+        text.push_str(self.rule.as_str())?;
+        text.push_str(");\n")
+    }
+}
+
+fn clone_enables(
+    alloc: Global,
+    directives: &[EnableDirective],
+) -> Result<Vec<EnableDirective>, AllocError>
+    ensures { IfOk result (λ copy. map enable_of copy.items ≡ map enable_of directives.now) }
+{
+    let mut copy = Vec::with_capacity(alloc, directives.len())?;
+    for directive in directives {
+        copy.push(directive.try_clone()?)?;
+    }
+    Ok(copy)
+}
+
+fn clone_requires(
+    alloc: Global,
+    directives: &[RequiresDirective],
+) -> Result<Vec<RequiresDirective>, AllocError>
+    ensures { IfOk result (λ copy. map requires_of copy.items ≡ map requires_of directives.now) }
+{
+    let mut copy = Vec::with_capacity(alloc, directives.len())?;
+    for directive in directives {
+        copy.push(directive.try_clone()?)?;
+    }
+    Ok(copy)
+}
+
+fn clone_diagnostics(
+    alloc: Global,
+    directives: &[DiagnosticDirective],
+) -> Result<Vec<DiagnosticDirective>, AllocError>
+    ensures { IfOk result (λ copy. map diagnostic_of copy.items ≡ map diagnostic_of directives.now) }
+{
+    let mut copy = Vec::with_capacity(alloc, directives.len())?;
+    for directive in directives {
+        copy.push(directive.try_clone()?)?;
+    }
+    Ok(copy)
+}
+
+// Adds names to a set.
+fn insert_names<'a>(names: &mut BTreeSet<&'a str>, more: &'a [String]) -> Result<(), AllocError>
+    ensures { OnOk result (map (λ n. n.now) names.new.keys ≡ fold with_name (map (λ n. n.now) names.old.keys) (map string_bytes more.now)) }
+{
+    for name in more {
+        names.insert(name.as_str())?;
+    }
+    Ok(())
+}
+
+// The extensions that are enabled.
+fn enabled_names<'a>(
+    alloc: Global,
+    enables: &'a [EnableDirective],
+) -> Result<BTreeSet<&'a str>, AllocError>
+    ensures { IfOk result (λ names. map (λ n. n.now) names.keys ≡ in_order (named (map enable_of enables.now))) }
+{
+    let mut names = BTreeSet::new(alloc);
+    for enable in enables {
+        insert_names(&mut names, enable.extensions.as_slice())?;
+    }
+    Ok(names)
+}
+
+// The extensions that are required.
+fn required_names<'a>(
+    alloc: Global,
+    requires_: &'a [RequiresDirective],
+) -> Result<BTreeSet<&'a str>, AllocError>
+    ensures { IfOk result (λ names. map (λ n. n.now) names.keys ≡ in_order (named (map requires_of requires_.now))) }
+{
+    let mut names = BTreeSet::new(alloc);
+    for required in requires_ {
+        insert_names(&mut names, required.extensions.as_slice())?;
+    }
+    Ok(names)
+}
+
+// The names with commas between them.
+fn joined(alloc: Global, names: BTreeSet<&str>) -> Result<String, AllocError>
+    ensures { IfOk result (λ text. string_bytes text ≡ join_by (λ n. n) (codes ", ") (map (λ n. n.now) names.entry.keys)) }
+{
+    let names: Vec<&str> = names.into_iter().collect(alloc)?;
+    names.join(alloc, ", ")
+}
+
+// Writes a line of a word and names, if there are any.
+fn push_names(
+    alloc: Global,
+    word: &str,
+    names: BTreeSet<&str>,
+    text: &mut String,
+) -> Result<(), AllocError>
+    ensures { OnOk result (string_bytes text.new ≡ string_bytes text.old ++ names_line word.now (map (λ n. n.now) names.entry.keys)) }
+{
+    if names.is_empty() {
+        return Ok(());
+    }
+    let names = joined(alloc, names)?;
+    text.push_str(word)?;
+    text.push_str(" ")?;
+    text.push_str(names.as_str())?;
+    text.push_str(";\n")
+}
+
+// Writes a line of each diagnostic.
+fn push_diagnostics(
+    diagnostics: &[DiagnosticDirective],
+    text: &mut String,
+) -> Result<(), AllocError>
+    ensures { OnOk result (string_bytes text.new ≡ string_bytes text.old ++ flat_map diagnostic_line (map diagnostic_of diagnostics.now)) }
+{
+    for diagnostic in diagnostics {
+        diagnostic.push_line(text)?;
+    }
+    Ok(())
+}
+
+// Writes an empty line behind what is written, if anything is.
+fn push_empty_line(text: &mut String) -> Result<(), AllocError>
+    ensures { OnOk result (string_bytes text.new ≡ with_empty_line (string_bytes text.old)) }
+{
+    if text.is_empty() {
+        return Ok(());
+    }
+    text.push_str("\n")
+}
+
+impl WgslDirectives {
     /// No directives.
     pub fn new(alloc: Global) -> WgslDirectives
         ensures { directives_of result ≡ no_directives }
@@ -44,5 +231,136 @@ impl WgslDirectives {
             requires_: Vec::new(alloc),
             diagnostics: Vec::new(alloc),
         }
+    }
+
+    /// Whether there are no directives.
+    pub fn is_empty(&self) -> bool
+        ensures { IsTrue result ↔ (directives_of self.now ≡ no_directives) }
+    {
+        self.enables.is_empty() && self.requires_.is_empty() && self.diagnostics.is_empty()
+    }
+
+    /// Equal directives.
+    pub fn try_clone(&self) -> Result<WgslDirectives, AllocError>
+        ensures { IfOk result (λ copy. directives_of copy ≡ directives_of self.now) }
+    {
+        let alloc = *self.enables.allocator();
+        Ok(WgslDirectives {
+            enables: clone_enables(alloc, self.enables.as_slice())?,
+            requires_: clone_requires(alloc, self.requires_.as_slice())?,
+            diagnostics: clone_diagnostics(alloc, self.diagnostics.as_slice())?,
+        })
+    }
+
+    /// The text of the directives: a line of the extensions that are enabled and one of those that are required, each
+    /// named once, in byte order, then a line of each diagnostic, and an empty line. Lines that would name nothing are
+    /// left out, and so is the empty line where nothing comes before it.
+    pub fn to_wgsl_string(&self, alloc: Global) -> Result<String, AllocError>
+        ensures text { IfOk result (λ text. string_bytes text ≡ directives_text (directives_of self.now)) }
+        ensures empty { IfOk result (λ text. (string_bytes text ≡ []) ↔ SaysNothing (directives_of self.now)) }
+    {
+        let mut text = String::new(alloc);
+        let enabled = enabled_names(alloc, self.enables.as_slice())?;
+        push_names(alloc, "enable", enabled, &mut text)?;
+        let required = required_names(alloc, self.requires_.as_slice())?;
+        push_names(alloc, "requires", required, &mut text)?;
+        push_diagnostics(self.diagnostics.as_slice(), &mut text)?;
+        push_empty_line(&mut text)?;
+        Ok(text)
+    }
+}
+
+/// The extensions of a line rise strictly in byte order, and they are those that the directives name.
+pub fn names_in_order()
+    ensures rise { (names : List (List ℕ)) → IsStrictlySortedBy (slice_cmp nat_cmp) (in_order names) }
+    ensures members { (names : List (List ℕ)) (name : List ℕ) → Contains (in_order names) name ↔ Contains names name }
+{}
+
+#[cfg(test)]
+mod tests {
+    use super::*;
+    use std::test::Fail;
+
+    fn names(alloc: Global, names: &[&str]) -> Result<Vec<String>, AllocError> {
+        let mut all = Vec::new(alloc);
+        for name in names {
+            all.push(String::from_str(alloc, name)?)?;
+        }
+        Ok(all)
+    }
+
+    fn enable(alloc: Global, extensions: &[&str]) -> Result<EnableDirective, AllocError> {
+        Ok(EnableDirective {
+            extensions: names(alloc, extensions)?,
+            source_location: 7,
+        })
+    }
+
+    fn require(alloc: Global, extensions: &[&str]) -> Result<RequiresDirective, AllocError> {
+        Ok(RequiresDirective {
+            extensions: names(alloc, extensions)?,
+            source_location: 7,
+        })
+    }
+
+    fn diagnostic(alloc: Global) -> Result<DiagnosticDirective, AllocError> {
+        Ok(DiagnosticDirective {
+            severity: String::from_str(alloc, "warn")?,
+            rule: String::from_str(alloc, "derivative_uniformity")?,
+            source_location: 7,
+        })
+    }
+
+    #[test]
+    fn writes_enables_and_diagnostics(rt: HostRuntime) -> Result<(), Fail> {
+        let mut directives = WgslDirectives::new(rt.alloc());
+        directives
+            .enables
+            .push(enable(rt.alloc(), &["f16", "subgroups"])?)?;
+        directives.enables.push(enable(rt.alloc(), &["f16"])?)?;
+        directives.diagnostics.push(diagnostic(rt.alloc())?)?;
+        let text = directives.to_wgsl_string(rt.alloc())?;
+        assert_eq!(rt;
+            text.as_str(),
+            "enable f16, subgroups;\ndiagnostic(warn, derivative_uniformity);\n\n"
+        );
+        assert_eq!(rt; directives.is_empty(), false);
+        Ok(())
+    }
+
+    #[test]
+    fn writes_requires(rt: HostRuntime) -> Result<(), Fail> {
+        let mut directives = WgslDirectives::new(rt.alloc());
+        directives
+            .requires_
+            .push(require(rt.alloc(), &["a", "b", "a"])?)?;
+        let text = directives.to_wgsl_string(rt.alloc())?;
+        assert_eq!(rt; text.as_str(), "requires a, b;\n\n");
+        Ok(())
+    }
+
+    #[test]
+    fn writes_nothing(rt: HostRuntime) -> Result<(), Fail> {
+        let directives = WgslDirectives::new(rt.alloc());
+        let text = directives.to_wgsl_string(rt.alloc())?;
+        assert_eq!(rt; text.as_str(), "");
+        assert_eq!(rt; directives.is_empty(), true);
+        Ok(())
+    }
+
+    #[test]
+    fn clones(rt: HostRuntime) -> Result<(), Fail> {
+        let mut directives = WgslDirectives::new(rt.alloc());
+        directives.enables.push(enable(rt.alloc(), &["f16"])?)?;
+        directives.requires_.push(require(rt.alloc(), &["a"])?)?;
+        directives.diagnostics.push(diagnostic(rt.alloc())?)?;
+        let copy = directives.try_clone()?;
+        assert_eq!(rt; copy.enables.as_slice(), directives.enables.as_slice());
+        assert_eq!(rt; copy.requires_.as_slice(), directives.requires_.as_slice());
+        assert_eq!(rt;
+            copy.diagnostics.as_slice(),
+            directives.diagnostics.as_slice()
+        );
+        Ok(())
     }
 }
