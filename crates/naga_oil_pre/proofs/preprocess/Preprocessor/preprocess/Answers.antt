@@ -5,6 +5,7 @@ use Rattle.naga_oil_lines.specs.Declarations.{declared_of}
 use Rattle.naga_oil_lines.specs.Uses.{uses_of, use_of}
 use Rattle.naga_oil_pre.specs.Scope.{is_open}
 use Rattle.naga_oil_pre.specs.KnownView.{known_of}
+use Rattle.naga_oil_pre.proofs.LineEndLemmas.{lines_are_lines}
 use Rattle.naga_oil_pre.proofs.LoopLemmas.{nothing_is, told_first, fails_first, uses_of_values, told_last}
 use Rattle.naga_oil_pre.proofs.preprocess.Preprocessor.preprocess.Goals as goal
 
