@@ -16,3 +16,4 @@ pub mod LeavesLemmas
 pub mod PartLemmas
 pub mod DeclarationLemmas
 pub mod ImportPlaceLemmas
+pub mod SubstitutedLines
