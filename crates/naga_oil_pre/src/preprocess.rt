@@ -184,6 +184,9 @@ impl Preprocessor {
     /// conditions, directives and inactive arms, and the lines that imports take, are spaces; in every
     /// other line the values stand for the names, filled up by spaces to the line's length.
     /// Or the fault of the earliest line that has one, or `Memory`.
+    ///
+    /// Only a path that an import quotes over a line end brings further line ends along, where it is
+    /// written for an identifier.
     pub fn preprocess(
         &self,
         alloc: Global,
