@@ -255,8 +255,11 @@ mutual
       ∙ ap (λ v. block ++ v) (open_arms defs end true (met || holds defs l) here levels arms (met_level a met (holds defs l)) h.2)
       ∙ sym (append_assoc block (arm_statuses defs a (met || holds defs l) arms) (end_status end true)))
 
--- what the loop gives from no levels on is what the reading says
+-- from no levels on the loop meets the statuses of the reading
+pub scanned_statuses : (defs : Definitions) (end : ℕ) (lines : List Line) (b : Block) → IsReading defs lines b → scanned defs end [] 0 lines ≡ statuses defs true b ++ end_status end (is_unclosed b)
+scanned_statuses defs end lines b h =
+    ap (λ ls. scanned defs end [] 0 ls) (sym h.whole) ∙ open_block defs end false [] b (λ e. refl) h.placed ∙ ap (λ v. statuses defs true b ++ end_status end v) (or_false (is_unclosed b))
+
+-- so it gives what the reading says
 pub scanned_reading : (defs : Definitions) (end : ℕ) (lines : List Line) (b : Block) → IsReading defs lines b → written defs nothing_known (scanned defs end [] 0 lines) ≡ read_so defs end b
-scanned_reading defs end lines b h =
-    ap (λ ls. written defs nothing_known (scanned defs end [] 0 ls)) (sym h.whole)
-    ∙ ap (written defs nothing_known) (open_block defs end false [] b (λ e. refl) h.placed ∙ ap (λ v. statuses defs true b ++ end_status end v) (or_false (is_unclosed b)))
+scanned_reading defs end lines b h = ap (written defs nothing_known) (scanned_statuses defs end lines b h)

@@ -239,12 +239,12 @@ no_end b above = ne_eqb b 10 (λ e. absurd (omega arith))
 another : (b : ℕ) (bs : List ℕ) → is_end b ≡ false → count_by is_end bs ≡ 0 → count_by is_end (b ∷ bs) ≡ 0
 another b bs e f = sum_by-cons (λ x. cond (is_end x) 1 0) b bs ∙ ap (λ t. cond t 1 0 + count_by is_end bs) e ∙ ap (λ n. 0 + n) f
 
-no_ends_in_both : (xs ys : List ℕ) → count_by is_end xs ≡ 0 → count_by is_end ys ≡ 0 → count_by is_end (xs ++ ys) ≡ 0
+pub no_ends_in_both : (xs ys : List ℕ) → count_by is_end xs ≡ 0 → count_by is_end ys ≡ 0 → count_by is_end (xs ++ ys) ≡ 0
 no_ends_in_both xs ys e f =
     let parts : count_by is_end (xs ++ ys) ≡ count_by is_end xs + count_by is_end ys = sum_by-append (λ b. cond (is_end b) 1 0) xs ys in
     omega arith
 
-no_ends_in_character : (c : ℕ) → is_end c ≡ false → count_by is_end (encode_utf8 c) ≡ 0
+pub no_ends_in_character : (c : ℕ) → is_end c ≡ false → count_by is_end (encode_utf8 c) ≡ 0
 unfolding encode
 no_ends_in_character c e =
     let last : (b : ℕ) → count_by is_end ((128 + b % 64) ∷ []) ≡ 0 = λ (b : ℕ). another (128 + b % 64) [] (no_end (128 + b % 64) (omega arith)) refl in

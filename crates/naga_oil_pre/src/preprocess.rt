@@ -1,5 +1,6 @@
 // Conditions and definitions of a text, line by line.
-ghost use Rattle.std.specs.Prelude.{ℕ, List, ◌≡◌, ◌+◌, ◌++◌, ◌∷◌, ◌^◌, ◌≤◌, ◌<◌, length, string_bytes, OnOk, IfOk, IfErr, replicate};
+ghost use Rattle.std.specs.Prelude.{ℕ, List, ◌≡◌, ◌+◌, ◌++◌, ◌∷◌, ◌^◌, ◌≤◌, ◌<◌, length, string_bytes, OnOk, IfOk, IfErr, replicate, All};
+ghost use Rattle.std.specs.Str.Lines.{lines};
 ghost use Rattle.std.specs.BTreeMap.{get_by_text};
 ghost use Rattle.std.specs.Cow.{cow_str_bytes};
 ghost use Rattle.naga_oil_pre.specs.Line.{Line, end_place};
@@ -8,6 +9,7 @@ ghost use Rattle.naga_oil_pre.specs.Step.{step, opened, scanned};
 ghost use Rattle.naga_oil_pre.specs.Fault.{Definitions};
 ghost use Rattle.naga_oil_pre.specs.View.{Notes, Fails, Gives};
 ghost use Rattle.naga_oil_pre.specs.Preprocessed.{Status, shown, imported, behind, piece, written, preprocessed};
+ghost use Rattle.naga_oil_pre.specs.LineEnds.{line_ends, declared_paths};
 ghost use Rattle.naga_oil_pre.specs.KnownView.{known_of, output_of};
 ghost use Rattle.naga_oil_pre.specs.Reading.{taken};
 ghost use Rattle.naga_oil_pre.specs.Treatment.{status_of, open_after};
@@ -182,13 +184,17 @@ impl Preprocessor {
     /// conditions, directives and inactive arms, and the lines that imports take, are spaces; in every
     /// other line the values stand for the names, filled up by spaces to the line's length.
     /// Or the fault of the earliest line that has one, or `Memory`.
+    ///
+    /// Only a path that an import quotes over a line end brings further line ends along, where it is
+    /// written for an identifier.
     pub fn preprocess(
         &self,
         alloc: Global,
         shader_str: &str,
         shader_defs: &BTreeMap<String, ShaderDefValue>,
     ) -> Result<PreprocessOutput, ComposerErrorInner>
-        ensures { Gives output_of result (preprocessed (get_by_text shader_defs.now) shader_str.now) }
+        ensures value { Gives output_of result (preprocessed (get_by_text shader_defs.now) shader_str.now) }
+        ensures line_ends { All (λ path. line_ends path ≡ 0) (declared_paths (get_by_text shader_defs.now) shader_str.now) → IfOk result (λ o. line_ends (string_bytes o.preprocessed_source) ≡ length (lines shader_str.now)) }
     {
         let mut out = String::with_capacity(alloc, shader_str.len() + 1)?;
         let mut scope = Scope::new(alloc);

@@ -4,7 +4,8 @@ use Rattle.std.proofs.lemmas.Option.{MatchOption-at_some}
 use Rattle.naga_oil_lines.specs.Declarations.{declared_of}
 use Rattle.naga_oil_lines.specs.Uses.{uses_of, use_of}
 use Rattle.naga_oil_pre.specs.Scope.{is_open}
-use Rattle.naga_oil_pre.specs.KnownView.{known_of}
+use Rattle.naga_oil_pre.specs.KnownView.{known_of, output_of}
+use Rattle.naga_oil_pre.proofs.LineEndLemmas.{as_many_ends}
 use Rattle.naga_oil_pre.proofs.LoopLemmas.{nothing_is, told_first, fails_first, uses_of_values, told_last}
 use Rattle.naga_oil_pre.proofs.preprocess.Preprocessor.preprocess.Goals as goal
 
@@ -17,16 +18,19 @@ loop-imports-init c =
       told = rw (c.new-source.ensures, c.new-scope.ensures) (told_first _ (known_of (record { declared = c.new.result; used = c.new-2.result })) _ _ (nothing_is (known_of (record { declared = c.new.result; used = c.new-2.result })) declared used) c.in_ok-out.ensures.bytes);
     }
 
-pub returns-in_err-write_line : goal.returns-in_err-write_line
-returns-in_err-write_line c =
+pub returns-in_err-write_line-clause-value : goal.returns-in_err-write_line-clause-value
+returns-in_err-write_line-clause-value c =
     let p = err_from_is_err_and c.from_residual-in_err-write_line.result c.from_residual-in_err-write_line.ensures.1 in
     let step = MatchOption-at_some _ _ _ c.in-Some.is c.in_ok-line.ensures.steps in
     rw (p.1, p.2) (fails_first _ _ _ _ _ _ _ _ _ _ step c.loop-imports.invariant.told c.in_err-write_line.ensures.err)
 
-pub returns : goal.returns
-returns c =
+pub returns-clause-value : goal.returns-clause-value
+returns-clause-value c =
     let items : c.in_ok-collect.field-0.items ≡ map (λ e. e.1) c.loop-imports.imports.used.entries = search rules in
     let none : c.loop-imports.source.left ≡ [] = search rules in
     let closed : is_open c.loop-imports.scope ≡ false = search rules in
     told_last _ (known_of c.loop-imports.imports) _ _ _ (string_bytes c.loop-imports.out) (map use_of c.in_ok-collect.field-0.items) _ none closed c.loop-imports.invariant.told
     (ap (map use_of) items ∙ uses_of_values c.loop-imports.imports.used.entries)
+
+pub returns-clause-line_ends : goal.returns-clause-line_ends
+returns-clause-line_ends c = as_many_ends _ _ (output_of (record { preprocessed_source = c.loop-imports.out; imports = c.in_ok-collect.field-0 })) c.utf8.shader_str (returns-clause-value c)
