@@ -19,6 +19,9 @@ pub data Fault : Type 0 where
   invalid_version : (at : ℕ) → Fault
   invalid_definition : (at : ℕ) (name value : List ℕ) → Fault
   invalid_import : (text : List ℕ) (at : ℕ) → Fault
+  -- the line without the white space round it, and its index from 0
+  invalid_directive : (text : List ℕ) (index : ℕ) (reason : List ℕ) → Fault
+  define_in_module : (at : ℕ) → Fault
 
 -- what each name is defined as
 abbrev pub Definitions : Type 0

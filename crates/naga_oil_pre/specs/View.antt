@@ -2,7 +2,7 @@
 use Rattle.std.specs.Prelude.{◌≡◌, Option, Some, None, Result, Ok, Err, MatchOption, string_bytes}
 use Rattle.naga_oil_pre.specs.declared.fault.ComposerErrorInner.{ComposerErrorInner}
 use Rattle.naga_oil_pre.specs.declared.fault.ComposerErrorInner.TheVariants as code
-use Rattle.naga_oil_pre.specs.Fault.{Fault, unknown_def, invalid_value, unknown_operator, else_without_condition, too_many_end_ifs, not_enough_end_ifs, invalid_version, invalid_definition, invalid_import}
+use Rattle.naga_oil_pre.specs.Fault.{Fault, unknown_def, invalid_value, unknown_operator, else_without_condition, too_many_end_ifs, not_enough_end_ifs, invalid_version, invalid_definition, invalid_import, invalid_directive, define_in_module}
 use Rattle.naga_oil_pre.specs.Preprocessed.{Status, noted}
 
 -- a fault without where its texts lie in memory; want of memory is none
@@ -16,6 +16,8 @@ fault_of (code.NotEnoughEndIfs at) = Some (not_enough_end_ifs at)
 fault_of (code.GlslInvalidVersion at) = Some (invalid_version at)
 fault_of (code.InvalidShaderDefDefinitionValue name value at) = Some (invalid_definition at (string_bytes name) (string_bytes value))
 fault_of (code.ImportParseError text at) = Some (invalid_import (string_bytes text) at)
+fault_of (code.InvalidWgslDirective text index reason) = Some (invalid_directive (string_bytes text) index (string_bytes reason))
+fault_of (code.DefineInModule at) = Some (define_in_module at)
 fault_of code.Memory = None
 
 -- an error is the fault of the value, or want of memory

@@ -42,6 +42,16 @@ pub enum ComposerErrorInner {
         value: String,
         pos: usize,
     },
+    /// A directive that names no extensions or no known severity: the line without the white space round it, and its index from 0.
+    #[error("Invalid WGSL directive '{directive}' at line {position}: {reason}")]
+    InvalidWgslDirective {
+        directive: String,
+        position: usize,
+        reason: String,
+    },
+    /// A define in a text that may have none.
+    #[error("#define statements are only allowed at the start of the top-level shaders")]
+    DefineInModule(usize),
     /// A growth of memory was refused.
     #[error("out of memory")]
     Memory,
@@ -124,6 +134,18 @@ mod tests {
                     pos: 1,
                 },
                 "Invalid value for `#define`d shader def A: x1",
+            ),
+            (
+                ComposerErrorInner::InvalidWgslDirective {
+                    directive: text("enable  ;")?,
+                    position: 2,
+                    reason: text("No extensions specified")?,
+                },
+                "Invalid WGSL directive 'enable  ;' at line 2: No extensions specified",
+            ),
+            (
+                ComposerErrorInner::DefineInModule(1),
+                "#define statements are only allowed at the start of the top-level shaders",
             ),
             (ComposerErrorInner::Memory, "out of memory"),
         ];
