@@ -4,7 +4,7 @@ use Rattle.std.specs.List.{flat_map, list_any}
 use Rattle.naga_oil_pre.specs.Line.{Line, source_lines}
 use Rattle.naga_oil_pre.specs.Kind.{LineKind, version, condition, endif, imports, import_path, define, other, unversioned_kind_of, Condition, defined, undefined, compares, otherwise}
 use Rattle.naga_oil_pre.specs.Fault.{Definitions}
-use Rattle.naga_oil_pre.specs.Replaced.{hash_names}
+use Rattle.naga_oil_pre.specs.Replaced.{hash_names, name_of, pieces}
 
 -- the name that a condition asks for; a plain else asks for none
 abbrev pub condition_names : Condition → List (List ℕ)
@@ -30,6 +30,10 @@ kind_names other l = text_names l
 -- the names that a line records; versions aren't read
 abbrev pub line_names : Line → List (List ℕ)
 line_names l = kind_names (unversioned_kind_of l.covered) l
+
+-- the `#` names of characters
+unfoldable pub names_from : List ℕ → List (List ℕ)
+names_from cs = flat_map name_of (pieces 0 cs)
 
 -- the names that lines record, also lines that an import takes
 unfoldable pub names_of : List Line → List (List ℕ)

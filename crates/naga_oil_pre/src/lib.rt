@@ -20,6 +20,7 @@ mod imports;
 pub mod laws;
 pub mod line_kind;
 mod preprocess;
+mod recorded;
 mod replace;
 mod scope;
 mod shader_def;

@@ -1,0 +1,14 @@
+-- What the code holds of a text's metadata.
+use Rattle.std.specs.Prelude.{◌≡◌, ℕ, Bool, ◌||◌, List, String, string_bytes, option_map}
+use Rattle.std.specs.BTreeMap.{get_by_text}
+use Rattle.std.specs.BTreeSet.{BTreeSet, contains_text}
+use Rattle.std.specs.declared.alloc.Global.{Global}
+use Rattle.naga_oil_pre.specs.Recorded.{is_among}
+
+-- whether a name is in the set or one of the names that are left
+abbrev pub has_with : BTreeSet (String Global) → (left : List (List ℕ)) → List ℕ → Bool
+has_with names left name = contains_text names name || is_among left name
+
+-- the set has the names that it had and these
+abbrev pub Gains : (old new : BTreeSet (String Global)) → List (List ℕ) → Type 0
+Gains old new names = (name : List ℕ) → contains_text new name ≡ has_with old names name
