@@ -3,6 +3,9 @@ use Rattle.std.specs.Prelude.{◌≡◌, ℕ, Bool, ◌||◌, List, String, stri
 use Rattle.std.specs.BTreeMap.{get_by_text}
 use Rattle.std.specs.BTreeSet.{BTreeSet, contains_text}
 use Rattle.std.specs.declared.alloc.Global.{Global}
+use Rattle.naga_oil_pre.specs.declared.metadata.Findings.{Findings}
+use Rattle.naga_oil_pre.specs.KnownView.{known_of}
+use Rattle.naga_oil_pre.specs.Metadata.{Found}
 use Rattle.naga_oil_pre.specs.Recorded.{is_among}
 
 -- whether a name is in the set or one of the names that are left
@@ -12,3 +15,7 @@ has_with names left name = contains_text names name || is_among left name
 -- the set has the names that it had and these
 abbrev pub Gains : (old new : BTreeSet (String Global)) → List (List ℕ) → Type 0
 Gains old new names = (name : List ℕ) → contains_text new name ≡ has_with old names name
+
+-- what the code has read of a text
+abbrev pub found_of : Findings → Found
+found_of f = record { name = option_map string_bytes f.name; known = known_of f.imports; defines = get_by_text f.defines }

@@ -19,6 +19,7 @@ mod fault;
 mod imports;
 pub mod laws;
 pub mod line_kind;
+mod metadata;
 mod preprocess;
 mod recorded;
 mod replace;
