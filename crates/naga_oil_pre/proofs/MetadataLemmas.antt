@@ -1,17 +1,21 @@
 -- What is found in a text, line by line.
 use Rattle.std.proofs.Common.{◌≡◌, ℕ, zero, suc, ◌<◌, Bool, true, false, ◌||◌, ◌∷◌, [], ◌++◌, List, cond, Option, Some, None, MatchOption, Result, Ok, Err, refl, sym, ap, ◌∙◌}
-use Rattle.std.specs.Prelude.{OnOk, bytes_eq, String, string_bytes}
+use Rattle.std.specs.Prelude.{OnOk, map, option_map, bytes_eq, String, string_bytes}
 use Rattle.std.specs.BTreeSet.{BTreeSet, contains_text}
 use Rattle.std.specs.List.{flat_map}
 use Rattle.std.proofs.lemmas.Grind.{flat_map-append}
+use Rattle.naga_oil_lines.specs.Directives.{directives_of}
 use Rattle.naga_oil_lines.specs.Leaves.{Leaf, SyntaxFault}
+use Rattle.naga_oil_lines.specs.Uses.{use_of}
+use Rattle.naga_oil_pre.specs.declared.metadata.PreprocessorMetaData.{PreprocessorMetaData}
 use Rattle.naga_oil_pre.specs.declared.fault.ComposerErrorInner.{ComposerErrorInner}
-use Rattle.naga_oil_pre.specs.Line.{Line}
-use Rattle.naga_oil_pre.specs.MetadataView.{has_with, Gains}
-use Rattle.naga_oil_pre.specs.Preprocessed.{Piece, imported_piece}
+use Rattle.naga_oil_pre.specs.Line.{Line, source_lines}
+use Rattle.naga_oil_pre.specs.MetadataView.{has_with, Gains, metadata_of}
+use Rattle.naga_oil_pre.specs.Preprocessed.{Piece, imported_piece, preprocessed}
 use Rattle.naga_oil_pre.specs.Reading.{braces_after, taken, behind_taken}
-use Rattle.naga_oil_pre.specs.Recorded.{line_names, names_of}
+use Rattle.naga_oil_pre.specs.Recorded.{line_names, names_of, is_recorded, AgreeOn}
 use Rattle.naga_oil_pre.specs.View.{Fails, fault_of}
+use Rattle.naga_oil_pre.proofs.Agreement.{recorded_names_decide}
 use Rattle.naga_oil_pre.proofs.LoopLemmas.{taken_first, taken_none}
 use Rattle.naga_oil_pre.proofs.RecordedLemmas.{gained}
 use Rattle.std.specs.declared.alloc.Global.{Global}
@@ -24,7 +28,7 @@ use Rattle.std.proofs.lemmas.Map.Text.{btree_map_updates_text}
 use Rattle.naga_oil_pre.specs.declared.shader_def.ShaderDefValue.{ShaderDefValue}
 use Rattle.naga_oil_pre.specs.Fault.{Fault, Definitions}
 use Rattle.naga_oil_pre.specs.DefineValue.{defined_value}
-use Rattle.naga_oil_pre.specs.Metadata.{Found, with_definition, defined_as, defined_behind, with_import, going_on, found_in}
+use Rattle.naga_oil_pre.specs.Metadata.{Found, Metadata, nothing_found, metadata_with, metadata_of_cleaned, with_definition, defined_as, defined_behind, with_import, going_on, found_in}
 
 -- ---- defines
 all_alike : {A : Type 0} (f g : List ℕ → A) → ((name : List ℕ) → f name ≡ g name) → f ≡ g
@@ -114,3 +118,24 @@ import_refused e found l (Err f) h = refused_alike Piece Found (fault_of e) _ h
 pub on_both : {X Y : Type 0} (r : Result X Y) (P Q R : Type 0) → OnOk r P → OnOk r Q → (P → Q → R) → OnOk r R
 on_both (Ok x) P Q R h g go = go h g
 on_both (Err e) P Q R h g go = tt
+
+-- ---- the metadata of a cleaned text
+pub metadata_made : (allow : Bool) (m : PreprocessorMetaData) (found : Found) → found_in allow nothing_found 0 (source_lines (string_bytes m.cleaned_source)) ≡ Ok found
+    → option_map string_bytes m.name ≡ found.name → map use_of m.imports.items ≡ map (λ u. u.1) found.known.uses → get_by_text m.defines ≡ found.defines
+    → ((name : List ℕ) → contains_text m.effective_defs name ≡ is_recorded (string_bytes m.cleaned_source) name)
+    → metadata_of_cleaned allow (string_bytes m.cleaned_source) (directives_of m.wgsl_directives) ≡ Ok (metadata_of m)
+metadata_made allow m found read name uses defines records =
+    let text : List ℕ = string_bytes m.cleaned_source in
+    ap (metadata_with text (directives_of m.wgsl_directives)) read
+    ∙ (λ i. let made : Metadata = record {
+      name = sym name i;
+      uses = sym uses i;
+      defines = sym defines i;
+      records = λ asked. sym (records asked) i;
+      directives = directives_of m.wgsl_directives;
+      cleaned = text;
+    } in Ok made)
+
+pub agreed : (text : List ℕ) (names : BTreeSet (String Global)) → ((name : List ℕ) → contains_text names name ≡ is_recorded text name)
+    → (d e : Definitions) → AgreeOn (contains_text names) d e → preprocessed d text ≡ preprocessed e text
+agreed text names records d e h = recorded_names_decide text d e (λ name is. h name (records name ∙ is))

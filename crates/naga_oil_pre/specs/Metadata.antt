@@ -1,6 +1,6 @@
 -- What is read of a text before any build: its import path, its uses, its defines and the names that it records.
 use Rattle.std.specs.Prelude.{ℕ, zero, suc, ◌+◌, Bool, true, if◌then◌else◌, List, [], ◌∷◌, map, bytes_eq, unwrap_or, Option, Some, None, Result, Ok, Err}
-use Rattle.naga_oil_lines.specs.Declarations.{Declared}
+use Rattle.naga_oil_lines.specs.Directives.{Directives}
 use Rattle.naga_oil_lines.specs.Leaves.{Leaf, SyntaxFault, import_leaves, with_leaves}
 use Rattle.naga_oil_lines.specs.Uses.{Use}
 use Rattle.naga_oil_lines.specs.Substituted.{used_by}
@@ -90,12 +90,16 @@ pub record Metadata : Type 0 where
   pub defines : Definitions
   -- whether a name is recorded
   pub records : List ℕ → Bool
+  pub directives : Directives
+  -- the text without the directives
+  pub cleaned : List ℕ
 
--- what was found, as metadata of a text that records these names
-abbrev pub metadata_with : (records : List ℕ → Bool) → Result Found Fault → Result Metadata Fault
-metadata_with records (Ok found) = Ok (record { name = found.name; uses = map (λ u. u.1) found.known.uses; defines = found.defines; records = records })
-metadata_with records (Err f) = Err f
+-- what was found in the cleaned text, with its directives
+abbrev pub metadata_with : (cleaned : List ℕ) → Directives → Result Found Fault → Result Metadata Fault
+metadata_with cleaned directives (Ok found) =
+    Ok (record { name = found.name; uses = map (λ u. u.1) found.known.uses; defines = found.defines; records = is_recorded cleaned; directives = directives; cleaned = cleaned })
+metadata_with cleaned directives (Err f) = Err f
 
--- the metadata of a text without directives, or its earliest fault
-unfoldable pub metadata : (allow_defines : Bool) → (cleaned : List ℕ) → Result Metadata Fault
-metadata allow_defines cleaned = metadata_with (is_recorded cleaned) (found_in allow_defines nothing_found 0 (source_lines cleaned))
+-- the metadata of a cleaned text with its directives, or its earliest fault
+abbrev pub metadata_of_cleaned : (allow_defines : Bool) → (cleaned : List ℕ) → Directives → Result Metadata Fault
+metadata_of_cleaned allow_defines cleaned directives = metadata_with cleaned directives (found_in allow_defines nothing_found 0 (source_lines cleaned))

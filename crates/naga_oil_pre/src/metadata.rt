@@ -3,19 +3,20 @@ ghost use Rattle.std.specs.Prelude.{◌≡◌, ℕ, ◌+◌, ◌^◌, ◌<◌, �
 ghost use Rattle.std.specs.BTreeMap.{get_by_text};
 ghost use Rattle.std.specs.BTreeSet.{contains_text};
 ghost use Rattle.naga_oil_lines.specs.Declarations.{declared_of};
+ghost use Rattle.naga_oil_lines.specs.Directives.{directives_of};
 ghost use Rattle.naga_oil_lines.specs.Leaves.{import_leaves};
 ghost use Rattle.naga_oil_lines.specs.Substituted.{used_by};
 ghost use Rattle.naga_oil_lines.specs.Uses.{uses_of};
 ghost use Rattle.naga_oil_pre.specs.Line.{Line, source_lines};
 ghost use Rattle.naga_oil_pre.specs.KindView.{line_kind_of};
-ghost use Rattle.naga_oil_pre.specs.Metadata.{nothing_found, defined_behind, with_import, found_behind, left_open, going_on, found_in};
-ghost use Rattle.naga_oil_pre.specs.MetadataView.{has_with, Gains, found_of};
-ghost use Rattle.naga_oil_pre.specs.Preprocessed.{ended, import_text, tokens_of};
+ghost use Rattle.naga_oil_pre.specs.Metadata.{nothing_found, defined_behind, with_import, found_behind, left_open, going_on, found_in, metadata_of_cleaned};
+ghost use Rattle.naga_oil_pre.specs.MetadataView.{has_with, Gains, found_of, metadata_of};
+ghost use Rattle.naga_oil_pre.specs.Preprocessed.{ended, import_text, tokens_of, preprocessed};
 ghost use Rattle.naga_oil_pre.specs.Reading.{braces_after, taken, behind_taken};
-ghost use Rattle.naga_oil_pre.specs.Recorded.{is_recorded, line_names, names_of};
+ghost use Rattle.naga_oil_pre.specs.Recorded.{is_recorded, line_names, names_of, AgreeOn};
 ghost use Rattle.naga_oil_pre.specs.SourceView.{line_of};
-ghost use Rattle.naga_oil_pre.specs.Fault.{invalid_definition};
-ghost use Rattle.naga_oil_pre.specs.View.{Fails, fault_of};
+ghost use Rattle.naga_oil_pre.specs.Fault.{Definitions, invalid_definition};
+ghost use Rattle.naga_oil_pre.specs.View.{Fails, Gives, fault_of};
 
 use crate::fault::ComposerErrorInner;
 use crate::imports::{Imports, braces_after, declare};
@@ -25,9 +26,28 @@ use crate::shader_def::{ShaderDefValue, defined_value};
 use crate::source_lines::{SourceLine, SourceLines};
 use indexmap::IndexMap;
 use naga_oil_lines::comment_strip_iter::CommentReplaceExt;
+use naga_oil_lines::import_definition::{ImportDefWithOffset, ImportDefinition};
 use naga_oil_lines::substitute::{SubstituteFault, substitute_identifiers};
+use naga_oil_lines::wgsl_directives::WgslDirectives;
 use std::alloc::{AllocError, Global};
 use std::collections::{BTreeMap, BTreeSet};
+
+/// What a registry needs of a text before any build.
+#[derive(Debug, Drop)]
+pub struct PreprocessorMetaData {
+    /// The import path that the text defines last.
+    pub name: Option<String>,
+    /// What is used of each module, in order of first use, whichever arms are active.
+    pub imports: Vec<ImportDefWithOffset>,
+    /// The defines, of one name the last.
+    pub defines: BTreeMap<String, ShaderDefValue>,
+    /// The names on which the text's preprocessing may depend.
+    pub effective_defs: BTreeSet<String>,
+    pub wgsl_directives: WgslDirectives,
+    /// The text with an empty line in the place of each directive, and without its last line end.
+    /// Offsets count in it.
+    pub cleaned_source: String,
+}
 
 // What has been read of a text: the last import path, what imports declare and lines use, the defines,
 // and the names that are recorded.
@@ -269,4 +289,31 @@ fn read_text(
         read_line(alloc, &line, &mut source, allow_defines, &mut findings)?;
     }
     Ok(findings)
+}
+
+// The metadata of a cleaned text with its directives.
+fn read_metadata(
+    alloc: Global,
+    cleaned: String,
+    directives: WgslDirectives,
+    allow_defines: bool,
+) -> Result<PreprocessorMetaData, ComposerErrorInner>
+    ensures value { Gives metadata_of result (metadata_of_cleaned allow_defines (string_bytes cleaned) (directives_of directives)) }
+    ensures agreement { IfOk result (λ m. (d e : Definitions) → AgreeOn (contains_text m.effective_defs) d e → preprocessed d (string_bytes m.cleaned_source) ≡ preprocessed e (string_bytes m.cleaned_source)) }
+{
+    let Findings {
+        name,
+        imports,
+        defines,
+        names,
+    } = read_text(alloc, cleaned.as_str(), allow_defines)?;
+    let used = imports.used;
+    Ok(PreprocessorMetaData {
+        name,
+        imports: used.into_values().collect(alloc)?,
+        defines,
+        effective_defs: names,
+        wgsl_directives: directives,
+        cleaned_source: cleaned,
+    })
 }
