@@ -52,7 +52,7 @@ fn split_name(text: &str) -> Option<(&str, &str)>
 }
 
 // The name behind a `#`, and what follows it.
-fn split_hash_name(text: &str) -> Option<(&str, &str)>
+pub(crate) fn split_hash_name(text: &str) -> Option<(&str, &str)>
     ensures { MatchOption result (spec.hash_name (chars text.now) ≡ None) (λ r. SplitsHashName text.now r.0.now r.1.now) }
 {
     let start = after_whitespace(text);
@@ -75,7 +75,7 @@ fn push_value(out: &mut String, value: ShaderDefValue) -> Result<(), AllocError>
 }
 
 // The front of the text up to its first `#`, and what follows that.
-fn split_at_hash(text: &str) -> Option<(&str, &str)>
+pub(crate) fn split_at_hash(text: &str) -> Option<(&str, &str)>
     ensures { MatchOption result (NoCharPasses (λ c. c == 35) text.now) (λ r. SplitsAtHash text.now r.0.now r.1.now) }
 {
     text.split_once('#')

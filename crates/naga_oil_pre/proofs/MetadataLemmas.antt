@@ -1,0 +1,141 @@
+-- What is found in a text, line by line.
+use Rattle.std.proofs.Common.{◌≡◌, ℕ, zero, suc, ◌<◌, Bool, true, false, ◌||◌, ◌∷◌, [], ◌++◌, List, cond, Option, Some, None, MatchOption, Result, Ok, Err, refl, sym, ap, ◌∙◌}
+use Rattle.std.specs.Prelude.{OnOk, map, option_map, bytes_eq, String, string_bytes}
+use Rattle.std.specs.BTreeSet.{BTreeSet, contains_text}
+use Rattle.std.specs.List.{flat_map}
+use Rattle.std.proofs.lemmas.Grind.{flat_map-append}
+use Rattle.naga_oil_lines.specs.Directives.{directives_of}
+use Rattle.naga_oil_lines.specs.Leaves.{Leaf, SyntaxFault}
+use Rattle.naga_oil_lines.specs.Uses.{use_of}
+use Rattle.naga_oil_pre.specs.declared.metadata.PreprocessorMetaData.{PreprocessorMetaData}
+use Rattle.naga_oil_pre.specs.declared.fault.ComposerErrorInner.{ComposerErrorInner}
+use Rattle.naga_oil_pre.specs.Line.{Line, source_lines}
+use Rattle.naga_oil_pre.specs.MetadataView.{has_with, Gains, metadata_of}
+use Rattle.naga_oil_pre.specs.Preprocessed.{Piece, imported_piece, preprocessed}
+use Rattle.naga_oil_pre.specs.Reading.{braces_after, taken, behind_taken}
+use Rattle.naga_oil_pre.specs.Recorded.{line_names, names_of, is_recorded, AgreeOn}
+use Rattle.naga_oil_pre.specs.View.{Fails, fault_of}
+use Rattle.naga_oil_pre.proofs.Agreement.{recorded_names_decide}
+use Rattle.naga_oil_pre.proofs.LoopLemmas.{taken_first, taken_none}
+use Rattle.naga_oil_pre.proofs.RecordedLemmas.{gained}
+use Rattle.std.specs.declared.alloc.Global.{Global}
+use Rattle.std.specs.BTreeMap as tree
+use Rattle.std.specs.BTreeMap.{BTreeMap, get_by_text}
+use Rattle.std.specs.Cmp.Lexicographic.{slice_cmp}
+use Rattle.std.specs.Ordering.{nat_cmp}
+use Rattle.std.specs.String.{string_cmp}
+use Rattle.std.proofs.lemmas.Map.Text.{btree_map_updates_text}
+use Rattle.naga_oil_pre.specs.declared.shader_def.ShaderDefValue.{ShaderDefValue}
+use Rattle.naga_oil_pre.specs.Fault.{Fault, Definitions}
+use Rattle.naga_oil_pre.specs.DefineValue.{defined_value}
+use Rattle.naga_oil_pre.specs.Metadata.{Found, Metadata, nothing_found, metadata_with, metadata_of_cleaned, with_definition, defined_as, defined_behind, with_import, going_on, found_in}
+
+-- ---- defines
+all_alike : {A : Type 0} (f g : List ℕ → A) → ((name : List ℕ) → f name ≡ g name) → f ≡ g
+all_alike f g h = λ i name. h name i
+
+-- a name that is put in
+pub defines_name : (old new : BTreeMap (String Global) ShaderDefValue) (key : String Global) (name : List ℕ) (text : Option (List ℕ)) (at : ℕ) (value : ShaderDefValue)
+    → string_bytes key ≡ name → defined_value text ≡ Some value → tree.UpdatesBy string_cmp (λ k. slice_cmp nat_cmp (string_bytes key) (string_bytes k)) old new (Some value)
+    → defined_behind true (get_by_text old) at name text ≡ Ok (get_by_text new)
+defines_name old new key name text at value e is updates =
+    ap (defined_as (get_by_text old) at name text) is
+    ∙ ap (λ n. Ok (with_definition (get_by_text old) n value)) (sym e)
+    ∙ ap Ok (sym (all_alike (get_by_text new) (with_definition (get_by_text old) (string_bytes key) value) (btree_map_updates_text (string_bytes key) old new (Some value) updates)))
+
+-- ---- the names of lines that an import takes
+pub names_taken : (n : ℕ) (l : Line) (left more : List Line) → 0 < n → left ≡ l ∷ more → names_of (taken n left) ≡ line_names l ++ names_of (taken (braces_after n l.covered) more)
+unfolding names_of
+names_taken n l left more some e = ap (λ ls. names_of (taken n ls)) e ∙ ap names_of (taken_first n l more some)
+
+pub none_taken : (n : ℕ) (left : List Line) → left ≡ [] → names_of (taken n left) ≡ []
+unfolding names_of
+none_taken n left e = ap (λ ls. names_of (taken n ls)) e ∙ ap names_of (taken_none n)
+
+pub none_open : (n : ℕ) (left : List Line) → n ≡ 0 → names_of (taken n left) ≡ []
+unfolding names_of
+none_open n left e = ap (λ k. names_of (taken k left)) e
+
+names_of_first : (l : Line) (more : List Line) → names_of (l ∷ more) ≡ line_names l ++ names_of more
+unfolding names_of
+names_of_first l more = refl
+
+taken_and_behind : (n : ℕ) (ls : List Line) → taken n ls ++ behind_taken n ls ≡ ls
+taken_and_behind zero ls = refl
+taken_and_behind (suc n) [] = refl
+taken_and_behind (suc n) (l ∷ ls) = ap (λ v. l ∷ v) (taken_and_behind (braces_after (suc n) l.covered) ls)
+
+names_of_all : (n : ℕ) (ls : List Line) → names_of ls ≡ names_of (taken n ls) ++ names_of (behind_taken n ls)
+unfolding names_of
+names_of_all n ls = ap (flat_map line_names) (sym (taken_and_behind n ls)) ∙ flat_map-append line_names (taken n ls) (behind_taken n ls)
+
+-- an import has recorded the names of the lines that it takes
+pub import_recorded : (old new : BTreeSet (String Global)) (n : ℕ) (left after : List Line) → after ≡ behind_taken n left → Gains old new (names_of (taken n left))
+    → (name : List ℕ) → has_with new (names_of after) name ≡ has_with old (names_of left) name
+import_recorded old new n left after e h name =
+    ap (λ ls. has_with new (names_of ls) name) e ∙ gained old new (names_of (taken n left)) (names_of (behind_taken n left)) (names_of left) h (names_of_all n left) name
+
+-- a line has recorded its names
+pub line_recorded : (old new : BTreeSet (String Global)) (l : Line) (more : List Line) (names : List (List ℕ)) → names ≡ line_names l → Gains old new names
+    → (name : List ℕ) → has_with new (names_of more) name ≡ has_with old (names_of (l ∷ more)) name
+line_recorded old new l more names e h =
+    gained old new names (names_of more) (names_of (l ∷ more)) h (names_of_first l more ∙ ap (λ ns. ns ++ names_of more) (sym e))
+
+or_false : (b : Bool) → (b || false) ≡ b
+or_false true = refl
+or_false false = refl
+
+-- where no line is left, all names are recorded
+pub all_recorded : (set : BTreeSet (String Global)) (left : List Line) (records : List ℕ → Bool) → left ≡ [] → ((name : List ℕ) → has_with set (names_of left) name ≡ records name)
+    → (name : List ℕ) → contains_text set name ≡ records name
+unfolding names_of
+all_recorded set left records e h name = sym (or_false (contains_text set name)) ∙ ap (λ ls. has_with set (names_of ls) name) (sym e) ∙ h name
+
+-- ---- imports
+found_behind_taken : (allow : Bool) (found : Found) (n : ℕ) (ls : List Line) → found_in allow found n ls ≡ found_in allow found 0 (behind_taken n ls)
+found_behind_taken allow found zero ls = refl
+found_behind_taken allow found (suc n) [] = refl
+found_behind_taken allow found (suc n) (l ∷ ls) = found_behind_taken allow found (braces_after (suc n) l.covered) ls
+
+pub import_read : (allow : Bool) (next : Found) (n : ℕ) (left after : List Line) (first : Result Found Fault) → first ≡ Ok next → after ≡ behind_taken n left
+    → found_in allow next 0 after ≡ going_on first (λ found. found_in allow found n left)
+import_read allow next n left after first e is =
+    ap (found_in allow next 0) is ∙ sym (found_behind_taken allow next n left) ∙ ap (λ r. going_on r (λ found. found_in allow found n left)) (sym e)
+
+refused_alike : (X Y : Type 0) (o : Option Fault) (own : Fault) → (let a : Result X Fault = Err own in MatchOption o (Unit {0}) (λ f. a ≡ Err f)) → (let b : Result Y Fault = Err own in MatchOption o (Unit {0}) (λ f. b ≡ Err f))
+refused_alike X Y None own h = tt
+refused_alike X Y (Some f) own h = let same : own ≡ f = cc in ap Err same
+
+never_refused : (X Y : Type 0) (o : Option Fault) (x : X) (b : Result Y Fault) → (let a : Result X Fault = Ok x in MatchOption o (Unit {0}) (λ f. a ≡ Err f)) → MatchOption o (Unit {0}) (λ f. b ≡ Err f)
+never_refused X Y None x b h = tt
+never_refused X Y (Some f) x b h = cc
+
+pub import_refused : (e : ComposerErrorInner) (found : Found) (l : Line) (r : Result (List Leaf) SyntaxFault) → Fails e (imported_piece found.known l r) → Fails e (with_import found l.at r)
+import_refused e found l (Ok leaves) h = never_refused Piece Found (fault_of e) _ (with_import found l.at (Ok leaves)) h
+import_refused e found l (Err f) h = refused_alike Piece Found (fault_of e) _ h
+
+-- ---- what follows from two clauses on a result
+pub on_both : {X Y : Type 0} (r : Result X Y) (P Q R : Type 0) → OnOk r P → OnOk r Q → (P → Q → R) → OnOk r R
+on_both (Ok x) P Q R h g go = go h g
+on_both (Err e) P Q R h g go = tt
+
+-- ---- the metadata of a cleaned text
+pub metadata_made : (allow : Bool) (m : PreprocessorMetaData) (found : Found) → found_in allow nothing_found 0 (source_lines (string_bytes m.cleaned_source)) ≡ Ok found
+    → option_map string_bytes m.name ≡ found.name → map use_of m.imports.items ≡ map (λ u. u.1) found.known.uses → get_by_text m.defines ≡ found.defines
+    → ((name : List ℕ) → contains_text m.effective_defs name ≡ is_recorded (string_bytes m.cleaned_source) name)
+    → metadata_of_cleaned allow (string_bytes m.cleaned_source) (directives_of m.wgsl_directives) ≡ Ok (metadata_of m)
+metadata_made allow m found read name uses defines records =
+    let text : List ℕ = string_bytes m.cleaned_source in
+    ap (metadata_with text (directives_of m.wgsl_directives)) read
+    ∙ (λ i. let made : Metadata = record {
+      name = sym name i;
+      uses = sym uses i;
+      defines = sym defines i;
+      records = λ asked. sym (records asked) i;
+      directives = directives_of m.wgsl_directives;
+      cleaned = text;
+    } in Ok made)
+
+pub agreed : (text : List ℕ) (names : BTreeSet (String Global)) → ((name : List ℕ) → contains_text names name ≡ is_recorded text name)
+    → (d e : Definitions) → AgreeOn (contains_text names) d e → preprocessed d text ≡ preprocessed e text
+agreed text names records d e h = recorded_names_decide text d e (λ name is. h name (records name ∙ is))

@@ -1,0 +1,20 @@
+use Rattle.std.proofs.Common.{◌≡◌, ◌∷◌, ℕ, List, Ok}
+use Rattle.naga_oil_lines.specs.Leaves.{import_leaves}
+use Rattle.naga_oil_pre.specs.MetadataView.{found_of, Gains}
+use Rattle.naga_oil_pre.specs.Metadata.{with_import}
+use Rattle.naga_oil_pre.specs.Preprocessed.{import_text}
+use Rattle.naga_oil_pre.specs.Reading.{braces_after, taken, behind_taken}
+use Rattle.naga_oil_pre.specs.SourceView.{line_of}
+use Rattle.naga_oil_pre.proofs.MetadataLemmas.{import_read, import_recorded, on_both}
+use Rattle.naga_oil_pre.proofs.metadata.read_kind.Goals as goal
+
+pub returns-in-Import-clause-ok : goal.returns-in-Import-clause-ok
+returns-in-Import-clause-ok c =
+    rw c.in-Import.is
+    (on_both c.read_import.result _ _ _ c.read_import.ensures.ok c.read_import.ensures.left
+    (λ read left. import_read c.args.allow_defines (found_of c.read_import.new.findings) (braces_after 0 (line_of c.args.line.now).covered) c.args.source.now.left c.read_import.new.source.left _ read left))
+
+pub returns-in-Import-clause-names : goal.returns-in-Import-clause-names
+returns-in-Import-clause-names c =
+    on_both c.read_import.result _ _ _ c.read_import.ensures.names c.read_import.ensures.left
+    (λ gains left. import_recorded c.args.findings.now.names c.read_import.new.findings.names (braces_after 0 (line_of c.args.line.now).covered) c.args.source.now.left c.read_import.new.source.left left gains)

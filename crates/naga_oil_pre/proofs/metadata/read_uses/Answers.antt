@@ -1,0 +1,12 @@
+use Rattle.std.specs.Str.{chars}
+use Rattle.naga_oil_lines.specs.Declarations.{declared_of}
+use Rattle.naga_oil_lines.specs.Substituted.{sites}
+use Rattle.naga_oil_lines.specs.Tokens.{lexemes}
+use Rattle.naga_oil_lines.specs.Uses.{uses_of}
+use Rattle.naga_oil_pre.proofs.LoopLemmas.{never_ambiguous}
+use Rattle.naga_oil_pre.proofs.metadata.read_uses.Goals as goal
+
+pub unreachable-requires : goal.unreachable-requires
+unreachable-requires c =
+    never_ambiguous (declared_of c.args.imports.now.declared) (sites c.args.line.now.offset (lexemes 0 0 (chars c.as_str.result.now))) (uses_of c.args.imports.now.used) (uses_of c.substitute_identifiers.new.used_imports)
+    c.in-Err-Ambiguous.field-0 c.in-Err-Ambiguous.field-0-0 c.in-Err-Ambiguous.ensures.fault c.in-Err-Ambiguous.field-0-is

@@ -1,0 +1,105 @@
+-- What is read of a text before any build: its import path, its uses, its defines and the names that it records.
+use Rattle.std.specs.Prelude.{ℕ, zero, suc, ◌+◌, Bool, true, if◌then◌else◌, List, [], ◌∷◌, map, bytes_eq, unwrap_or, Option, Some, None, Result, Ok, Err}
+use Rattle.naga_oil_lines.specs.Directives.{Directives}
+use Rattle.naga_oil_lines.specs.Leaves.{Leaf, SyntaxFault, import_leaves, with_leaves}
+use Rattle.naga_oil_lines.specs.Uses.{Use}
+use Rattle.naga_oil_lines.specs.Substituted.{used_by}
+use Rattle.naga_oil_pre.specs.declared.shader_def.ShaderDefValue.{ShaderDefValue}
+use Rattle.naga_oil_pre.specs.Line.{Line, source_lines}
+use Rattle.naga_oil_pre.specs.Kind.{LineKind, version, condition, endif, imports, import_path, define, other, unversioned_kind_of}
+use Rattle.naga_oil_pre.specs.Fault.{Fault, Definitions, invalid_definition, invalid_import, define_in_module}
+use Rattle.naga_oil_pre.specs.DefineValue.{defined_value}
+use Rattle.naga_oil_pre.specs.Reading.{braces_after, taken}
+use Rattle.naga_oil_pre.specs.Preprocessed.{Known, nothing_known, tokens_of, import_text}
+use Rattle.naga_oil_pre.specs.Recorded.{is_recorded}
+
+-- what has been read of a text: the last import path, what imports declare and lines use, and of each name the last define
+pub record Found : Type 0 where
+  pub name : Option (List ℕ)
+  pub known : Known
+  pub defines : Definitions
+
+-- nothing is defined
+abbrev pub none_defined : Definitions
+none_defined name = None
+
+-- before the first line
+abbrev pub nothing_found : Found
+nothing_found = record { name = None; known = nothing_known; defines = none_defined }
+
+-- the definitions with a name defined, in place of what it was
+abbrev pub with_definition : Definitions → (name : List ℕ) → ShaderDefValue → Definitions
+with_definition defs name value asked = if bytes_eq name asked then Some value else defs asked
+
+-- the definitions behind a define of this value, or the fault of a text that is no value
+abbrev pub defined_as : Definitions → ℕ → (name : List ℕ) → (text : Option (List ℕ)) → Option ShaderDefValue → Result Definitions Fault
+defined_as defs at name text (Some value) = Ok (with_definition defs name value)
+defined_as defs at name text None = Err (invalid_definition at name (unwrap_or text []))
+
+-- the definitions behind a define that stands at the place
+abbrev pub defined_behind : (allow_defines : Bool) → Definitions → ℕ → (name : List ℕ) → (text : Option (List ℕ)) → Result Definitions Fault
+defined_behind allow_defines defs at name text = if allow_defines then defined_as defs at name text (defined_value text) else Err (define_in_module at)
+
+-- what is found behind a define
+abbrev pub with_defines : Found → Result Definitions Fault → Result Found Fault
+with_defines found (Ok defs) = Ok (record found { defines = defs })
+with_defines found (Err f) = Err f
+
+-- what is found behind an import that stands at the place
+abbrev pub with_import : Found → ℕ → Result (List Leaf) SyntaxFault → Result Found Fault
+with_import found at (Ok leaves) = Ok (record found { known = record found.known { declared = with_leaves found.known.declared leaves } })
+with_import found at (Err f) = Err (invalid_import f.0 (at + f.1))
+
+-- what is found behind a line of no kind: it uses items by its covered line, as it stands
+abbrev pub with_uses : Found → Line → Found
+with_uses found l = record found { known = record found.known { uses = used_by found.known.declared l.at (tokens_of l.covered) found.known.uses } }
+
+-- what is found behind a line of this kind, where more follows; conditions choose nothing
+abbrev pub found_behind : (allow_defines : Bool) → Found → Line → LineKind → (more : List Line) → Result Found Fault
+found_behind allow_defines found l (condition is_else c) more = Ok found
+found_behind allow_defines found l endif more = Ok found
+found_behind allow_defines found l imports more = with_import found l.at (import_leaves (import_text (l ∷ taken (braces_after 0 l.covered) more)))
+found_behind allow_defines found l (import_path name) more = Ok (record found { name = Some name })
+found_behind allow_defines found l (define name text) more = with_defines found (defined_behind allow_defines found.defines l.at name text)
+found_behind allow_defines found l (version known) more = Ok (with_uses found l)
+found_behind allow_defines found l other more = Ok (with_uses found l)
+
+-- how many braces a line leaves open for the lines behind it
+abbrev pub left_open : Line → LineKind → ℕ
+left_open l imports = braces_after 0 l.covered
+left_open l _ = 0
+
+-- the same of a line that may have a fault, which is then the earlier one
+abbrev pub going_on : Result Found Fault → (Found → Result Found Fault) → Result Found Fault
+going_on (Ok found) rest = rest found
+going_on (Err f) rest = Err f
+
+-- what is found in lines, or the earliest fault; the first of them may be taken by an import before them
+abbrev pub found_in : (allow_defines : Bool) → Found → (braces : ℕ) → List Line → Result Found Fault
+found_in allow_defines found braces [] = Ok found
+found_in allow_defines found zero (l ∷ more) =
+    going_on (found_behind allow_defines found l (unversioned_kind_of l.covered) more) (λ next. found_in allow_defines next (left_open l (unversioned_kind_of l.covered)) more)
+found_in allow_defines found (suc n) (l ∷ more) = found_in allow_defines found (braces_after (suc n) l.covered) more
+
+-- what a registry needs of a text
+pub record Metadata : Type 0 where
+  -- the import path
+  pub name : Option (List ℕ)
+  -- what is used of each module, in order of first use
+  pub uses : List Use
+  pub defines : Definitions
+  -- whether a name is recorded
+  pub records : List ℕ → Bool
+  pub directives : Directives
+  -- the text without the directives
+  pub cleaned : List ℕ
+
+-- what was found in the cleaned text, with its directives
+abbrev pub metadata_with : (cleaned : List ℕ) → Directives → Result Found Fault → Result Metadata Fault
+metadata_with cleaned directives (Ok found) =
+    Ok (record { name = found.name; uses = map (λ u. u.1) found.known.uses; defines = found.defines; records = is_recorded cleaned; directives = directives; cleaned = cleaned })
+metadata_with cleaned directives (Err f) = Err f
+
+-- the metadata of a cleaned text with its directives, or its earliest fault
+abbrev pub metadata_of_cleaned : (allow_defines : Bool) → (cleaned : List ℕ) → Directives → Result Metadata Fault
+metadata_of_cleaned allow_defines cleaned directives = metadata_with cleaned directives (found_in allow_defines nothing_found 0 (source_lines cleaned))

@@ -1,0 +1,319 @@
+// What a text tells before any build.
+ghost use Rattle.std.specs.Prelude.{◌≡◌, ℕ, ◌+◌, ◌^◌, ◌<◌, ◌≤◌, ◌++◌, ◌∷◌, [], List, length, string_bytes, option_copied, unwrap_or, Some, Ok, OnOk, IfOk, IfErr};
+ghost use Rattle.std.specs.BTreeMap.{get_by_text};
+ghost use Rattle.std.specs.BTreeSet.{contains_text};
+ghost use Rattle.naga_oil_lines.specs.Declarations.{declared_of};
+ghost use Rattle.naga_oil_lines.specs.Directives.{directives_of};
+ghost use Rattle.naga_oil_lines.specs.Leaves.{import_leaves};
+ghost use Rattle.naga_oil_lines.specs.Substituted.{used_by};
+ghost use Rattle.naga_oil_lines.specs.Uses.{uses_of};
+ghost use Rattle.naga_oil_pre.specs.Line.{Line, source_lines};
+ghost use Rattle.naga_oil_pre.specs.KindView.{line_kind_of};
+ghost use Rattle.naga_oil_pre.specs.Metadata.{nothing_found, defined_behind, with_import, found_behind, left_open, going_on, found_in, metadata_of_cleaned};
+ghost use Rattle.naga_oil_pre.specs.MetadataView.{has_with, Gains, found_of, metadata_of};
+ghost use Rattle.naga_oil_pre.specs.Preprocessed.{ended, import_text, tokens_of, preprocessed};
+ghost use Rattle.naga_oil_pre.specs.Reading.{braces_after, taken, behind_taken};
+ghost use Rattle.naga_oil_pre.specs.Recorded.{is_recorded, line_names, names_of, AgreeOn};
+ghost use Rattle.naga_oil_pre.specs.SourceView.{line_of};
+ghost use Rattle.naga_oil_pre.specs.Fault.{Definitions, invalid_definition};
+ghost use Rattle.naga_oil_pre.specs.View.{Fails, Gives, fault_of};
+
+use crate::fault::ComposerErrorInner;
+use crate::imports::{Imports, braces_after, declare};
+use crate::line_kind::{LineKind, unversioned_line_kind};
+use crate::recorded::record_line_names;
+use crate::shader_def::{ShaderDefValue, defined_value};
+use crate::source_lines::{SourceLine, SourceLines};
+use indexmap::IndexMap;
+use naga_oil_lines::comment_strip_iter::CommentReplaceExt;
+use naga_oil_lines::import_definition::{ImportDefWithOffset, ImportDefinition};
+use naga_oil_lines::substitute::{SubstituteFault, substitute_identifiers};
+use naga_oil_lines::wgsl_directives::WgslDirectives;
+use std::alloc::{AllocError, Global};
+use std::collections::{BTreeMap, BTreeSet};
+
+/// What a registry needs of a text before any build.
+#[derive(Debug, Drop)]
+pub struct PreprocessorMetaData {
+    /// The import path that the text defines last.
+    pub name: Option<String>,
+    /// What is used of each module, in order of first use, whichever arms are active.
+    pub imports: Vec<ImportDefWithOffset>,
+    /// The defines, of one name the last.
+    pub defines: BTreeMap<String, ShaderDefValue>,
+    /// The names on which the text's preprocessing may depend.
+    pub effective_defs: BTreeSet<String>,
+    pub wgsl_directives: WgslDirectives,
+    /// The text with an empty line in the place of each directive, and without its last line end.
+    /// Offsets count in it.
+    pub cleaned_source: String,
+}
+
+// What has been read of a text: the last import path, what imports declare and lines use, the defines,
+// and the names that are recorded.
+#[derive(Drop)]
+struct Findings {
+    name: Option<String>,
+    imports: Imports,
+    defines: BTreeMap<String, ShaderDefValue>,
+    names: BTreeSet<String>,
+}
+
+// What is wrong with a define's value.
+fn invalid_value(
+    alloc: Global,
+    name: &str,
+    value: Option<&str>,
+    offset: usize,
+) -> Result<ComposerErrorInner, AllocError>
+    ensures { IfOk result (λ e. fault_of e ≡ Some (invalid_definition offset name.now (unwrap_or (option_copied value.entry) []))) }
+{
+    Ok(ComposerErrorInner::InvalidShaderDefDefinitionValue {
+        name: String::from_str(alloc, name)?,
+        value: String::from_str(alloc, value.unwrap_or(""))?,
+        pos: offset,
+    })
+}
+
+// Defines a name, in place of what it was, if defines are allowed.
+fn define(
+    alloc: Global,
+    allow_defines: bool,
+    name: &str,
+    value: Option<&str>,
+    offset: usize,
+    defines: &mut BTreeMap<String, ShaderDefValue>,
+) -> Result<(), ComposerErrorInner>
+    ensures ok { OnOk result (defined_behind allow_defines (get_by_text defines.old) offset name.now (option_copied value.entry) ≡ Ok (get_by_text defines.new)) }
+    ensures err { IfErr result (λ e. Fails e (defined_behind allow_defines (get_by_text defines.old) offset name.now (option_copied value.entry))) }
+{
+    if !allow_defines {
+        return Err(ComposerErrorInner::DefineInModule(offset));
+    }
+    let Some(defined) = defined_value(value) else {
+        return Err(invalid_value(alloc, name, value, offset)?);
+    };
+    defines.insert(String::from_str(alloc, name)?, defined)?;
+    Ok(())
+}
+
+// Records what a line uses by its covered line, as it stands.
+fn read_uses(
+    alloc: Global,
+    line: &SourceLine<'_>,
+    imports: &mut Imports,
+) -> Result<(), AllocError>
+    requires { line.now.offset ≤ 2 ^ 63 }
+    ensures used { OnOk result (uses_of imports.new.used ≡ used_by (declared_of imports.old.declared) line.now.offset (tokens_of (line_of line.now).covered) (uses_of imports.old.used)) }
+    ensures declared { OnOk result (declared_of imports.new.declared ≡ declared_of imports.old.declared) }
+{
+    match substitute_identifiers(
+        alloc,
+        line.covered.as_str(),
+        line.offset,
+        &imports.declared,
+        &mut imports.used,
+        true,
+    ) {
+        Ok(_) => Ok(()),
+        Err(SubstituteFault::Ambiguous(_)) => unreachable!(),
+        Err(SubstituteFault::Memory) => Err(AllocError),
+    }
+}
+
+// Records the names of a line that an import takes, and writes its covered line behind the import's own.
+// Gives the braces that are open behind it.
+fn take_line(
+    alloc: Global,
+    line: SourceLine<'_>,
+    braces: usize,
+    import: &mut String,
+    names: &mut BTreeSet<String>,
+) -> Result<usize, AllocError>
+    requires { braces + length (line_of line).covered < 2 ^ 64 }
+    ensures import { OnOk result (string_bytes import.new ≡ string_bytes import.old ++ ended (line_of line.entry).covered) }
+    ensures names { OnOk result (Gains names.old names.new (line_names (line_of line.entry))) }
+    ensures after { IfOk result (λ n. n ≡ braces_after braces (line_of line.entry).covered) }
+    ensures bound { IfOk result (λ n. n ≤ braces + length (line_of line.entry).covered) }
+{
+    let covered = line.covered.as_str();
+    record_line_names(alloc, names, &line, unversioned_line_kind(covered))?;
+    import.push_str(covered)?;
+    import.push('\n')?;
+    Ok(braces_after(braces, covered))
+}
+
+// Records the names of the lines that an import takes, and writes their covered lines behind its own.
+fn take_lines(
+    alloc: Global,
+    source: &mut SourceLines<'_, '_>,
+    braces: usize,
+    import: &mut String,
+    names: &mut BTreeSet<String>,
+) -> Result<(), AllocError>
+    requires { braces ≤ source.old.place }
+    ensures left { OnOk result (source.new.left ≡ behind_taken braces source.old.left) }
+    ensures import { OnOk result (string_bytes import.new ≡ string_bytes import.old ++ import_text (taken braces source.old.left)) }
+    ensures names { OnOk result (Gains names.old names.new (names_of (taken braces source.old.left))) }
+    ensures fits { OnOk result (length (string_bytes import.new) + source.old.place ≤ length (string_bytes import.old) + source.new.place) }
+    ensures room { OnOk result (source.old.place ≤ 2 ^ 63 → source.new.place ≤ 2 ^ 63) }
+    ensures shorter { OnOk result (length source.new.left ≤ length source.old.left) }
+{
+    let mut braces = braces;
+    while braces > 0 {
+        let Some(line) = source.next()? else {
+            break;
+        };
+        braces = take_line(alloc, line, braces, import, names)?;
+    }
+    Ok(())
+}
+
+// Declares what an import declares, with the lines that it takes.
+fn read_import(
+    alloc: Global,
+    line: &SourceLine<'_>,
+    source: &mut SourceLines<'_, '_>,
+    findings: &mut Findings,
+) -> Result<(), ComposerErrorInner>
+    requires place { line.now.offset + length line.now.text.now + 1 ≡ source.old.place }
+    requires even { length (line_of line.now).covered ≤ length line.now.text.now }
+    requires room { source.old.place ≤ 2 ^ 63 }
+    ensures left { OnOk result (source.new.left ≡ behind_taken (braces_after 0 (line_of line.now).covered) source.old.left) }
+    ensures ok { OnOk result (with_import (found_of findings.old) line.now.offset (import_leaves (import_text (line_of line.now ∷ taken (braces_after 0 (line_of line.now).covered) source.old.left))) ≡ Ok (found_of findings.new)) }
+    ensures names { OnOk result (Gains findings.old.names findings.new.names (names_of (taken (braces_after 0 (line_of line.now).covered) source.old.left))) }
+    ensures shorter { OnOk result (length source.new.left ≤ length source.old.left) }
+    ensures err { IfErr result (λ e. Fails e (with_import (found_of findings.old) line.now.offset (import_leaves (import_text (line_of line.now ∷ taken (braces_after 0 (line_of line.now).covered) source.old.left))))) }
+{
+    let covered = line.covered.as_str();
+    let mut import = String::from_str(alloc, covered)?;
+    import.push('\n')?;
+    take_lines(
+        alloc,
+        source,
+        braces_after(0, covered),
+        &mut import,
+        &mut findings.names,
+    )?;
+    declare(
+        alloc,
+        import.as_str(),
+        line.offset,
+        &mut findings.imports.declared,
+    )
+}
+
+// Reads what a line of this kind tells, and an import's lines with it.
+fn read_kind(
+    alloc: Global,
+    line: &SourceLine<'_>,
+    kind: LineKind<'_>,
+    source: &mut SourceLines<'_, '_>,
+    allow_defines: bool,
+    findings: &mut Findings,
+) -> Result<(), ComposerErrorInner>
+    requires place { line.now.offset + length line.now.text.now + 1 ≡ source.old.place }
+    requires even { length (line_of line.now).covered ≤ length line.now.text.now }
+    requires room { source.old.place ≤ 2 ^ 63 }
+    ensures ok { OnOk result (found_in allow_defines (found_of findings.new) 0 source.new.left
+        ≡ going_on (found_behind allow_defines (found_of findings.old) (line_of line.now) (line_kind_of kind.entry) source.old.left) (λ next. found_in allow_defines next (left_open (line_of line.now) (line_kind_of kind.entry)) source.old.left)) }
+    ensures names { OnOk result ((name : List ℕ) → has_with findings.new.names (names_of source.new.left) name ≡ has_with findings.old.names (names_of source.old.left) name) }
+    ensures shorter { OnOk result (length source.new.left ≤ length source.old.left) }
+    ensures err { IfErr result (λ e. Fails e (found_behind allow_defines (found_of findings.old) (line_of line.now) (line_kind_of kind.entry) source.old.left)) }
+{
+    match kind {
+        LineKind::Condition { .. } | LineKind::EndIf => Ok(()),
+        LineKind::Import => read_import(alloc, line, source, findings),
+        LineKind::ImportPath(name) => {
+            findings.name = Some(String::from_str(alloc, name)?);
+            Ok(())
+        }
+        LineKind::Define { name, value } => define(
+            alloc,
+            allow_defines,
+            name,
+            value,
+            line.offset,
+            &mut findings.defines,
+        ),
+        LineKind::Version { .. } | LineKind::Other => {
+            read_uses(alloc, line, &mut findings.imports)?;
+            Ok(())
+        }
+    }
+}
+
+// Reads a line with the lines that it takes.
+fn read_line(
+    alloc: Global,
+    line: &SourceLine<'_>,
+    source: &mut SourceLines<'_, '_>,
+    allow_defines: bool,
+    findings: &mut Findings,
+) -> Result<(), ComposerErrorInner>
+    requires place { line.now.offset + length line.now.text.now + 1 ≡ source.old.place }
+    requires even { length (line_of line.now).covered ≤ length line.now.text.now }
+    requires room { source.old.place ≤ 2 ^ 63 }
+    ensures ok { OnOk result (found_in allow_defines (found_of findings.new) 0 source.new.left ≡ found_in allow_defines (found_of findings.old) 0 (line_of line.now ∷ source.old.left)) }
+    ensures names { OnOk result ((name : List ℕ) → has_with findings.new.names (names_of source.new.left) name ≡ has_with findings.old.names (names_of (line_of line.now ∷ source.old.left)) name) }
+    ensures shorter { OnOk result (length source.new.left ≤ length source.old.left) }
+    ensures err { IfErr result (λ e. Fails e (found_in allow_defines (found_of findings.old) 0 (line_of line.now ∷ source.old.left))) }
+{
+    let kind = unversioned_line_kind(line.covered.as_str());
+    record_line_names(alloc, &mut findings.names, line, kind)?;
+    read_kind(alloc, line, kind, source, allow_defines, findings)
+}
+
+// Reads a text without directives.
+fn read_text(
+    alloc: Global,
+    cleaned: &str,
+    allow_defines: bool,
+) -> Result<Findings, ComposerErrorInner>
+    ensures ok { IfOk result (λ findings. found_in allow_defines nothing_found 0 (source_lines cleaned.now) ≡ Ok (found_of findings)) }
+    ensures names { IfOk result (λ findings. (name : List ℕ) → contains_text findings.names name ≡ is_recorded cleaned.now name) }
+    ensures err { IfErr result (λ e. Fails e (found_in allow_defines nothing_found 0 (source_lines cleaned.now))) }
+{
+    let mut commented = cleaned.lines();
+    let mut source = SourceLines::new(cleaned, commented.replace_comments(alloc));
+    let mut findings = Findings {
+        name: None,
+        imports: Imports {
+            declared: IndexMap::new(alloc),
+            used: IndexMap::new(alloc),
+        },
+        defines: BTreeMap::new(alloc),
+        names: BTreeSet::new(alloc),
+    };
+    while let Some(line) = source.next()? {
+        read_line(alloc, &line, &mut source, allow_defines, &mut findings)?;
+    }
+    Ok(findings)
+}
+
+// The metadata of a cleaned text with its directives.
+fn read_metadata(
+    alloc: Global,
+    cleaned: String,
+    directives: WgslDirectives,
+    allow_defines: bool,
+) -> Result<PreprocessorMetaData, ComposerErrorInner>
+    ensures value { Gives metadata_of result (metadata_of_cleaned allow_defines (string_bytes cleaned) (directives_of directives)) }
+    ensures agreement { IfOk result (λ m. (d e : Definitions) → AgreeOn (contains_text m.effective_defs) d e → preprocessed d (string_bytes m.cleaned_source) ≡ preprocessed e (string_bytes m.cleaned_source)) }
+{
+    let Findings {
+        name,
+        imports,
+        defines,
+        names,
+    } = read_text(alloc, cleaned.as_str(), allow_defines)?;
+    let used = imports.used;
+    Ok(PreprocessorMetaData {
+        name,
+        imports: used.into_values().collect(alloc)?,
+        defines,
+        effective_defs: names,
+        wgsl_directives: directives,
+        cleaned_source: cleaned,
+    })
+}

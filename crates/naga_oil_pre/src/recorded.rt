@@ -1,0 +1,102 @@
+// Records the names that lines ask for.
+ghost use Rattle.std.specs.Prelude.{◌≡◌, ℕ, ◌∷◌, ◌≤◌, [], List, length, OnOk, IfOk};
+ghost use Rattle.std.specs.Str.{chars, IsUtf8};
+ghost use Rattle.naga_oil_pre.specs.KindView.{condition_of, line_kind_of};
+ghost use Rattle.naga_oil_pre.specs.MetadataView.{has_with, Gains};
+ghost use Rattle.naga_oil_pre.specs.Recorded.{condition_names, text_names, kind_names, names_from};
+ghost use Rattle.naga_oil_pre.specs.Replaced.{hash_names};
+ghost use Rattle.naga_oil_pre.specs.SourceView.{line_of};
+
+use crate::line_kind::{Condition, LineKind};
+use crate::replace::{split_at_hash, split_hash_name};
+use crate::source_lines::SourceLine;
+use std::alloc::{AllocError, Global};
+use std::collections::BTreeSet;
+
+// Records a name. One that is there takes no memory.
+fn record_name(alloc: Global, names: &mut BTreeSet<String>, name: &str) -> Result<(), AllocError>
+    ensures { OnOk result (Gains names.old names.new (name.now ∷ [])) }
+{
+    if !names.contains(name) {
+        names.insert(String::from_str(alloc, name)?)?;
+    }
+    Ok(())
+}
+
+// Records the name behind a `#`, if there is one, and answers what is left.
+fn record_behind_hash<'a>(
+    alloc: Global,
+    names: &mut BTreeSet<String>,
+    behind: &'a str,
+) -> Result<&'a str, AllocError>
+    ensures names { IfOk result (λ rest. (name : List ℕ) → has_with names.new (names_from (chars rest.now)) name ≡ has_with names.old (names_from (35 ∷ chars behind.now)) name) }
+    ensures utf8 { IfOk result (λ rest. IsUtf8 rest.now) }
+    ensures bound { IfOk result (λ rest. length rest.now ≤ length behind.now) }
+{
+    let Some((name, rest)) = split_hash_name(behind) else {
+        return Ok(behind);
+    };
+    record_name(alloc, names, name)?;
+    Ok(rest)
+}
+
+// Records the `#` names of a text.
+fn record_hash_names(
+    alloc: Global,
+    names: &mut BTreeSet<String>,
+    text: &str,
+) -> Result<(), AllocError>
+    ensures { OnOk result (Gains names.old names.new (hash_names text.now)) }
+{
+    let mut rest = text;
+    while let Some((_, behind)) = split_at_hash(rest) {
+        rest = record_behind_hash(alloc, names, behind)?;
+    }
+    Ok(())
+}
+
+// Records the `#` names of a line and of its covered line.
+fn record_text_names(
+    alloc: Global,
+    names: &mut BTreeSet<String>,
+    line: &SourceLine<'_>,
+) -> Result<(), AllocError>
+    ensures { OnOk result (Gains names.old names.new (text_names (line_of line.now))) }
+{
+    record_hash_names(alloc, names, line.text)?;
+    record_hash_names(alloc, names, line.covered.as_str())
+}
+
+// Records the name that a condition asks for.
+fn record_condition_name(
+    alloc: Global,
+    names: &mut BTreeSet<String>,
+    condition: Condition<'_>,
+) -> Result<(), AllocError>
+    ensures { OnOk result (Gains names.old names.new (condition_names (condition_of condition.entry))) }
+{
+    match condition {
+        Condition::Defined(name) | Condition::Undefined(name) | Condition::Compares { name, .. } => {
+            record_name(alloc, names, name)
+        }
+        Condition::Otherwise => Ok(()),
+    }
+}
+
+/// Records the names of a line of this kind.
+pub fn record_line_names(
+    alloc: Global,
+    names: &mut BTreeSet<String>,
+    line: &SourceLine<'_>,
+    kind: LineKind<'_>,
+) -> Result<(), AllocError>
+    ensures { OnOk result (Gains names.old names.new (kind_names (line_kind_of kind.entry) (line_of line.now))) }
+{
+    match kind {
+        LineKind::Condition { condition, .. } => record_condition_name(alloc, names, condition),
+        LineKind::EndIf | LineKind::Import | LineKind::ImportPath(_) | LineKind::Define { .. } => {
+            Ok(())
+        }
+        LineKind::Version { .. } | LineKind::Other => record_text_names(alloc, names, line),
+    }
+}
