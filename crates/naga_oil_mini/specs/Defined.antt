@@ -1,10 +1,10 @@
 -- What words define.
-use Rattle.std.specs.Prelude.{ℕ, Bool, true, ◌==◌, if◌then◌else◌, nat_lt, List, [], ◌∷◌, length, slice_index, Option, Some, None, option_map, Result, Ok, Err, bytes_eq}
-use Rattle.std.specs.Map.{update}
+use Rattle.std.specs.Prelude.{ℕ, Bool, true, ◌==◌, if◌then◌else◌, nat_lt, List, [], ◌∷◌, length, slice_index, Option, Some, None, option_map, Result, Ok, Err}
 use Rattle.std.specs.List.{before_first, after_first, position_or_len}
 use Rattle.naga_oil_pre.specs.DefineValue.{defined_value}
 use Rattle.naga_oil_pre.specs.Fault.{Definitions}
 use Rattle.naga_oil_pre.specs.LineKinds.{is_name}
+use Rattle.naga_oil_pre.specs.Metadata.{with_definition}
 use Rattle.naga_oil_pre.specs.declared.shader_def.ShaderDefValue.{ShaderDefValue}
 use Rattle.naga_oil_pre.specs.declared.shader_def.ShaderDefValue.TheVariants as def
 use Rattle.naga_oil_mini.specs.Words.{is_definition}
@@ -22,15 +22,7 @@ abbrev pub definition_word : List ℕ → Option (List ℕ × ShaderDefValue)
 definition_word word =
     if nat_lt (position_or_len is_equals word) (length word) then (if is_name (before_first is_equals word) then option_map (λ value. (before_first is_equals word, value)) (given_value (after_first is_equals word)) else None) else None
 
--- nothing is defined
-abbrev pub nothing_defined : Definitions
-nothing_defined name = None
-
--- a name's value in place of what it was
-abbrev pub with_definition : Definitions → (List ℕ × ShaderDefValue) → Definitions
-with_definition defs d = update bytes_eq defs d.0 (Some d.1)
-
 -- what the definitions among the words make of these, of one name the last; or the first that is no good one
 abbrev pub defined_by : Definitions → List (List ℕ) → Result Definitions (List ℕ)
 defined_by defs [] = Ok defs
-defined_by defs (word ∷ more) = if is_definition word then (elim (definition_word word) [ None ↦ Err word | Some d ↦ defined_by (with_definition defs d) more ]) else defined_by defs more
+defined_by defs (word ∷ more) = if is_definition word then (elim (definition_word word) [ None ↦ Err word | Some d ↦ defined_by (with_definition defs d.0 d.1) more ]) else defined_by defs more

@@ -1,3 +1,4 @@
 pub mod Words
 pub mod Defined
 pub mod Told
+pub mod Printed

@@ -2,7 +2,8 @@
 use Rattle.std.specs.Prelude.{◌≡◌, ℕ, List, ◌++◌, ◌∷◌, [], codes, drop, Err, Option, Some, None, IsSome, IfSome, ⊤}
 use Rattle.std.specs.Io.KnownBytes.{Appends}
 use Rattle.naga_oil_mini.specs.Words.{asked_file}
-use Rattle.naga_oil_mini.specs.Defined.{nothing_defined, defined_by}
+use Rattle.naga_oil_pre.specs.Metadata.{none_defined}
+use Rattle.naga_oil_mini.specs.Defined.{defined_by}
 use Rattle.naga_oil_mini.specs.declared.mini.refusal.Refusal.{Refusal}
 use Rattle.naga_oil_mini.specs.declared.mini.refusal.Refusal.TheVariants.{Usage, BadDefinition, CannotRead, Fault, Write}
 
@@ -37,7 +38,7 @@ message_of Write = Some (codes "error: cannot write")
 -- why the definitions among the words are refused
 abbrev pub RefusesDefinitions : List (List ℕ) → Refusal → Type 0
 RefusesDefinitions words Usage = ⊥
-RefusesDefinitions words (BadDefinition word) = defined_by nothing_defined words ≡ Err word.now
+RefusesDefinitions words (BadDefinition word) = defined_by none_defined words ≡ Err word.now
 RefusesDefinitions words (CannotRead file) = ⊥
 RefusesDefinitions words (Fault fault) = ⊤
 RefusesDefinitions words Write = ⊥
@@ -49,7 +50,7 @@ Tells refusal old new = IfSome (message_of refusal) (λ message. Appends old new
 -- why the words are refused: no file is asked for, or else a definition or the file is named
 abbrev pub Refuses : List (List ℕ) → Refusal → Type 0
 Refuses words Usage = asked_file words ≡ None
-Refuses words (BadDefinition word) = IsSome (asked_file words) × (defined_by nothing_defined (drop 1 words) ≡ Err word.now)
+Refuses words (BadDefinition word) = IsSome (asked_file words) × (defined_by none_defined (drop 1 words) ≡ Err word.now)
 Refuses words (CannotRead file) = asked_file words ≡ Some file.now
 Refuses words (Fault fault) = IsSome (asked_file words)
 Refuses words Write = IsSome (asked_file words)

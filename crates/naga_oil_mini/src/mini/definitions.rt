@@ -2,7 +2,8 @@
 ghost use Rattle.std.specs.Prelude.{◌≡◌, Ok, OnOk, IfOk, IfErr, option_map};
 ghost use Rattle.std.specs.BTreeMap.{get_by_text};
 ghost use Rattle.naga_oil_mini.specs.Words.{texts};
-ghost use Rattle.naga_oil_mini.specs.Defined.{given_value, definition_word, nothing_defined, with_definition, defined_by};
+ghost use Rattle.naga_oil_mini.specs.Defined.{given_value, definition_word, defined_by};
+ghost use Rattle.naga_oil_pre.specs.Metadata.{none_defined, with_definition};
 ghost use Rattle.naga_oil_mini.specs.Told.{RefusesDefinitions};
 
 use super::refusal::Refusal;
@@ -45,7 +46,7 @@ pub fn define(
     name: &str,
     value: ShaderDefValue,
 ) -> Result<(), AllocError>
-    ensures { OnOk result (get_by_text definitions.new ≡ with_definition (get_by_text definitions.old) (name.now, value)) }
+    ensures { OnOk result (get_by_text definitions.new ≡ with_definition (get_by_text definitions.old) name.now value) }
 {
     let name = String::from_str(alloc, name)?;
     definitions.insert(name, value)?;
@@ -54,7 +55,7 @@ pub fn define(
 
 /// The definitions among the words. Of one name the last counts.
 pub fn given(alloc: Global, words: &[String]) -> Result<Definitions, Refusal<'_>>
-    ensures ok { IfOk result (λ definitions. defined_by nothing_defined (texts words.now) ≡ Ok (get_by_text definitions)) }
+    ensures ok { IfOk result (λ definitions. defined_by none_defined (texts words.now) ≡ Ok (get_by_text definitions)) }
     ensures err { IfErr result (RefusesDefinitions (texts words.now)) }
 {
     let mut definitions = BTreeMap::new(alloc);
