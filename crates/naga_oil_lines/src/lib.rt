@@ -9,3 +9,5 @@ pub mod substitute;
 pub mod text;
 pub mod tokenizer;
 pub mod wgsl_directives;
+
+pub use import_definition::{ImportDefWithOffset, ImportDefinition};

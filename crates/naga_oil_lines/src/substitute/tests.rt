@@ -1,5 +1,5 @@
-use super::{SubstituteFault, substitute_identifiers};
-use crate::import_definition::{ImportDefWithOffset, ImportDefinition};
+use crate::parse_imports::{SubstituteFault, substitute_identifiers};
+use crate::{ImportDefWithOffset, ImportDefinition};
 use indexmap::IndexMap;
 use std::alloc::Global;
 use std::fmt::Write;
