@@ -1,6 +1,6 @@
 -- What a line is among directives, by its bytes.
 use Rattle.std.specs.Prelude.{option_copied}
-use Rattle.std.proofs.Common.{◌≡◌, ◌≢◌, ℕ, suc, ◌<◌, ◌==◌, ◌&&◌, not, Bool, true, false, Option, Some, None, List, [], ◌∷◌, ◌++◌, map, length, codes, string_bytes, String, Global, refl, sym, ap, ◌∙◌, arith, eq-eqb}
+use Rattle.std.proofs.Common.{◌≡◌, ◌≢◌, ℕ, ◌<◌, ◌==◌, not, Bool, true, false, Option, Some, None, List, [], ◌∷◌, ◌++◌, map, length, codes, string_bytes, String, Global, refl, sym, ap, ◌∙◌, arith, eq-eqb}
 use borrow.Author.Tests.{ne_eqb}
 use denote.Ref.{Bor}
 use Rattle.std.specs.Option.{option_map, MatchOption}

@@ -1,5 +1,5 @@
 -- The names of a list, part by part.
-use Rattle.std.proofs.Common.{◌≡◌, ℕ, ◌==◌, cond, not, Bool, true, false, List, [], ◌∷◌, ◌++◌, map, length, string_bytes, String, Global, refl, sym, ap, ◌∙◌, append-nil}
+use Rattle.std.proofs.Common.{◌≡◌, ℕ, ◌==◌, cond, not, true, false, List, [], ◌∷◌, ◌++◌, map, length, string_bytes, String, Global, sym, ap, ◌∙◌, append-nil}
 use denote.Ref.{Bor}
 use Rattle.std.specs.List.{filter}
 use Rattle.std.specs.Str.{trim}

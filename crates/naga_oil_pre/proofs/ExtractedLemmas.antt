@@ -1,5 +1,5 @@
 -- A text taken apart line by line.
-use Rattle.std.proofs.Common.{◌≡◌, ◌≢◌, ℕ, ◌+◌, ◌<◌, ◌≤◌, ◌==◌, if◌then◌else◌, Bool, true, false, List, [], ◌∷◌, ◌++◌, length, drop, flat_map, refl, sym, ap, ◌∙◌, append_assoc, append-nil, ⊎_elim, Result, Ok, Err, Option, Some, None, MatchOption, arith, length-append, length-drop}
+use Rattle.std.proofs.Common.{◌≡◌, ℕ, ◌+◌, ◌<◌, ◌==◌, if◌then◌else◌, Bool, true, false, List, [], ◌∷◌, ◌++◌, length, flat_map, refl, sym, ap, ◌∙◌, append_assoc, append-nil, ⊎_elim, Result, Ok, Err, Some, None, MatchOption, arith, length-append, length-drop}
 use borrow.Author.Tests.{ne_eqb}
 use Rattle.std.specs.List.{join_with_byte}
 use Rattle.std.specs.Char.{encode_utf8}

@@ -1,5 +1,5 @@
 -- The directives that a text may begin with: what a line is, by the text of it without the white space round it.
-use Rattle.std.specs.Prelude.{ℕ, Bool, true, false, ◌||◌, ◌&&◌, ◌==◌, not, nat_lt, bytes_eq, if◌then◌else◌, Option, Some, None, is_some, List, [], ◌∷◌, ◌++◌, map, length, codes}
+use Rattle.std.specs.Prelude.{ℕ, Bool, false, ◌||◌, ◌&&◌, ◌==◌, not, bytes_eq, if◌then◌else◌, Option, Some, None, is_some, List, [], ◌∷◌, ◌++◌, map, length, codes}
 use Rattle.std.specs.List.{filter, list_any, slice_split, position_or_len, before_first, after_first}
 use Rattle.std.specs.Char.{is_whitespace}
 use Rattle.std.specs.Str.{byte, chars, trim, trim_start}

@@ -1,8 +1,8 @@
 -- Rows of directives, computed.
 use lib.Utf8.{encode}
-use Rattle.std.specs.Prelude.{◌≡◌, ℕ, refl, List, [], ◌∷◌, ◌++◌, codes, Ok, Err}
+use Rattle.std.specs.Prelude.{◌≡◌, refl, [], ◌∷◌, codes, Ok, Err}
 use Rattle.std.specs.Str.{chars, trim_start, trim_end}
-use Rattle.naga_oil_lines.specs.Directives.{Directives, no_directives}
+use Rattle.naga_oil_lines.specs.Directives.{no_directives}
 use Rattle.naga_oil_pre.specs.LineKinds.{past_word}
 use Rattle.naga_oil_pre.specs.Fault.{invalid_directive}
 use Rattle.naga_oil_pre.specs.DirectiveLines.{cut_at, listed, treated, directive_of}

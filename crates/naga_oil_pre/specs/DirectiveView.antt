@@ -1,5 +1,5 @@
 -- Directives as the code has them.
-use Rattle.std.specs.Prelude.{ℕ, List, ◌++◌, codes, map, string_bytes}
+use Rattle.std.specs.Prelude.{codes, map, string_bytes}
 use Rattle.naga_oil_pre.specs.declared.directives.Directive as code
 use Rattle.naga_oil_pre.specs.declared.directives.Directive.TheVariants as d
 use Rattle.naga_oil_pre.specs.DirectiveLines.{Directive, enabling, requiring, treating, wrong, passing, ending, unknown_severity}

@@ -1,4 +1,4 @@
-use Rattle.std.proofs.Common.{◌∙◌, ◌++◌, ◌∷◌, [], ap, sym, lit<, string_bytes, append-nil}
+use Rattle.std.proofs.Common.{◌∙◌, ◌++◌, ap, sym, lit<, string_bytes, append-nil}
 use Rattle.std.specs.Str.Iter.{lines_rest}
 use Rattle.std.specs.Str.Lines.{lines}
 use Rattle.std.proofs.lemmas.List.{nil_from_length}
