@@ -17,12 +17,12 @@ use Rattle.naga_oil_lines.proofs.TextLemmas.{chars_before}
 use Rattle.naga_oil_pre.specs.LineKinds.{past_word, run, behind_run, text_at, after_white, is_operator_char, is_value_char, is_name_char, is_name, compared, cut}
 
 -- ---- a word
-past_word-append : (w rest : List ℕ) → past_word w (w ++ rest) ≡ Some rest
+pub past_word-append : (w rest : List ℕ) → past_word w (w ++ rest) ≡ Some rest
 unfolding past_word
 past_word-append [] rest = refl
 past_word-append (c ∷ w) rest = rw (eq-eqb c c refl) (past_word-append w rest)
 
-past_word-some : (w cs rest : List ℕ) → past_word w cs ≡ Some rest → cs ≡ w ++ rest
+pub past_word-some : (w cs rest : List ℕ) → past_word w cs ≡ Some rest → cs ≡ w ++ rest
 unfolding past_word
 past_word-some [] cs rest e = cc
 past_word-some (c ∷ w) [] rest e = cc
@@ -32,7 +32,7 @@ past_word-some (c ∷ w) (d ∷ cs) rest e =
       | false ↦ λ q r. cc
     ] refl e
 
-none_unless : (o : Option (List ℕ)) → ((rest : List ℕ) → o ≡ Some rest → ⊥) → None ≡ o
+pub none_unless : (o : Option (List ℕ)) → ((rest : List ℕ) → o ≡ Some rest → ⊥) → None ≡ o
 none_unless None h = refl
 none_unless (Some rest) h = absurd (h rest refl)
 
@@ -47,7 +47,7 @@ past_word_text word text (Some x) u v h =
     rw (e, chars-append word x.now u) (sym (past_word-append (chars word) (chars x.now)))
 
 -- ---- a run
-chars-none : (bs : List ℕ) → IsUtf8 bs → chars bs ≡ [] → length bs ≡ 0
+pub chars-none : (bs : List ℕ) → IsUtf8 bs → chars bs ≡ [] → length bs ≡ 0
 chars-none bs u e = ap length (sym (encodes-chars bs u) ∙ ap encode_utf8_all e)
 
 -- the text of a run's characters

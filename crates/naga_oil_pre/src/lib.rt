@@ -4,6 +4,7 @@
 //!
 //! - `preprocess`: the pass itself.
 //! - `line_kind`: what a covered line is.
+//! - `directives`: the directives that a text begins with, taken out.
 //! - `condition`: whether a condition holds.
 //! - `scope`: the chains of conditions that are open.
 //! - `replace`: values for the names of a line.
@@ -15,6 +16,7 @@
 #![tactic(auto)]
 
 mod condition;
+mod directives;
 mod fault;
 mod imports;
 pub mod laws;

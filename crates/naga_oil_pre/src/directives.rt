@@ -1,0 +1,257 @@
+// The directives that a text may begin with.
+ghost use Rattle.std.specs.Prelude.{◌≡◌, ◌==◌, if◌then◌else◌, ◌++◌, ◌<◌, [], ◌∷◌, map, string_bytes, option_copied, IfOk, OnOk};
+ghost use Rattle.std.specs.Option.{option_map};
+ghost use Rattle.std.specs.List.{flat_map};
+ghost use Rattle.std.specs.Str.{chars, trim};
+ghost use Rattle.std.specs.Str.Lines.{lines};
+ghost use Rattle.std.specs.Str.Iter.{lines_rest};
+ghost use Rattle.naga_oil_lines.specs.Directives.{directives_of};
+ghost use Rattle.naga_oil_pre.specs.LineKinds.{past_word};
+ghost use Rattle.naga_oil_pre.specs.DirectiveLines as grammar;
+ghost use Rattle.naga_oil_pre.specs.DirectiveLines.{directive_of, unknown_severity};
+ghost use Rattle.naga_oil_pre.specs.DirectiveView.{line_directive_of};
+ghost use Rattle.naga_oil_pre.specs.Extracted.{kept, found, goes_on, ◌and◌, extracted};
+ghost use Rattle.naga_oil_pre.specs.View.{Gives};
+
+use crate::fault::ComposerErrorInner;
+use crate::preprocess::Preprocessor;
+use naga_oil_lines::text::split_first_char;
+use naga_oil_lines::wgsl_directives::{
+    DiagnosticDirective, EnableDirective, RequiresDirective, WgslDirectives,
+};
+use std::alloc::{AllocError, Global};
+use std::str::Lines;
+
+// What a line is among directives.
+#[derive(Debug, Drop)]
+enum Directive<'a> {
+    Enable(Vec<String>),
+    Requires(Vec<String>),
+    Diagnostic { severity: &'a str, rule: &'a str },
+    /// An `enable` or `requires` that names nothing.
+    NoExtensions,
+    UnknownSeverity(&'a str),
+    /// No directive, and more may follow.
+    Passing,
+    /// No directive, and none follows.
+    Ending,
+}
+
+// What follows the word at the front.
+fn past_word<'a>(text: &'a str, word: &str) -> Option<&'a str>
+    ensures { option_copied result ≡ past_word word.now text.now }
+{
+    text.strip_prefix(word)
+}
+
+// What is before and behind the first such character.
+fn cut_at(text: &str, c: char) -> Option<(&str, &str)>
+    requires { c < 128 }
+    ensures { option_map (λ r. (r.0.now, r.1.now)) result ≡ grammar.cut_at c text.now }
+{
+    text.split_once(c)
+}
+
+// Whether a text is a white character and at least one more.
+fn begins_list(text: &str) -> bool
+    ensures { result ≡ grammar.begins_list (chars text.now) }
+{
+    match split_first_char(text) {
+        Some((first, more)) => first.is_whitespace() && !more.is_empty(),
+        None => false,
+    }
+}
+
+// The list behind a word, up to the first `;`.
+fn listed<'a>(line: &'a str, word: &str) -> Option<&'a str>
+    ensures { option_copied result ≡ grammar.listed word.now line.now }
+{
+    let (list, _) = cut_at(past_word(line, word)?, ';')?;
+    if begins_list(list) { Some(list) } else { None }
+}
+
+// The names of a list between commas.
+fn extensions(alloc: Global, list: &str) -> Result<Vec<String>, AllocError>
+    ensures { IfOk result (λ v. map string_bytes v.items ≡ grammar.extensions list.now) }
+{
+    let mut names = Vec::new(alloc);
+    for part in list.split(',') {
+        let name = part.trim();
+        if !name.is_empty() {
+            names.push(String::from_str(alloc, name)?)?;
+        }
+    }
+    Ok(names)
+}
+
+// Severity and rule of a diagnostic.
+fn treated(line: &str) -> Option<(&str, &str)>
+    ensures { option_map (λ r. (r.0.now, r.1.now)) result ≡ grammar.treated line.now }
+{
+    let behind = past_word(line, "diagnostic")?;
+    let inside = past_word(behind.trim_start(), "(")?;
+    let (severity, more) = cut_at(inside, ',')?;
+    let (rule, end) = cut_at(more, ')')?;
+    past_word(end.trim_start(), ";")?;
+    if severity.is_empty() || rule.is_empty() {
+        None
+    } else {
+        Some((severity.trim(), rule.trim()))
+    }
+}
+
+fn is_severity(text: &str) -> bool
+    ensures { result ≡ grammar.is_severity text.now }
+{
+    text == "off" || text == "info" || text == "warn" || text == "error"
+}
+
+// Whether a line may stand among directives.
+fn is_between(line: &str) -> bool
+    ensures { result ≡ grammar.is_between line.now }
+{
+    line.is_empty()
+        || past_word(line, "//").is_some()
+        || past_word(line, "enable").is_some()
+        || past_word(line, "requires").is_some()
+        || past_word(line, "diagnostic").is_some()
+}
+
+// What a line is, without the white space round it.
+fn read_directive(alloc: Global, line: &str) -> Result<Directive<'_>, AllocError>
+    ensures { IfOk result (λ d. line_directive_of d ≡ directive_of line.now) }
+{
+    if let Some(list) = listed(line, "enable") {
+        let names = extensions(alloc, list)?;
+        if names.is_empty() {
+            return Ok(Directive::NoExtensions);
+        }
+        return Ok(Directive::Enable(names));
+    }
+    if let Some(list) = listed(line, "requires") {
+        let names = extensions(alloc, list)?;
+        if names.is_empty() {
+            return Ok(Directive::NoExtensions);
+        }
+        return Ok(Directive::Requires(names));
+    }
+    match treated(line) {
+        Some((severity, rule)) if is_severity(severity) => {
+            Ok(Directive::Diagnostic { severity, rule })
+        }
+        Some((severity, _)) => Ok(Directive::UnknownSeverity(severity)),
+        None if is_between(line) => Ok(Directive::Passing),
+        None => Ok(Directive::Ending),
+    }
+}
+
+// The text for a severity that there isn't.
+fn unknown_severity(alloc: Global, severity: &str) -> Result<String, AllocError>
+    ensures { IfOk result (λ s. string_bytes s ≡ unknown_severity severity.now) }
+{
+    format!(in alloc; "Invalid severity '{severity}'. Must be one of: off, info, warn, error")
+}
+
+// Takes the directive of a line, or else writes the line. Gives whether more directives may follow.
+fn take_line(
+    alloc: Global,
+    line: &str,
+    index: usize,
+    directives: &mut WgslDirectives,
+    cleaned: &mut String,
+) -> Result<bool, ComposerErrorInner>
+    ensures goes_on { Gives (λ b. b) result (goes_on index (trim line.now) (directive_of (trim line.now))) }
+    ensures text { OnOk result (string_bytes cleaned.new ≡ string_bytes cleaned.old ++ kept line.now (directive_of (trim line.now))) }
+    ensures found { OnOk result (directives_of directives.new ≡ directives_of directives.old and found index (directive_of (trim line.now))) }
+{
+    let trimmed = line.trim();
+    let reason = match read_directive(alloc, trimmed)? {
+        Directive::Enable(extensions) => {
+            directives.enables.push(EnableDirective {
+                extensions,
+                source_location: index,
+            })?;
+            return Ok(true);
+        }
+        Directive::Requires(extensions) => {
+            directives.requires_.push(RequiresDirective {
+                extensions,
+                source_location: index,
+            })?;
+            return Ok(true);
+        }
+        Directive::Diagnostic { severity, rule } => {
+            directives.diagnostics.push(DiagnosticDirective {
+                severity: String::from_str(alloc, severity)?,
+                rule: String::from_str(alloc, rule)?,
+                source_location: index,
+            })?;
+            return Ok(true);
+        }
+        Directive::Passing => {
+            cleaned.push_str(line)?;
+            return Ok(true);
+        }
+        Directive::Ending => {
+            cleaned.push_str(line)?;
+            return Ok(false);
+        }
+        Directive::NoExtensions => String::from_str(alloc, "No extensions specified")?,
+        Directive::UnknownSeverity(severity) => unknown_severity(alloc, severity)?,
+    };
+    Err(ComposerErrorInner::InvalidWgslDirective {
+        directive: String::from_str(alloc, trimmed)?,
+        position: index,
+        reason,
+    })
+}
+
+// Writes what stands between a line of this number and the line before it.
+fn push_line_end(out: &mut String, index: usize) -> Result<(), AllocError>
+    ensures { OnOk result (string_bytes out.new ≡ string_bytes out.old ++ (if index == 0 then [] else 10 ∷ [])) }
+{
+    if index > 0 {
+        out.push('\n')?;
+    }
+    Ok(())
+}
+
+// Writes further lines, each behind a line end.
+fn push_lines(out: &mut String, rest: Lines<'_>) -> Result<(), AllocError>
+    ensures { OnOk result (string_bytes out.new ≡ string_bytes out.old ++ flat_map (λ line. 10 ∷ line) (lines (lines_rest rest.entry))) }
+{
+    for line in rest {
+        out.push('\n')?;
+        out.push_str(line)?;
+    }
+    Ok(())
+}
+
+impl Preprocessor {
+    /// The text without the directives that it begins with, and these. The line of a directive is empty in it; all
+    /// lines are joined by `\n`, so the last line's end goes. Or the first fault, or `Memory`. Time and memory are linear in the text.
+    pub fn extract_wgsl_directives(
+        &self,
+        alloc: Global,
+        source: &str,
+    ) -> Result<(String, WgslDirectives), ComposerErrorInner>
+        ensures { Gives (λ r. (string_bytes r.0, directives_of r.1)) result (extracted source.now) }
+    {
+        let mut directives = WgslDirectives::new(alloc);
+        let mut cleaned = String::with_capacity(alloc, source.len())?;
+        let mut lines = source.lines();
+        let mut index = 0usize;
+        while let Some(line) = lines.next() {
+            push_line_end(&mut cleaned, index)?;
+            if !take_line(alloc, line, index, &mut directives, &mut cleaned)? {
+                push_lines(&mut cleaned, lines)?;
+                return Ok((cleaned, directives));
+            }
+            index += 1;
+        }
+        Ok((cleaned, directives))
+    }
+}
+
+#[cfg(test)]
+mod tests;
