@@ -2,13 +2,14 @@
 use Rattle.std.specs.Prelude.{ℕ, zero, suc, ◌+◌, Bool, true, if◌then◌else◌, List, [], ◌∷◌, map, bytes_eq, unwrap_or, Option, Some, None, Result, Ok, Err}
 use Rattle.naga_oil_lines.specs.Directives.{Directives}
 use Rattle.naga_oil_lines.specs.Leaves.{Leaf, SyntaxFault, import_leaves, with_leaves}
-use Rattle.naga_oil_lines.specs.Uses.{Use}
+use Rattle.naga_oil_lines.specs.Uses.{Import, Use}
 use Rattle.naga_oil_lines.specs.Substituted.{used_by}
 use Rattle.naga_oil_pre.specs.declared.shader_def.ShaderDefValue.{ShaderDefValue}
 use Rattle.naga_oil_pre.specs.Line.{Line, source_lines}
 use Rattle.naga_oil_pre.specs.Kind.{LineKind, version, condition, endif, imports, import_path, define, other, unversioned_kind_of}
 use Rattle.naga_oil_pre.specs.Fault.{Fault, Definitions, invalid_definition, invalid_import, define_in_module}
 use Rattle.naga_oil_pre.specs.DefineValue.{defined_value}
+use Rattle.naga_oil_pre.specs.Extracted.{extracted}
 use Rattle.naga_oil_pre.specs.Reading.{braces_after, taken}
 use Rattle.naga_oil_pre.specs.Preprocessed.{Known, nothing_known, tokens_of, import_text}
 use Rattle.naga_oil_pre.specs.Recorded.{is_recorded}
@@ -100,6 +101,19 @@ metadata_with cleaned directives (Ok found) =
     Ok (record { name = found.name; uses = map (λ u. u.1) found.known.uses; defines = found.defines; records = is_recorded cleaned; directives = directives; cleaned = cleaned })
 metadata_with cleaned directives (Err f) = Err f
 
--- the metadata of a cleaned text with its directives, or its earliest fault
+-- the metadata of a cleaned text with its directives, or the fault of its earliest line
 abbrev pub metadata_of_cleaned : (allow_defines : Bool) → (cleaned : List ℕ) → Directives → Result Metadata Fault
 metadata_of_cleaned allow_defines cleaned directives = metadata_with cleaned directives (found_in allow_defines nothing_found 0 (source_lines cleaned))
+
+abbrev pub metadata_behind : (allow_defines : Bool) → Result (List ℕ × Directives) Fault → Result Metadata Fault
+metadata_behind allow_defines (Ok r) = metadata_of_cleaned allow_defines r.0 r.1
+metadata_behind allow_defines (Err f) = Err f
+
+-- the metadata of a text, whose directives are taken out first, or its first fault
+unfoldable pub metadata : (allow_defines : Bool) → (text : List ℕ) → Result Metadata Fault
+metadata allow_defines text = metadata_behind allow_defines (extracted text)
+
+-- the import path, what is used of each module, and the defines; nothing where there is a fault
+abbrev pub data_of : Result Metadata Fault → Option (List ℕ) × List Import × Definitions
+data_of (Ok m) = (m.name, map (λ u. u.import) m.uses, m.defines)
+data_of (Err f) = (None, [], none_defined)

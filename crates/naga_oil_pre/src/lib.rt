@@ -9,6 +9,8 @@
 //! - `scope`: the chains of conditions that are open.
 //! - `replace`: values for the names of a line.
 //! - `imports`: what imports declare, and what lines use of them.
+//! - `metadata`: what a text tells before any build.
+//! - `recorded`: the names on which a text's preprocessing may depend.
 //! - `source_lines`: the lines of a text with their covered lines.
 //! - `shader_def`: what a name is defined as.
 //! - `fault`: what can be wrong with a text.
@@ -30,5 +32,6 @@ mod shader_def;
 mod source_lines;
 
 pub use fault::ComposerErrorInner;
+pub use metadata::{PreprocessorMetaData, get_preprocessor_data};
 pub use preprocess::{PreprocessOutput, Preprocessor};
 pub use shader_def::{ShaderDefValue, defined_value};

@@ -1,15 +1,15 @@
 // What a text tells before any build.
-ghost use Rattle.std.specs.Prelude.{◌≡◌, ℕ, ◌+◌, ◌^◌, ◌<◌, ◌≤◌, ◌++◌, ◌∷◌, [], List, length, string_bytes, option_copied, unwrap_or, Some, Ok, OnOk, IfOk, IfErr};
+ghost use Rattle.std.specs.Prelude.{◌≡◌, ℕ, ◌+◌, ◌^◌, ◌<◌, ◌≤◌, ◌++◌, ◌∷◌, [], List, length, string_bytes, option_copied, option_map, map, true, unwrap_or, Some, Ok, OnOk, IfOk, IfErr};
 ghost use Rattle.std.specs.BTreeMap.{get_by_text};
 ghost use Rattle.std.specs.BTreeSet.{contains_text};
 ghost use Rattle.naga_oil_lines.specs.Declarations.{declared_of};
 ghost use Rattle.naga_oil_lines.specs.Directives.{directives_of};
 ghost use Rattle.naga_oil_lines.specs.Leaves.{import_leaves};
 ghost use Rattle.naga_oil_lines.specs.Substituted.{used_by};
-ghost use Rattle.naga_oil_lines.specs.Uses.{uses_of};
+ghost use Rattle.naga_oil_lines.specs.Uses.{uses_of, use_of, import_of};
 ghost use Rattle.naga_oil_pre.specs.Line.{Line, source_lines};
 ghost use Rattle.naga_oil_pre.specs.KindView.{line_kind_of};
-ghost use Rattle.naga_oil_pre.specs.Metadata.{nothing_found, defined_behind, with_import, found_behind, left_open, going_on, found_in, metadata_of_cleaned};
+ghost use Rattle.naga_oil_pre.specs.Metadata.{nothing_found, defined_behind, with_import, found_behind, left_open, going_on, found_in, metadata_of_cleaned, metadata, data_of};
 ghost use Rattle.naga_oil_pre.specs.MetadataView.{has_with, Gains, found_of, metadata_of};
 ghost use Rattle.naga_oil_pre.specs.Preprocessed.{ended, import_text, tokens_of, preprocessed};
 ghost use Rattle.naga_oil_pre.specs.Reading.{braces_after, taken, behind_taken};
@@ -21,6 +21,7 @@ ghost use Rattle.naga_oil_pre.specs.View.{Fails, Gives, fault_of};
 use crate::fault::ComposerErrorInner;
 use crate::imports::{Imports, braces_after, declare};
 use crate::line_kind::{LineKind, unversioned_line_kind};
+use crate::preprocess::Preprocessor;
 use crate::recorded::record_line_names;
 use crate::shader_def::{ShaderDefValue, defined_value};
 use crate::source_lines::{SourceLine, SourceLines};
@@ -317,3 +318,64 @@ fn read_metadata(
         cleaned_source: cleaned,
     })
 }
+
+impl Preprocessor {
+    /// What a registry needs of the text before any build. Directives are taken out first; conditions choose nothing.
+    /// Or the fault of a directive, or else the fault of the earliest line that has one (a define is one where defines
+    /// aren't allowed), or `Memory`. Under any definitions that agree on `effective_defs`, presence included, the
+    /// cleaned source becomes the same. Time and memory are linear in the text.
+    pub fn get_preprocessor_metadata(
+        &self,
+        alloc: Global,
+        shader_str: &str,
+        allow_defines: bool,
+    ) -> Result<PreprocessorMetaData, ComposerErrorInner>
+        ensures value { Gives metadata_of result (metadata allow_defines shader_str.now) }
+        ensures agreement { IfOk result (λ m. (d e : Definitions) → AgreeOn (contains_text m.effective_defs) d e → preprocessed d (string_bytes m.cleaned_source) ≡ preprocessed e (string_bytes m.cleaned_source)) }
+    {
+        let (cleaned, directives) = self.extract_wgsl_directives(alloc, shader_str)?;
+        read_metadata(alloc, cleaned, directives, allow_defines)
+    }
+}
+
+// The imports without their places.
+fn definitions_of(
+    alloc: Global,
+    imports: &[ImportDefWithOffset],
+) -> Result<Vec<ImportDefinition>, AllocError>
+    ensures { IfOk result (λ v. map import_of v.items ≡ map (λ u. u.import) (map use_of imports.now)) }
+{
+    let mut definitions = Vec::with_capacity(alloc, imports.len())?;
+    for used in imports {
+        definitions.push(used.definition().try_clone()?)?;
+    }
+    Ok(definitions)
+}
+
+/// The import path, the imports and the defines of a text's metadata, with defines allowed. Where the metadata is
+/// refused for another cause than memory there are none.
+pub fn get_preprocessor_data(
+    alloc: Global,
+    source: &str,
+) -> Result<
+    (
+        Option<String>,
+        Vec<ImportDefinition>,
+        BTreeMap<String, ShaderDefValue>,
+    ),
+    AllocError,
+>
+    ensures { IfOk result (λ r. data_of (metadata true source.now) ≡ (option_map string_bytes r.0, map import_of r.1.items, get_by_text r.2)) }
+{
+    match Preprocessor.get_preprocessor_metadata(alloc, source, true) {
+        Ok(metadata) => {
+            let definitions = definitions_of(alloc, metadata.imports.as_slice())?;
+            Ok((metadata.name, definitions, metadata.defines))
+        }
+        Err(ComposerErrorInner::Memory) => Err(AllocError),
+        Err(_) => Ok((None, Vec::new(alloc), BTreeMap::new(alloc))),
+    }
+}
+
+#[cfg(test)]
+mod tests;
