@@ -1,5 +1,5 @@
 -- The faults of an import line have their places in it, or at its end.
-use Rattle.std.proofs.Common.{◌≡◌, ℕ, zero, suc, ◌+◌, ◌≤◌, Bool, true, false, List, [], ◌∷◌, ◌++◌, length, take, drop, refl, sym, subst, ap, ◌∙◌, arith, length-append, Result, Ok, Err}
+use Rattle.std.proofs.Common.{◌≡◌, ℕ, zero, suc, ◌+◌, ◌≤◌, Bool, true, false, List, [], ◌∷◌, ◌++◌, length, take, drop, refl, subst, ap, arith, length-append, Result, Ok, Err}
 use Rattle.std.specs.Prelude.{All, codes, bytes_eq, nat_le, nat_eq, ◌==◌, if◌then◌else◌, not}
 use Rattle.std.specs.List.{list_any, ends_with}
 use Rattle.std.specs.Char.{len_utf8, is_whitespace, encode_utf8}
