@@ -16,3 +16,5 @@ pub mod LeavesLemmas
 pub mod PartLemmas
 pub mod DeclarationLemmas
 pub mod ImportPlaceLemmas
+pub mod PassLemmas
+pub mod WritingLemmas

@@ -15,3 +15,4 @@ pub mod Directives
 pub mod DecorateRows
 pub mod ImportReader
 pub mod ImportRows
+pub mod Sites
