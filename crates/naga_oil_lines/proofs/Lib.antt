@@ -19,3 +19,5 @@ pub mod ImportPlaceLemmas
 pub mod SubstitutedLines
 pub mod DirectiveLemmas
 pub mod NamesInOrder
+pub mod PassLemmas
+pub mod WritingLemmas

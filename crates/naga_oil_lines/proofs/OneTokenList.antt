@@ -63,7 +63,7 @@ identifier_told at (c ∷ front) rest more long e =
     let cut = one_longest IsIdentifier (c ∷ front) rest _ _ long (longest_identifier c (front ++ rest) starts) (ap (λ l. c ∷ l) (sym (take-append-drop _ (front ++ rest)))) in
     told at c _ (c ∷ front) rest (front ++ rest) (identifier (encode_utf8_all (c ∷ front)) at) more (more_in_identifier c (front ++ rest) starts) cut (lexeme_identifier at c _ starts) e
 
-no_start : (c : ℕ) → is_whitespace c ≡ true → starts_identifier c ≡ false
+pub no_start : (c : ℕ) → is_whitespace c ≡ true → starts_identifier c ≡ false
 no_start c white =
     let quote : c ≢ 34 = λ e. let w : false ≡ true = subst (λ k. is_whitespace k ≡ true) e white in cc in
     let start : is_xid_start c ≡ false =

@@ -1,11 +1,7 @@
 -- Identifiers that are substituted one after another, up to a refusal.
-use Rattle.std.proofs.Common.{◌≡◌, ℕ, zero, suc, take, length-append, IsErrAnd, ◌+◌, ◌<◌, ◌≤◌, nat_lt, Bool, true, false, cond, not, ◌&&◌, eqb, List, [], ◌∷◌, ◌++◌, length, map, Option, Some, None, Vec, String, string_bytes, bytes_eq, Result, Ok, Err, IfErr, refl, sym, ap, subst, ◌∙◌, arith, append_assoc, append-nil}
+use Rattle.std.proofs.Common.{◌≡◌, ℕ, IsErrAnd, ◌<◌, nat_lt, Bool, true, false, cond, not, ◌&&◌, eqb, List, [], ◌∷◌, ◌++◌, length, map, Option, Some, None, Vec, String, string_bytes, bytes_eq, Result, Ok, Err, IfErr, refl, sym, ap, subst, ◌∙◌, arith, append_assoc, append-nil}
 use Rattle.std.specs.declared.alloc.Global.{Global}
 use Rattle.std.specs.List.{flat_map}
-use Rattle.std.specs.Char.{encode_utf8, len_utf8, is_whitespace}
-use Rattle.std.specs.Str.{IsUtf8, chars, encode_utf8_all}
-use Rattle.std.proofs.lemmas.Str.{length-encode, encodes-chars}
-use Rattle.naga_oil_lines.specs.Tokens.{Lexeme, identifier, other, whitespace, starts_identifier, more_in_token, lexeme_at, lexemes}
 use Rattle.std.specs.Map.{lookup}
 use Rattle.std.specs.Option.{option_map, option_map_or}
 use borrow.Author.Tests.{eqb-true}
@@ -16,7 +12,7 @@ use Rattle.naga_oil_lines.specs.declared.substitute.SubstituteFault.{SubstituteF
 use Rattle.naga_oil_lines.specs.declared.substitute.SubstituteFault.TheVariants.{Ambiguous, Memory}
 use Rattle.naga_oil_lines.specs.Declarations.{Declared, paths_of}
 use Rattle.naga_oil_lines.specs.SubstituteFault.{Refuses}
-use Rattle.naga_oil_lines.specs.Substituted.{cut_at_first, first_part, behind_first, extended, all_extended, paths_or, paths_for, mentions_at, Mention, recorded, Site, mentions_of, mentioned, is_refused, first_ambiguous, before_ambiguous, place_of, keeps_next, site_at, written_token, sites_from, substituted_from, BeginsUses}
+use Rattle.naga_oil_lines.specs.Substituted.{cut_at_first, first_part, behind_first, extended, all_extended, paths_or, paths_for, mentions_at, Mention, recorded, Site, mentions_of, mentioned, is_refused, first_ambiguous, before_ambiguous, BeginsUses}
 use Rattle.naga_oil_lines.specs.Uses.{Uses}
 use Rattle.naga_oil_lines.proofs.SiteLemmas.{recorded-append, begins_later}
 
@@ -194,58 +190,6 @@ settled_refused declared allowed all old mid new one rest Memory s r =
     begins_later (mentioned declared s.done) (mentioned declared (before_ambiguous declared allowed one)) (mentioned declared more.0) (mentioned declared (before_ambiguous declared allowed all)) old mid new s.uses
     (ap (mentioned declared) before ∙ flat_map-append (mentions_of declared) s.done (before_ambiguous declared allowed one ++ more.0)
     ∙ ap (λ l. mentioned declared s.done ++ l) (flat_map-append (mentions_of declared) (before_ambiguous declared allowed one) more.0)) r
-
--- ---- tokens
--- one token more is written
-pub text_token : (declared : Declared) (kept next : Bool) (t : Lexeme) (left rest : List Lexeme) (out new whole : List ℕ) → left ≡ t ∷ rest → next ≡ keeps_next t
-    → out ++ substituted_from declared kept left ≡ whole → new ≡ out ++ written_token declared kept t → new ++ substituted_from declared next rest ≡ whole
-text_token declared kept next t left rest out new whole l k e n =
-    (λ i. n i ++ substituted_from declared (k i) rest)
-    ∙ append_assoc out (written_token declared kept t) (substituted_from declared (keeps_next t) rest)
-    ∙ ap (λ ts. out ++ substituted_from declared kept ts) (sym l) ∙ e
-
-pub settled_token : (declared : Declared) (allowed : Bool) (all : List Site) (old mid new : Uses) (offset : ℕ) (kept next : Bool) (t : Lexeme) (left rest : List Lexeme) → left ≡ t ∷ rest → next ≡ keeps_next t
-    → Settled declared allowed all old mid (sites_from offset kept left) → first_ambiguous declared allowed (site_at offset kept t) ≡ None
-    → new ≡ recorded mid (mentioned declared (site_at offset kept t)) → Settled declared allowed all old new (sites_from offset next rest)
-settled_token declared allowed all old mid new offset kept next t left rest l k s none now =
-    subst (λ b. Settled declared allowed all old new (sites_from offset b rest)) (sym k)
-    (settled_more declared allowed all old mid new (site_at offset kept t) (sites_from offset (keeps_next t) rest)
-    (subst (λ ts. Settled declared allowed all old mid (sites_from offset kept ts)) l s) none now)
-
-pub refused_token : (declared : Declared) (allowed : Bool) (all : List Site) (old mid new : Uses) (offset : ℕ) (kept : Bool) (t : Lexeme) (left rest : List Lexeme) (fault : SubstituteFault) → left ≡ t ∷ rest
-    → Settled declared allowed all old mid (sites_from offset kept left) → Refuses declared allowed (site_at offset kept t) mid new fault → Refuses declared allowed all old new fault
-refused_token declared allowed all old mid new offset kept t left rest fault l s r =
-    settled_refused declared allowed all old mid new (site_at offset kept t) (sites_from offset (keeps_next t) rest) fault
-    (subst (λ ts. Settled declared allowed all old mid (sites_from offset kept ts)) l s) r
-
--- ---- places
--- the tokens begin within so many bytes
-abbrev pub AreWithin : ℕ → List Lexeme → Type 0
-AreWithin n [] = Unit {0}
-AreWithin n (t ∷ ts) = (place_of t ≤ n) × AreWithin n ts
-
-place_of-lexeme_at : (at c : ℕ) (text : List ℕ) → place_of (lexeme_at at c text) ≡ at
-place_of-lexeme_at at c text =
-    elim (starts_identifier c) as (λ b. place_of (cond b (identifier text at) (cond (is_whitespace c) (whitespace text at) (other c at))) ≡ at) [
-      | true ↦ refl
-      | false ↦ elim (is_whitespace c) as (λ b. place_of (cond b (whitespace text at) (other c at)) ≡ at) [ true ↦ refl | false ↦ refl ]
-    ]
-
-lexemes_within : (n told at : ℕ) (cs : List ℕ) → at + length (encode_utf8_all cs) ≤ n → AreWithin n (lexemes told at cs)
-unfolding lexemes
-lexemes_within n zero at [] h = tt
-lexemes_within n (suc told) at [] h = tt
-lexemes_within n (suc told) at (c ∷ cs) h =
-    lexemes_within n told (at + len_utf8 c) cs (omega (arith, length-append (encode_utf8 c) (encode_utf8_all cs), length-encode c))
-lexemes_within n zero at (c ∷ cs) h =
-    let text = encode_utf8_all (c ∷ take (more_in_token c cs) cs) in
-    (omega (arith, place_of-lexeme_at at c text), lexemes_within n (more_in_token c cs) (at + len_utf8 c) cs (omega (arith, length-append (encode_utf8 c) (encode_utf8_all cs), length-encode c)))
-
-pub tokens_within : (bs : List ℕ) → IsUtf8 bs → AreWithin (length bs) (lexemes 0 0 (chars bs))
-tokens_within bs u = lexemes_within (length bs) 0 0 (chars bs) (omega (arith, ap length (encodes-chars bs u)))
-
-pub within_first : (n : ℕ) (t : Lexeme) (left rest : List Lexeme) → left ≡ t ∷ rest → AreWithin n left → (place_of t ≤ n) × AreWithin n rest
-within_first n t left rest e h = subst (AreWithin n) e h
 
 -- ---- a count of paths
 pub refused_is : (declared : Declared) (allowed : Bool) (s : Site) (xs : List (String Global)) (behind : List ℕ) → paths_for declared s.name ≡ all_extended (map string_bytes xs) behind

@@ -86,7 +86,7 @@ unfolding lexemes
 lexemes-nil at = refl
 
 -- the first token of a text, and what is left
-lexemes_first : (at c : ℕ) (bs more text left : List ℕ) → BeginsWithChar bs c more → bs ≡ text ++ left → IsUtf8 left
+pub lexemes_first : (at c : ℕ) (bs more text left : List ℕ) → BeginsWithChar bs c more → bs ≡ text ++ left → IsUtf8 left
     → chars left ≡ drop (more_in_token c (chars more)) (chars more) → lexemes 0 at (chars bs) ≡ lexeme_at at c text ∷ lexemes 0 (at + length text) (chars left)
 lexemes_first at c bs more text left first cut v rest =
     let n = more_in_token c (chars more) in

@@ -17,3 +17,4 @@ pub mod DirectivesRows
 pub mod DecorateRows
 pub mod ImportReader
 pub mod ImportRows
+pub mod Sites

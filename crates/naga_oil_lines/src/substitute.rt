@@ -1,5 +1,5 @@
 // Writes what identifiers stand for, and records what they use of imported modules.
-ghost use Rattle.std.specs.Prelude.{◌≡◌, ℕ, ◌+◌, ◌<◌, ◌^◌, ◌++◌, ◌∷◌, [], None, not, ◌&&◌, nat_lt, length, map, IfOk, IfErr, OnOk, OnErr};
+ghost use Rattle.std.specs.Prelude.{◌≡◌, ℕ, ◌+◌, ◌<◌, ◌^◌, ◌++◌, ◌∷◌, [], None, not, ◌&&◌, ◌||◌, ◌==◌, nat_lt, length, map, IfOk, IfErr, OnOk, OnErr, MatchOption};
 ghost use Rattle.std.specs.Cow.{cow_str_bytes};
 ghost use Rattle.std.specs.List.{flat_map};
 ghost use Rattle.std.specs.Option.{option_map};
@@ -8,14 +8,15 @@ ghost use Rattle.std.specs.String.{string_bytes};
 ghost use Rattle.naga_oil_lines.specs.Declarations.{declared_of, paths_of};
 ghost use Rattle.naga_oil_lines.specs.Decorate.{decorated_name};
 ghost use Rattle.naga_oil_lines.specs.SubstituteFault.{Refuses};
-ghost use Rattle.naga_oil_lines.specs.Substituted.{module_and_item, first_part, behind_first, extended, all_extended, paths_for, written, mentions_at, recorded, Site, keeps_next, site_at, written_token, substituted, sites, mentioned, first_ambiguous, place_of, used_by, BeginsUses};
-ghost use Rattle.naga_oil_lines.specs.Tokenizer.{lexeme_of};
+ghost use Rattle.naga_oil_lines.specs.Substituted.{module_and_item, first_part, behind_first, extended, all_extended, paths_for, written, mentions_at, recorded, Site, substituted, sites, mentioned, first_ambiguous, used_by, BeginsUses};
+ghost use Rattle.naga_oil_lines.specs.Sites.{HasNoSite, FindsSite, is_own};
 ghost use Rattle.naga_oil_lines.specs.Tokens.{lexemes};
 ghost use Rattle.naga_oil_lines.specs.Uses.{uses_of, with_use};
 
 use crate::decorate::push_decorated;
 use crate::import_definition::ImportDefWithOffset;
-use crate::tokenizer::{Token, Tokenizer};
+use crate::text::{split_first_char, text_before};
+use crate::tokenizer::{after_identifier, starts_identifier};
 use indexmap::IndexMap;
 use std::alloc::{AllocError, Global};
 use std::borrow::CowStr;
@@ -99,14 +100,45 @@ fn own_path<'a>(identifier: &'a str, first: &'a str, behind: &str) -> &'a str
     if behind.is_empty() { first } else { identifier }
 }
 
-// Whether an identifier behind the token is kept.
-fn keeps_next(token: Token<'_>) -> bool
-    ensures { result ≡ keeps_next (lexeme_of token.entry) }
+// Whether an identifier behind the character is kept.
+fn keeps_next(c: char) -> bool
+    ensures { result ≡ (c == 46 || (c == 64)) }
 {
-    match token {
-        Token::Other(other, _) => other == '.' || other == '@',
-        Token::Identifier(..) | Token::Whitespace(..) => false,
+    c == '.' || c == '@'
+}
+
+/// An identifier that is substituted, with the text from it on and the text behind it.
+#[derive(Clone, Copy)]
+struct SiteText<'a> {
+    name: &'a str,
+    from: &'a str,
+    behind: &'a str,
+}
+
+// The first identifier of a text that is substituted.
+fn next_site(text: &str) -> Option<SiteText<'_>>
+    ensures { MatchOption result (HasNoSite text.now) (λ site. FindsSite text.now site.name.now site.from.now site.behind.now) }
+{
+    let mut kept = false;
+    let mut rest = text;
+    while let Some((first, more)) = split_first_char(rest) {
+        if !starts_identifier(first) {
+            kept = keeps_next(first);
+            rest = more;
+            continue;
+        }
+        let behind = after_identifier(more, first == '"');
+        if !kept {
+            return Some(SiteText {
+                name: text_before(rest, behind),
+                from: rest,
+                behind,
+            });
+        }
+        kept = false;
+        rest = behind;
     }
+    None
 }
 
 // How the identifiers of a text are substituted.
@@ -207,36 +239,11 @@ impl Substitution<'_> {
         Ok(())
     }
 
-    // Writes a token, whose identifier is kept or substituted.
-    fn write_token(
-        &self,
-        token: Token<'_>,
-        kept: bool,
-        used_imports: &mut IndexMap<String, ImportDefWithOffset>,
-        output: &mut String,
-    ) -> Result<(), SubstituteFault>
-        requires { self.now.offset + place_of (lexeme_of token) < 2 ^ 64 }
-        ensures text { OnOk result (string_bytes output.new ≡ string_bytes output.old ++ written_token (declared_of self.now.declared_imports.now) kept (lexeme_of token.entry)) }
-        ensures used { OnOk result (uses_of used_imports.new ≡ recorded (uses_of used_imports.old) (mentioned (declared_of self.now.declared_imports.now) (site_at self.now.offset kept (lexeme_of token.entry)))) }
-        ensures allowed { OnOk result (first_ambiguous (declared_of self.now.declared_imports.now) self.now.allow_ambiguous (site_at self.now.offset kept (lexeme_of token.entry)) ≡ None) }
-        ensures fault { IfErr result (λ e. Refuses (declared_of self.now.declared_imports.now) self.now.allow_ambiguous (site_at self.now.offset kept (lexeme_of token.entry)) (uses_of used_imports.old) (uses_of used_imports.new) e) }
+    // Whether an identifier stands for itself alone.
+    fn is_own(&self, identifier: &str) -> bool
+        ensures { result ≡ is_own (declared_of self.now.declared_imports.now) identifier.now }
     {
-        match token {
-            Token::Identifier(identifier, at) => {
-                if !kept {
-                    return self.write_identifier(
-                        identifier,
-                        self.offset + at,
-                        used_imports,
-                        output,
-                    );
-                }
-                output.push_str(identifier)?;
-            }
-            Token::Whitespace(text, _) => output.push_str(text)?,
-            Token::Other(other, _) => output.push(other)?,
-        }
-        Ok(())
+        !identifier.as_bytes().contains(&b':') && self.declared_paths(identifier).is_empty()
     }
 }
 
@@ -266,11 +273,19 @@ pub fn substitute_identifiers(
         offset,
     };
     let mut output = String::with_capacity(alloc, input.len())?;
-    let mut kept = false;
-    for token in Tokenizer::new(input, true) {
-        substitution.write_token(token, kept, used_imports, &mut output)?;
-        kept = keeps_next(token);
+    let mut unwritten = input;
+    let mut rest = input;
+    while let Some(site) = next_site(rest) {
+        rest = site.behind;
+        if substitution.is_own(site.name) {
+            continue;
+        }
+        output.push_str(text_before(unwritten, site.from))?;
+        let place = offset + (input.len() - site.from.len());
+        substitution.write_identifier(site.name, place, used_imports, &mut output)?;
+        unwritten = rest;
     }
+    output.push_str(unwritten)?;
     Ok(output)
 }
 

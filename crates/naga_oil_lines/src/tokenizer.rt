@@ -5,6 +5,7 @@ ghost use Rattle.std.specs.Str.{chars};
 ghost use Rattle.std.specs.List.{prefix_len};
 ghost use Rattle.naga_oil_lines.specs.Tokens.{Lexeme, continued, lexemes, starts_identifier};
 ghost use Rattle.naga_oil_lines.specs.TokenGrammar.{AreTokens};
+ghost use Rattle.unicode_ident.specs.Ident.{is_xid_start, is_xid_continue};
 
 use crate::text::{after_whitespace, split_first_char};
 use unicode_ident::{is_xid_continue, is_xid_start};
@@ -42,14 +43,36 @@ impl Token<'_> {
     }
 }
 
-fn starts_identifier(first: char) -> bool
+// Whether a character may begin a name. Those of ASCII need no table, here and below.
+fn starts_name(c: char) -> bool
+    ensures { result ≡ is_xid_start c }
+{
+    if c.is_ascii() {
+        c.is_ascii_alphabetic()
+    } else {
+        is_xid_start(c)
+    }
+}
+
+pub(crate) fn starts_identifier(first: char) -> bool
     ensures { result ≡ starts_identifier first }
 {
-    is_xid_start(first) || first == '"'
+    starts_name(first) || first == '"'
+}
+
+// Whether a character may go on a name.
+fn goes_on_name(c: char) -> bool
+    ensures { result ≡ is_xid_continue c }
+{
+    if c.is_ascii() {
+        c.is_ascii_alphanumeric() || c == '_'
+    } else {
+        is_xid_continue(c)
+    }
 }
 
 // What is left of a text behind the characters that go on an identifier.
-fn after_identifier(text: &str, begins_quoted: bool) -> &str
+pub(crate) fn after_identifier(text: &str, begins_quoted: bool) -> &str
     ensures chars { chars result.now ≡ drop (continued begins_quoted (chars text.now)) (chars text.now) }
     ensures suffix { (front : List ℕ) × (text.now ≡ front ++ result.now) }
 {
@@ -62,7 +85,7 @@ fn after_identifier(text: &str, begins_quoted: bool) -> &str
         } else if first == '"' {
             quoted = true;
             rest = more;
-        } else if is_xid_continue(first) {
+        } else if goes_on_name(first) {
             rest = more;
         } else {
             if first != ':' {

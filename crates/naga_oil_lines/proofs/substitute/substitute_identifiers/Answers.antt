@@ -1,45 +1,50 @@
-use Rattle.std.proofs.Common.{◌≡◌, ◌++◌, false, length, subst, ap, sym, refl, ◌∙◌}
-use Rattle.std.specs.Str.{chars}
+use Rattle.std.proofs.Common.{◌∙◌, refl, sym}
 use Rattle.std.specs.String.{string_bytes}
-use Rattle.naga_oil_lines.specs.Declarations.{declared_of}
-use Rattle.naga_oil_lines.specs.Substituted.{substituted, substituted_from, sites, sites_from}
-use Rattle.naga_oil_lines.specs.Tokenizer.{tokens_left, lexeme_of}
-use Rattle.naga_oil_lines.specs.Tokens.{lexemes}
+use Rattle.naga_oil_lines.specs.declared.substitute.SubstituteFault.TheVariants.{Memory}
 use Rattle.naga_oil_lines.specs.Uses.{uses_of}
-use Rattle.naga_oil_lines.proofs.SettledLemmas.{Settled, AreWithin, settled_start, tokens_within, text_token, settled_token, refused_token, within_first, fault_answer}
+use Rattle.naga_oil_lines.proofs.SettledLemmas.{fault_answer}
+use Rattle.naga_oil_lines.proofs.WritingLemmas.{writing_refused, written_text, written_allowed, written_uses, unwritten_before, own_read, site_written, site_refused}
 use Rattle.naga_oil_lines.proofs.substitute.substitute_identifiers.Goals as goal
 
-pub loop-token-init : goal.loop-token-init
-loop-token-init c =
-    let declared = declared_of c.args.declared_imports.now in
-    let tokens = lexemes 0 0 (chars c.args.input.now) in
-    let left : tokens_left c.into_iter-token-iterator.result ≡ tokens = ap tokens_left c.into_iter-token-iterator.ensures.into_iter_gives ∙ c.new-token-items.ensures.left in
-    record {
-      text = (λ i. c.in_ok-output.ensures.bytes i ++ substituted_from declared false (left i));
-      settled =
-          subst (λ ts. Settled declared c.args.allow_ambiguous (sites c.args.offset tokens) (uses_of c.args.used_imports.now) (uses_of c.args.used_imports.now) (sites_from c.args.offset false ts)) (sym left)
-          (settled_start declared c.args.allow_ambiguous (sites c.args.offset tokens) (uses_of c.args.used_imports.now) (uses_of c.args.used_imports.now) refl);
-      within = subst (AreWithin (length c.args.input.now)) (sym left) (tokens_within c.args.input.now c.utf8.input);
-    }
+pub text_before-requires : goal.text_before-requires
+text_before-requires c = unwritten_before _ _ _ _ _ _ _ _ _ c.loop-site.invariant.writing _ _ _ c.in-Some.ensures
 
-pub returns-in_err-write_token-clause-fault : goal.returns-in_err-write_token-clause-fault
-returns-in_err-write_token-clause-fault c =
-    fault_answer c.from_residual-in_err-write_token.result _ c.in_err-write_token.field-0.0 c.from_residual-in_err-write_token.ensures.1
-    (refused_token (declared_of c.args.declared_imports.now) c.args.allow_ambiguous (sites c.args.offset (lexemes 0 0 (chars c.args.input.now))) (uses_of c.args.used_imports.now)
-    (uses_of c.loop-token.used_imports) (uses_of c.write_token.new.used_imports) c.args.offset c.loop-token.kept (lexeme_of c.in-Some.token) (tokens_left c.loop-token.token-iterator) (tokens_left c.next.new.self)
-    c.in_err-write_token.field-0.0 c.in-Some.ensures.steps c.loop-token.invariant.settled c.in_err-write_token.ensures.fault)
+pub loop-site-preserved-then-is_own : goal.loop-site-preserved-then-is_own
+loop-site-preserved-then-is_own c = record {
+  unwritten = c.loop-site.invariant.unwritten;
+  rest = c.in-Some.ensures.utf8;
+  writing = own_read _ _ _ _ _ _ _ _ _ c.loop-site.invariant.writing _ _ _ c.in-Some.ensures (sym c.is_own.ensures ∙ c.if-is_own.true);
+}
 
-pub loop-token-preserved : goal.loop-token-preserved
-loop-token-preserved c =
-    let declared = declared_of c.args.declared_imports.now in
-    let tokens = lexemes 0 0 (chars c.args.input.now) in
-    record {
-      text =
-          text_token declared c.loop-token.kept c.keeps_next-kept.result (lexeme_of c.in-Some.token) (tokens_left c.loop-token.token-iterator) (tokens_left c.next.new.self)
-          (string_bytes c.loop-token.output) (string_bytes c.write_token.new.output) (substituted declared tokens) c.in-Some.ensures.steps c.keeps_next-kept.ensures c.loop-token.invariant.text c.in_ok-write_token.ensures.text;
-      settled =
-          settled_token declared c.args.allow_ambiguous (sites c.args.offset tokens) (uses_of c.args.used_imports.now) (uses_of c.loop-token.used_imports) (uses_of c.write_token.new.used_imports)
-          c.args.offset c.loop-token.kept c.keeps_next-kept.result (lexeme_of c.in-Some.token) (tokens_left c.loop-token.token-iterator) (tokens_left c.next.new.self)
-          c.in-Some.ensures.steps c.keeps_next-kept.ensures c.loop-token.invariant.settled c.in_ok-write_token.ensures.allowed c.in_ok-write_token.ensures.used;
-      within = (within_first (length c.args.input.now) (lexeme_of c.in-Some.token) (tokens_left c.loop-token.token-iterator) (tokens_left c.next.new.self) c.in-Some.ensures.steps c.loop-token.invariant.within).1;
-    }
+pub returns-in_err-push_str-clause-fault : goal.returns-in_err-push_str-clause-fault
+returns-in_err-push_str-clause-fault c =
+    fault_answer c.from_residual-in_err-push_str.result _ Memory c.from_residual-in_err-push_str.ensures.1 (writing_refused _ _ _ _ _ _ _ _ _ c.loop-site.invariant.writing)
+
+pub returns-in_err-write_identifier-clause-fault : goal.returns-in_err-write_identifier-clause-fault
+returns-in_err-write_identifier-clause-fault c =
+    fault_answer c.from_residual-in_err-write_identifier.result _ c.in_err-write_identifier.field-0.0 c.from_residual-in_err-write_identifier.ensures.1
+    (site_refused _ _ _ _ _ _ _ _ _ c.loop-site.invariant.writing _ _ _ c.in-Some.ensures _ refl (uses_of c.write_identifier.new.used_imports) c.in_err-write_identifier.field-0.0
+    c.in_err-write_identifier.ensures.fault)
+
+pub loop-site-preserved : goal.loop-site-preserved
+loop-site-preserved c = record {
+  unwritten = c.in-Some.ensures.utf8;
+  rest = c.in-Some.ensures.utf8;
+  writing =
+      site_written _ _ _ _ _ _ _ _ _ c.loop-site.invariant.writing _ _ _ c.in-Some.ensures _ refl (uses_of c.write_identifier.new.used_imports) _ (string_bytes c.push_str.new.self)
+      (string_bytes c.write_identifier.new.output) c.text_before.ensures c.in_ok-push_str.ensures.bytes c.in_ok-write_identifier.ensures.text c.in_ok-write_identifier.ensures.allowed
+      c.in_ok-write_identifier.ensures.used;
+}
+
+pub returns-in_err-push_str-2-clause-fault : goal.returns-in_err-push_str-2-clause-fault
+returns-in_err-push_str-2-clause-fault c =
+    fault_answer c.from_residual-in_err-push_str-2.result _ Memory c.from_residual-in_err-push_str-2.ensures.1 (writing_refused _ _ _ _ _ _ _ _ _ c.loop-site.invariant.writing)
+
+pub returns-clause-text : goal.returns-clause-text
+returns-clause-text c = written_text _ _ _ _ _ _ _ _ _ c.loop-site.invariant.writing c.in_default.ensures _ c.in_ok-push_str-2.ensures.bytes
+
+pub returns-clause-used : goal.returns-clause-used
+returns-clause-used c = written_uses _ _ _ _ _ _ _ _ _ c.loop-site.invariant.writing c.in_default.ensures
+
+pub returns-clause-allowed : goal.returns-clause-allowed
+returns-clause-allowed c = written_allowed _ _ _ _ _ _ _ _ _ c.loop-site.invariant.writing c.in_default.ensures

@@ -1,0 +1,14 @@
+use Rattle.std.proofs.Common.{false, length}
+use denote.Text.{Utf8}
+use denote.Shadow.{shadow}
+use Rattle.naga_oil_lines.specs.Sites.{Passes}
+use Rattle.naga_oil_lines.proofs.substitute.next_site.Given as goal
+
+abbrev pub invariant-loop-first : goal.invariant-loop-first
+invariant-loop-first l = record {
+  text : shadow (Utf8 l.rest);
+  passes : Passes false l.text l.kept l.rest;
+}
+
+abbrev pub decreases-loop-first : goal.decreases-loop-first
+decreases-loop-first l = length l.rest

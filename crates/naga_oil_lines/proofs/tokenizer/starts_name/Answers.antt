@@ -1,0 +1,9 @@
+use Rattle.std.proofs.Common.{◌<◌, sym, ◌∙◌, arith}
+use Rattle.std.proofs.lemmas.Bool.Decides.{nat_tests}
+use Rattle.unicode_ident.proofs.IdentLemmas.{is_xid_start-ascii}
+use Rattle.naga_oil_lines.proofs.tokenizer.starts_name.Goals as goal
+
+pub returns-then-is_ascii : goal.returns-then-is_ascii
+returns-then-is_ascii c =
+    let ascii : c.args.c < 128 = grind (arith, nat_tests, c.if-is_ascii.ensures) in
+    c.is_ascii_alphabetic.ensures.value ∙ sym (is_xid_start-ascii c.args.c ascii)
