@@ -5,7 +5,7 @@ ghost use Rattle.naga_oil_pre.specs.View.{Gives};
 ghost use Rattle.naga_oil_mini.specs.Printed.{overwritten, printed};
 
 use super::definitions::Definitions;
-use naga_oil_pre::{ComposerErrorInner, Preprocessor};
+use naga_oil_pre::{ComposerErrorInner, Preprocessor, PreprocessorMetaData};
 use std::alloc::{AllocError, Global};
 
 // Defines what the text's own defines say, in place of what was.
@@ -27,9 +27,12 @@ pub fn preprocessed(
     ensures { Gives string_bytes result (printed (get_by_text definitions.entry) text.now) }
 {
     let preprocessor = Preprocessor::default();
-    let metadata = preprocessor.get_preprocessor_metadata(alloc, text, true)?;
-    overwrite(&mut definitions, metadata.defines)?;
-    let source = metadata.cleaned_source;
-    let output = preprocessor.preprocess(alloc, source.as_str(), &definitions)?;
+    let PreprocessorMetaData {
+        defines,
+        cleaned_source,
+        ..
+    } = preprocessor.get_preprocessor_metadata(alloc, text, true)?;
+    overwrite(&mut definitions, defines)?;
+    let output = preprocessor.preprocess(alloc, cleaned_source.as_str(), &definitions)?;
     Ok(output.preprocessed_source)
 }

@@ -129,6 +129,56 @@ fn takes_definitions(rt: HostRuntime) -> Result<(), Fail> {
 }
 
 #[test]
+fn prints_items_by_their_modules(rt: HostRuntime) -> Result<(), Fail> {
+    let text = b"#import a::f\nx.f + x. f";
+    let out = "            \nx.f + x. fX_naga_oil_mod_XMEX\n";
+    answers(&rt, "pre t.txt", text, (0, out, ""))?;
+    let text = b"#import a::f\n// #C f\n#ifdef D\nf();\n#endif";
+    let hidden = "            \n// #C fX_naga_oil_mod_XMEX\n        \n    \n      \n";
+    answers(&rt, "pre t.txt", text, (0, hidden, ""))?;
+    let shown =
+        "            \n// 1 fX_naga_oil_mod_XMEX\n        \nfX_naga_oil_mod_XMEX();\n      \n";
+    answers(&rt, "pre t.txt D= C=1", text, (0, shown, ""))?;
+    Ok(())
+}
+
+#[test]
+fn prints_arms_and_values(rt: HostRuntime) -> Result<(), Fail> {
+    let text = b"#ifdef A\na\n#else if X\nb\n#endif";
+    let out = "        \n \n          \nb\n      \n";
+    answers(&rt, "pre t.txt", text, (0, out, ""))?;
+    let out = "#MISSING * 5     \n";
+    answers(&rt, "pre t.txt FIRST=5", b"#MISSING * #FIRST", (0, out, ""))?;
+    Ok(())
+}
+
+#[test]
+fn prints_an_empty_line_for_a_directive(rt: HostRuntime) -> Result<(), Fail> {
+    for (text, out) in [
+        ("enable ;", "enable ;\n"),
+        ("enable f16;\nfn a() {}\n", "\nfn a() {}\n"),
+        ("enable f16; fn x() {}", ""),
+        ("// x\n\nrequires a,b,,a;\n;", "// x\n\n\n;\n"),
+        ("f\nenable a;", "f\nenable a;\n"),
+    ] {
+        answers(&rt, "pre t.txt", text.as_bytes(), (0, out, ""))?;
+    }
+    for (text, err) in [
+        (
+            "enable  ;",
+            "error: Invalid WGSL directive 'enable  ;' at line 0: No extensions specified\n",
+        ),
+        (
+            "diagnostic(of, x);",
+            "error: Invalid WGSL directive 'diagnostic(of, x);' at line 0: Invalid severity 'of'. Must be one of: off, info, warn, error\n",
+        ),
+    ] {
+        answers(&rt, "pre t.txt", text.as_bytes(), (1, "", err))?;
+    }
+    Ok(())
+}
+
+#[test]
 fn says_what_is_wrong_with_the_words(rt: HostRuntime) -> Result<(), Fail> {
     for line in [
         "",
