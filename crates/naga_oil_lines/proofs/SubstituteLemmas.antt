@@ -55,7 +55,7 @@ last_at (a ∷ b ∷ more) zero back none at =
     rw (last_none (b ∷ more) (λ k h. none (suc k) (omega arith) (omega (arith, h))), first, second, rest) refl
 last_at (a ∷ b ∷ more) (suc i) back none at = rw (last_at (b ∷ more) i back (λ k g h. none (suc k) (omega (arith, g)) (omega (arith, h))) at) refl
 
--- what `split_once` and `rsplit_once` give at `::`
+-- what `split_once` gives at `::`
 pub split_first : (s : List ℕ) (r : Option (Bor (List ℕ) × Bor (List ℕ)))
     → MatchOption r (FindsText (58 ∷ 58 ∷ []) s None) (λ x. SplitsAroundMatch (FindsText (58 ∷ 58 ∷ [])) s x.0.now x.1.now)
     → option_map (λ p. (p.0.now, p.1.now)) r ≡ cut_at_first s
@@ -64,10 +64,11 @@ split_first s (Some x) h =
     let found = h.2 in
     sym (first_at s h.0 x.1.now found.0 (found.1.split ∙ ap (λ l. 58 ∷ 58 ∷ l) (sym h.4)) ∙ ap (λ l. Some (l, x.1.now)) (sym h.3))
 
-pub split_last : (s : List ℕ) (r : Option (Bor (List ℕ) × Bor (List ℕ)))
-    → MatchOption r (RFindsText (58 ∷ 58 ∷ []) s None) (λ x. SplitsAroundMatch (RFindsText (58 ∷ 58 ∷ [])) s x.0.now x.1.now)
-    → option_map (λ p. (p.0.now, p.1.now)) r ≡ module_and_item s
-split_last s None h = sym (last_none s h)
-split_last s (Some x) h =
+-- a path without `::`, and one that is split around its last
+pub path_is_whole : (s : List ℕ) → RFindsText (58 ∷ 58 ∷ []) s None → None ≡ module_and_item s
+path_is_whole s h = sym (last_none s h)
+
+pub path_splits : (s front back : List ℕ) → SplitsAroundMatch (RFindsText (58 ∷ 58 ∷ [])) s front back → Some (front, back) ≡ module_and_item s
+path_splits s front back h =
     let found = h.2 in
-    sym (last_at s h.0 x.1.now found.0 (found.1.split ∙ ap (λ l. 58 ∷ 58 ∷ l) (sym h.4)) ∙ ap (λ l. Some (l, x.1.now)) (sym h.3))
+    sym (last_at s h.0 back found.0 (found.1.split ∙ ap (λ l. 58 ∷ 58 ∷ l) (sym h.4)) ∙ ap (λ l. Some (l, back)) (sym h.3))

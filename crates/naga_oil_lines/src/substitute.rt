@@ -2,13 +2,12 @@
 ghost use Rattle.std.specs.Prelude.{◌≡◌, ℕ, ◌+◌, ◌<◌, ◌^◌, ◌++◌, ◌∷◌, [], None, not, ◌&&◌, ◌||◌, ◌==◌, nat_lt, length, map, IfOk, IfErr, OnOk, OnErr, MatchOption};
 ghost use Rattle.std.specs.Cow.{cow_str_bytes};
 ghost use Rattle.std.specs.List.{flat_map};
-ghost use Rattle.std.specs.Option.{option_map};
 ghost use Rattle.std.specs.Str.{chars};
 ghost use Rattle.std.specs.String.{string_bytes};
 ghost use Rattle.naga_oil_lines.specs.Declarations.{declared_of, paths_of};
 ghost use Rattle.naga_oil_lines.specs.Decorate.{decorated_name};
 ghost use Rattle.naga_oil_lines.specs.SubstituteFault.{Refuses};
-ghost use Rattle.naga_oil_lines.specs.Substituted.{module_and_item, first_part, behind_first, extended, all_extended, paths_for, written, mentions_at, recorded, Site, substituted, sites, mentioned, first_ambiguous, used_by, BeginsUses};
+ghost use Rattle.naga_oil_lines.specs.Substituted.{first_part, behind_first, extended, all_extended, paths_for, written, mentions_at, recorded, Site, substituted, sites, mentioned, first_ambiguous, used_by, BeginsUses};
 ghost use Rattle.naga_oil_lines.specs.Sites.{HasNoSite, FindsSite, is_own};
 ghost use Rattle.naga_oil_lines.specs.Tokens.{lexemes};
 ghost use Rattle.naga_oil_lines.specs.Uses.{uses_of, with_use};
@@ -58,13 +57,6 @@ fn record_use(
     let first = ImportDefWithOffset::first_use(alloc, module_name, item, place)?;
     used_imports.insert(key, first)?;
     Ok(())
-}
-
-// The module and the item of a path.
-fn module_and_item(path: &str) -> Option<(&str, &str)>
-    ensures { option_map (λ p. (p.0.now, p.1.now)) result ≡ module_and_item path.now }
-{
-    path.rsplit_once("::")
 }
 
 // The part of an identifier before its first `::`, and what follows that.
@@ -164,7 +156,7 @@ impl Substitution<'_> {
         ensures used { OnOk result (uses_of used_imports.new ≡ recorded (uses_of used_imports.old) (mentions_at place path.now)) }
         ensures begun { OnErr result (BeginsUses (mentions_at place path.now) (uses_of used_imports.old) (uses_of used_imports.new)) }
     {
-        if let Some((module_name, item)) = module_and_item(path) {
+        if let Some((module_name, item)) = path.rsplit_once("::") {
             record_use(self.alloc, used_imports, module_name, item, place)?;
             return push_decorated(output, module_name, item);
         }
