@@ -228,8 +228,9 @@ fn push_lines(out: &mut String, rest: Lines<'_>) -> Result<(), AllocError>
 }
 
 impl Preprocessor {
-    /// The text without the directives that it begins with, and these. The line of a directive is empty in it; all
-    /// lines are joined by `\n`, so the last line's end goes. Or the first fault, or `Memory`. Time and memory are linear in the text.
+    /// The text without the directives that it begins with, and these. The line of a directive is empty;
+    /// all lines are joined by `\n`, so the last line's end goes. Or the first fault, or `Memory`.
+    /// Takes time and memory linear in the text.
     pub fn extract_wgsl_directives(
         &self,
         alloc: Global,
