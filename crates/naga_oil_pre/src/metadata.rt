@@ -343,7 +343,7 @@ fn definitions_of(
     alloc: Global,
     imports: &[ImportDefWithOffset],
 ) -> Result<Vec<ImportDefinition>, AllocError>
-    ensures { IfOk result (λ v. map import_of v.items ≡ map (λ u. u.import) (map use_of imports.now)) }
+    ensures { IfOk result (λ v. map import_of v.items ≡ map (λ used. (use_of used).import) imports.now) }
 {
     let mut definitions = Vec::with_capacity(alloc, imports.len())?;
     for used in imports {
