@@ -99,11 +99,7 @@ fn define(
 }
 
 // Records what a line uses by its covered line, as it stands.
-fn read_uses(
-    alloc: Global,
-    line: &SourceLine<'_>,
-    imports: &mut Imports,
-) -> Result<(), AllocError>
+fn read_uses(alloc: Global, line: &SourceLine<'_>, imports: &mut Imports) -> Result<(), AllocError>
     requires { line.now.offset ≤ 2 ^ 63 }
     ensures used { OnOk result (uses_of imports.new.used ≡ used_by (declared_of imports.old.declared) line.now.offset (tokens_of (line_of line.now).covered) (uses_of imports.old.used)) }
     ensures declared { OnOk result (declared_of imports.new.declared ≡ declared_of imports.old.declared) }

@@ -35,7 +35,10 @@ fn reads_names_and_uses(rt: HostRuntime) -> Result<(), Fail> {
             "#import a::{f, f}\nf",
             "None [ImportDefWithOffset { definition: ImportDefinition { import: \"a\", items: [\"f\", \"f\"] }, offset: 18 }] {} {}",
         ),
-        ("#version 450\n#if X\n#{Y}", "None [] {} {\"Y\", \"if\", \"version\"}"),
+        (
+            "#version 450\n#if X\n#{Y}",
+            "None [] {} {\"Y\", \"if\", \"version\"}",
+        ),
     ];
     for (source, expected) in table.iter() {
         let shown = shown(rt.alloc(), *source, false)?;
@@ -72,10 +75,7 @@ fn answers_the_first_fault(rt: HostRuntime) -> Result<(), Fail> {
     let table = [
         ("#define A", "DefineInModule(0)"),
         ("enable f16;\n#define A x1", "DefineInModule(1)"),
-        (
-            "#define A\nenable  ;",
-            "DefineInModule(0)",
-        ),
+        ("#define A\nenable  ;", "DefineInModule(0)"),
         (
             "// x\nenable  ;\n#define A",
             "InvalidWgslDirective { directive: \"enable  ;\", position: 1, reason: \"No extensions specified\" }",
@@ -94,7 +94,11 @@ fn answers_the_first_fault(rt: HostRuntime) -> Result<(), Fail> {
 
 #[test]
 fn keeps_directives_and_the_cleaned_text(rt: HostRuntime) -> Result<(), Fail> {
-    let found = Preprocessor.get_preprocessor_metadata(rt.alloc(), "enable f16;\nfn a() {}\n", false)?;
+    let found = Preprocessor.get_preprocessor_metadata(
+        rt.alloc(),
+        "enable f16;\nfn a() {}\n",
+        false,
+    )?;
     assert_eq!(rt; found.cleaned_source.as_str(), "\nfn a() {}");
     assert_eq!(rt; found.wgsl_directives.enables.len(), 1);
     Ok(())
@@ -111,8 +115,14 @@ fn reads_each_front(rt: HostRuntime) -> Result<(), Fail> {
         match metadata {
             Ok(found) => assert_eq!(rt; found.imports.len(), imports.len(), "{front}"),
             Err(fault) => {
-                assert!(rt; matches!(fault, ComposerErrorInner::ImportParseError(..)), "{front}");
-                assert!(rt; name.is_none() && imports.is_empty() && defines.is_empty(), "{front}");
+                assert!(rt;
+                    matches!(fault, ComposerErrorInner::ImportParseError(..)),
+                    "{front}"
+                );
+                assert!(rt;
+                    name.is_none() && imports.is_empty() && defines.is_empty(),
+                    "{front}"
+                );
             }
         }
     }
