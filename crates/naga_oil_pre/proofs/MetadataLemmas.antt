@@ -1,14 +1,18 @@
 -- What is found in a text, line by line.
-use Rattle.std.proofs.Common.{◌≡◌, ℕ, zero, suc, ◌<◌, Bool, true, false, ◌||◌, ◌∷◌, [], ◌++◌, List, cond, Option, Some, None, MatchOption, Result, Ok, Err, refl, sym, ap, ◌∙◌}
-use Rattle.std.specs.Prelude.{OnOk, map, option_map, bytes_eq, String, string_bytes}
+use Rattle.std.proofs.Common.{◌≡◌, ℕ, zero, suc, ◌+◌, ◌<◌, length, get_or, take, Bool, true, false, ◌||◌, ◌∷◌, [], ◌++◌, List, Option, Some, None, MatchOption, Result, Ok, Err, refl, sym, ap, ◌∙◌}
+use Rattle.std.specs.Prelude.{OnOk, map, option_map, String, string_bytes}
 use Rattle.std.specs.BTreeSet.{BTreeSet, contains_text}
 use Rattle.std.specs.List.{flat_map}
 use Rattle.std.proofs.lemmas.Grind.{flat_map-append}
-use Rattle.naga_oil_lines.specs.Directives.{directives_of}
+use Rattle.std.proofs.lemmas.List.{map_more, map_push}
+use Rattle.naga_oil_lines.specs.declared.import_definition.ImportDefinition.{ImportDefinition}
+use Rattle.naga_oil_lines.specs.declared.import_definition.ImportDefWithOffset.{ImportDefWithOffset}
+use Rattle.naga_oil_lines.specs.Directives.{Directives, directives_of}
 use Rattle.naga_oil_lines.specs.Leaves.{Leaf, SyntaxFault}
-use Rattle.naga_oil_lines.specs.Uses.{use_of}
+use Rattle.naga_oil_lines.specs.Uses.{Import, import_of, use_of}
 use Rattle.naga_oil_pre.specs.declared.metadata.PreprocessorMetaData.{PreprocessorMetaData}
 use Rattle.naga_oil_pre.specs.declared.fault.ComposerErrorInner.{ComposerErrorInner}
+use Rattle.naga_oil_pre.specs.Extracted.{extracted}
 use Rattle.naga_oil_pre.specs.Line.{Line, source_lines}
 use Rattle.naga_oil_pre.specs.MetadataView.{has_with, Gains, metadata_of}
 use Rattle.naga_oil_pre.specs.Preprocessed.{Piece, imported_piece, preprocessed}
@@ -28,7 +32,7 @@ use Rattle.std.proofs.lemmas.Map.Text.{btree_map_updates_text}
 use Rattle.naga_oil_pre.specs.declared.shader_def.ShaderDefValue.{ShaderDefValue}
 use Rattle.naga_oil_pre.specs.Fault.{Fault, Definitions}
 use Rattle.naga_oil_pre.specs.DefineValue.{defined_value}
-use Rattle.naga_oil_pre.specs.Metadata.{Found, Metadata, nothing_found, metadata_with, metadata_of_cleaned, with_definition, defined_as, defined_behind, with_import, going_on, found_in}
+use Rattle.naga_oil_pre.specs.Metadata.{Found, Metadata, nothing_found, metadata_with, metadata_of_cleaned, metadata_behind, metadata, data_of, with_definition, defined_as, defined_behind, with_import, going_on, found_in}
 
 -- ---- defines
 all_alike : {A : Type 0} (f g : List ℕ → A) → ((name : List ℕ) → f name ≡ g name) → f ≡ g
@@ -139,3 +143,39 @@ metadata_made allow m found read name uses defines records =
 pub agreed : (text : List ℕ) (names : BTreeSet (String Global)) → ((name : List ℕ) → contains_text names name ≡ is_recorded text name)
     → (d e : Definitions) → AgreeOn (contains_text names) d e → preprocessed d text ≡ preprocessed e text
 agreed text names records d e h = recorded_names_decide text d e (λ name is. h name (records name ∙ is))
+
+-- ---- the metadata of a text
+pub metadata_cleaned : (allow : Bool) (text cleaned : List ℕ) (directives : Directives) → extracted text ≡ Ok (cleaned, directives) → metadata allow text ≡ metadata_of_cleaned allow cleaned directives
+unfolding metadata
+metadata_cleaned allow text cleaned directives e = ap (metadata_behind allow) e
+
+metadata_refused : (allow : Bool) (text : List ℕ) (f : Fault) → extracted text ≡ Err f → metadata allow text ≡ Err f
+unfolding metadata
+metadata_refused allow text f e = ap (metadata_behind allow) e
+
+fails_on : (o : Option Fault) (allow : Bool) (text : List ℕ) → MatchOption o (Unit {0}) (λ f. extracted text ≡ Err f) → MatchOption o (Unit {0}) (λ f. metadata allow text ≡ Err f)
+fails_on None allow text h = tt
+fails_on (Some f) allow text h = metadata_refused allow text f h
+
+-- a directive's fault comes first
+pub directives_refused : (e : ComposerErrorInner) (allow : Bool) (text : List ℕ) → Fails e (extracted text) → Fails e (metadata allow text)
+directives_refused e allow text h = fails_on (fault_of e) allow text h
+
+-- ---- imports without their places
+abbrev import_at : ImportDefWithOffset → Import
+import_at used = (use_of used).import
+
+pub definitions_more : (imports : List ImportDefWithOffset) (i : ℕ) (used : ImportDefWithOffset) (copy : ImportDefinition) (done more : List ImportDefinition) → i < length imports → used ≡ get_or imports i used
+    → import_of copy ≡ import_at used → more ≡ done ++ copy ∷ [] → map import_of done ≡ map import_at (take i imports) → map import_of more ≡ map import_at (take (i + 1) imports)
+definitions_more imports i used copy done more within at same e before =
+    ap (map import_of) e ∙ map_push import_of done copy ∙ ap (λ (d : Import). map import_of done ++ d ∷ []) same
+    ∙ ap (λ ds. ds ++ import_at used ∷ []) before ∙ ap (λ u. map import_at (take i imports) ++ import_at u ∷ []) at
+    ∙ sym (map_more import_at imports i used within)
+
+places_dropped : (imports : List ImportDefWithOffset) → map (λ u. u.import) (map use_of imports) ≡ map import_at imports
+places_dropped [] = refl
+places_dropped (used ∷ more) = ap (λ ds. import_at used ∷ ds) (places_dropped more)
+
+pub data_made : (m : PreprocessorMetaData) (r : Result Metadata Fault) (definitions : List Import) → r ≡ Ok (metadata_of m) → definitions ≡ map import_at m.imports.items
+    → data_of r ≡ (option_map string_bytes m.name, definitions, get_by_text m.defines)
+data_made m r definitions e same = ap data_of e ∙ ap (λ (ds : List Import). (option_map string_bytes m.name, ds, get_by_text m.defines)) (places_dropped m.imports.items ∙ sym same)

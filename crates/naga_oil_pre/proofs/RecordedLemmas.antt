@@ -1,11 +1,11 @@
 -- What a set has after names are recorded, and the `#` names of a text from its front.
-use Rattle.std.proofs.Common.{◌≡◌, ℕ, zero, suc, Bool, true, false, ◌||◌, cond, eqb, Option, Some, None, List, [], ◌∷◌, ◌++◌, drop, take, refl, sym, ap, ◌∙◌, append-nil}
+use Rattle.std.proofs.Common.{◌≡◌, ℕ, zero, suc, Bool, true, false, ◌||◌, cond, eqb, Some, None, List, [], ◌∷◌, ◌++◌, drop, refl, sym, ap, ◌∙◌, append-nil}
 use Rattle.std.specs.Prelude.{bytes_eq, String, string_bytes}
 use Rattle.std.specs.declared.alloc.Global.{Global}
 use Rattle.std.specs.BTreeSet as sorted
 use Rattle.std.specs.BTreeSet.{BTreeSet, contains_text}
 use Rattle.std.specs.Cmp.Lexicographic.{slice_cmp}
-use Rattle.std.specs.List.{flat_map, list_any}
+use Rattle.std.specs.List.{flat_map}
 use Rattle.std.specs.Ordering.{nat_cmp}
 use Rattle.std.specs.Str.{IsUtf8, NoCharPasses, NonePass, chars, encode_utf8_all}
 use Rattle.std.specs.String.{string_cmp}
@@ -15,7 +15,7 @@ use Rattle.std.proofs.lemmas.Slice.Eq.{bytes_eq-Decides}
 use Rattle.std.proofs.lemmas.Str.{chars-append, chars_from_encodes}
 use Rattle.naga_oil_pre.specs.MetadataView.{has_with, Gains}
 use Rattle.naga_oil_pre.specs.Recorded.{is_among, names_from}
-use Rattle.naga_oil_pre.specs.Replaced.{HashName, hash_name, Piece, plain, named, pieces, name_of, hash_names}
+use Rattle.naga_oil_pre.specs.Replaced.{HashName, hash_name, pieces, name_of}
 use Rattle.naga_oil_pre.specs.Splits.{SplitsHashName, SplitsAtHash}
 
 -- ---- what a set has

@@ -1,5 +1,5 @@
 -- What is read of a text before any build: its import path, its uses, its defines and the names that it records.
-use Rattle.std.specs.Prelude.{ℕ, zero, suc, ◌+◌, Bool, true, if◌then◌else◌, List, [], ◌∷◌, map, bytes_eq, unwrap_or, Option, Some, None, Result, Ok, Err}
+use Rattle.std.specs.Prelude.{ℕ, zero, suc, ◌+◌, Bool, if◌then◌else◌, List, [], ◌∷◌, map, bytes_eq, unwrap_or, Option, Some, None, Result, Ok, Err}
 use Rattle.naga_oil_lines.specs.Directives.{Directives}
 use Rattle.naga_oil_lines.specs.Leaves.{Leaf, SyntaxFault, import_leaves, with_leaves}
 use Rattle.naga_oil_lines.specs.Uses.{Import, Use}

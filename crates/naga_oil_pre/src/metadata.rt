@@ -99,11 +99,7 @@ fn define(
 }
 
 // Records what a line uses by its covered line, as it stands.
-fn read_uses(
-    alloc: Global,
-    line: &SourceLine<'_>,
-    imports: &mut Imports,
-) -> Result<(), AllocError>
+fn read_uses(alloc: Global, line: &SourceLine<'_>, imports: &mut Imports) -> Result<(), AllocError>
     requires { line.now.offset ≤ 2 ^ 63 }
     ensures used { OnOk result (uses_of imports.new.used ≡ used_by (declared_of imports.old.declared) line.now.offset (tokens_of (line_of line.now).covered) (uses_of imports.old.used)) }
     ensures declared { OnOk result (declared_of imports.new.declared ≡ declared_of imports.old.declared) }
@@ -343,7 +339,7 @@ fn definitions_of(
     alloc: Global,
     imports: &[ImportDefWithOffset],
 ) -> Result<Vec<ImportDefinition>, AllocError>
-    ensures { IfOk result (λ v. map import_of v.items ≡ map (λ u. u.import) (map use_of imports.now)) }
+    ensures { IfOk result (λ v. map import_of v.items ≡ map (λ used. (use_of used).import) imports.now) }
 {
     let mut definitions = Vec::with_capacity(alloc, imports.len())?;
     for used in imports {

@@ -76,9 +76,8 @@ fn record_condition_name(
     ensures { OnOk result (Gains names.old names.new (condition_names (condition_of condition.entry))) }
 {
     match condition {
-        Condition::Defined(name) | Condition::Undefined(name) | Condition::Compares { name, .. } => {
-            record_name(alloc, names, name)
-        }
+        Condition::Defined(name) | Condition::Undefined(name) | Condition::Compares { name, .. } =>
+            { record_name(alloc, names, name) }
         Condition::Otherwise => Ok(()),
     }
 }

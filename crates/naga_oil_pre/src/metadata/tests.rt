@@ -35,7 +35,10 @@ fn reads_names_and_uses(rt: HostRuntime) -> Result<(), Fail> {
             "#import a::{f, f}\nf",
             "None [ImportDefWithOffset { definition: ImportDefinition { import: \"a\", items: [\"f\", \"f\"] }, offset: 18 }] {} {}",
         ),
-        ("#version 450\n#if X\n#{Y}", "None [] {} {\"Y\", \"if\", \"version\"}"),
+        (
+            "#version 450\n#if X\n#{Y}",
+            "None [] {} {\"Y\", \"if\", \"version\"}",
+        ),
     ];
     for (source, expected) in table.iter() {
         let shown = shown(rt.alloc(), *source, false)?;
@@ -72,10 +75,7 @@ fn answers_the_first_fault(rt: HostRuntime) -> Result<(), Fail> {
     let table = [
         ("#define A", "DefineInModule(0)"),
         ("enable f16;\n#define A x1", "DefineInModule(1)"),
-        (
-            "#define A\nenable  ;",
-            "DefineInModule(0)",
-        ),
+        ("#define A\nenable  ;", "DefineInModule(0)"),
         (
             "// x\nenable  ;\n#define A",
             "InvalidWgslDirective { directive: \"enable  ;\", position: 1, reason: \"No extensions specified\" }",
@@ -94,28 +94,37 @@ fn answers_the_first_fault(rt: HostRuntime) -> Result<(), Fail> {
 
 #[test]
 fn keeps_directives_and_the_cleaned_text(rt: HostRuntime) -> Result<(), Fail> {
-    let found = Preprocessor.get_preprocessor_metadata(rt.alloc(), "enable f16;\nfn a() {}\n", false)?;
+    let found = Preprocessor.get_preprocessor_metadata(
+        rt.alloc(),
+        "enable f16;\nfn a() {}\n",
+        false,
+    )?;
     assert_eq!(rt; found.cleaned_source.as_str(), "\nfn a() {}");
     assert_eq!(rt; found.wgsl_directives.enables.len(), 1);
     Ok(())
 }
 
-// Each front of a text has metadata or a fault, and nothing is left of it where it is refused.
+// Whether the text has metadata, or the fault of an import and no data.
+fn has_metadata_or_fault(alloc: Global, source: &str) -> Result<bool, AllocError> {
+    let (name, imports, defines) = get_preprocessor_data(alloc, source)?;
+    match Preprocessor.get_preprocessor_metadata(alloc, source, false) {
+        Ok(found) => Ok(found.imports.len() == imports.len()),
+        Err(ComposerErrorInner::ImportParseError(..)) => {
+            Ok(name.is_none() && imports.is_empty() && defines.is_empty())
+        }
+        Err(_) => Ok(false),
+    }
+}
+
 #[test]
 fn reads_each_front(rt: HostRuntime) -> Result<(), Fail> {
     let source = "#import a::{f,\ng}\n// #C f é\n#ifdef D\nf();\n#endif";
-    for (end, _) in source.char_indices() {
-        let (front, _) = source.split_at(end);
-        let metadata = Preprocessor.get_preprocessor_metadata(rt.alloc(), front, false);
-        let (name, imports, defines) = get_preprocessor_data(rt.alloc(), front)?;
-        match metadata {
-            Ok(found) => assert_eq!(rt; found.imports.len(), imports.len(), "{front}"),
-            Err(fault) => {
-                assert!(rt; matches!(fault, ComposerErrorInner::ImportParseError(..)), "{front}");
-                assert!(rt; name.is_none() && imports.is_empty() && defines.is_empty(), "{front}");
-            }
-        }
+    let mut front = String::new(rt.alloc());
+    for c in source.chars() {
+        assert!(rt; has_metadata_or_fault(rt.alloc(), front.as_str())?);
+        front.push(c)?;
     }
+    assert!(rt; has_metadata_or_fault(rt.alloc(), front.as_str())?);
     Ok(())
 }
 

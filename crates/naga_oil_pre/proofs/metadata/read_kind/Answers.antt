@@ -1,9 +1,5 @@
-use Rattle.std.proofs.Common.{◌≡◌, ◌∷◌, ℕ, List, Ok}
-use Rattle.naga_oil_lines.specs.Leaves.{import_leaves}
-use Rattle.naga_oil_pre.specs.MetadataView.{found_of, Gains}
-use Rattle.naga_oil_pre.specs.Metadata.{with_import}
-use Rattle.naga_oil_pre.specs.Preprocessed.{import_text}
-use Rattle.naga_oil_pre.specs.Reading.{braces_after, taken, behind_taken}
+use Rattle.naga_oil_pre.specs.MetadataView.{found_of}
+use Rattle.naga_oil_pre.specs.Reading.{braces_after}
 use Rattle.naga_oil_pre.specs.SourceView.{line_of}
 use Rattle.naga_oil_pre.proofs.MetadataLemmas.{import_read, import_recorded, on_both}
 use Rattle.naga_oil_pre.proofs.metadata.read_kind.Goals as goal

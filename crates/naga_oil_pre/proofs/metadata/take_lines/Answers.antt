@@ -15,7 +15,7 @@ loop-braces-preserved c =
       left = grind (arith, common_steps);
       import = grind (arith, common_steps);
       names = λ name. gained c.loop-braces.names c.take_line.new.names (line_names (line_of c.in-Some.line)) (names_of (taken c.in_ok-braces.braces c.next.new.self.left)) (names_of (taken c.loop-braces.braces c.loop-braces.source.left)) c.in_ok-braces.ensures.names
-      (rw c.in_ok-braces.ensures.after (names_taken c.loop-braces.braces (line_of c.in-Some.line) c.loop-braces.source.left c.next.new.self.left (omega arith) first)) name ∙ c.loop-braces.invariant.names name;
+          (rw c.in_ok-braces.ensures.after (names_taken c.loop-braces.braces (line_of c.in-Some.line) c.loop-braces.source.left c.next.new.self.left (omega arith) first)) name ∙ c.loop-braces.invariant.names name;
       fits = grind (arith, common_steps);
       room = grind (arith, common_steps);
       shorter = grind (arith, common_steps);
