@@ -1,5 +1,5 @@
 // Definitions that are given by words.
-ghost use Rattle.std.specs.Prelude.{◌≡◌, Ok, OnOk, IfOk, IfErr, option_map};
+ghost use Rattle.std.specs.Prelude.{◌≡◌, Ok, OnOk, IfOk, IfErr, option_map, string_bytes};
 ghost use Rattle.std.specs.BTreeMap.{get_by_text};
 ghost use Rattle.naga_oil_mini.specs.Words.{texts};
 ghost use Rattle.naga_oil_mini.specs.Defined.{given_value, definition_word, defined_by};
@@ -41,14 +41,12 @@ fn definition_word(word: &str) -> Option<(&str, ShaderDefValue)>
 
 /// Defines the name, in place of what it was.
 pub fn define(
-    alloc: Global,
     definitions: &mut Definitions,
-    name: &str,
+    name: String,
     value: ShaderDefValue,
 ) -> Result<(), AllocError>
-    ensures { OnOk result (get_by_text definitions.new ≡ with_definition (get_by_text definitions.old) name.now value) }
+    ensures { OnOk result (get_by_text definitions.new ≡ with_definition (get_by_text definitions.old) (string_bytes name) value) }
 {
-    let name = String::from_str(alloc, name)?;
     definitions.insert(name, value)?;
     Ok(())
 }
@@ -67,7 +65,7 @@ pub fn given(alloc: Global, words: &[String]) -> Result<Definitions, Refusal<'_>
         let Some((name, value)) = definition_word(word) else {
             return Err(Refusal::BadDefinition(word));
         };
-        define(alloc, &mut definitions, name, value)?;
+        define(&mut definitions, String::from_str(alloc, name)?, value)?;
     }
     Ok(definitions)
 }
