@@ -18,3 +18,4 @@ pub mod DeclarationLemmas
 pub mod ImportPlaceLemmas
 pub mod PassLemmas
 pub mod WritingLemmas
+pub mod WordLemmas

@@ -199,6 +199,9 @@ impl Substitution<'_> {
     fn declared_paths(&self, name: &str) -> &[String]
         ensures { map string_bytes result.now ≡ paths_of (declared_of self.now.declared_imports.now) name.now }
     {
+        if self.declared_imports.is_empty() {
+            return &[];
+        }
         match self.declared_imports.get(name) {
             Some(paths) => paths.as_slice(),
             None => &[],

@@ -4,6 +4,7 @@ ghost use Rattle.std.specs.Char.{encode_utf8, is_whitespace};
 ghost use Rattle.std.specs.Str.{chars};
 ghost use Rattle.std.specs.List.{prefix_len};
 ghost use Rattle.naga_oil_lines.specs.Tokens.{Lexeme, continued, lexemes, starts_identifier};
+ghost use Rattle.naga_oil_lines.specs.Words.{is_word_byte};
 ghost use Rattle.naga_oil_lines.specs.TokenGrammar.{AreTokens};
 ghost use Rattle.unicode_ident.specs.Ident.{is_xid_start, is_xid_continue};
 
@@ -71,6 +72,32 @@ fn goes_on_name(c: char) -> bool
     }
 }
 
+fn is_word_byte(byte: u8) -> bool
+    ensures { result ≡ is_word_byte byte }
+{
+    byte.is_ascii_alphanumeric() || byte == b'_'
+}
+
+// How many bytes of names are at the front.
+fn word_len(bytes: &[u8]) -> usize
+    ensures { result ≡ prefix_len is_word_byte bytes.now }
+{
+    for i in 0..bytes.len() {
+        if !is_word_byte(bytes[i]) {
+            return i;
+        }
+    }
+    bytes.len()
+}
+
+// What is left of a text behind them.
+fn after_word(text: &str) -> &str
+    ensures { result.now ≡ drop (prefix_len is_word_byte text.now) text.now }
+{
+    let (_, rest) = text.split_at(word_len(text.as_bytes()));
+    rest
+}
+
 // What is left of a text behind the characters that go on an identifier.
 pub(crate) fn after_identifier(text: &str, begins_quoted: bool) -> &str
     ensures chars { chars result.now ≡ drop (continued begins_quoted (chars text.now)) (chars text.now) }
@@ -86,7 +113,7 @@ pub(crate) fn after_identifier(text: &str, begins_quoted: bool) -> &str
             quoted = true;
             rest = more;
         } else if goes_on_name(first) {
-            rest = more;
+            rest = after_word(more);
         } else {
             if first != ':' {
                 return rest;
