@@ -1,10 +1,10 @@
 // Cuts a text into identifiers, white space and single characters.
-ghost use Rattle.std.specs.Prelude.{◌≡◌, ◌↔◌, ℕ, ◌+◌, ◌<◌, ◌≤◌, ◌^◌, ◌++◌, ◌∷◌, ◌==◌, List, length, drop, MatchOption, true, false, Bool};
+ghost use Rattle.std.specs.Prelude.{◌≡◌, ◌↔◌, ℕ, ◌+◌, ◌<◌, ◌≤◌, ◌^◌, ◌++◌, ◌∷◌, ◌==◌, List, length, drop, MatchOption, true, false, Bool, IsTrue};
 ghost use Rattle.std.specs.Char.{encode_utf8, is_whitespace};
-ghost use Rattle.std.specs.Str.{chars};
-ghost use Rattle.std.specs.List.{prefix_len};
+ghost use Rattle.std.specs.Str.{chars, IsUtf8};
+ghost use Rattle.std.specs.List.{prefix_len, list_any};
 ghost use Rattle.naga_oil_lines.specs.Tokens.{Lexeme, continued, lexemes, starts_identifier};
-ghost use Rattle.naga_oil_lines.specs.Words.{is_word_byte};
+ghost use Rattle.naga_oil_lines.specs.Words.{is_word_byte, ends_identifier};
 ghost use Rattle.naga_oil_lines.specs.TokenGrammar.{AreTokens};
 ghost use Rattle.unicode_ident.specs.Ident.{is_xid_start, is_xid_continue};
 
@@ -99,7 +99,7 @@ fn after_word(text: &str) -> &str
 }
 
 // What is left of a text behind the characters that go on an identifier.
-pub(crate) fn after_identifier(text: &str, begins_quoted: bool) -> &str
+fn after_identifier(text: &str, begins_quoted: bool) -> &str
     ensures chars { chars result.now ≡ drop (continued begins_quoted (chars text.now)) (chars text.now) }
     ensures suffix { (front : List ℕ) × (text.now ≡ front ++ result.now) }
 {
@@ -128,6 +128,32 @@ pub(crate) fn after_identifier(text: &str, begins_quoted: bool) -> &str
         }
     }
     rest
+}
+
+// Whether no identifier goes on at the text's front: nothing is there, or a byte of ASCII that is no part of one.
+fn ends_identifier(text: &str) -> bool
+    ensures { result ≡ ends_identifier text.now }
+{
+    match text.as_bytes() {
+        [] => true,
+        [first, ..] => {
+            *first < 128 && !(is_word_byte(*first) || *first == b'"' || *first == b':')
+        }
+    }
+}
+
+// What is left of a text behind an identifier that begins with a character before it, and whether this is one word, which has no `:`.
+pub(crate) fn behind_identifier(first: char, text: &str) -> (&str, bool)
+    ensures chars { chars result.0.now ≡ drop (continued (first == 34) (chars text.now)) (chars text.now) }
+    ensures suffix { (front : List ℕ) × (text.now ≡ front ++ result.0.now) × (IsTrue result.1 → list_any (λ b. b == 58) front ≡ false) }
+    ensures utf8 { IsUtf8 result.0.now }
+{
+    let word = after_word(text);
+    if first != '"' && ends_identifier(word) {
+        (word, true)
+    } else {
+        (after_identifier(text, first == '"'), false)
+    }
 }
 
 /// The tokens of a text in order.
