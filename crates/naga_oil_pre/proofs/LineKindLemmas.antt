@@ -13,6 +13,7 @@ use Rattle.std.specs.Str.Pattern.{FindsTextPrefix, StripsPrefix}
 use Rattle.std.proofs.lemmas.Str.{IsUtf8-drop, IsCharBoundary-from_take, chars_past_char, chars-nil, chars-append, encodes-chars, encodes-append}
 use Rattle.std.proofs.lemmas.List.{nil_from_length}
 use Rattle.std.proofs.lemmas.List.Folds.{length-prefix_len}
+use Rattle.naga_oil_lines.proofs.TextLemmas.{chars_before}
 use Rattle.naga_oil_pre.specs.LineKinds.{past_word, run, behind_run, text_at, after_white, is_operator_char, is_value_char, is_name_char, is_name, compared, cut}
 
 -- ---- a word

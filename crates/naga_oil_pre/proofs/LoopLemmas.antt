@@ -2,11 +2,11 @@
 use Rattle.std.specs.Prelude.{OnOk, IfErr, String}
 use Rattle.std.specs.declared.alloc.Global.{Global}
 use Rattle.naga_oil_lines.specs.declared.import_definition.ImportDefWithOffset.{ImportDefWithOffset}
-use Rattle.std.proofs.Common.{◌≡◌, ℕ, zero, suc, ◌<◌, ◌≤◌, true, false, List, [], ◌∷◌, ◌++◌, map, length, refl, sym, ap, subst, ◌∙◌, append_assoc, append-nil, Option, Some, None, MatchOption, Result, Ok, Err, arith}
+use Rattle.std.proofs.Common.{◌≡◌, ℕ, zero, suc, ◌+◌, ◌<◌, ◌≤◌, Bool, true, false, List, [], ◌∷◌, ◌++◌, map, length, replicate, refl, sym, ap, subst, ◌∙◌, append_assoc, append-nil, Option, Some, None, MatchOption, Result, Ok, Err, arith}
 use Rattle.naga_oil_lines.specs.Declarations.{Declared}
 use Rattle.naga_oil_lines.specs.Leaves.{Leaf, SyntaxFault, import_leaves, with_leaves, imported as declared_behind}
 use Rattle.naga_oil_lines.specs.Uses.{Use, Uses, use_of, use_entry}
-use Rattle.naga_oil_lines.specs.Substituted.{Site, substituted, sites, first_ambiguous, used_by}
+use Rattle.naga_oil_lines.specs.Substituted.{Site, substituted, sites, first_ambiguous, is_refused, used_by}
 use denote.Ref.{Bor}
 use Rattle.std.specs.Str.{IsUtf8}
 use Rattle.naga_oil_lines.proofs.ImportPlaceLemmas.{fault_within}
@@ -25,7 +25,7 @@ use Rattle.naga_oil_pre.specs.Kind.{kind_of}
 use Rattle.naga_oil_pre.specs.Fault.{Fault, Definitions}
 use Rattle.naga_oil_pre.specs.Reading.{braces_after, reading, taken, behind_taken}
 use Rattle.naga_oil_pre.specs.Replaced.{replaced}
-use Rattle.naga_oil_pre.specs.Preprocessed.{Status, blanked, shown, imported, noted, Known, nothing_known, Output, Piece, written, ended, spaces, padded, blanks, import_text, tokens_of, using_tokens, shown_piece, imported_piece, piece, behind, joined, end_status, preprocessed}
+use Rattle.naga_oil_pre.specs.Preprocessed.{Status, blanked, shown, imported, noted, Known, nothing_known, Output, Piece, written, ended, spaces, padded, blanks, import_text, tokens_of, using_tokens, shown_text, shown_piece, imported_piece, piece, behind, joined, end_status, preprocessed}
 use Rattle.naga_oil_pre.specs.Step.{Step, step, opened, scanned}
 use Rattle.naga_oil_pre.specs.Scope.{is_open}
 use Rattle.naga_oil_pre.specs.Treatment.{status_of, open_after}

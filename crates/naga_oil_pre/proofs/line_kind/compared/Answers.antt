@@ -1,4 +1,4 @@
-use Rattle.std.proofs.Common.{Some, None, refl}
+use Rattle.std.proofs.Common.{Some, None, [], refl}
 use Rattle.std.specs.Str.{chars, encode_utf8_all}
 use Rattle.naga_oil_pre.specs.LineKinds.{run, is_operator_char}
 use Rattle.naga_oil_pre.proofs.LineKindLemmas.{text_of, compared_by}
