@@ -21,3 +21,4 @@ pub mod DirectiveLemmas
 pub mod NamesInOrder
 pub mod PassLemmas
 pub mod WritingLemmas
+pub mod WordLemmas

@@ -1,10 +1,10 @@
 -- Characters of a text from its front.
-use Rattle.std.proofs.Common.{◌≡◌, ℕ, suc, ◌+◌, ◌-◌, Bool, true, false, cond, List, [], ◌∷◌, ◌++◌, length, take, drop, refl, sym, ap, subst, ◌∙◌, arith, length-append}
+use Rattle.std.proofs.Common.{◌≡◌, ℕ, suc, ◌+◌, ◌-◌, Bool, true, false, cond, List, [], ◌∷◌, ◌++◌, length, take, drop, refl, sym, ap, subst, ◌∙◌, arith, length-append, ◌≤◌, get_or, replicate, append_assoc}
 use Rattle.std.specs.Char.{is_whitespace, encode_utf8}
 use Rattle.std.specs.List.{prefix_len}
 use Rattle.std.specs.Str.{IsUtf8, IsCharBoundary, chars, skip_leading_whitespace, trim_start}
 use Rattle.std.proofs.lemmas.Str.{IsUtf8-past_char, chars_from_encodes, chars_past_char, chars-append, length-encode, len_utf8_bounds, IsCharBoundary-at_seam}
-use Rattle.std.proofs.lemmas.List.{append_cancel_right, take-append-drop}
+use Rattle.std.proofs.lemmas.List.{append_cancel_right, take-append-drop, get_or-replicate, length-replicate, replicate-append-replicate, take-replicate}
 use Rattle.naga_oil_lines.specs.Text.{BeginsWithChar}
 
 pub first_char : (bs rest : List ℕ) (c : ℕ) → IsUtf8 bs → bs ≡ encode_utf8 c ++ rest → BeginsWithChar bs c rest
@@ -50,3 +50,24 @@ pub chars_before : (bs front rest : List ℕ) (k : ℕ) → bs ≡ front ++ rest
 chars_before bs front rest k e u d =
     append_cancel_right (chars front) (take k (chars bs)) (chars rest)
     (sym (chars-append front rest u) ∙ sym (ap chars e) ∙ sym (take-append-drop k (chars bs)) ∙ ap (λ l. take k (chars bs) ++ l) (sym d))
+
+-- ---- spaces
+pub cut_spaces : (bs : List ℕ) (n k : ℕ) → bs ≡ replicate n 32 → k ≤ length bs → IsCharBoundary bs k
+cut_spaces bs n k e le =
+    (le, λ l high. let here : get_or bs k 0 ≡ 32 = ap (λ xs. get_or xs k 0) e ∙ get_or-replicate n k 32 0 (omega (arith, ap length e, length-replicate {A = ℕ} n 32)) in absurd (omega arith))
+
+pub spaces_more : (before old new spaces : List ℕ) (count left n : ℕ) → spaces ≡ replicate n 32 → left ≤ count → n ≤ left → old ≡ before ++ replicate (count - left) 32 → new ≡ old ++ spaces
+    → new ≡ before ++ replicate (count - (left - n)) 32
+spaces_more before old new spaces count left n s le some e p =
+    let more : count - left + n ≡ count - (left - n) = omega arith in
+    let both : old ++ spaces ≡ (before ++ replicate (count - left) 32) ++ replicate n 32 = λ i. e i ++ s i in
+    p ∙ both ∙ append_assoc before (replicate (count - left) 32) (replicate n 32) ∙ ap (λ l. before ++ l) (replicate-append-replicate (count - left) n 32 ∙ ap (λ k. replicate k 32) more)
+
+pub spaces_last : (before old new spaces : List ℕ) (count left n : ℕ) → spaces ≡ replicate n 32 → left ≤ count → left ≤ n → old ≡ before ++ replicate (count - left) 32 → new ≡ old ++ take left spaces
+    → new ≡ before ++ replicate count 32
+spaces_last before old new spaces count left n s le few e p =
+    let all : count - left + left ≡ count = omega arith in
+    let last : take left spaces ≡ replicate left 32 = ap (take left) s ∙ take-replicate left n 32 few in
+    let both : old ++ take left spaces ≡ (before ++ replicate (count - left) 32) ++ replicate left 32 = λ i. e i ++ last i in
+    p ∙ both ∙ append_assoc before (replicate (count - left) 32) (replicate left 32)
+    ∙ ap (λ l. before ++ l) (replicate-append-replicate (count - left) left 32 ∙ ap (λ k. replicate k 32) all)

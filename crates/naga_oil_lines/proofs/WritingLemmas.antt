@@ -118,7 +118,7 @@ module _ (declared : Declared) (allowed : Bool) (offset : ℕ) (input : List ℕ
       written_uses = settled_uses declared allowed all old now done
 
     -- the next identifier
-    module _ (name from more : List ℕ) (site : FindsSite rest name from more) where
+    module _ (name from more : List ℕ) (is_word : Bool) (site : FindsSite rest name is_word from more) where
       abbrev front : List ℕ
       front = site.before.front
 

@@ -8,6 +8,7 @@ pub mod SubstituteFault
 pub mod Cover
 pub mod CoveredLines
 pub mod Tokens
+pub mod Words
 pub mod Tokenizer
 pub mod TokenGrammar
 pub mod Decorate

@@ -1,5 +1,5 @@
 -- Where the identifiers of a text are that are substituted.
-use Rattle.std.specs.Prelude.{◌≡◌, ℕ, ◌+◌, ◌<◌, Bool, false, not, ◌&&◌, ◌==◌, List, [], ◌∷◌, ◌++◌, length}
+use Rattle.std.specs.Prelude.{◌≡◌, ℕ, ◌+◌, ◌<◌, Bool, false, not, ◌&&◌, ◌==◌, List, [], ◌∷◌, ◌++◌, length, IsTrue}
 use Rattle.std.specs.List.{list_any}
 use Rattle.std.specs.Str.{chars, IsUtf8}
 use Rattle.naga_oil_lines.specs.Declarations.{Declared, paths_of}
@@ -23,10 +23,11 @@ pub record Passes (kept : Bool) (text : List ℕ) (next : Bool) (rest : List ℕ
 abbrev pub HasNoSite : List ℕ → Type 0
 HasNoSite text = (next : Bool) × Passes false text next []
 
--- the first identifier of the text that is substituted, the text from it on, and the text behind it
-pub record FindsSite (text name from behind : List ℕ) : Type 0 where
+-- the first identifier of the text that is substituted, the text from it on, and the text behind it; a word has no `:`
+pub record FindsSite (text name : List ℕ) (is_word : Bool) (from behind : List ℕ) : Type 0 where
   pub before : Passes false text false from
   pub cut : from ≡ name ++ behind
+  pub word : IsTrue is_word → list_any (λ b. b == 58) name ≡ false
   pub shorter : length behind < length from
   pub utf8 : IsUtf8 behind
   pub token : (at : ℕ) → lexemes 0 at (chars from) ≡ identifier name at ∷ lexemes 0 (at + length name) (chars behind)

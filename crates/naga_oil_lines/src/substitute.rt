@@ -1,7 +1,7 @@
 // Writes what identifiers stand for, and records what they use of imported modules.
-ghost use Rattle.std.specs.Prelude.{◌≡◌, ℕ, ◌+◌, ◌<◌, ◌^◌, ◌++◌, ◌∷◌, [], None, not, ◌&&◌, ◌||◌, ◌==◌, nat_lt, length, map, IfOk, IfErr, OnOk, OnErr, MatchOption};
+ghost use Rattle.std.specs.Prelude.{◌≡◌, ℕ, ◌+◌, ◌<◌, ◌^◌, ◌++◌, ◌∷◌, [], None, not, ◌&&◌, ◌||◌, ◌==◌, nat_lt, length, map, IfOk, IfErr, OnOk, OnErr, MatchOption, IsTrue, false};
 ghost use Rattle.std.specs.Cow.{cow_str_bytes};
-ghost use Rattle.std.specs.List.{flat_map};
+ghost use Rattle.std.specs.List.{flat_map, list_any};
 ghost use Rattle.std.specs.Str.{chars};
 ghost use Rattle.std.specs.String.{string_bytes};
 ghost use Rattle.naga_oil_lines.specs.Declarations.{declared_of, paths_of};
@@ -15,7 +15,7 @@ ghost use Rattle.naga_oil_lines.specs.Uses.{uses_of, with_use};
 use crate::decorate::push_decorated;
 use crate::import_definition::ImportDefWithOffset;
 use crate::text::{split_first_char, text_before};
-use crate::tokenizer::{after_identifier, starts_identifier};
+use crate::tokenizer::{behind_identifier, starts_identifier};
 use indexmap::IndexMap;
 use std::alloc::{AllocError, Global};
 use std::borrow::CowStr;
@@ -99,17 +99,18 @@ fn keeps_next(c: char) -> bool
     c == '.' || c == '@'
 }
 
-/// An identifier that is substituted, with the text from it on and the text behind it.
+/// An identifier that is substituted, with the text from it on and the text behind it. A word has no `:`.
 #[derive(Clone, Copy)]
 struct SiteText<'a> {
     name: &'a str,
+    is_word: bool,
     from: &'a str,
     behind: &'a str,
 }
 
 // The first identifier of a text that is substituted.
 fn next_site(text: &str) -> Option<SiteText<'_>>
-    ensures { MatchOption result (HasNoSite text.now) (λ site. FindsSite text.now site.name.now site.from.now site.behind.now) }
+    ensures { MatchOption result (HasNoSite text.now) (λ site. FindsSite text.now site.name.now site.is_word site.from.now site.behind.now) }
 {
     let mut kept = false;
     let mut rest = text;
@@ -119,10 +120,11 @@ fn next_site(text: &str) -> Option<SiteText<'_>>
             rest = more;
             continue;
         }
-        let behind = after_identifier(more, first == '"');
+        let (behind, is_word) = behind_identifier(first, more);
         if !kept {
             return Some(SiteText {
                 name: text_before(rest, behind),
+                is_word,
                 from: rest,
                 behind,
             });
@@ -191,6 +193,9 @@ impl Substitution<'_> {
     fn declared_paths(&self, name: &str) -> &[String]
         ensures { map string_bytes result.now ≡ paths_of (declared_of self.now.declared_imports.now) name.now }
     {
+        if self.declared_imports.is_empty() {
+            return &[];
+        }
         match self.declared_imports.get(name) {
             Some(paths) => paths.as_slice(),
             None => &[],
@@ -232,10 +237,12 @@ impl Substitution<'_> {
     }
 
     // Whether an identifier stands for itself alone.
-    fn is_own(&self, identifier: &str) -> bool
-        ensures { result ≡ is_own (declared_of self.now.declared_imports.now) identifier.now }
+    fn is_own(&self, site: SiteText<'_>) -> bool
+        requires { IsTrue site.is_word → list_any (λ b. b == 58) site.name.now ≡ false }
+        ensures { result ≡ is_own (declared_of self.now.declared_imports.now) site.entry.name.now }
     {
-        !identifier.as_bytes().contains(&b':') && self.declared_paths(identifier).is_empty()
+        (site.is_word || !site.name.as_bytes().contains(&b':'))
+            && self.declared_paths(site.name).is_empty()
     }
 }
 
@@ -269,7 +276,7 @@ pub fn substitute_identifiers(
     let mut rest = input;
     while let Some(site) = next_site(rest) {
         rest = site.behind;
-        if substitution.is_own(site.name) {
+        if substitution.is_own(site) {
             continue;
         }
         output.push_str(text_before(unwritten, site.from))?;

@@ -1,9 +1,11 @@
 //! Text from its front: the first character, a front before a rest, and what follows white space.
-ghost use Rattle.std.specs.Prelude.{◌≡◌, ℕ, ◌++◌, List, length, drop, MatchOption};
+ghost use Rattle.std.specs.Prelude.{◌≡◌, ℕ, ◌++◌, List, length, drop, MatchOption, OnOk, string_bytes, replicate};
 ghost use Rattle.std.specs.Char.{is_whitespace};
 ghost use Rattle.std.specs.Str.{chars};
 ghost use Rattle.std.specs.List.{prefix_len};
 ghost use Rattle.naga_oil_lines.specs.Text.{BeginsWithChar};
+
+use std::alloc::AllocError;
 
 /// The first character of the text, and what follows it. An empty text has none.
 pub fn split_first_char(text: &str) -> Option<(char, &str)>
@@ -29,4 +31,26 @@ pub fn after_whitespace(text: &str) -> &str
     ensures suffix { (front : List ℕ) × (text.now ≡ front ++ result.now) }
 {
     text.trim_start()
+}
+
+const SPACES: &str = "                                                                ";
+
+fn spaces() -> &'static str
+    ensures { result.now ≡ replicate 64 32 }
+{
+    SPACES
+}
+
+/// Writes so many spaces.
+pub fn push_spaces(out: &mut String, count: usize) -> Result<(), AllocError>
+    ensures { OnOk result (string_bytes out.new ≡ string_bytes out.old ++ replicate count 32) }
+{
+    let spaces = spaces();
+    let mut left = count;
+    while left > spaces.len() {
+        out.push_str(spaces)?;
+        left -= spaces.len();
+    }
+    out.push_str(&spaces[..left])?;
+    Ok(())
 }

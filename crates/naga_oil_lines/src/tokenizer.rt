@@ -1,9 +1,10 @@
 // Cuts a text into identifiers, white space and single characters.
-ghost use Rattle.std.specs.Prelude.{◌≡◌, ◌↔◌, ℕ, ◌+◌, ◌<◌, ◌≤◌, ◌^◌, ◌++◌, ◌∷◌, ◌==◌, List, length, drop, MatchOption, true, false, Bool};
+ghost use Rattle.std.specs.Prelude.{◌≡◌, ◌↔◌, ℕ, ◌+◌, ◌<◌, ◌≤◌, ◌^◌, ◌++◌, ◌∷◌, ◌==◌, List, length, drop, MatchOption, true, false, Bool, IsTrue};
 ghost use Rattle.std.specs.Char.{encode_utf8, is_whitespace};
-ghost use Rattle.std.specs.Str.{chars};
-ghost use Rattle.std.specs.List.{prefix_len};
+ghost use Rattle.std.specs.Str.{chars, IsUtf8};
+ghost use Rattle.std.specs.List.{prefix_len, list_any};
 ghost use Rattle.naga_oil_lines.specs.Tokens.{Lexeme, continued, lexemes, starts_identifier};
+ghost use Rattle.naga_oil_lines.specs.Words.{is_word_byte, ends_identifier};
 ghost use Rattle.naga_oil_lines.specs.TokenGrammar.{AreTokens};
 ghost use Rattle.unicode_ident.specs.Ident.{is_xid_start, is_xid_continue};
 
@@ -71,8 +72,34 @@ fn goes_on_name(c: char) -> bool
     }
 }
 
+fn is_word_byte(byte: u8) -> bool
+    ensures { result ≡ is_word_byte byte }
+{
+    byte.is_ascii_alphanumeric() || byte == b'_'
+}
+
+// How many bytes of names are at the front.
+fn word_len(bytes: &[u8]) -> usize
+    ensures { result ≡ prefix_len is_word_byte bytes.now }
+{
+    for i in 0..bytes.len() {
+        if !is_word_byte(bytes[i]) {
+            return i;
+        }
+    }
+    bytes.len()
+}
+
+// What is left of a text behind them.
+fn after_word(text: &str) -> &str
+    ensures { result.now ≡ drop (prefix_len is_word_byte text.now) text.now }
+{
+    let (_, rest) = text.split_at(word_len(text.as_bytes()));
+    rest
+}
+
 // What is left of a text behind the characters that go on an identifier.
-pub(crate) fn after_identifier(text: &str, begins_quoted: bool) -> &str
+fn after_identifier(text: &str, begins_quoted: bool) -> &str
     ensures chars { chars result.now ≡ drop (continued begins_quoted (chars text.now)) (chars text.now) }
     ensures suffix { (front : List ℕ) × (text.now ≡ front ++ result.now) }
 {
@@ -86,7 +113,7 @@ pub(crate) fn after_identifier(text: &str, begins_quoted: bool) -> &str
             quoted = true;
             rest = more;
         } else if goes_on_name(first) {
-            rest = more;
+            rest = after_word(more);
         } else {
             if first != ':' {
                 return rest;
@@ -101,6 +128,32 @@ pub(crate) fn after_identifier(text: &str, begins_quoted: bool) -> &str
         }
     }
     rest
+}
+
+// Whether no identifier goes on at the text's front: nothing is there, or a byte of ASCII that is no part of one.
+fn ends_identifier(text: &str) -> bool
+    ensures { result ≡ ends_identifier text.now }
+{
+    match text.as_bytes() {
+        [] => true,
+        [first, ..] => {
+            *first < 128 && !(is_word_byte(*first) || *first == b'"' || *first == b':')
+        }
+    }
+}
+
+// What is left of a text behind an identifier that begins with a character before it, and whether this is one word, which has no `:`.
+pub(crate) fn behind_identifier(first: char, text: &str) -> (&str, bool)
+    ensures chars { chars result.0.now ≡ drop (continued (first == 34) (chars text.now)) (chars text.now) }
+    ensures suffix { (front : List ℕ) × (text.now ≡ front ++ result.0.now) × (IsTrue result.1 → list_any (λ b. b == 58) front ≡ false) }
+    ensures utf8 { IsUtf8 result.0.now }
+{
+    let word = after_word(text);
+    if first != '"' && ends_identifier(word) {
+        (word, true)
+    } else {
+        (after_identifier(text, first == '"'), false)
+    }
 }
 
 /// The tokens of a text in order.

@@ -21,6 +21,7 @@ use indexmap::IndexMap;
 use naga_oil_lines::import_definition::ImportDefWithOffset;
 use naga_oil_lines::parse_imports::{ImportFault, parse_imports};
 use naga_oil_lines::substitute::{SubstituteFault, substitute_identifiers};
+use naga_oil_lines::text::push_spaces;
 use std::alloc::{AllocError, Global};
 use std::collections::BTreeMap;
 
@@ -40,15 +41,6 @@ pub fn braces_after(before: usize, covered: &str) -> usize
     let opened = covered.as_bytes().iter().filter(|b| **b == b'{').count();
     let closed = covered.as_bytes().iter().filter(|b| **b == b'}').count();
     (before + opened).saturating_sub(closed)
-}
-
-pub fn push_spaces(out: &mut String, count: usize) -> Result<(), AllocError>
-    ensures { OnOk result (string_bytes out.new ≡ string_bytes out.old ++ replicate count 32) }
-{
-    for _ in 0..count {
-        out.push(' ')?;
-    }
-    Ok(())
 }
 
 // Writes spaces in a line's place.
@@ -134,14 +126,15 @@ pub fn take_lines(
     Ok(())
 }
 
-// Records what a shown line uses, by its covered line.
+// Records what a shown line uses, by its covered line. Gives the covered line with its values and what its identifiers stand for.
 pub fn record_uses(
     alloc: Global,
     line: &SourceLine<'_>,
     definitions: &BTreeMap<String, ShaderDefValue>,
     imports: &mut Imports,
-) -> Result<(), ComposerErrorInner>
+) -> Result<String, ComposerErrorInner>
     requires { line.now.offset ≤ 2 ^ 63 }
+    ensures text { IfOk result (λ t. string_bytes t ≡ substituted (declared_of imports.old.declared) (using_tokens (get_by_text definitions.now) (line_of line.now))) }
     ensures ok { OnOk result (first_ambiguous (declared_of imports.old.declared) false (sites line.now.offset (using_tokens (get_by_text definitions.now) (line_of line.now))) ≡ None) }
     ensures used { OnOk result (uses_of imports.new.used ≡ used_by (declared_of imports.old.declared) line.now.offset (using_tokens (get_by_text definitions.now) (line_of line.now)) (uses_of imports.old.used)) }
     ensures declared { OnOk result (declared_of imports.new.declared ≡ declared_of imports.old.declared) }
@@ -157,7 +150,7 @@ pub fn record_uses(
         &mut imports.used,
         false,
     ) {
-        Ok(_) => Ok(()),
+        Ok(text) => Ok(text),
         Err(SubstituteFault::Ambiguous(place)) => Err(ComposerErrorInner::ImportParseError(
             String::from_str(alloc, "Ambiguous import path for item")?,
             place,
@@ -192,4 +185,30 @@ pub fn push_shown(
         Err(SubstituteFault::Memory) => return Err(AllocError),
     };
     push_padded(out, shown.as_str(), line.text.len())
+}
+
+// Records what a shown line uses and writes the line: both at once where nothing of it is covered.
+pub fn show_line(
+    alloc: Global,
+    line: &SourceLine<'_>,
+    definitions: &BTreeMap<String, ShaderDefValue>,
+    imports: &mut Imports,
+    out: &mut String,
+) -> Result<(), ComposerErrorInner>
+    requires { line.now.offset ≤ 2 ^ 63 }
+    ensures text { OnOk result (string_bytes out.new ≡ string_bytes out.old
+        ++ ended (padded (length line.now.text.now) (substituted (declared_of imports.old.declared) (tokens_of (replaced (get_by_text definitions.now) line.now.text.now))))) }
+    ensures ok { OnOk result (first_ambiguous (declared_of imports.old.declared) false (sites line.now.offset (using_tokens (get_by_text definitions.now) (line_of line.now))) ≡ None) }
+    ensures used { OnOk result (uses_of imports.new.used ≡ used_by (declared_of imports.old.declared) line.now.offset (using_tokens (get_by_text definitions.now) (line_of line.now)) (uses_of imports.old.used)) }
+    ensures declared { OnOk result (declared_of imports.new.declared ≡ declared_of imports.old.declared) }
+    ensures err { IfErr result (λ e. (known : Known) → Fails e (shown_piece (get_by_text definitions.now) known (line_of line.now)
+        (first_ambiguous (declared_of imports.old.declared) false (sites line.now.offset (using_tokens (get_by_text definitions.now) (line_of line.now)))))) }
+{
+    let shown = record_uses(alloc, line, definitions, imports)?;
+    if line.covered.as_str() == line.text {
+        push_padded(out, shown.as_str(), line.text.len())?;
+    } else {
+        push_shown(alloc, line, definitions, &imports.declared, out)?;
+    }
+    Ok(())
 }

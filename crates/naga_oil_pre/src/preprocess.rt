@@ -18,9 +18,7 @@ ghost use Rattle.naga_oil_pre.specs.declared.scope.ScopeLevel.{ScopeLevel};
 
 use crate::condition::evaluate;
 use crate::fault::ComposerErrorInner;
-use crate::imports::{
-    Imports, blank_line, braces_after, declare, push_shown, record_uses, take_lines,
-};
+use crate::imports::{Imports, blank_line, braces_after, declare, show_line, take_lines};
 use crate::line_kind::{LineKind, line_kind};
 use crate::scope::Scope;
 use crate::shader_def::ShaderDefValue;
@@ -140,8 +138,7 @@ fn write_shown(
         ≡ behind (string_bytes out.old) (written (get_by_text definitions.now) (known_of imports.old) (shown (line_of line.now) ∷ more))) }
     ensures err { IfErr result (λ e. Fails e (piece (get_by_text definitions.now) (known_of imports.old) (shown (line_of line.now)))) }
 {
-    record_uses(alloc, line, definitions, imports)?;
-    push_shown(alloc, line, definitions, &imports.declared, out)?;
+    show_line(alloc, line, definitions, imports, out)?;
     Ok(())
 }
 

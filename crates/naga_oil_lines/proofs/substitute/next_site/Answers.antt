@@ -1,6 +1,7 @@
 use Rattle.std.proofs.Common.{true, false, sym, subst, ap, ◌∙◌, length, length-append, arith}
 use Rattle.naga_oil_lines.specs.Sites.{Passes}
 use Rattle.naga_oil_lines.proofs.TokenLemmas.{suffix_behind_char}
+use Rattle.naga_oil_lines.proofs.WordLemmas.{identifier_lacks_colon}
 use Rattle.naga_oil_lines.proofs.PassLemmas.{passes_none, passes_more, kept_passes, other_passes, identifier_first}
 use Rattle.naga_oil_lines.proofs.substitute.next_site.Goals as goal
 
@@ -15,25 +16,28 @@ loop-first-preserved-then-not-starts_identifier c =
     record { text = e.utf8; passes = passes_more _ _ _ _ _ _ c.loop-first.invariant.passes one }
 
 pub text_before-requires : goal.text_before-requires
-text_before-requires c = suffix_behind_char _ _ _ _ _ c.in-Some.ensures c.after_identifier-behind.ensures.suffix.1
+text_before-requires c = suffix_behind_char _ _ _ _ _ c.in-Some.ensures c.behind_identifier-is_word.ensures.suffix.1
 
 pub returns-then-not-kept : goal.returns-then-not-kept
-returns-then-not-kept c = record {
-  before = subst (λ k. Passes false c.args.text.now k c.loop-first.rest.now) c.if-not-kept.true c.loop-first.invariant.passes;
-  cut = c.text_before.ensures;
-  shorter = omega (arith, c.in-Some.ensures.shorter, ap length c.after_identifier-behind.ensures.suffix.1, length-append c.after_identifier-behind.ensures.suffix.0 c.after_identifier-behind.result.now);
-  utf8 = c.after_identifier-behind.utf8;
-  token =
-      identifier_first _ _ _ _ _ c.in-Some.ensures (sym c.starts_identifier.ensures ∙ c.if-not-starts_identifier.false) c.text_before.ensures c.after_identifier-behind.utf8
-      c.after_identifier-behind.ensures.chars;
-}
+returns-then-not-kept c =
+    let b = c.behind_identifier-is_word.ensures in
+    let starts = sym c.starts_identifier.ensures ∙ c.if-not-starts_identifier.false in
+    record {
+      before = subst (λ k. Passes false c.args.text.now k c.loop-first.rest.now) c.if-not-kept.true c.loop-first.invariant.passes;
+      cut = c.text_before.ensures;
+      word = λ is. identifier_lacks_colon _ _ _ b.suffix.0 c.text_before.result.now c.behind_identifier-is_word.result.0.now c.in-Some.ensures b.suffix.1 c.text_before.ensures starts (b.suffix.2 is);
+      shorter = omega (arith, c.in-Some.ensures.shorter, ap length b.suffix.1, length-append b.suffix.0 c.behind_identifier-is_word.result.0.now);
+      utf8 = b.utf8;
+      token = identifier_first _ _ _ _ _ c.in-Some.ensures starts c.text_before.ensures b.utf8 b.chars;
+    }
 
 pub loop-first-preserved : goal.loop-first-preserved
 loop-first-preserved c =
-    let name = suffix_behind_char _ _ _ _ _ c.in-Some.ensures c.after_identifier-behind.ensures.suffix.1 in
-    let one : Passes true c.loop-first.rest.now false c.after_identifier-behind.result.now =
-    kept_passes _ _ _ _ _ c.in-Some.ensures (sym c.starts_identifier.ensures ∙ c.if-not-starts_identifier.false) name.1 c.after_identifier-behind.utf8 c.after_identifier-behind.ensures.chars in
+    let b = c.behind_identifier-is_word.ensures in
+    let name = suffix_behind_char _ _ _ _ _ c.in-Some.ensures b.suffix.1 in
+    let one : Passes true c.loop-first.rest.now false c.behind_identifier-is_word.result.0.now =
+    kept_passes _ _ _ _ _ c.in-Some.ensures (sym c.starts_identifier.ensures ∙ c.if-not-starts_identifier.false) name.1 b.utf8 b.chars in
     record {
-      text = c.after_identifier-behind.utf8;
+      text = b.utf8;
       passes = passes_more _ _ _ _ _ _ (subst (λ k. Passes false c.args.text.now k c.loop-first.rest.now) c.if-not-kept.false c.loop-first.invariant.passes) one;
     }

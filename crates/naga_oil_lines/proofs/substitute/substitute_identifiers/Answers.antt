@@ -7,13 +7,13 @@ use Rattle.naga_oil_lines.proofs.WritingLemmas.{writing_refused, written_text, w
 use Rattle.naga_oil_lines.proofs.substitute.substitute_identifiers.Goals as goal
 
 pub text_before-requires : goal.text_before-requires
-text_before-requires c = unwritten_before _ _ _ _ _ _ _ _ _ c.loop-site.invariant.writing _ _ _ c.in-Some.ensures
+text_before-requires c = unwritten_before _ _ _ _ _ _ _ _ _ c.loop-site.invariant.writing _ _ _ _ c.in-Some.ensures
 
 pub loop-site-preserved-then-is_own : goal.loop-site-preserved-then-is_own
 loop-site-preserved-then-is_own c = record {
   unwritten = c.loop-site.invariant.unwritten;
   rest = c.in-Some.ensures.utf8;
-  writing = own_read _ _ _ _ _ _ _ _ _ c.loop-site.invariant.writing _ _ _ c.in-Some.ensures (sym c.is_own.ensures ∙ c.if-is_own.true);
+  writing = own_read _ _ _ _ _ _ _ _ _ c.loop-site.invariant.writing _ _ _ _ c.in-Some.ensures (sym c.is_own.ensures ∙ c.if-is_own.true);
 }
 
 pub returns-in_err-push_str-clause-fault : goal.returns-in_err-push_str-clause-fault
@@ -23,7 +23,7 @@ returns-in_err-push_str-clause-fault c =
 pub returns-in_err-write_identifier-clause-fault : goal.returns-in_err-write_identifier-clause-fault
 returns-in_err-write_identifier-clause-fault c =
     fault_answer c.from_residual-in_err-write_identifier.result _ c.in_err-write_identifier.field-0.0 c.from_residual-in_err-write_identifier.ensures.1
-    (site_refused _ _ _ _ _ _ _ _ _ c.loop-site.invariant.writing _ _ _ c.in-Some.ensures _ refl (uses_of c.write_identifier.new.used_imports) c.in_err-write_identifier.field-0.0
+    (site_refused _ _ _ _ _ _ _ _ _ c.loop-site.invariant.writing _ _ _ _ c.in-Some.ensures _ refl (uses_of c.write_identifier.new.used_imports) c.in_err-write_identifier.field-0.0
     c.in_err-write_identifier.ensures.fault)
 
 pub loop-site-preserved : goal.loop-site-preserved
@@ -31,7 +31,7 @@ loop-site-preserved c = record {
   unwritten = c.in-Some.ensures.utf8;
   rest = c.in-Some.ensures.utf8;
   writing =
-      site_written _ _ _ _ _ _ _ _ _ c.loop-site.invariant.writing _ _ _ c.in-Some.ensures _ refl (uses_of c.write_identifier.new.used_imports) _ (string_bytes c.push_str.new.self)
+      site_written _ _ _ _ _ _ _ _ _ c.loop-site.invariant.writing _ _ _ _ c.in-Some.ensures _ refl (uses_of c.write_identifier.new.used_imports) _ (string_bytes c.push_str.new.self)
       (string_bytes c.write_identifier.new.output) c.text_before.ensures c.in_ok-push_str.ensures.bytes c.in_ok-write_identifier.ensures.text c.in_ok-write_identifier.ensures.allowed
       c.in_ok-write_identifier.ensures.used;
 }
