@@ -1,0 +1,279 @@
+use super::{PreprocessOutput, Preprocessor};
+use crate::fault::ComposerErrorInner;
+use crate::shader_def::ShaderDefValue;
+use std::alloc::Global;
+use std::collections::BTreeMap;
+use std::process::Abort;
+use std::test::Fail;
+
+type Definition = (&'static str, ShaderDefValue);
+
+// A text, and what it becomes, where `~` is written for a space, or its fault.
+type Row = (&'static str, &'static str);
+
+// A text, what it becomes, and what it uses.
+type UsesRow = (&'static str, &'static str, &'static str);
+
+const NONE: &[Definition] = &[];
+
+const A: &[Definition] = &[("A", ShaderDefValue::Bool(true))];
+
+const FALSE: &[Definition] = &[("T", ShaderDefValue::Bool(false))];
+
+const TRUE: &[Definition] = &[("T", ShaderDefValue::Bool(true))];
+
+const THREE: &[Definition] = &[("T", ShaderDefValue::Int(3))];
+
+const SEVEN: &[Definition] = &[("T", ShaderDefValue::Int(7))];
+
+const SECOND: &[Definition] = &[("SECOND", ShaderDefValue::Bool(true))];
+
+const SECOND_THIRD: &[Definition] = &[
+    ("SECOND", ShaderDefValue::Bool(true)),
+    ("THIRD", ShaderDefValue::Bool(true)),
+];
+
+const VALUES: &[Definition] = &[
+    ("FIRST_VALUE", ShaderDefValue::Int(5)),
+    ("SECOND_VALUE", ShaderDefValue::Int(3)),
+    ("UINT", ShaderDefValue::UInt(4294967295)),
+    ("INT", ShaderDefValue::Int(-1)),
+    ("BOOL", ShaderDefValue::Bool(false)),
+];
+
+fn preprocessed(
+    alloc: Global,
+    source: &str,
+    definitions: &[Definition],
+) -> Result<PreprocessOutput, ComposerErrorInner> {
+    let mut shader_defs = BTreeMap::new(alloc);
+    for (name, value) in definitions.iter() {
+        shader_defs.insert(String::from_str(alloc, *name)?, *value)?;
+    }
+    Preprocessor::default().preprocess(alloc, source, &shader_defs)
+}
+
+// Under the definitions each text becomes what stands beside it.
+fn become_these(
+    rt: &impl Abort,
+    alloc: Global,
+    definitions: &[Definition],
+    rows: &[Row],
+) -> Result<(), Fail> {
+    for (source, expected) in rows.iter() {
+        let output = preprocessed(alloc, *source, definitions)?;
+        let shown = output.preprocessed_source.replace(alloc, ' ', "~")?;
+        assert_eq!(rt; shown.as_str(), *expected, "{source}");
+    }
+    Ok(())
+}
+
+// Under the definitions each text has the fault that stands beside it.
+fn fail_so(
+    rt: &impl Abort,
+    alloc: Global,
+    definitions: &[Definition],
+    rows: &[Row],
+) -> Result<(), Fail> {
+    for (source, expected) in rows.iter() {
+        let Err(error) = preprocessed(alloc, *source, definitions) else {
+            panic!(rt; "no fault: {source}")
+        };
+        let shown = format!(in alloc; "{error:?}")?;
+        assert_eq!(rt; shown.as_str(), *expected, "{source}");
+    }
+    Ok(())
+}
+
+const PLAIN: &[Row] = &[
+    ("", ""),
+    ("\n", "\n"),
+    ("a\r\nb", "a\nb\n"),
+    (
+        "#ifdef A\na\n#else if X\nb\n#endif",
+        "~~~~~~~~\n~\n~~~~~~~~~~\nb\n~~~~~~\n",
+    ),
+    (
+        "#ifdef A\na\n#else ifndef B\nb\n#else\nc\n#endif",
+        "~~~~~~~~\n~\n~~~~~~~~~~~~~~\nb\n~~~~~\n~\n~~~~~~\n",
+    ),
+    (
+        "/* #ifdef A\n*/ #ifdef B\nb // #endif\n#endif",
+        "/*~#ifdef~A\n~~~~~~~~~~~\n~~~~~~~~~~~\n~~~~~~\n",
+    ),
+];
+
+const UNDER_A: &[Row] = &[
+    (
+        "\n#define A\n#ifdef A\ndefined\n#endif\n",
+        "\n~~~~~~~~~\n~~~~~~~~\ndefined\n~~~~~~\n",
+    ),
+    (
+        "#ifdef A\n#ifdef B\na\n#else\n#ifdef B\nb\n#else ifdef A\nc\n#endif\n#endif\n#endif",
+        "~~~~~~~~\n~~~~~~~~\n~\n~~~~~\n~~~~~~~~\n~\n~~~~~~~~~~~~~\nc\n~~~~~~\n~~~~~~\n~~~~~~\n",
+    ),
+    (
+        "#ifdef A\n#import a::{\"\n#if XX == 1\n#endif\n\"}\n#endif",
+        "~~~~~~~~\n~~~~~~~~~~~~~\n~~~~~~~~~~~\n~~~~~~\n~~\n~~~~~~\n",
+    ),
+];
+
+#[test]
+fn shows_the_arms_that_hold(rt: HostRuntime) -> Result<(), Fail> {
+    become_these(&rt, rt.alloc(), NONE, PLAIN)?;
+    become_these(&rt, rt.alloc(), A, UNDER_A)
+}
+
+const TEXTURES: &str =
+    "#ifdef TEXTURE\na\n#else ifdef SECOND\nb\n#else ifdef THIRD\nc\n#else\nd\n#endif";
+
+const FOURTH_ARM: &[Row] = &[(
+    TEXTURES,
+    "~~~~~~~~~~~~~~\n~\n~~~~~~~~~~~~~~~~~~\n~\n~~~~~~~~~~~~~~~~~\n~\n~~~~~\nd\n~~~~~~\n",
+)];
+
+const SECOND_ARM: &[Row] = &[(
+    TEXTURES,
+    "~~~~~~~~~~~~~~\n~\n~~~~~~~~~~~~~~~~~~\nb\n~~~~~~~~~~~~~~~~~\n~\n~~~~~\n~\n~~~~~~\n",
+)];
+
+#[test]
+fn shows_the_first_arm_that_holds(rt: HostRuntime) -> Result<(), Fail> {
+    become_these(&rt, rt.alloc(), NONE, FOURTH_ARM)?;
+    become_these(&rt, rt.alloc(), SECOND, SECOND_ARM)?;
+    become_these(&rt, rt.alloc(), SECOND_THIRD, SECOND_ARM)
+}
+
+const UNDER_THREE: &[Row] = &[
+    ("#if T == 3\na\n#endif", "~~~~~~~~~~\na\n~~~~~~\n"),
+    ("#if T <= 3\na\n#endif", "~~~~~~~~~~\na\n~~~~~~\n"),
+];
+
+const UNDER_SEVEN: &[Row] = &[("#if T == 3\na\n#endif", "~~~~~~~~~~\n~\n~~~~~~\n")];
+
+const UNDER_TRUE: &[Row] = &[("#if T != false\na\n#endif", "~~~~~~~~~~~~~~\na\n~~~~~~\n")];
+
+const UNDER_FALSE: &[Row] = &[("#if T != false\na\n#endif", "~~~~~~~~~~~~~~\n~\n~~~~~~\n")];
+
+#[test]
+fn compares_values(rt: HostRuntime) -> Result<(), Fail> {
+    become_these(&rt, rt.alloc(), THREE, UNDER_THREE)?;
+    become_these(&rt, rt.alloc(), SEVEN, UNDER_SEVEN)?;
+    become_these(&rt, rt.alloc(), TRUE, UNDER_TRUE)?;
+    become_these(&rt, rt.alloc(), FALSE, UNDER_FALSE)
+}
+
+const WITH_VALUES: &[Row] = &[
+    (
+        "    var b: i32 = #FIRST_VALUE * #SECOND_VALUE;",
+        "~~~~var~b:~i32~=~5~*~3;~~~~~~~~~~~~~~~~~~~~~~~\n",
+    ),
+    ("#MISSING * #FIRST_VALUE", "#MISSING~*~5~~~~~~~~~~~\n"),
+    ("#UINT\n# {INT};\n#BOOL", "4294967295\n-1;~~~~~\nfalse\n"),
+];
+
+#[test]
+fn writes_values(rt: HostRuntime) -> Result<(), Fail> {
+    become_these(&rt, rt.alloc(), VALUES, WITH_VALUES)
+}
+
+const IMPORTS: &[UsesRow] = &[
+    (
+        "#import a::f\nx.f + x. f",
+        "            \nx.f + x. fX_naga_oil_mod_XMEX\n",
+        "[ImportDefWithOffset { definition: ImportDefinition { import: \"a\", items: [\"f\"] }, offset: 22 }]",
+    ),
+    (
+        "#import a::{\n  b,\n  c\n}\nb() + c()",
+        "            \n    \n   \n \nbX_naga_oil_mod_XMEX() + cX_naga_oil_mod_XMEX()\n",
+        "[ImportDefWithOffset { definition: ImportDefinition { import: \"a\", items: [\"b\", \"c\"] }, offset: 24 }]",
+    ),
+    (
+        "#import a::f\nf() // f\nf()\n",
+        "            \nfX_naga_oil_mod_XMEX() // fX_naga_oil_mod_XMEX\nfX_naga_oil_mod_XMEX()\n",
+        "[ImportDefWithOffset { definition: ImportDefinition { import: \"a\", items: [\"f\", \"f\"] }, offset: 13 }]",
+    ),
+    (
+        "#ifdef A\n#import a::f\n#endif\nf() + a::g()",
+        "        \n            \n      \nf() + gX_naga_oil_mod_XMEX()\n",
+        "[ImportDefWithOffset { definition: ImportDefinition { import: \"a\", items: [\"g\"] }, offset: 35 }]",
+    ),
+    (
+        "#import a::{\"\n\" as b}\nb;",
+        "             \n       \n\"\n\"X_naga_oil_mod_XMEX;\n",
+        "[ImportDefWithOffset { definition: ImportDefinition { import: \"a\", items: [\"\\\"\\n\\\"\"] }, offset: 22 }]",
+    ),
+];
+
+#[test]
+fn substitutes_what_imports_declare(rt: HostRuntime) -> Result<(), Fail> {
+    for (source, text, uses) in IMPORTS.iter() {
+        let output = preprocessed(rt.alloc(), *source, NONE)?;
+        assert_eq!(rt; output.preprocessed_source.as_str(), *text, "{source}");
+        let imports = output.imports;
+        let shown = format!(in rt.alloc(); "{imports:?}")?;
+        assert_eq!(rt; shown.as_str(), *uses, "{source}");
+    }
+    Ok(())
+}
+
+const FAULTS: &[Row] = &[
+    (
+        "#if FOO",
+        "UnknownShaderDef { pos: 0, shader_def_name: \"FO\" }",
+    ),
+    ("#ifdef A\nx", "NotEnoughEndIfs(11)"),
+    ("#ifdef A\n#version 300\n#endif", "GlslInvalidVersion(9)"),
+    ("a\n#endif\n#else", "TooManyEndIfs(2)"),
+    ("a\n#else\n#endif", "ElseWithoutCondition(2)"),
+    (
+        "#else if XX\n#else",
+        "UnknownShaderDef { pos: 0, shader_def_name: \"X\" }",
+    ),
+    (
+        "#ifdef Z\n#import a::{\"\n#if XX == 1\n#endif\n\"}\n#endif",
+        "UnknownShaderDef { pos: 23, shader_def_name: \"XX\" }",
+    ),
+];
+
+const FAULTS_UNDER_A: &[Row] = &[("#ifdef A\nx\n", "NotEnoughEndIfs(11)")];
+
+const FAULTS_UNDER_TRUE: &[Row] = &[
+    (
+        "#if T !! true",
+        "UnknownShaderDefOperator { pos: 0, operator: \"!!\" }",
+    ),
+    (
+        "#if T == 3",
+        "InvalidShaderDefComparisonValue { pos: 0, shader_def_name: \"T\", expected: \"bool\", value: \"3\" }",
+    ),
+];
+
+const FAULTS_UNDER_SEVEN: &[Row] = &[(
+    "a\n#if T !! true",
+    "InvalidShaderDefComparisonValue { pos: 2, shader_def_name: \"T\", expected: \"int\", value: \"true\" }",
+)];
+
+const FAULTS_OF_IMPORTS: &[Row] = &[
+    (
+        "#import a::{b, b}\nb",
+        "ImportParseError(\"Ambiguous import path for item\", 18)",
+    ),
+    (
+        "#import a::{",
+        "ImportParseError(\"missing close brace\", 13)",
+    ),
+    (
+        "x\n#import a::{b,\n#ifdef X\nc}\nb",
+        "ImportParseError(\"unexpected token\", 17)",
+    ),
+];
+
+#[test]
+fn answers_the_earliest_fault(rt: HostRuntime) -> Result<(), Fail> {
+    fail_so(&rt, rt.alloc(), NONE, FAULTS)?;
+    fail_so(&rt, rt.alloc(), A, FAULTS_UNDER_A)?;
+    fail_so(&rt, rt.alloc(), TRUE, FAULTS_UNDER_TRUE)?;
+    fail_so(&rt, rt.alloc(), SEVEN, FAULTS_UNDER_SEVEN)?;
+    fail_so(&rt, rt.alloc(), NONE, FAULTS_OF_IMPORTS)
+}
