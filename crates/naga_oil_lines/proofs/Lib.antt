@@ -19,3 +19,4 @@ pub mod ImportPlaceLemmas
 pub mod PassLemmas
 pub mod WritingLemmas
 pub mod WordLemmas
+pub mod PlainLemmas
