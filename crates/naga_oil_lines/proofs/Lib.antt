@@ -22,3 +22,4 @@ pub mod NamesInOrder
 pub mod PassLemmas
 pub mod WritingLemmas
 pub mod WordLemmas
+pub mod PlainLemmas

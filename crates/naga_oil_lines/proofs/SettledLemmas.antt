@@ -105,7 +105,7 @@ pub mentions_one : (declared : Declared) (s : Site) (paths : List (List ℕ)) �
 mentions_one declared s paths e = append-nil (mentions_of declared s) ∙ ap (flat_map (mentions_at s.place)) e
 
 -- ---- one after another
-none_behind : (declared : Declared) (allowed : Bool) (xs ys : List Site) → first_ambiguous declared allowed xs ≡ None
+pub none_behind : (declared : Declared) (allowed : Bool) (xs ys : List Site) → first_ambiguous declared allowed xs ≡ None
     → (first_ambiguous declared allowed (xs ++ ys) ≡ first_ambiguous declared allowed ys) × (before_ambiguous declared allowed (xs ++ ys) ≡ xs ++ before_ambiguous declared allowed ys)
 none_behind declared allowed [] ys e = (refl, refl)
 none_behind declared allowed (s ∷ xs) ys e =

@@ -17,7 +17,7 @@ not_here a b more none = by (eqb a 58) (eqb b 58) refl refl
     by true false p q = refl
     by true true p q = absurd (none more (λ i. eqb-true a 58 p i ∷ eqb-true b 58 q i ∷ more))
 
-first_none : (s : List ℕ) → ((i : ℕ) → i ≤ length s → LacksTextAt (58 ∷ 58 ∷ []) s i) → cut_at_first s ≡ None
+pub first_none : (s : List ℕ) → ((i : ℕ) → i ≤ length s → LacksTextAt (58 ∷ 58 ∷ []) s i) → cut_at_first s ≡ None
 first_none [] none = refl
 first_none (a ∷ []) none = refl
 first_none (a ∷ b ∷ more) none =

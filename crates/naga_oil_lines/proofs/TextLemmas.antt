@@ -61,7 +61,8 @@ pub spaces_more : (before old new spaces : List ℕ) (count left n : ℕ) → sp
 spaces_more before old new spaces count left n s le some e p =
     let more : count - left + n ≡ count - (left - n) = omega arith in
     let both : old ++ spaces ≡ (before ++ replicate (count - left) 32) ++ replicate n 32 = λ i. e i ++ s i in
-    p ∙ both ∙ append_assoc before (replicate (count - left) 32) (replicate n 32) ∙ ap (λ l. before ++ l) (replicate-append-replicate (count - left) n 32 ∙ ap (λ k. replicate k 32) more)
+    let joined : replicate {A = ℕ} (count - left) 32 ++ replicate n 32 ≡ replicate (count - (left - n)) 32 = replicate-append-replicate (count - left) n 32 ∙ ap (λ k. replicate k 32) more in
+    p ∙ both ∙ append_assoc before (replicate (count - left) 32) (replicate n 32) ∙ ap (λ l. before ++ l) joined
 
 pub spaces_last : (before old new spaces : List ℕ) (count left n : ℕ) → spaces ≡ replicate n 32 → left ≤ count → left ≤ n → old ≡ before ++ replicate (count - left) 32 → new ≡ old ++ take left spaces
     → new ≡ before ++ replicate count 32

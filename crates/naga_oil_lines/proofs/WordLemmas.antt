@@ -93,10 +93,10 @@ word_lacks_colon (b ∷ bs) =
 start_lacks_colon : (c : ℕ) → starts_identifier c ≡ true → list_any (λ b. eqb b 58) (encode_utf8 c) ≡ false
 start_lacks_colon c starts =
     list_any_none (λ b. eqb b 58) (encode_utf8 c) (All-from_get_or (λ b. eqb b 58 ≡ false) (encode_utf8 c) 0 (λ i l.
-      ne_eqb (get_or (encode_utf8 c) i 0) 58 (λ e.
-        let is : c ≡ get_or (encode_utf8 c) i 0 = inside_one c [] (encode_utf8 c) i (sym (append-nil (encode_utf8 c))) l (omega (arith, e)) in
-        let colon : starts_identifier 58 ≡ true = subst (λ k. starts_identifier k ≡ true) (is ∙ e) starts in
-        no_start_colon colon)))
+    ne_eqb (get_or (encode_utf8 c) i 0) 58 (λ e.
+    let is : c ≡ get_or (encode_utf8 c) i 0 = inside_one c [] (encode_utf8 c) i (sym (append-nil (encode_utf8 c))) l (omega (arith, e)) in
+    let colon : starts_identifier 58 ≡ true = subst (λ k. starts_identifier k ≡ true) (is ∙ e) starts in
+    no_start_colon colon)))
 
 pub identifier_lacks_colon : (bs : List ℕ) (c : ℕ) (more front name behind : List ℕ) → BeginsWithChar bs c more → more ≡ front ++ behind → bs ≡ name ++ behind → starts_identifier c ≡ true
     → list_any (λ b. eqb b 58) front ≡ false → list_any (λ b. eqb b 58) name ≡ false

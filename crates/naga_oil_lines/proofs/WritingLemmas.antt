@@ -1,7 +1,8 @@
 -- A text whose identifiers are substituted from one to the next.
-use Rattle.std.proofs.Common.{◌≡◌, ℕ, ◌+◌, ◌-◌, Bool, true, false, cond, not, ◌&&◌, ◌||◌, eqb, List, [], ◌∷◌, ◌++◌, length, None, refl, sym, ap, subst, ◌∙◌, arith, append_assoc, append-nil, length-append}
+use Rattle.std.proofs.Common.{Option, Some, ◌≡◌, ℕ, ◌+◌, ◌-◌, Bool, true, false, cond, not, ◌&&◌, ◌||◌, eqb, List, [], ◌∷◌, ◌++◌, length, None, refl, sym, ap, subst, ◌∙◌, arith, append_assoc, append-nil, length-append}
 use borrow.Author.Tests.{eqb-true}
 use Rattle.std.specs.List.{flat_map, list_any}
+use Rattle.std.specs.Option.{option_map}
 use Rattle.std.specs.Str.{chars}
 use Rattle.std.proofs.lemmas.Str.{chars-nil}
 use Rattle.std.proofs.lemmas.List.{append_cancel_right, nil_from_length}
@@ -30,28 +31,39 @@ no_cut [] e = refl
 no_cut (a ∷ []) e = refl
 no_cut (a ∷ b ∷ more) e = let n = not_colon a (b ∷ more) e in rw (n.0, no_cut (b ∷ more) n.1) refl
 
-no_module : (name : List ℕ) → list_any (λ b. eqb b 58) name ≡ false → module_and_item name ≡ None
+-- no `::` stands at the front, and none behind it
+pub not_cut : (a b : ℕ) (more : List ℕ) → cut_at_first (a ∷ b ∷ more) ≡ None → ((eqb a 58 && eqb b 58) ≡ false) × (cut_at_first (b ∷ more) ≡ None)
+not_cut a b more e =
+    elim (eqb a 58 && eqb b 58) as (λ x. cond x (Some ([], more)) (option_map {U = List ℕ × List ℕ} (λ p. (a ∷ p.0, p.1)) (cut_at_first (b ∷ more))) ≡ None → (x ≡ false) × (cut_at_first (b ∷ more) ≡ None)) [
+      | true ↦ λ h. absurd (cc)
+      | false ↦ λ h. (refl, unmapped (cut_at_first (b ∷ more)) h)
+    ] e
+  where
+    unmapped : (r : Option (List ℕ × List ℕ)) → option_map {U = List ℕ × List ℕ} (λ p. (a ∷ p.0, p.1)) r ≡ None → r ≡ None
+    unmapped None h = refl
+    unmapped (Some p) h = absurd (cc)
+
+no_module : (name : List ℕ) → cut_at_first name ≡ None → module_and_item name ≡ None
 no_module [] e = refl
 no_module (a ∷ []) e = refl
-no_module (a ∷ b ∷ more) e = let n = not_colon a (b ∷ more) e in rw (no_module (b ∷ more) n.1, n.0) refl
+no_module (a ∷ b ∷ more) e = let n = not_cut a b more e in rw (no_module (b ∷ more) n.1, n.0) refl
 
--- what `is_own` says
-record Own (declared : Declared) (name : List ℕ) : Type 0 where
-  paths : paths_for declared name ≡ name ∷ []
-  text : written name name ≡ name
-  unused : (place : ℕ) → mentions_at place name ≡ []
+-- it has one path, itself, which is written as it is and uses nothing
+pub record Own (declared : Declared) (name : List ℕ) : Type 0 where
+  pub paths : paths_for declared name ≡ name ∷ []
+  pub text : written name name ≡ name
+  pub unused : (place : ℕ) → mentions_at place name ≡ []
 
-own_from : (declared : Declared) (name : List ℕ) → list_any (λ b. eqb b 58) name ≡ false → length (paths_of declared name) ≡ 0 → Own declared name
+pub own_without_cut : (declared : Declared) (name : List ℕ) → cut_at_first name ≡ None → length (paths_of declared name) ≡ 0 → Own declared name
 unfolding written mentions_at
-own_from declared name none empty =
-    let cut = no_cut name none in
+own_without_cut declared name cut empty =
     let first : first_part name ≡ name = rw cut refl in
     let behind : behind_first name ≡ [] = rw cut refl in
     let own : own_path name ≡ name = rw (first, behind) refl in
     record {
       paths = paths_for_own declared name (rw first (nil_from_length (paths_of declared name) empty)) ∙ ap (λ l. l ∷ []) own;
-      text = ap (written_as name name) (no_module name none) ∙ elim (list_any (λ b. eqb b 34) name) as (λ b. cond b name name ≡ name) [ true ↦ refl | false ↦ refl ];
-      unused = λ place. ap (mention_of place) (no_module name none);
+      text = ap (written_as name name) (no_module name cut) ∙ elim (list_any (λ b. eqb b 34) name) as (λ b. cond b name name ≡ name) [ true ↦ refl | false ↦ refl ];
+      unused = λ place. ap (mention_of place) (no_module name cut);
     }
 
 is_own_gives : (declared : Declared) (name : List ℕ) → is_own declared name ≡ true → Own declared name
@@ -61,7 +73,7 @@ is_own_gives declared name e =
     by : (x y : Bool) → list_any (λ b. eqb b 58) name ≡ x → eqb (length (paths_of declared name)) 0 ≡ y → (not x && y) ≡ true → Own declared name
     by true y p q h = absurd (cc)
     by false false p q h = absurd (cc)
-    by false true p q h = own_from declared name p (eqb-true _ _ q)
+    by false true p q h = own_without_cut declared name (no_cut name p) (eqb-true _ _ q)
 
 -- ---- one identifier after another
 -- the text is read up to the rest, and written up to what is unwritten, which stands as it is up to the rest

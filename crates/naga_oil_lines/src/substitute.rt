@@ -265,6 +265,9 @@ pub fn substitute_identifiers(
     ensures allowed { OnOk result (first_ambiguous (declared_of declared_imports.now) allow_ambiguous (sites offset (lexemes 0 0 (chars input.now))) ≡ None) }
     ensures fault { IfErr result (λ e. Refuses (declared_of declared_imports.now) allow_ambiguous (sites offset (lexemes 0 0 (chars input.now))) (uses_of used_imports.old) (uses_of used_imports.new) e) }
 {
+    if declared_imports.is_empty() && !input.contains("::") {
+        return Ok(String::from_str(alloc, input)?);
+    }
     let substitution = Substitution {
         alloc,
         declared_imports,

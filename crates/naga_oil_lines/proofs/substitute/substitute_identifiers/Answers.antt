@@ -1,9 +1,13 @@
-use Rattle.std.proofs.Common.{◌∙◌, refl, sym}
+use Rattle.std.proofs.Common.{◌≡◌, [], map, ap, ◌∙◌, refl, sym, rules}
+use Rattle.std.proofs.lemmas.List.{nil_from_length}
+use Rattle.naga_oil_lines.specs.Substituted.{recorded}
 use Rattle.std.specs.String.{string_bytes}
 use Rattle.naga_oil_lines.specs.declared.substitute.SubstituteFault.TheVariants.{Memory}
+use Rattle.naga_oil_lines.specs.Declarations.{declared_of}
 use Rattle.naga_oil_lines.specs.Uses.{uses_of}
 use Rattle.naga_oil_lines.proofs.SettledLemmas.{fault_answer}
 use Rattle.naga_oil_lines.proofs.WritingLemmas.{writing_refused, written_text, written_allowed, written_uses, unwritten_before, own_read, site_written, site_refused}
+use Rattle.naga_oil_lines.proofs.PlainLemmas.{plain_text}
 use Rattle.naga_oil_lines.proofs.substitute.substitute_identifiers.Goals as goal
 
 pub text_before-requires : goal.text_before-requires
@@ -48,3 +52,18 @@ returns-clause-used c = written_uses _ _ _ _ _ _ _ _ _ c.loop-site.invariant.wri
 
 pub returns-clause-allowed : goal.returns-clause-allowed
 returns-clause-allowed c = written_allowed _ _ _ _ _ _ _ _ _ c.loop-site.invariant.writing c.in_default.ensures
+
+pub returns-then-not-contains-clause-text : goal.returns-then-not-contains-clause-text
+returns-then-not-contains-clause-text c =
+    let nothing : declared_of c.args.declared_imports.now ≡ [] = ap (map _) (nil_from_length c.args.declared_imports.now.entries (c.is_empty.ensures.0 (search rules))) in
+    rw nothing (c.in_ok-from_str.ensures.ok ∙ sym (plain_text c.args.input.now c.utf8.input c.if-not-contains.ensures.cases).written)
+
+pub returns-then-not-contains-clause-used : goal.returns-then-not-contains-clause-used
+returns-then-not-contains-clause-used c =
+    let nothing : declared_of c.args.declared_imports.now ≡ [] = ap (map _) (nil_from_length c.args.declared_imports.now.entries (c.is_empty.ensures.0 (search rules))) in
+    rw nothing (ap (recorded (uses_of c.args.used_imports.now)) (sym ((plain_text c.args.input.now c.utf8.input c.if-not-contains.ensures.cases).unused c.args.offset)))
+
+pub returns-then-not-contains-clause-allowed : goal.returns-then-not-contains-clause-allowed
+returns-then-not-contains-clause-allowed c =
+    let nothing : declared_of c.args.declared_imports.now ≡ [] = ap (map _) (nil_from_length c.args.declared_imports.now.entries (c.is_empty.ensures.0 (search rules))) in
+    rw nothing ((plain_text c.args.input.now c.utf8.input c.if-not-contains.ensures.cases).allowed c.args.allow_ambiguous c.args.offset)
