@@ -1,11 +1,11 @@
 // What a text tells before any build.
-ghost use Rattle.std.specs.Prelude.{◌≡◌, ℕ, ◌+◌, ◌^◌, ◌<◌, ◌≤◌, ◌++◌, ◌∷◌, [], List, length, string_bytes, option_copied, option_map, map, true, unwrap_or, Some, Ok, OnOk, IfOk, IfErr};
+ghost use Rattle.std.specs.Prelude.{◌≡◌, ℕ, ◌+◌, ◌^◌, ◌<◌, ◌≤◌, ◌++◌, ◌∷◌, [], List, length, string_bytes, option_copied, option_map, is_some, map, true, unwrap_or, Some, Ok, OnOk, IfOk, IfErr};
 ghost use Rattle.std.specs.BTreeMap.{get_by_text};
 ghost use Rattle.std.specs.BTreeSet.{contains_text};
 ghost use Rattle.naga_oil_lines.specs.Declarations.{declared_of};
 ghost use Rattle.naga_oil_lines.specs.Directives.{directives_of};
 ghost use Rattle.naga_oil_lines.specs.Leaves.{import_leaves};
-ghost use Rattle.naga_oil_lines.specs.Substituted.{used_by};
+ghost use Rattle.naga_oil_lines.specs.Substituted.{used_by, cut_at_first};
 ghost use Rattle.naga_oil_lines.specs.Uses.{uses_of, use_of, import_of};
 ghost use Rattle.naga_oil_pre.specs.Line.{Line, source_lines};
 ghost use Rattle.naga_oil_pre.specs.KindView.{line_kind_of};
@@ -98,15 +98,26 @@ fn define(
     Ok(())
 }
 
-// Records what a line uses by its covered line, as it stands.
+// Whether a text holds `::`.
+fn has_colons(text: &str) -> bool
+    ensures { result ≡ is_some (cut_at_first text.now) }
+{
+    text.split_once("::").is_some()
+}
+
+// Records what a line uses by its covered line, as it stands. Where nothing is declared, a line without `::` uses nothing.
 fn read_uses(alloc: Global, line: &SourceLine<'_>, imports: &mut Imports) -> Result<(), AllocError>
     requires { line.now.offset ≤ 2 ^ 63 }
     ensures used { OnOk result (uses_of imports.new.used ≡ used_by (declared_of imports.old.declared) line.now.offset (tokens_of (line_of line.now).covered) (uses_of imports.old.used)) }
     ensures declared { OnOk result (declared_of imports.new.declared ≡ declared_of imports.old.declared) }
 {
+    let covered = line.covered.as_str();
+    if imports.declared.is_empty() && !has_colons(covered) {
+        return Ok(());
+    }
     match substitute_identifiers(
         alloc,
-        line.covered.as_str(),
+        covered,
         line.offset,
         &imports.declared,
         &mut imports.used,

@@ -36,6 +36,10 @@ fn reads_names_and_uses(rt: HostRuntime) -> Result<(), Fail> {
             "None [ImportDefWithOffset { definition: ImportDefinition { import: \"a\", items: [\"f\", \"f\"] }, offset: 18 }] {} {}",
         ),
         (
+            "a::f() + f // b::g",
+            "None [ImportDefWithOffset { definition: ImportDefinition { import: \"a\", items: [\"f\"] }, offset: 0 }] {} {}",
+        ),
+        (
             "#version 450\n#if X\n#{Y}",
             "None [] {} {\"Y\", \"if\", \"version\"}",
         ),
