@@ -1,19 +1,17 @@
 -- A text becomes as many lines, each with one line end.
-use Rattle.std.proofs.Common.{◌≡◌, ℕ, zero, suc, ◌+◌, ◌-◌, ◌<◌, ◌/◌, ◌%◌, ◌==◌, nat_lt, Bool, true, false, cond, eqb, Option, Some, None, Result, Ok, Err, List, [], ◌∷◌, ◌++◌, map, length, replicate, get_or, take, codes, bytes_eq, refl, sym, ap, subst, ◌∙◌, arith, append-nil}
-use borrow.Author.Tests.{eqb-true}
+use Rattle.std.proofs.Common.{◌≡◌, ℕ, zero, suc, ◌+◌, ◌-◌, ◌<◌, ◌/◌, ◌%◌, ◌==◌, nat_lt, Bool, true, false, cond, eqb, Option, Some, None, Result, Ok, Err, List, [], ◌∷◌, ◌++◌, map, length, replicate, take, codes, bytes_eq, refl, sym, ap, subst, ◌∙◌, arith, append-nil}
 use lib.Utf8.{encode, encodes, scalar, scalars, low_scalar}
 use lib.IntN.{pos, negsuc}
 use Rattle.std.specs.Prelude.{All, IfOk}
-use Rattle.std.specs.List.{flat_map, slice_split, onto_first, count_by}
+use Rattle.std.specs.List.{AllByRecursion, flat_map, count_by}
 use Rattle.std.specs.Str.{IsUtf8, chars}
-use Rattle.std.specs.Str.Lines.{lines, lines_of_parts, strip_carriage_return}
+use Rattle.std.specs.Str.Lines.{lines}
 use Rattle.std.specs.Fmt.{decimal, digits, digits_onto, digit_glyph}
 use Rattle.std.proofs.lemmas.Bool.{and_parts, and_from}
 use Rattle.std.proofs.lemmas.Grind.{flat_map-append}
 use Rattle.std.proofs.lemmas.Str.{IsUtf8-nil, IsUtf8-append, IsUtf8-encode, IsUtf8-take, IsCharBoundary-before_ascii, encode_ascii, scalars-chars}
 use Rattle.std.proofs.lemmas.List.Elements.{All-cons, All-nil, All-head, All-tail, All-push}
-use Rattle.std.proofs.lemmas.List.Sums.{sum_by-append, sum_by-cons, sum_by-take-le}
-use Rattle.std.proofs.lemmas.List.Splits.{slice_split-cons_no, length-slice_split}
+use Rattle.std.proofs.lemmas.List.Sums.{sum_by-append, sum_by-take-le}
 use Rattle.naga_oil_lines.specs.declared.comment_strip_iter.CommentState.{CommentState}
 use Rattle.naga_oil_lines.specs.declared.comment_strip_iter.CommentState.TheVariants.{Code}
 use Rattle.naga_oil_lines.specs.Cover.{cover}
@@ -35,80 +33,34 @@ use Rattle.naga_oil_pre.specs.Scope.{is_active, is_open}
 use Rattle.naga_oil_pre.specs.Step.{step, opened, scanned}
 use Rattle.naga_oil_pre.specs.LineEnds.{paths_among, paths_by, declared_paths}
 use Rattle.naga_oil_pre.proofs.ReplacedLemmas.{no_ends_in_both, no_ends_in_character, replaced_holds_no_newline}
+use Rattle.naga_oil_pre.proofs.LineParts.{KeepsFront, holds_of_lines}
 use Rattle.naga_oil_pre.proofs.ReadingLemmas.{IsReading-reading}
 use Rattle.naga_oil_pre.proofs.Machine.{scanned_reading, scanned_statuses}
 
 abbrev is_end : ℕ → Bool
 is_end b = eqb b 10
 
--- ---- the parts of a text between its line ends
 -- a text in UTF-8 with no line end
 abbrev pub IsOneLine : List ℕ → Type 0
 IsOneLine text = IsUtf8 text × (count_by (λ b. eqb b 10) text ≡ 0)
-
-first_is_none : (b : ℕ) (bs : List ℕ) → count_by is_end (b ∷ bs) ≡ 0 → is_end b ≡ false
-first_is_none b bs e = go (is_end b) (sym (sum_by-cons (λ x. cond (is_end x) 1 0) b bs) ∙ e)
-  where
-    go : (t : Bool) → cond t 1 0 + count_by is_end bs ≡ 0 → t ≡ false
-    go true f = absurd (omega arith)
-    go false f = refl
-
-more_are_none : (b : ℕ) (bs : List ℕ) → count_by is_end (b ∷ bs) ≡ 0 → count_by is_end bs ≡ 0
-more_are_none b bs e = let whole = sym (sum_by-cons (λ x. cond (is_end x) 1 0) b bs) ∙ e in omega arith
-
--- characters without a line end come before the first part
-before_parts : (xs ys part : List ℕ) (more : List (List ℕ)) → count_by is_end xs ≡ 0 → slice_split is_end ys ≡ part ∷ more → slice_split is_end (xs ++ ys) ≡ (xs ++ part) ∷ more
-before_parts [] ys part more none e = e
-before_parts (x ∷ xs) ys part more none e =
-    slice_split-cons_no is_end x (xs ++ ys) (first_is_none x xs none) ∙ ap (onto_first x) (before_parts xs ys part more (more_are_none x xs none) e)
-
-lengthened : (xs ys : List ℕ) (parts : List (List ℕ)) → IsOneLine xs → slice_split is_end ys ≡ parts → All IsOneLine parts → All IsOneLine (slice_split is_end (xs ++ ys))
-lengthened xs ys [] one e h = absurd (omega (arith, ap length e, length-slice_split is_end ys))
-lengthened xs ys (part ∷ more) one e h =
-    let first = All-head IsOneLine part more h in
-    subst (All IsOneLine) (sym (before_parts xs ys part more one.1 e))
-    (All-cons IsOneLine _ _ (IsUtf8-append xs part one.0 first.0, no_ends_in_both xs part one.1 first.1) (All-tail IsOneLine part more h))
-
-parts_at_end : (bs : List ℕ) → All IsOneLine (slice_split is_end bs) → All IsOneLine (slice_split is_end (encode 10 ++ bs))
-unfolding encode
-parts_at_end bs more = All-cons IsOneLine [] _ (IsUtf8-nil, refl) more
-
-parts_at : (c : ℕ) (t : Bool) (bs : List ℕ) → is_end c ≡ t → scalar c ≡ true → All IsOneLine (slice_split is_end bs) → All IsOneLine (slice_split is_end (encode c ++ bs))
-parts_at c true bs e s more = subst (λ x. All IsOneLine (slice_split is_end (encode x ++ bs))) (sym (eqb-true c 10 e)) (parts_at_end bs more)
-parts_at c false bs e s more = lengthened (encode c) bs _ (IsUtf8-encode c s, no_ends_in_character c e) refl more
-
-parts_of : (cs : List ℕ) → scalars cs ≡ true → All IsOneLine (slice_split is_end (encodes cs))
-parts_of [] s = All-cons IsOneLine [] [] (IsUtf8-nil, refl) (All-nil IsOneLine)
-parts_of (c ∷ cs) s =
-    let each = and_parts (scalar c) (scalars cs) s in
-    parts_at c (is_end c) (encodes cs) refl each.0 (parts_of cs each.1)
 
 -- ---- the lines of a text
 none_in_front : (n : ℕ) (text : List ℕ) → count_by is_end text ≡ 0 → count_by is_end (take n text) ≡ 0
 none_in_front n text e = omega (arith, sum_by-take-le (λ x. cond (is_end x) 1 0) text n)
 
-stripped : (text : List ℕ) → IsOneLine text → IsOneLine (strip_carriage_return text)
-stripped [] h = h
-stripped (b ∷ bs) h = go (eqb (get_or (b ∷ bs) (length (b ∷ bs) - 1) 0) 13) refl
-  where
-    go : (t : Bool) → eqb (get_or (b ∷ bs) (length (b ∷ bs) - 1) 0) 13 ≡ t → IsOneLine (cond t (take (length (b ∷ bs) - 1) (b ∷ bs)) (b ∷ bs))
-    go true e =
-        let last = eqb-true (get_or (b ∷ bs) (length (b ∷ bs) - 1) 0) 13 e in
-        (IsUtf8-take (b ∷ bs) (length (b ∷ bs) - 1) h.0 (IsCharBoundary-before_ascii (b ∷ bs) (length (b ∷ bs) - 1) (omega arith) (omega arith)), none_in_front (length (b ∷ bs) - 1) (b ∷ bs) h.1)
-    go false e = h
+front_is_one_line : KeepsFront IsOneLine
+front_is_one_line text some last h =
+    (IsUtf8-take text (length text - 1) h.0 (IsCharBoundary-before_ascii text (length text - 1) (omega arith) (omega arith)), none_in_front (length text - 1) text h.1)
 
-lines_among : (parts : List (List ℕ)) → All IsOneLine parts → All IsOneLine (lines_of_parts parts)
-lines_among [] h = h
-lines_among (x ∷ []) h = go (eqb (length x) 0)
-  where
-    go : (t : Bool) → All IsOneLine (cond t [] (x ∷ []))
-    go true = All-nil IsOneLine
-    go false = h
-lines_among (x ∷ y ∷ more) h = All-cons IsOneLine _ _ (stripped x (All-head IsOneLine x (y ∷ more) h)) (lines_among (y ∷ more) (All-tail IsOneLine x (y ∷ more) h))
+each_one_line : (cs : List ℕ) → scalars cs ≡ true → AllByRecursion (λ c. is_end c ≡ false → IsOneLine (encode c)) cs
+each_one_line [] s = tt
+each_one_line (c ∷ cs) s = let each = and_parts (scalar c) (scalars cs) s in ((λ e. (IsUtf8-encode c each.0, no_ends_in_character c e)), each_one_line cs each.1)
 
 -- no line of a text holds a line end
-pub lines_are_lines : (text : List ℕ) → IsUtf8 text → All IsOneLine (lines text)
-lines_are_lines text u = subst (λ t. All IsOneLine (lines t)) u.1.1 (lines_among (slice_split is_end (encodes u.0)) (parts_of u.0 u.1.0))
+lines_are_lines : (text : List ℕ) → IsUtf8 text → All IsOneLine (lines text)
+lines_are_lines text u =
+    subst (λ t. All IsOneLine (lines t)) u.1.1
+    (holds_of_lines IsOneLine (IsUtf8-nil, refl) (λ xs ys p q. (IsUtf8-append xs ys p.0 q.0, no_ends_in_both xs ys p.1 q.1)) front_is_one_line u.0 (each_one_line u.0 u.1.0))
 
 -- ---- a line with its names replaced is UTF-8
 name_in_front : (n : ℕ) (cs : List ℕ) → scalars cs ≡ true → scalars (take n cs) ≡ true
@@ -308,7 +260,7 @@ no_paths_at_end : (end : ℕ) (is_open : Bool) → flat_map paths_by (end_status
 no_paths_at_end end true = refl
 no_paths_at_end end false = refl
 
-paths_scanned : (defs : Definitions) (end : ℕ) (text : List ℕ) → flat_map paths_by (scanned defs end [] 0 (source_lines text)) ≡ declared_paths defs text
+pub paths_scanned : (defs : Definitions) (end : ℕ) (text : List ℕ) → flat_map paths_by (scanned defs end [] 0 (source_lines text)) ≡ declared_paths defs text
 unfolding declared_paths
 paths_scanned defs end text =
     let b = reading defs (source_lines text) in

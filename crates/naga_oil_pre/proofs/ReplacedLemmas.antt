@@ -261,7 +261,7 @@ no_ends_in_character c e =
       ]
     ]
 
-no_ends_in_text : (cs : List ℕ) → NonePass is_end cs → count_by is_end (encode_utf8_all cs) ≡ 0
+pub no_ends_in_text : (cs : List ℕ) → NonePass is_end cs → count_by is_end (encode_utf8_all cs) ≡ 0
 no_ends_in_text [] none = refl
 no_ends_in_text (c ∷ cs) none =
     no_ends_in_both (encode_utf8 c) (encode_utf8_all cs) (no_ends_in_character c none.0) (no_ends_in_text cs none.1)

@@ -1,5 +1,6 @@
 // Conditions and definitions of a text, line by line.
-ghost use Rattle.std.specs.Prelude.{ℕ, List, ◌≡◌, ◌+◌, ◌++◌, ◌∷◌, ◌^◌, ◌≤◌, ◌<◌, length, string_bytes, OnOk, IfOk, IfErr, replicate, All};
+ghost use Rattle.std.specs.Prelude.{ℕ, List, ◌≡◌, ◌+◌, ◌++◌, ◌∷◌, ◌^◌, ◌≤◌, ◌<◌, length, string_bytes, OnOk, IfOk, IfErr, replicate, All, ◌==◌};
+ghost use Rattle.std.specs.Str.{NoCharPasses};
 ghost use Rattle.std.specs.Str.Lines.{lines};
 ghost use Rattle.std.specs.BTreeMap.{get_by_text};
 ghost use Rattle.std.specs.Cow.{cow_str_bytes};
@@ -192,6 +193,8 @@ impl Preprocessor {
     ) -> Result<PreprocessOutput, ComposerErrorInner>
         ensures value { Gives output_of result (preprocessed (get_by_text shader_defs.now) shader_str.now) }
         ensures line_ends { All (λ path. line_ends path ≡ 0) (declared_paths (get_by_text shader_defs.now) shader_str.now) → IfOk result (λ o. line_ends (string_bytes o.preprocessed_source) ≡ length (lines shader_str.now)) }
+        // A text without `"` declares no other paths.
+        ensures quoteless { NoCharPasses (λ c. c == 34) shader_str.now → IfOk result (λ o. line_ends (string_bytes o.preprocessed_source) ≡ length (lines shader_str.now)) }
     {
         let mut out = String::with_capacity(alloc, shader_str.len() + 1)?;
         let mut scope = Scope::new(alloc);

@@ -6,6 +6,7 @@ use Rattle.naga_oil_lines.specs.Uses.{uses_of, use_of}
 use Rattle.naga_oil_pre.specs.Scope.{is_open}
 use Rattle.naga_oil_pre.specs.KnownView.{known_of, output_of}
 use Rattle.naga_oil_pre.proofs.LineEndLemmas.{as_many_ends}
+use Rattle.naga_oil_pre.proofs.QuotelessLemmas.{quoteless_paths}
 use Rattle.naga_oil_pre.proofs.LoopLemmas.{nothing_is, told_first, fails_first, uses_of_values, told_last}
 use Rattle.naga_oil_pre.proofs.preprocess.Preprocessor.preprocess.Goals as goal
 
@@ -34,3 +35,6 @@ returns-clause-value c =
 
 pub returns-clause-line_ends : goal.returns-clause-line_ends
 returns-clause-line_ends c = as_many_ends _ _ (output_of (record { preprocessed_source = c.loop-imports.out; imports = c.in_ok-collect.field-0 })) c.utf8.shader_str (returns-clause-value c)
+
+pub returns-clause-quoteless : goal.returns-clause-quoteless
+returns-clause-quoteless c none = returns-clause-line_ends c (quoteless_paths _ _ c.utf8.shader_str none)
