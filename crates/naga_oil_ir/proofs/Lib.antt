@@ -1,0 +1,9 @@
+pub mod PlaceLemmas
+pub mod ListLemmas
+pub mod BodyLemmas
+pub mod ExpressionEquality
+pub mod ItemEquality
+pub mod LinkLemmas
+pub mod FormLemmas
+pub mod BodyFormLemmas
+pub mod BodyFormWords

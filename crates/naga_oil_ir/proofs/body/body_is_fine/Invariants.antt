@@ -1,0 +1,10 @@
+use Rattle.std.proofs.Common.{◌≡◌, length}
+use Rattle.naga_oil_ir.specs.Links.{lists}
+use Rattle.naga_oil_ir.proofs.BodyFormLemmas.{IsWalking}
+use Rattle.naga_oil_ir.proofs.body.body_is_fine.Given as goal
+
+abbrev pub invariant-loop-token : goal.invariant-loop-token
+invariant-loop-token l = record {
+  long : length l.done.items ≡ length l.links;
+  walk : IsWalking (length l.links) l.kinds l.callees (lists l.links) l.started l.fn.done.items l.done.items l.tokens l.token-index;
+}

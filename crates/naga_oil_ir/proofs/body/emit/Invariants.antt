@@ -1,0 +1,10 @@
+use Rattle.std.proofs.Common.{◌≡◌, length}
+use Rattle.naga_oil_ir.specs.Links.{lists}
+use Rattle.naga_oil_ir.proofs.BodyFormLemmas.{IsEmitting}
+use Rattle.naga_oil_ir.proofs.body.emit.Given as goal
+
+abbrev pub invariant-loop-place : goal.invariant-loop-place
+invariant-loop-place l = record {
+  long : length l.done.items ≡ length l.fn.done.items;
+  walk : IsEmitting l.kinds (lists l.links) l.started l.fn.done.items l.done.items l.fn.range l.place;
+}

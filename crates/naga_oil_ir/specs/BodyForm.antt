@@ -1,0 +1,134 @@
+use Rattle.std.specs.Prelude.{◌≡◌, ◌<◌, ◌≤◌, ◌-◌, ℕ, zero, suc, Bool, true, false, List, [], ◌∷◌, ◌++◌, map, slice_get, slice_set, Option, Some, None, All, nat_lt, ◌||◌, ◌&&◌}
+use Rattle.naga_oil_ir.specs.Parts.{parts}
+use Rattle.naga_oil_ir.specs.Body.{Tokens}
+use Rattle.naga_oil_ir.specs.Links.{Links, linked, has, marked}
+use Rattle.naga_oil_ir.specs.declared.parts.Named.{Named}
+use Rattle.naga_oil_ir.specs.declared.parts.Named.TheVariants.{Nothing, TypeOf, ConstantAt, OverrideAt, GlobalAt, LocalAt, ArgumentAt, FunctionAt}
+use Rattle.naga_oil_ir.specs.declared.expression.Expression.{Expression}
+use Rattle.naga_oil_ir.specs.declared.span.Span.{Span}
+use Rattle.naga_oil_ir.specs.declared.token.Token.{Token}
+use Rattle.naga_oil_ir.specs.declared.token.Token.TheVariants.{At, Use, Give, GiveCall, Emitted, Callee}
+
+-- ---- what is known of a function's expressions
+
+-- their kinds: below 7 external, below 13 a result
+abbrev pub kinds : List (Expression × Span) → List ℕ
+kinds es = map (λ e. (parts e.0).kind) es
+
+abbrev pub callee : Named → Option ℕ
+callee Nothing = None
+callee (TypeOf h) = None
+callee (ConstantAt h) = None
+callee (OverrideAt h) = None
+callee (GlobalAt h) = None
+callee (LocalAt h) = None
+callee (ArgumentAt n) = None
+callee (FunctionAt h) = Some h
+
+-- of each the function whose result it is
+abbrev pub callees : List (Expression × Span) → List (Option ℕ)
+callees es = map (λ e. callee (parts e.0).named) es
+
+abbrev pub external_kind : Option ℕ → Bool
+external_kind None = false
+external_kind (Some k) = nat_lt k 7
+
+abbrev pub is_external : List ℕ → ℕ → Bool
+is_external ks h = external_kind (slice_get ks h)
+
+abbrev pub result_kind : Option ℕ → Bool
+result_kind None = false
+result_kind (Some k) = nat_lt 6 k && nat_lt k 13
+
+abbrev pub is_result : List ℕ → ℕ → Bool
+is_result ks h = result_kind (slice_get ks h)
+
+-- ---- ranges
+
+-- n numbers from a on
+abbrev pub run : ℕ → ℕ → List ℕ
+run a zero = []
+run a (suc n) = a ∷ run (suc a) n
+
+-- the places of a range
+abbrev pub places : ℕ × ℕ → List ℕ
+places r = run r.0 (r.1 - r.0)
+
+-- ---- the walk of a body: s is what initialisers reach, done what was emitted or given
+
+-- an operand may be used
+abbrev pub is_known : List ℕ → List ℕ → List ℕ → ℕ → Bool
+is_known ks s done h = is_external ks h || (has s h || has done h)
+
+-- places may be emitted one after another
+abbrev pub AreEmitted : List ℕ → Links → List ℕ → List ℕ → List ℕ → Type 0
+AreEmitted ks ls s done [] = Unit {0}
+AreEmitted ks ls s done (k ∷ es) = ((is_external ks k ≡ false) × (is_result ks k ≡ false) × (has done k ≡ false) × All (λ h. is_known ks s done h ≡ true) (linked ls k)) × AreEmitted ks ls s (done ++ k ∷ []) es
+
+-- what a part of a body emits or gives
+abbrev pub made : Token → List ℕ
+made (Give h) = h ∷ []
+made (GiveCall f h) = h ∷ []
+made (Emitted r) = places r
+made _ = []
+
+-- a part of a body may stand: handles and ranges lie within n places, operands are known, results are given once, that of
+-- a call by a call of its function alone
+abbrev pub IsFine : ℕ → List ℕ → List (Option ℕ) → Links → List ℕ → List ℕ → Token → Type 0
+IsFine n ks fs ls s done (Use h) = (h < n) × (is_known ks s done h ≡ true)
+IsFine n ks fs ls s done (Give h) = (h < n) × (is_result ks h ≡ true) × (slice_get fs h ≡ Some None) × (has done h ≡ false)
+IsFine n ks fs ls s done (GiveCall f h) = (h < n) × (slice_get fs h ≡ Some (Some f)) × (has done h ≡ false)
+IsFine n ks fs ls s done (Emitted r) = (r.0 ≤ r.1) × (r.1 ≤ n) × AreEmitted ks ls s done (places r)
+IsFine n ks fs ls s done _ = Unit {0}
+
+-- the parts of a body may stand one after another
+abbrev pub AreFine : ℕ → List ℕ → List (Option ℕ) → Links → List ℕ → List ℕ → Tokens → Type 0
+AreFine n ks fs ls s done [] = Unit {0}
+AreFine n ks fs ls s done (t ∷ ts) = IsFine n ks fs ls s done t × AreFine n ks fs ls s (done ++ made t) ts
+
+-- a call goes to one of the first n functions
+abbrev pub CallsBelow : ℕ → Token → Type 0
+CallsBelow n (Callee f) = f < n
+CallsBelow n _ = Unit {0}
+
+-- the span of a statement lies in a text of n bytes, or is undefined, (0, 0), which lies in each
+abbrev pub IsSpanFine : ℕ → Span → Type 0
+IsSpanFine n s = (s.start ≤ s.end) × (s.end ≤ n)
+
+-- the span that a part of a body says lies in a text of n bytes
+abbrev pub TokenSpanFine : ℕ → Token → Type 0
+TokenSpanFine n (At s) = IsSpanFine n s
+TokenSpanFine n _ = Unit {0}
+
+-- ---- the same over marks: fs of what initialisers reach, gs of what was emitted or given
+
+-- an operand may be used
+abbrev pub known_by : List ℕ → List Bool → List Bool → ℕ → Bool
+known_by ks fs gs h = is_external ks h || (marked fs h || marked gs h)
+
+-- a place that names xs may be emitted
+abbrev pub MayBeEmitted : List ℕ → List Bool → List Bool → List ℕ → ℕ → Type 0
+MayBeEmitted ks fs gs xs k = (is_external ks k ≡ false) × ((is_result ks k ≡ false) × ((marked gs k ≡ false) × All (λ h. known_by ks fs gs h ≡ true) xs))
+
+-- the marks once places are marked too
+abbrev pub marks_after : List Bool → List ℕ → List Bool
+marks_after gs [] = gs
+marks_after gs (k ∷ ks) = marks_after (slice_set gs k true) ks
+
+-- places may be emitted one after another
+abbrev pub AreEmittedBy : List ℕ → Links → List Bool → List Bool → List ℕ → Type 0
+AreEmittedBy ks ls fs gs [] = Unit {0}
+AreEmittedBy ks ls fs gs (k ∷ es) = MayBeEmitted ks fs gs (linked ls k) k × AreEmittedBy ks ls fs (slice_set gs k true) es
+
+-- a part of a body may stand
+abbrev pub IsFineBy : ℕ → List ℕ → List (Option ℕ) → Links → List Bool → List Bool → Token → Type 0
+IsFineBy n ks fs ls ss gs (Use h) = (h < n) × (known_by ks ss gs h ≡ true)
+IsFineBy n ks fs ls ss gs (Give h) = (h < n) × ((is_result ks h ≡ true) × ((slice_get fs h ≡ Some None) × (marked gs h ≡ false)))
+IsFineBy n ks fs ls ss gs (GiveCall f h) = (h < n) × ((slice_get fs h ≡ Some (Some f)) × (marked gs h ≡ false))
+IsFineBy n ks fs ls ss gs (Emitted r) = (r.0 ≤ r.1) × ((r.1 ≤ n) × AreEmittedBy ks ls ss gs (places r))
+IsFineBy n ks fs ls ss gs _ = Unit {0}
+
+-- the parts of a body may stand one after another
+abbrev pub AreFineBy : ℕ → List ℕ → List (Option ℕ) → Links → List Bool → List Bool → Tokens → Type 0
+AreFineBy n ks fs ls ss gs [] = Unit {0}
+AreFineBy n ks fs ls ss gs (t ∷ ts) = IsFineBy n ks fs ls ss gs t × AreFineBy n ks fs ls ss (marks_after gs (made t)) ts

@@ -1,0 +1,151 @@
+use Rattle.std.specs.Prelude.{◌≡◌, ◌<◌, ◌⊎◌, ℕ, Bool, true, false, List, [], ◌∷◌, ◌++◌, length, map, slice_get, Option, Some, None, option_to_list, is_none, All, IfSome, nat_eq, ◌||◌}
+use Rattle.std.specs.List.{flat_map, IsDistinct}
+use Rattle.naga_oil_ir.specs.Parts.{parts}
+use Rattle.naga_oil_ir.specs.Rows.{Row, type_row, constant_row, override_row, global_row, expression_row}
+use Rattle.naga_oil_ir.specs.Links.{Links, AreEarlier, AtEach, trail, has, reaches}
+use Rattle.naga_oil_ir.specs.declared.module.Module.{Module}
+use Rattle.naga_oil_ir.specs.declared.module.SpecialTypes.{SpecialTypes}
+use Rattle.naga_oil_ir.specs.declared.expression.Expression.{Expression}
+use Rattle.naga_oil_ir.specs.declared.span.Span.{Span}
+use Rattle.naga_oil_ir.specs.declared.types.Type.{«Type» as TypeOfShader}
+use Rattle.naga_oil_ir.specs.declared.types.Constant.{Constant}
+use Rattle.naga_oil_ir.specs.declared.types.Override.{Override}
+use Rattle.naga_oil_ir.specs.declared.place.ItemPlace.{ItemPlace}
+use Rattle.naga_oil_ir.specs.declared.place.ItemPlace.TheVariants.{TypeItem, ConstantItem, OverrideItem, GlobalItem, ExpressionItem}
+
+-- ---- what there is
+
+-- an item is there
+abbrev pub IsThere : Module → ItemPlace → Type 0
+IsThere m (TypeItem k) = k < length m.types
+IsThere m (ConstantItem k) = k < length m.constants
+IsThere m (OverrideItem k) = k < length m.overrides
+IsThere m (GlobalItem k) = k < length m.global_variables
+IsThere m (ExpressionItem k) = k < length m.global_expressions
+
+-- all that an item names is there
+abbrev pub NamesThere : Module → Row → Type 0
+NamesThere m r = All (λ o. IfSome o (IsThere m)) r.names
+
+-- ---- types
+
+-- the type at a place of one
+abbrev pub type_at : Option ItemPlace → List ℕ
+type_at None = []
+type_at (Some (TypeItem k)) = k ∷ []
+type_at (Some (ConstantItem k)) = []
+type_at (Some (OverrideItem k)) = []
+type_at (Some (GlobalItem k)) = []
+type_at (Some (ExpressionItem k)) = []
+
+-- the types of a module
+abbrev pub types_of : Module → List TypeOfShader
+types_of m = map (λ e. e.0) m.types
+
+-- of each type the types that it names
+abbrev pub type_links : List TypeOfShader → Links
+type_links ts = map (λ t. flat_map type_at (type_row t).names) ts
+
+-- whether a place is an override's
+abbrev pub is_override : Option ItemPlace → Bool
+is_override None = false
+is_override (Some (TypeItem k)) = false
+is_override (Some (ConstantItem k)) = false
+is_override (Some (OverrideItem k)) = true
+is_override (Some (GlobalItem k)) = false
+is_override (Some (ExpressionItem k)) = false
+
+abbrev pub any_override : List (Option ItemPlace) → Bool
+any_override [] = false
+any_override (o ∷ os) = is_override o || any_override os
+
+-- of each type whether its size is an override's
+abbrev pub pending : List TypeOfShader → List Bool
+pending ts = map (λ t. any_override (type_row t).names) ts
+
+-- a type is sized: it is, or reaches, one whose size is an override's
+abbrev pub is_sized : Module → ℕ → Bool
+is_sized m k = reaches (type_links (types_of m)) (pending (types_of m)) k
+
+-- whether an item is a sized type
+abbrev pub is_sized_item : Module → ItemPlace → Bool
+is_sized_item m (TypeItem k) = is_sized m k
+is_sized_item m (ConstantItem k) = false
+is_sized_item m (OverrideItem k) = false
+is_sized_item m (GlobalItem k) = false
+is_sized_item m (ExpressionItem k) = false
+
+-- an item names no sized type
+abbrev pub NamesNoSized : Module → Row → Type 0
+NamesNoSized m r = All (λ o. IfSome o (λ p. is_sized_item m p ≡ false)) r.names
+
+-- ---- global expressions
+
+-- of each expression the operands that are there
+abbrev pub operand_links : List (Expression × Span) → Links
+operand_links es = map (λ e. flat_map option_to_list (parts e.0).operands) es
+
+abbrev pub init_of_constant : Option (Constant × Span) → Option ℕ
+init_of_constant None = None
+init_of_constant (Some e) = Some e.0.init
+
+abbrev pub init_of_override : Option (Override × Span) → Option ℕ
+init_of_override None = None
+init_of_override (Some e) = e.0.init
+
+-- the initialiser of a constant or an override
+abbrev pub initialiser : Module → ItemPlace → Option ℕ
+initialiser m (TypeItem k) = None
+initialiser m (ConstantItem k) = init_of_constant (slice_get m.constants k)
+initialiser m (OverrideItem k) = init_of_override (slice_get m.overrides k)
+initialiser m (GlobalItem k) = None
+initialiser m (ExpressionItem k) = None
+
+-- what an item names has its initialiser before a place
+abbrev pub StandsAfter : Module → ℕ → Row → Type 0
+StandsAfter m k r = All (λ o. IfSome o (λ p. IfSome (initialiser m p) (λ i. i < k))) r.names
+
+-- a global expression is no global, local, argument or result
+abbrev pub IsGlobalKind : ℕ → Type 0
+IsGlobalKind k = (k < 4) ⊎ (12 < k)
+
+-- each expression that names a constant or an override stands after that one's initialiser
+abbrev pub StandAfter : Module → Type 0
+StandAfter m = (k : ℕ) (e : Expression × Span) → slice_get m.global_expressions k ≡ Some e → StandsAfter m k (expression_row e.0)
+
+-- ---- special types
+
+-- the special types, the three named ones first
+abbrev pub special_types : SpecialTypes → List ℕ
+special_types s = option_to_list s.ray_desc ++ option_to_list s.ray_intersection ++ option_to_list s.ray_vertex_return ++ map (λ e. e.1) s.predeclared_types.entries
+
+abbrev pub is_unnamed_at : Option (TypeOfShader × Span) → Bool
+is_unnamed_at None = false
+is_unnamed_at (Some e) = is_none e.0.name
+
+-- a type is unnamed or special
+abbrev pub is_plain : Module → ℕ → Bool
+is_plain m k = is_unnamed_at (slice_get m.types k) || has (special_types m.special_types) k
+
+-- special types are there, are distinct, aren't sized, and reach only unnamed or special types
+pub record SpecialForm (m : Module) : Type 0 where
+  pub there : All (λ k. k < length m.types) (special_types m.special_types)
+  pub distinct : IsDistinct nat_eq (special_types m.special_types)
+  pub unsized : All (λ k. is_sized m k ≡ false) (special_types m.special_types)
+  pub plain : All (λ k. All (λ j. is_plain m j ≡ true) (trail (type_links (types_of m)) k)) (special_types m.special_types)
+
+-- the test of form of the items
+pub record ItemForm (m : Module) : Type 0 where
+  pub types : AtEach (λ t. NamesThere m (type_row t)) (types_of m)
+  pub earlier_types : AreEarlier (type_links (types_of m))
+  pub constants : AtEach (λ e. NamesThere m (constant_row e.0)) m.constants
+  pub overrides : AtEach (λ e. NamesThere m (override_row e.0)) m.overrides
+  pub globals : AtEach (λ e. NamesThere m (global_row e.0)) m.global_variables
+  pub expressions : AtEach (λ e. NamesThere m (expression_row e.0)) m.global_expressions
+  pub unsized_constants : AtEach (λ e. NamesNoSized m (constant_row e.0)) m.constants
+  pub unsized_overrides : AtEach (λ e. NamesNoSized m (override_row e.0)) m.overrides
+  pub unsized_expressions : AtEach (λ e. NamesNoSized m (expression_row e.0)) m.global_expressions
+  pub earlier_operands : AreEarlier (operand_links m.global_expressions)
+  pub after : StandAfter m
+  pub kinds : AtEach (λ e. IsGlobalKind (parts e.0).kind) m.global_expressions
+  pub special : SpecialForm m

@@ -1,0 +1,280 @@
+ghost use Rattle.std.specs.Prelude.{◌≡◌, ◌↔◌, ◌<◌, ℕ, IsTrue, IfOk, IfSome, All, option_to_list};
+ghost use Rattle.std.specs.List.{flat_map};
+ghost use Rattle.naga_oil_ir.specs.Links.{lists, AtEach};
+ghost use Rattle.naga_oil_ir.specs.Rows.{type_row, constant_row, override_row, global_row, expression_row};
+ghost use Rattle.naga_oil_ir.specs.ItemForm.{IsThere, NamesThere, type_at, type_links, operand_links};
+ghost use Rattle.naga_oil_ir.specs.BodyForm.{IsSpanFine, TokenSpanFine, CallsBelow, is_external, is_result, kinds, callee, callees};
+
+use super::expression::Expression;
+use super::handle::Handle;
+use super::module::Module;
+use super::names::{constant_names, expression_names, global_names, override_names, type_names};
+use super::parts::Named;
+use super::place::ItemPlace;
+use super::span::Span;
+use super::token::Token;
+use super::types::{Constant, GlobalVariable, Override, Type};
+use std::alloc::{AllocError, Global};
+
+fn is_span_fine(span: Span, text_len: usize) -> bool
+    ensures { IsTrue result ↔ IsSpanFine text_len span }
+{
+    span.start <= span.end && span.end as usize <= text_len
+}
+
+/// Whether the spans of items lie in a text of so many bytes.
+pub fn are_spans_fine<T>(items: &[(T, Span)], text_len: usize) -> bool
+    ensures { IsTrue result ↔ All (λ e. IsSpanFine text_len e.1) items.now }
+{
+    items.iter().all(|item| is_span_fine(item.1, text_len))
+}
+
+fn is_token_span_fine(token: Token, text_len: usize) -> bool
+    ensures { IsTrue result ↔ TokenSpanFine text_len token }
+{
+    match token {
+        Token::At(span) => is_span_fine(span, text_len),
+        _ => true,
+    }
+}
+
+/// Whether the spans of a body's statements lie in a text of so many bytes.
+pub fn are_token_spans_fine(tokens: &[Token], text_len: usize) -> bool
+    ensures { IsTrue result ↔ All (TokenSpanFine text_len) tokens.now }
+{
+    tokens
+        .iter()
+        .all(|token| is_token_span_fine(*token, text_len))
+}
+
+fn call_goes_below(token: Token, limit: usize) -> bool
+    ensures { IsTrue result ↔ CallsBelow limit token }
+{
+    match token {
+        Token::Callee(function) => function.index() < limit,
+        _ => true,
+    }
+}
+
+/// Whether a body's calls go to functions before a place.
+pub fn calls_go_below(tokens: &[Token], limit: usize) -> bool
+    ensures { IsTrue result ↔ All (CallsBelow limit) tokens.now }
+{
+    tokens.iter().all(|token| call_goes_below(*token, limit))
+}
+
+fn is_there(of: &Module, place: ItemPlace) -> bool
+    ensures { IsTrue result ↔ IsThere of.now place }
+{
+    match place {
+        ItemPlace::TypeItem(handle) => handle.index() < of.types.len(),
+        ItemPlace::ConstantItem(handle) => handle.index() < of.constants.len(),
+        ItemPlace::OverrideItem(handle) => handle.index() < of.overrides.len(),
+        ItemPlace::GlobalItem(handle) => handle.index() < of.global_variables.len(),
+        ItemPlace::ExpressionItem(handle) => handle.index() < of.global_expressions.len(),
+    }
+}
+
+fn is_name_there(of: &Module, place: Option<ItemPlace>) -> bool
+    ensures { IsTrue result ↔ IfSome place (IsThere of.now) }
+{
+    match place {
+        None => true,
+        Some(place) => is_there(of, place),
+    }
+}
+
+fn are_names_there(of: &Module, places: &[Option<ItemPlace>]) -> bool
+    ensures { IsTrue result ↔ All (λ o. IfSome o (IsThere of.now)) places.now }
+{
+    places.iter().all(|place| is_name_there(of, *place))
+}
+
+/// Whether all that types name is there.
+pub fn types_name_there(of: &Module, items: &[Type], alloc: Global) -> Result<bool, AllocError>
+    ensures { IfOk result (λ b. IsTrue b ↔ AtEach (λ e. NamesThere of.now (type_row e)) items.now) }
+{
+    for (place, entry) in items.iter().enumerate() {
+        let names = type_names(entry, alloc)?;
+        if !are_names_there(of, &names) {
+            return Ok(false);
+        }
+    }
+    Ok(true)
+}
+
+/// Whether all that constants name is there.
+pub fn constants_name_there(
+    of: &Module,
+    items: &[(Constant, Span)],
+    alloc: Global,
+) -> Result<bool, AllocError>
+    ensures { IfOk result (λ b. IsTrue b ↔ AtEach (λ e. NamesThere of.now (constant_row e.0)) items.now) }
+{
+    for (place, entry) in items.iter().enumerate() {
+        let names = constant_names(&entry.0, alloc)?;
+        if !are_names_there(of, &names) {
+            return Ok(false);
+        }
+    }
+    Ok(true)
+}
+
+/// Whether all that overrides name is there.
+pub fn overrides_name_there(
+    of: &Module,
+    items: &[(Override, Span)],
+    alloc: Global,
+) -> Result<bool, AllocError>
+    ensures { IfOk result (λ b. IsTrue b ↔ AtEach (λ e. NamesThere of.now (override_row e.0)) items.now) }
+{
+    for (place, entry) in items.iter().enumerate() {
+        let names = override_names(&entry.0, alloc)?;
+        if !are_names_there(of, &names) {
+            return Ok(false);
+        }
+    }
+    Ok(true)
+}
+
+/// Whether all that global variables name is there.
+pub fn globals_name_there(
+    of: &Module,
+    items: &[(GlobalVariable, Span)],
+    alloc: Global,
+) -> Result<bool, AllocError>
+    ensures { IfOk result (λ b. IsTrue b ↔ AtEach (λ e. NamesThere of.now (global_row e.0)) items.now) }
+{
+    for (place, entry) in items.iter().enumerate() {
+        let names = global_names(&entry.0, alloc)?;
+        if !are_names_there(of, &names) {
+            return Ok(false);
+        }
+    }
+    Ok(true)
+}
+
+/// Whether all that global expressions name is there.
+pub fn expressions_name_there(
+    of: &Module,
+    items: &[(Expression, Span)],
+    alloc: Global,
+) -> Result<bool, AllocError>
+    ensures { IfOk result (λ b. IsTrue b ↔ AtEach (λ e. NamesThere of.now (expression_row e.0)) items.now) }
+{
+    for (place, entry) in items.iter().enumerate() {
+        let names = expression_names(&entry.0, alloc)?;
+        if !are_names_there(of, &names) {
+            return Ok(false);
+        }
+    }
+    Ok(true)
+}
+
+/// Of each type the types that it names.
+pub fn type_links(types: &[Type], alloc: Global) -> Result<Vec<Vec<usize>>, AllocError>
+    ensures { IfOk result (λ v. lists v.items ≡ type_links types.now) }
+{
+    let mut links = Vec::new(alloc);
+    for ty in types {
+        let names = type_names(ty, alloc)?;
+        let named = types_among(&names, alloc)?;
+        links.push(named)?;
+    }
+    Ok(links)
+}
+
+fn types_among(places: &[Option<ItemPlace>], alloc: Global) -> Result<Vec<usize>, AllocError>
+    ensures { IfOk result (λ v. v.items ≡ flat_map type_at places.now) }
+{
+    let mut types = Vec::new(alloc);
+    for place in places {
+        if let Some(ItemPlace::TypeItem(handle)) = place {
+            types.push(handle.index())?;
+        }
+    }
+    Ok(types)
+}
+
+fn present(operands: &[Option<Handle<Expression>>], alloc: Global) -> Result<Vec<usize>, AllocError>
+    ensures { IfOk result (λ v. v.items ≡ flat_map option_to_list operands.now) }
+{
+    let mut places = Vec::new(alloc);
+    for operand in operands {
+        let Some(handle) = operand else { continue };
+        places.push(handle.index())?;
+    }
+    Ok(places)
+}
+
+/// Of each expression the operands that are there.
+pub fn operand_links(
+    items: &[(Expression, Span)],
+    alloc: Global,
+) -> Result<Vec<Vec<usize>>, AllocError>
+    ensures { IfOk result (λ v. lists v.items ≡ operand_links items.now) }
+{
+    let mut links = Vec::new(alloc);
+    for entry in items {
+        let parts = entry.0.parts(alloc)?;
+        let named = present(&parts.operands, alloc)?;
+        links.push(named)?;
+    }
+    Ok(links)
+}
+
+/// The kinds of expressions.
+pub fn kinds(items: &[(Expression, Span)], alloc: Global) -> Result<Vec<u64>, AllocError>
+    ensures { IfOk result (λ v. v.items ≡ kinds items.now) }
+{
+    let mut kinds = Vec::new(alloc);
+    for entry in items {
+        let parts = entry.0.parts(alloc)?;
+        kinds.push(parts.kind)?;
+    }
+    Ok(kinds)
+}
+
+/// Whether an expression of this kind is external.
+pub fn is_external(kinds: &[u64], place: usize) -> bool
+    ensures { result ≡ is_external kinds.now place }
+{
+    match kinds.get(place) {
+        None => false,
+        Some(kind) => *kind < 7,
+    }
+}
+
+/// Whether an expression of this kind is a result.
+pub fn is_result(kinds: &[u64], place: usize) -> bool
+    ensures { result ≡ is_result kinds.now place }
+{
+    match kinds.get(place) {
+        None => false,
+        Some(kind) => 6 < *kind && *kind < 13,
+    }
+}
+
+fn callee(named: Named) -> Option<usize>
+    ensures { result ≡ callee named }
+{
+    match named {
+        Named::FunctionAt(function) => Some(function.index()),
+        _ => None,
+    }
+}
+
+/// Of each expression the function whose result it is.
+pub fn callees(
+    items: &[(Expression, Span)],
+    alloc: Global,
+) -> Result<Vec<Option<usize>>, AllocError>
+    ensures { IfOk result (λ v. v.items ≡ callees items.now) }
+{
+    let mut callees = Vec::new(alloc);
+    for entry in items {
+        let parts = entry.0.parts(alloc)?;
+        callees.push(callee(parts.named))?;
+    }
+    Ok(callees)
+}

@@ -1,0 +1,116 @@
+ghost use Rattle.std.specs.Prelude.{[], ◌≡◌, ◌↔◌, ◌<◌, ◌||◌, ◌&&◌, ℕ, IsTrue, IfOk, All, length};
+ghost use Rattle.std.specs.List.{list_any};
+ghost use Rattle.naga_oil_ir.specs.Links.{lists, linked, AreEarlier, has, started, marked, AreMarks, reaches};
+
+use std::alloc::{AllocError, Global};
+
+/// Whether a place is marked; behind the last mark none is.
+pub fn is_marked(marks: &[bool], place: usize) -> bool
+    ensures { result ≡ marked marks.now place }
+{
+    match marks.get(place) {
+        None => false,
+        Some(mark) => *mark,
+    }
+}
+
+fn are_below(places: &[usize], limit: usize) -> bool
+    ensures { IsTrue result ↔ All (λ x. x < limit) places.now }
+{
+    places.iter().all(|place| *place < limit)
+}
+
+/// Whether each place names earlier places alone.
+pub fn are_earlier(links: &[Vec<usize>]) -> bool
+    ensures { IsTrue result ↔ AreEarlier (lists links.now) }
+{
+    for (place, named) in links.iter().enumerate() {
+        if !are_below(named, place) {
+            return false;
+        }
+    }
+    true
+}
+
+/// Marks places.
+fn mark_all(marks: &mut Vec<bool>, places: &[usize])
+    requires { All (λ x. x < length marks.old.items) places.now }
+    ensures long { length marks.new.items ≡ length marks.old.items }
+    ensures marked { (k : ℕ) → marked marks.new.items k ≡ (marked marks.old.items k || has places.now k) }
+{
+    for place in places {
+        marks[*place] = true;
+    }
+}
+
+/// Marks what a marked place names.
+fn spread(marks: &mut Vec<bool>, links: &[Vec<usize>], place: usize)
+    requires long { length marks.old.items ≡ length links.now }
+    requires earlier { AreEarlier (lists links.now) }
+    requires within { place < length links.now }
+    ensures long { length marks.new.items ≡ length marks.old.items }
+    ensures marked { (k : ℕ) → marked marks.new.items k ≡ (marked marks.old.items k || (marked marks.old.items place && has (linked (lists links.now) place) k)) }
+{
+    if !is_marked(marks, place) {
+        return;
+    }
+    mark_all(marks, links[place].as_slice());
+}
+
+/// So many places, none of them marked.
+pub fn no_marks(count: usize, alloc: Global) -> Result<Vec<bool>, AllocError>
+    ensures long { IfOk result (λ v. length v.items ≡ count) }
+    ensures none { IfOk result (λ v. AreMarks v.items []) }
+{
+    let marks = vec![in alloc; false; count]?;
+    Ok(marks)
+}
+
+/// Marks all that some places reach.
+pub fn reached_from(
+    links: &[Vec<usize>],
+    roots: &[usize],
+    alloc: Global,
+) -> Result<Vec<bool>, AllocError>
+    requires earlier { AreEarlier (lists links.now) }
+    requires roots { All (λ x. x < length links.now) roots.now }
+    ensures { IfOk result (λ v. AreMarks v.items (started (lists links.now) roots.now)) }
+{
+    let mut marks = vec![in alloc; false; links.len()]?;
+    mark_all(&mut marks, roots);
+    let count = links.len();
+    for step in 0..count {
+        let place = count - 1 - step;
+        spread(&mut marks, links, place);
+    }
+    Ok(marks)
+}
+
+fn any_marked(marks: &[bool], places: &[usize]) -> bool
+    ensures { result ≡ list_any (marked marks.now) places.now }
+{
+    places.iter().any(|place| is_marked(marks, *place))
+}
+
+fn leads_to_mark(marks: &[bool], reaching: &[bool], place: usize, named: &[usize]) -> bool
+    ensures { result ≡ (marked marks.now place || list_any (marked reaching.now) named.now) }
+{
+    is_marked(marks, place) || any_marked(reaching, named)
+}
+
+/// Marks the places that are, or reach, a marked one.
+pub fn reaching(
+    links: &[Vec<usize>],
+    marks: &[bool],
+    alloc: Global,
+) -> Result<Vec<bool>, AllocError>
+    requires { AreEarlier (lists links.now) }
+    ensures { IfOk result (λ v. (k : ℕ) → k < length links.now → marked v.items k ≡ reaches (lists links.now) marks.now k) }
+{
+    let mut out = Vec::new(alloc);
+    for (place, named) in links.iter().enumerate() {
+        let mark = leads_to_mark(marks, &out, place, named);
+        out.push(mark)?;
+    }
+    Ok(out)
+}
