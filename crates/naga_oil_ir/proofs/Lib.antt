@@ -7,3 +7,4 @@ pub mod LinkLemmas
 pub mod FormLemmas
 pub mod BodyFormLemmas
 pub mod BodyFormWords
+pub mod FunctionLemmas

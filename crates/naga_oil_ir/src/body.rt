@@ -1,12 +1,12 @@
-ghost use Rattle.std.specs.Prelude.{[], IfOk, ◌≡◌, ◌↔◌, ◌<◌, ◌≤◌, ℕ, IsTrue, All, length, slice_get, slice_set, Some, None, true, false};
-ghost use Rattle.naga_oil_ir.specs.Links.{lists, marked, started, AreEarlier};
-ghost use Rattle.naga_oil_ir.specs.ItemForm.{operand_links};
-ghost use Rattle.naga_oil_ir.specs.BodyForm.{known_by, MayBeEmitted, AreEmittedBy, marks_after, places, made, is_result, IsFineBy, AreFineBy, AreFine, kinds, callees};
+ghost use Rattle.std.specs.Prelude.{[], IfOk, ◌≡◌, ◌↔◌, ◌<◌, ◌≤◌, ℕ, List, IsTrue, All, length, slice_get, slice_set, Some, None, true, false};
+ghost use Rattle.naga_oil_ir.specs.Links.{lists, marked, AreMarks};
+ghost use Rattle.naga_oil_ir.specs.WellFormed.{MayStand};
+ghost use Rattle.naga_oil_ir.specs.BodyForm.{known_by, MayBeEmitted, AreEmittedBy, marks_after, places, made, is_result, IsFineBy, AreFineBy, AreFine};
 
 use super::expression::Expression;
 use super::form::{callees, is_external, is_result, kinds, operand_links};
 use super::handle::Range;
-use super::links::{is_marked, no_marks, reached_from};
+use super::links::{are_below, are_earlier, is_marked, no_marks, reached_from};
 use super::span::Span;
 use super::token::Token;
 use std::alloc::{AllocError, Global};
@@ -205,22 +205,55 @@ pub fn body_is_fine(
     true
 }
 
-/// Whether the parts of a body may stand one after another, after what initialisers reach.
-pub fn body_may_stand(
+/// Whether no marked place is a result.
+fn no_result_is_marked(kinds: &[u64], marks: &[bool]) -> bool
+    ensures { (s : List ℕ) → AreMarks marks.now s → (IsTrue result ↔ All (λ h. is_result kinds.now h ≡ false) s) }
+{
+    for place in 0..marks.len() {
+        if is_marked(marks, place) && is_result(kinds, place) {
+            return false;
+        }
+    }
+    true
+}
+
+/// Whether the parts of a body may stand one after another, where initialisers reach what is marked.
+fn body_may_stand(
+    kinds: &[u64],
+    callees: &[Option<usize>],
+    links: &[Vec<usize>],
+    started: &[bool],
+    tokens: &[Token],
+    alloc: Global,
+) -> Result<bool, AllocError>
+    ensures { IfOk result (λ b. (s : List ℕ) → AreMarks started.now s → (IsTrue b ↔ AreFine (length links.now) kinds.now callees.now (lists links.now) s [] tokens.now)) }
+{
+    let mut done = no_marks(links.len(), alloc)?;
+    let fine = body_is_fine(kinds, callees, links, started, &mut done, tokens);
+    Ok(fine)
+}
+
+/// Whether operands stand before what names them, initialisers are there and reach no result, and the parts of a body
+/// may stand one after another.
+pub fn expressions_may_stand(
     items: &[(Expression, Span)],
     inits: &[usize],
     tokens: &[Token],
     alloc: Global,
 ) -> Result<bool, AllocError>
-    requires earlier { AreEarlier (operand_links items.now) }
-    requires inits { All (λ h. h < length items.now) inits.now }
-    ensures { IfOk result (λ b. IsTrue b ↔ AreFine (length items.now) (kinds items.now) (callees items.now) (operand_links items.now) (started (operand_links items.now) inits.now) [] tokens.now) }
+    ensures { IfOk result (λ b. IsTrue b ↔ MayStand items.now inits.now tokens.now) }
 {
-    let kinds = kinds(items, alloc)?;
-    let callees = callees(items, alloc)?;
     let links = operand_links(items, alloc)?;
-    let started = reached_from(links.as_slice(), inits, alloc)?;
-    let mut done = no_marks(items.len(), alloc)?;
-    let fine = body_is_fine(&kinds, &callees, &links, &started, &mut done, tokens);
-    Ok(fine)
+    let links = links.as_slice();
+    if !are_earlier(links) || !are_below(inits, links.len()) {
+        return Ok(false);
+    }
+    let kinds = kinds(items, alloc)?;
+    let kinds = kinds.as_slice();
+    let callees = callees(items, alloc)?;
+    let started = reached_from(links, inits, alloc)?;
+    let started = started.as_slice();
+    let clear = no_result_is_marked(kinds, started);
+    let fine = body_may_stand(kinds, &callees, links, started, tokens, alloc)?;
+    Ok(clear && fine)
 }

@@ -14,7 +14,8 @@ pub fn is_marked(marks: &[bool], place: usize) -> bool
     }
 }
 
-fn are_below(places: &[usize], limit: usize) -> bool
+/// Whether places stand before a limit.
+pub fn are_below(places: &[usize], limit: usize) -> bool
     ensures { IsTrue result ↔ All (λ x. x < limit) places.now }
 {
     places.iter().all(|place| *place < limit)
