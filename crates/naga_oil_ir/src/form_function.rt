@@ -49,10 +49,17 @@ pub fn locals_are_there(of: &Module, locals: &[(LocalVariable, Span)]) -> bool
     locals.iter().all(|local| is_type_there(of, local.0.ty))
 }
 
+fn are_handles_below(handles: &[Handle<Expression>], limit: usize) -> bool
+    ensures { IsTrue result ↔ All (λ h. h < limit) handles.now }
+{
+    handles.iter().all(|handle| handle.index() < limit)
+}
+
 fn names_are_there(names: &IndexMap<Handle<Expression>, String>, limit: usize) -> bool
     ensures { IsTrue result ↔ All (λ e. e.0 < limit) names.now.entries }
 {
-    names.keys().all(|handle| handle.index() < limit)
+    let handles = names.keys().as_slice();
+    are_handles_below(handles, limit)
 }
 
 /// The initialisers of local variables, in order.
