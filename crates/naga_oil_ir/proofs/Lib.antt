@@ -8,3 +8,4 @@ pub mod FormLemmas
 pub mod BodyFormLemmas
 pub mod BodyFormWords
 pub mod FunctionLemmas
+pub mod NameFormLemmas

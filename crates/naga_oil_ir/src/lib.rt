@@ -14,6 +14,7 @@ pub mod body;
 pub mod expression;
 pub mod form;
 pub mod form_function;
+pub mod form_names;
 pub mod handle;
 pub mod kind;
 pub mod language;
