@@ -1,5 +1,4 @@
 pub mod PlaceLemmas
-pub mod ListLemmas
 pub mod BodyLemmas
 pub mod ExpressionEquality
 pub mod ItemEquality

@@ -1,6 +1,5 @@
 use Rattle.std.specs.Prelude.{ℕ, List, [], ◌∷◌, ◌++◌, map, Option, Some, None}
 use Rattle.std.specs.List.{flat_map}
-use Rattle.naga_oil_ir.specs.Parts.{Renames}
 use Rattle.naga_oil_ir.specs.declared.span.Span.{Span}
 use Rattle.naga_oil_ir.specs.declared.token.Token.{Token}
 use Rattle.naga_oil_ir.specs.declared.token.Token.TheVariants.{At, Head, Plain, Flag, Absent, Use, Give, GiveCall, Emitted, Callee, Open, Close}
@@ -87,22 +86,3 @@ case_tokens c = fold-SwitchCase Tokens Tokens Tokens statement_step block_step c
 -- a statement of a block, its span before it
 abbrev pub spanned_tokens : Statement × Span → Tokens
 spanned_tokens p = At p.1 ∷ statement_tokens p.0
-
--- a token with its handles, its range and its span renamed
-abbrev pub rename_token : Renames → Token → Token
-rename_token r (At s) = At (r.span s)
-rename_token r (Head k) = Head k
-rename_token r (Plain c) = Plain c
-rename_token r (Flag b) = Flag b
-rename_token r Absent = Absent
-rename_token r (Use h) = Use (r.expression h)
-rename_token r (Give h) = Give (r.expression h)
-rename_token r (GiveCall f h) = GiveCall (r.function f) (r.expression h)
-rename_token r (Emitted e) = Emitted (r.range e)
-rename_token r (Callee f) = Callee (r.function f)
-rename_token r Open = Open
-rename_token r Close = Close
-
--- tokens with their handles renamed
-abbrev pub rename_tokens : Renames → Tokens → Tokens
-rename_tokens r ts = map (rename_token r) ts

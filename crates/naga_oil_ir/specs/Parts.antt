@@ -1,4 +1,4 @@
-use Rattle.std.specs.Prelude.{◌≡◌, ℕ, List, [], ◌∷◌, map, Option, Some, None, option_map}
+use Rattle.std.specs.Prelude.{◌≡◌, ℕ, List, [], ◌∷◌, map, Option, Some, None}
 use Rattle.naga_oil_ir.specs.declared.expression.Expression.{Expression}
 use Rattle.naga_oil_ir.specs.declared.expression.Expression.TheVariants.{Literal, ZeroValue, Constant, Override, GlobalVariable, LocalVariable, FunctionArgument, CallResult, AtomicResult, WorkGroupUniformLoadResult, RayQueryProceedResult, SubgroupBallotResult, SubgroupOperationResult, Compose, Access, AccessIndex, Splat, Swizzle, Load, ImageSample, ImageLoad, ImageQuery, Unary, Binary, Select, Derivative, Relational, Math, As, ArrayLength, RayQueryGetIntersection, RayQueryVertexPositions}
 use Rattle.naga_oil_ir.specs.declared.expression.SampleLevel.{SampleLevel}
@@ -8,7 +8,6 @@ use Rattle.naga_oil_ir.specs.declared.expression.ImageQuery.TheVariants.{Size, O
 use Rattle.naga_oil_ir.specs.declared.parts.Named.{Named}
 use Rattle.naga_oil_ir.specs.declared.parts.Named.TheVariants.{Nothing, TypeOf, ConstantAt, OverrideAt, GlobalAt, LocalAt, ArgumentAt, FunctionAt}
 use Rattle.naga_oil_ir.specs.declared.parts.ExpressionParts.{ExpressionParts}
-use Rattle.naga_oil_ir.specs.declared.span.Span.{Span}
 
 -- the parts of an expression: its kind, its plain values, the item that it names, and its operands in the order of copying,
 -- with nothing in the places of absent options
@@ -95,34 +94,3 @@ parts (RayQueryVertexPositions query committed) = expr 31 (committed ∷ []) Not
 -- what was read of an expression is its kind, what it names and its operands
 abbrev pub ReadsAs : ExpressionParts → Parts → Type 0
 ReadsAs r p = (r.kind ≡ p.kind) × (r.named ≡ p.named) × (r.operands.items ≡ p.operands)
-
--- where handles, ranges and spans go
-pub record Renames : Type 0 where
-  pub ty : ℕ → ℕ
-  pub constant : ℕ → ℕ
-  pub override : ℕ → ℕ
-  pub global : ℕ → ℕ
-  pub function : ℕ → ℕ
-  pub expression : ℕ → ℕ
-  pub range : ℕ × ℕ → ℕ × ℕ
-  pub span : Span → Span
-
--- the item, with its handle renamed
-abbrev pub rename_named : Renames → Named → Named
-rename_named r Nothing = Nothing
-rename_named r (TypeOf h) = TypeOf (r.ty h)
-rename_named r (ConstantAt h) = ConstantAt (r.constant h)
-rename_named r (OverrideAt h) = OverrideAt (r.override h)
-rename_named r (GlobalAt h) = GlobalAt (r.global h)
-rename_named r (LocalAt h) = LocalAt h
-rename_named r (ArgumentAt n) = ArgumentAt n
-rename_named r (FunctionAt h) = FunctionAt (r.function h)
-
--- the parts, with their handles renamed
-abbrev pub rename : Renames → Parts → Parts
-rename r p = record {
-  kind = p.kind;
-  plain = p.plain;
-  named = rename_named r p.named;
-  operands = map (option_map r.expression) p.operands;
-}

@@ -1,5 +1,5 @@
 use Rattle.std.specs.Prelude.{ℕ, List, [], ◌∷◌, map, Option, Some, None, option_map, string_bytes}
-use Rattle.naga_oil_ir.specs.Parts.{parts, Parts, Renames}
+use Rattle.naga_oil_ir.specs.Parts.{parts, Parts}
 use Rattle.naga_oil_ir.specs.declared.parts.Named.{Named}
 use Rattle.naga_oil_ir.specs.declared.parts.Named.TheVariants.{Nothing, TypeOf, ConstantAt, OverrideAt, GlobalAt, LocalAt, ArgumentAt, FunctionAt}
 use Rattle.naga_oil_ir.specs.declared.expression.Expression.{Expression}
@@ -130,15 +130,3 @@ parts_row p = row (ExpressionKind p.kind (named_rest p.named)) None (map Some p.
 -- the row of an expression
 abbrev pub expression_row : Expression → Row
 expression_row e = parts_row (parts e)
-
--- a place, renamed
-abbrev pub rename_place : Renames → ItemPlace → ItemPlace
-rename_place r (TypeItem h) = TypeItem (r.ty h)
-rename_place r (ConstantItem h) = ConstantItem (r.constant h)
-rename_place r (OverrideItem h) = OverrideItem (r.override h)
-rename_place r (GlobalItem h) = GlobalItem (r.global h)
-rename_place r (ExpressionItem h) = ExpressionItem (r.expression h)
-
--- a row with its places renamed
-abbrev pub rename_row : Renames → Row → Row
-rename_row r w = record { label = w.label; names = map (option_map (rename_place r)) w.names }

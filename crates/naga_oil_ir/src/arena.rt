@@ -45,20 +45,16 @@ impl<T: Item> Arena<T> {
     pub fn try_get(&self, handle: Handle<T>) -> Option<&T>
         ensures { option_copied result ≡ option_map (λ e. e.0) (slice_get self.now handle) }
     {
-        match self.items.get(handle.index()) {
-            None => None,
-            Some(e) => Some(&e.0),
-        }
+        self.items.get(handle.index()).map(|entry| &entry.0)
     }
 
     /// The span of the item at a place, undefined behind the last.
     pub fn get_span(&self, handle: Handle<T>) -> Span
         ensures { result ≡ unwrap_or (option_map (λ e. e.1) (slice_get self.now handle)) undefined }
     {
-        match self.items.get(handle.index()) {
-            None => Span::UNDEFINED,
-            Some(e) => e.1,
-        }
+        self.items
+            .get(handle.index())
+            .map_or(Span::UNDEFINED, |entry| entry.1)
     }
 
     /// The items with their spans, in order.

@@ -196,7 +196,7 @@ fn types_among(places: &[Option<ItemPlace>], alloc: Global) -> Result<Vec<usize>
     Ok(types)
 }
 
-fn present(operands: &[Option<Handle<Expression>>], alloc: Global) -> Result<Vec<usize>, AllocError>
+fn present(operands: &[Option<Operand>], alloc: Global) -> Result<Vec<usize>, AllocError>
     ensures { IfOk result (λ v. v.items ≡ flat_map option_to_list operands.now) }
 {
     let mut places = Vec::new(alloc);
@@ -239,20 +239,14 @@ pub fn kinds(items: &[(Expression, Span)], alloc: Global) -> Result<Vec<u64>, Al
 pub fn is_external(kinds: &[u64], place: usize) -> bool
     ensures { result ≡ is_external kinds.now place }
 {
-    match kinds.get(place) {
-        None => false,
-        Some(kind) => *kind < 7,
-    }
+    kinds.get(place).is_some_and(|kind| *kind < 7)
 }
 
 /// Whether an expression of this kind is a result.
 pub fn is_result(kinds: &[u64], place: usize) -> bool
     ensures { result ≡ is_result kinds.now place }
 {
-    match kinds.get(place) {
-        None => false,
-        Some(kind) => 6 < *kind && *kind < 13,
-    }
+    kinds.get(place).is_some_and(|kind| 6 < *kind && *kind < 13)
 }
 
 fn callee(named: Named) -> Option<usize>

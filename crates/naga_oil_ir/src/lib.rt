@@ -1,8 +1,8 @@
 //! The intermediate form of a shader: types, constants, overrides, global variables, functions and entry points in arenas.
 //!
 //! `arena` and `unique_arena` hold items with spans, and `handle` names their places. `types`, `expression`, `statement` and
-//! `module` are the items. `parts`, `names` and `tokens` read an expression, an item and a body by one list each, and
-//! `renaming`, `renamed_items` and `renamed_body` make them again with other handles. `links`, `form`, `form_function` and
+//! `module` are the items. `parts`, `names` and `tokens` read an expression, an item and a body by one list each. `links`,
+//! `form`, `form_function` and
 //! `body` test whether a module is well formed, each clause of the test by a function of its own.
 //!
 //! An item is found in a `UniqueArena` in expected constant time, if the hasher spreads the items, and in an `Arena` by a
@@ -23,9 +23,6 @@ pub mod module;
 pub mod names;
 pub mod parts;
 pub mod place;
-pub mod renamed_body;
-pub mod renamed_items;
-pub mod renaming;
 pub mod same;
 pub mod span;
 pub mod statement;
@@ -48,9 +45,6 @@ pub use names::{
 };
 pub use parts::{ExpressionParts, Named};
 pub use place::ItemPlace;
-pub use renamed_body::renamed_block;
-pub use renamed_items::{renamed_constant, renamed_global, renamed_override, renamed_type};
-pub use renaming::Renaming;
 pub use same::{same_constant, same_expression, same_global, same_override, same_type};
 pub use span::Span;
 pub use statement::{Block, RayQueryFunction, Statement, SwitchCase};

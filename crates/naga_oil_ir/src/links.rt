@@ -8,10 +8,7 @@ use std::alloc::{AllocError, Global};
 pub fn is_marked(marks: &[bool], place: usize) -> bool
     ensures { result ≡ marked marks.now place }
 {
-    match marks.get(place) {
-        None => false,
-        Some(mark) => *mark,
-    }
+    marks.get(place).copied().unwrap_or(false)
 }
 
 /// Whether places stand before a limit.

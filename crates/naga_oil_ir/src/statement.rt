@@ -1,7 +1,7 @@
-use super::expression::Expression;
+use super::expression::Operand;
 use super::handle::{Handle, Range};
 use super::module::Function;
-use super::span::Span;
+use super::{Expression, Span};
 
 /// A list of statements with spans.
 #[cycle(ast)]
@@ -21,101 +21,41 @@ pub struct SwitchCase {
 
 /// What is done with a ray query.
 #[derive(Clone, Copy)]
+#[rattlefmt::skip]
 pub enum RayQueryFunction {
-    Initialize {
-        acceleration_structure: Handle<Expression>,
-        descriptor: Handle<Expression>,
-    },
-    Proceed {
-        result: Handle<Expression>,
-    },
+    Initialize { acceleration_structure: Operand, descriptor: Operand },
+    Proceed { result: Operand },
     Terminate,
-    GenerateIntersection {
-        hit_t: Handle<Expression>,
-    },
+    GenerateIntersection { hit_t: Operand },
     ConfirmIntersection,
 }
 
 /// A statement.
 #[cycle(ast)]
 #[derive(Drop)]
+#[rattlefmt::skip]
 pub enum Statement {
     Emit(Range<Expression>),
     Block(Block),
-    If {
-        condition: Handle<Expression>,
-        accept: Block,
-        reject: Block,
-    },
-    Switch {
-        selector: Handle<Expression>,
-        cases: Vec<SwitchCase>,
-    },
-    Loop {
-        body: Block,
-        continuing: Block,
-        break_if: Option<Handle<Expression>>,
-    },
+    If { condition: Operand, accept: Block, reject: Block },
+    Switch { selector: Operand, cases: Vec<SwitchCase> },
+    Loop { body: Block, continuing: Block, break_if: Option<Operand> },
     Break,
     Continue,
     Kill,
     ControlBarrier(u64),
     MemoryBarrier(u64),
-    Return {
-        value: Option<Handle<Expression>>,
-    },
-    Store {
-        pointer: Handle<Expression>,
-        value: Handle<Expression>,
-    },
-    ImageStore {
-        image: Handle<Expression>,
-        coordinate: Handle<Expression>,
-        array_index: Option<Handle<Expression>>,
-        value: Handle<Expression>,
-    },
-    Atomic {
-        pointer: Handle<Expression>,
-        fun: u64,
-        compare: Option<Handle<Expression>>,
-        value: Handle<Expression>,
-        result: Option<Handle<Expression>>,
-    },
+    Return { value: Option<Operand> },
+    Store { pointer: Operand, value: Operand },
+    ImageStore { image: Operand, coordinate: Operand, array_index: Option<Operand>, value: Operand },
+    Atomic { pointer: Operand, fun: u64, compare: Option<Operand>, value: Operand, result: Option<Operand> },
     ImageAtomic {
-        image: Handle<Expression>,
-        coordinate: Handle<Expression>,
-        array_index: Option<Handle<Expression>>,
-        fun: u64,
-        compare: Option<Handle<Expression>>,
-        value: Handle<Expression>,
+        image: Operand, coordinate: Operand, array_index: Option<Operand>, fun: u64, compare: Option<Operand>, value: Operand,
     },
-    WorkGroupUniformLoad {
-        pointer: Handle<Expression>,
-        result: Handle<Expression>,
-    },
-    Call {
-        function: Handle<Function>,
-        arguments: Vec<Handle<Expression>>,
-        result: Option<Handle<Expression>>,
-    },
-    RayQuery {
-        query: Handle<Expression>,
-        fun: RayQueryFunction,
-    },
-    SubgroupBallot {
-        result: Handle<Expression>,
-        predicate: Option<Handle<Expression>>,
-    },
-    SubgroupGather {
-        mode: u64,
-        index: Option<Handle<Expression>>,
-        argument: Handle<Expression>,
-        result: Handle<Expression>,
-    },
-    SubgroupCollectiveOperation {
-        op: u64,
-        collective: u64,
-        argument: Handle<Expression>,
-        result: Handle<Expression>,
-    },
+    WorkGroupUniformLoad { pointer: Operand, result: Operand },
+    Call { function: Handle<Function>, arguments: Vec<Operand>, result: Option<Operand> },
+    RayQuery { query: Operand, fun: RayQueryFunction },
+    SubgroupBallot { result: Operand, predicate: Option<Operand> },
+    SubgroupGather { mode: u64, index: Option<Operand>, argument: Operand, result: Operand },
+    SubgroupCollectiveOperation { op: u64, collective: u64, argument: Operand, result: Operand },
 }

@@ -12,28 +12,19 @@ use std::alloc::AllocError;
 fn used(handle: Option<Handle<Expression>>) -> Token
     ensures { result ≡ used handle }
 {
-    match handle {
-        None => Token::Absent,
-        Some(h) => Token::Use(h),
-    }
+    handle.map_or(Token::Absent, |h| Token::Use(h))
 }
 
 fn given_by(function: Handle<Function>, handle: Option<Handle<Expression>>) -> Token
     ensures { result ≡ given_by function handle }
 {
-    match handle {
-        None => Token::Absent,
-        Some(h) => Token::GiveCall(function, h),
-    }
+    handle.map_or(Token::Absent, |h| Token::GiveCall(function, h))
 }
 
 fn given(handle: Option<Handle<Expression>>) -> Token
     ensures { result ≡ given handle }
 {
-    match handle {
-        None => Token::Absent,
-        Some(h) => Token::Give(h),
-    }
+    handle.map_or(Token::Absent, |h| Token::Give(h))
 }
 
 /// Pushes tokens.
