@@ -67,8 +67,8 @@ part_words n ks fs ls ss gs s d m g e (Give h) = record {
   below = λ i. one_below h n i.0;
 }
 part_words n ks fs ls ss gs s d m g e (GiveCall f h) = record {
-  to = λ i. (i.0, i.1.0, sym (g h) ∙ i.1.1);
-  from = λ i. (i.0, (i.1, g h ∙ i.2));
+  to = λ i. (i.0, i.1.0, i.1.1.0, sym (g h) ∙ i.1.1.1);
+  from = λ i. (i.0, (i.1, (i.2, g h ∙ i.3)));
   below = λ i. one_below h n i.0;
 }
 part_words n ks fs ls ss gs s d m g e (Emitted r) =

@@ -5,8 +5,7 @@ ghost use Rattle.naga_oil_ir.specs.Rows.{type_row, constant_row, override_row, g
 ghost use Rattle.naga_oil_ir.specs.ItemForm.{IsThere, NamesThere, type_at, type_links, operand_links};
 ghost use Rattle.naga_oil_ir.specs.BodyForm.{IsSpanFine, TokenSpanFine, CallsBelow, is_external, is_result, kinds, callee, callees};
 
-use super::expression::Expression;
-use super::handle::Handle;
+use super::expression::{Expression, Operand};
 use super::module::Module;
 use super::names::{constant_names, expression_names, global_names, override_names, type_names};
 use super::parts::Named;
