@@ -61,6 +61,10 @@ pub record FunctionForm (m : Module) (c n : ℕ) (f : Function) : Type 0 where
   pub body : MayStand f.expressions (initialisers f) (block_tokens f.body)
   pub spans : SpansWithin n f
 
+-- functions pass the test of form, the calls of each going to those before it
+unfoldable pub FunctionsForm : Module → ℕ → List (Function × Span) → Type 0
+FunctionsForm m n fs = (k : ℕ) (e : Function × Span) → slice_get fs k ≡ Some e → FunctionForm m k n e.0
+
 abbrev pub IsExpressionThere : Module → Option ℕ → Type 0
 IsExpressionThere m o = IfSome o (λ k. k < length m.global_expressions)
 
@@ -93,5 +97,5 @@ pub record WellFormed (m : Module) (d : Name) (n : ℕ) : Type 0 where
   pub items : ItemForm m
   pub spans : SpanForm m n
   pub names : NameForm m d
-  pub functions : (k : ℕ) (e : Function × Span) → slice_get m.functions k ≡ Some e → FunctionForm m k n e.0
+  pub functions : FunctionsForm m n m.functions
   pub entry_points : All (EntryForm m n) m.entry_points.items

@@ -2,7 +2,7 @@ ghost use Rattle.std.specs.Prelude.{◌≡◌, ◌↔◌, ◌<◌, ℕ, IsTrue, 
 ghost use Rattle.naga_oil_ir.specs.Body.{block_tokens};
 ghost use Rattle.naga_oil_ir.specs.Parts.{parts};
 ghost use Rattle.naga_oil_ir.specs.Links.{AtEach};
-ghost use Rattle.naga_oil_ir.specs.WellFormed.{NamedThere, initialisers_of, initialisers, MayStand, SpansWithin, FunctionForm, IsExpressionThere, MeshForm, EntryForm};
+ghost use Rattle.naga_oil_ir.specs.WellFormed.{NamedThere, initialisers_of, initialisers, MayStand, SpansWithin, FunctionForm, FunctionsForm, IsExpressionThere, MeshForm, EntryForm};
 
 use super::body::expressions_may_stand;
 use super::expression::Expression;
@@ -230,7 +230,7 @@ pub fn functions_are_fine(
     text_len: usize,
     alloc: Global,
 ) -> Result<bool, AllocError>
-    ensures { IfOk result (λ b. IsTrue b ↔ ((k : ℕ) (e : Function × Span) → slice_get functions.now k ≡ Some e → FunctionForm of.now k text_len e.0)) }
+    ensures { IfOk result (λ b. IsTrue b ↔ FunctionsForm of.now text_len functions.now) }
 {
     for (place, entry) in functions.iter().enumerate() {
         if !function_is_fine(of, &entry.0, place, text_len, alloc)? {
