@@ -24,7 +24,7 @@ fn is_type_there(of: &Module, ty: Handle<Type>) -> bool
 }
 
 /// Whether the types of arguments are there.
-pub fn arguments_are_there(of: &Module, arguments: &[FunctionArgument]) -> bool
+fn arguments_are_there(of: &Module, arguments: &[FunctionArgument]) -> bool
     ensures { IsTrue result ↔ All (λ a. a.ty < length of.now.types) arguments.now }
 {
     arguments
@@ -33,17 +33,14 @@ pub fn arguments_are_there(of: &Module, arguments: &[FunctionArgument]) -> bool
 }
 
 /// Whether the type of a result is there.
-pub fn result_is_there(of: &Module, outcome: Option<FunctionResult>) -> bool
+fn result_is_there(of: &Module, outcome: Option<FunctionResult>) -> bool
     ensures { IsTrue result ↔ IfSome outcome (λ r. r.ty < length of.now.types) }
 {
-    match outcome {
-        None => true,
-        Some(outcome) => is_type_there(of, outcome.ty),
-    }
+    outcome.is_none_or(|outcome| is_type_there(of, outcome.ty))
 }
 
 /// Whether the types of local variables are there.
-pub fn locals_are_there(of: &Module, locals: &[(LocalVariable, Span)]) -> bool
+fn locals_are_there(of: &Module, locals: &[(LocalVariable, Span)]) -> bool
     ensures { IsTrue result ↔ All (λ l. l.0.ty < length of.now.types) locals.now }
 {
     locals.iter().all(|local| is_type_there(of, local.0.ty))
@@ -63,7 +60,7 @@ fn names_are_there(names: &IndexMap<Handle<Expression>, String>, limit: usize) -
 }
 
 /// The initialisers of local variables, in order.
-pub fn initialisers(
+fn initialisers(
     locals: &[(LocalVariable, Span)],
     alloc: Global,
 ) -> Result<Vec<usize>, AllocError>
@@ -78,7 +75,7 @@ pub fn initialisers(
 }
 
 /// Whether what an expression of a function names is there.
-pub fn is_named_there(of: &Module, function: &Function, named: Named) -> bool
+fn is_named_there(of: &Module, function: &Function, named: Named) -> bool
     ensures { IsTrue result ↔ NamedThere of.now function.now named }
 {
     match named {
@@ -94,7 +91,7 @@ pub fn is_named_there(of: &Module, function: &Function, named: Named) -> bool
 }
 
 /// Whether what the expressions of a function name is there.
-pub fn expressions_are_there(
+fn expressions_are_there(
     of: &Module,
     function: &Function,
     items: &[(Expression, Span)],
@@ -139,7 +136,7 @@ fn body_stands(function: &Function, tokens: &[Token], alloc: Global) -> Result<b
 
 /// Whether a function whose calls may go to the first functions, so many of them, passes the test of form in a text of so
 /// many bytes.
-pub fn function_is_fine(
+fn function_is_fine(
     of: &Module,
     function: &Function,
     calls_below: usize,
@@ -162,26 +159,21 @@ pub fn function_is_fine(
 fn is_expression_there(of: &Module, handle: Option<Handle<Expression>>) -> bool
     ensures { IsTrue result ↔ IsExpressionThere of.now handle }
 {
-    match handle {
-        None => true,
-        Some(handle) => handle.index() < of.global_expressions.len(),
-    }
+    handle.is_none_or(|handle| handle.index() < of.global_expressions.len())
 }
 
 /// Whether a task's payload is there.
-pub fn payload_is_there(of: &Module, payload: Option<Handle<GlobalVariable>>) -> bool
+fn payload_is_there(of: &Module, payload: Option<Handle<GlobalVariable>>) -> bool
     ensures { IsTrue result ↔ IfSome payload (λ k. k < length of.now.global_variables) }
 {
-    match payload {
-        None => true,
-        Some(handle) => handle.index() < of.global_variables.len(),
-    }
+    payload.is_none_or(|handle| handle.index() < of.global_variables.len())
 }
 
 /// Whether what a mesh shader puts out is there.
-pub fn mesh_is_there(of: &Module, mesh: MeshInfo) -> bool
-    ensures { IsTrue result ↔ MeshForm of.now mesh }
+fn is_mesh_there(of: &Module, mesh: Option<MeshInfo>) -> bool
+    ensures { IsTrue result ↔ IfSome mesh (MeshForm of.now) }
 {
+    let Some(mesh) = mesh else { return true };
     is_type_there(of, mesh.vertex_output_type)
         && is_type_there(of, mesh.primitive_output_type)
         && mesh.output.index() < of.global_variables.len()
@@ -198,17 +190,8 @@ fn are_sizes_there(of: &Module, sizes: Option<[Option<Handle<Expression>>; 3]>) 
     }
 }
 
-fn is_mesh_there(of: &Module, mesh: Option<MeshInfo>) -> bool
-    ensures { IsTrue result ↔ IfSome mesh (MeshForm of.now) }
-{
-    match mesh {
-        None => true,
-        Some(mesh) => mesh_is_there(of, mesh),
-    }
-}
-
 /// Whether an entry point passes the test of form in a text of so many bytes.
-pub fn entry_is_fine(
+fn entry_is_fine(
     of: &Module,
     entry: &EntryPoint,
     text_len: usize,

@@ -32,10 +32,7 @@ fn decorated(name: &str, decoration: &str, alloc: Global) -> Result<String, Allo
 fn name_or<'a>(function: &'a Function, other: &'a str) -> &'a str
     ensures { result.now ≡ unwrap_or (option_map string_bytes function.now.name) other.now }
 {
-    match &function.name {
-        Some(name) => name.as_str(),
-        None => other,
-    }
+    function.name.as_ref().map_or(other, |name| name.as_str())
 }
 
 fn function_names(

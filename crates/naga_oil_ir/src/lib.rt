@@ -11,7 +11,6 @@
 
 pub mod arena;
 pub mod body;
-pub mod check_form;
 pub mod expression;
 pub mod form;
 pub mod form_function;
