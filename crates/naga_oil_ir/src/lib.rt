@@ -14,6 +14,7 @@ pub mod body;
 pub mod expression;
 pub mod form;
 pub mod form_function;
+pub mod form_items;
 pub mod handle;
 pub mod kind;
 pub mod language;
@@ -21,7 +22,6 @@ pub mod links;
 pub mod module;
 pub mod names;
 pub mod parts;
-pub mod place;
 pub mod same;
 pub mod span;
 pub mod statement;
@@ -33,17 +33,14 @@ pub mod types;
 pub mod unique_arena;
 
 pub use arena::Arena;
-pub use expression::{Expression, ImageQuery, SampleLevel};
+pub use expression::{Expression, ImageQuery, Operand, SampleLevel};
 pub use handle::{Handle, Index, Item, Places, Range};
 pub use language::ShaderLanguage;
 pub use module::{
     EntryPoint, Function, FunctionArgument, FunctionResult, MeshInfo, Module, SpecialTypes,
 };
-pub use names::{
-    constant_names, expression_names, global_names, named_item, override_names, type_names,
-};
+pub use names::{ItemPlace, NameList, Names};
 pub use parts::{ExpressionParts, Named};
-pub use place::ItemPlace;
 pub use same::{same_constant, same_expression, same_global, same_override, same_type};
 pub use span::Span;
 pub use statement::{Block, RayQueryFunction, Statement, SwitchCase};
