@@ -5,7 +5,7 @@ use Rattle.naga_oil_ir.specs.declared.statement.SwitchCase.{SwitchCase}
 use Rattle.std.specs.List.{flat_map}
 use Rattle.naga_oil_ir.specs.Body.{spanned_tokens, Tokens, block_tokens, statement_tokens, case_tokens, statement_step, block_step, case_step}
 use Rattle.naga_oil_ir.specs.declared.statement.Block.{Block, out-Block, fold_out-Block}
-use Rattle.naga_oil_ir.specs.declared.statement.Statement.{Statement, fold-roll-Statement, Switch}
+use Rattle.naga_oil_ir.specs.declared.statement.Statement.{fold-roll-Statement, Switch}
 use Rattle.naga_oil_ir.specs.declared.statement.Statement.TheVariants.{rolls-Switch}
 
 flat_map-map : {X Y A : Type 0} (f : Y → List A) (g : X → Y) (xs : List X) → flat_map f (map g xs) ≡ flat_map (λ x. f (g x)) xs

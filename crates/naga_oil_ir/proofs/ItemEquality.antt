@@ -12,8 +12,8 @@ use Rattle.naga_oil_ir.specs.declared.types.TypeInner.{TypeInner}
 use Rattle.naga_oil_ir.specs.declared.types.TypeInner.TheVariants.{Scalar, Vector, Matrix, ValuePointer, Image, Sampler, Atomic, AccelerationStructure, RayQuery, Pointer, Struct, Array, BindingArray}
 use Rattle.naga_oil_ir.specs.declared.types.ArraySize.{ArraySize}
 use Rattle.naga_oil_ir.specs.declared.types.ArraySize.TheVariants.{Constant, Pending, Dynamic}
-use Rattle.naga_oil_ir.specs.declared.place.ItemPlace.{ItemPlace}
-use Rattle.naga_oil_ir.specs.declared.place.ItemPlace.TheVariants.{TypeItem, ExpressionItem}
+use Rattle.naga_oil_ir.specs.declared.names.ItemPlace.{ItemPlace}
+use Rattle.naga_oil_ir.specs.declared.names.ItemPlace.TheVariants.{TypeItem, ExpressionItem}
 use Rattle.naga_oil_ir.specs.contracts.types.ConstantPartialEq.TheImpl.{ghosts as constant_ghosts}
 use Rattle.naga_oil_ir.specs.contracts.types.OverridePartialEq.TheImpl.{ghosts as override_ghosts}
 use Rattle.naga_oil_ir.specs.contracts.types.GlobalVariablePartialEq.TheImpl.{ghosts as global_ghosts}

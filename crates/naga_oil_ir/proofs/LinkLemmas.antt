@@ -1,6 +1,6 @@
 use Rattle.std.proofs.Common.{◌≡◌, ◌≢◌, ⊎_elim, ℕ, zero, suc, ◌+◌, ◌<◌, ◌≤◌, Bool, true, false, cond, ◌||◌, ◌&&◌, ◌==◌, List, [], ◌∷◌, ◌++◌, length, option_map, take, get_or, slice_get, slice_set, unwrap_or, Some, None, Vec, Global, All, refl, ap, sym, ◌∙◌, subst, arith, rules, tests, replicate}
 use Rattle.std.specs.List.{flat_map, list_any}
-use Rattle.std.proofs.lemmas.Bool.{cases_order, or_cases, false≢true}
+use Rattle.std.proofs.lemmas.Bool.{cases_order, cases_lt, or_cases, false≢true}
 use Rattle.std.proofs.lemmas.List.Elements.{All-head, All-tail, All-nil, All-cons, All-weaker}
 use Rattle.std.proofs.lemmas.List.Folds.{list_any-append, list_any_more}
 use Rattle.std.proofs.lemmas.Option.{slice_get-map, slice_get_past, slice_get_read}
@@ -39,10 +39,10 @@ same_bool true false f g = sym (f refl)
 same_bool false true f g = g refl
 same_bool false false f g = refl
 
-eqb_eq : (a b : ℕ) → (a == b) ≡ true → a ≡ b
+pub eqb_eq : (a b : ℕ) → (a == b) ≡ true → a ≡ b
 eqb_eq a b h = search (rules, tests)
 
-eq_eqb : (a b : ℕ) → a ≡ b → (a == b) ≡ true
+pub eq_eqb : (a b : ℕ) → a ≡ b → (a == b) ≡ true
 eq_eqb a b h = search (rules, tests)
 
 -- ---- lists
@@ -119,6 +119,9 @@ mark_more old now xs i lt a e m k =
 -- no mark stands behind the last place
 pub marked_past : (fs : List Bool) (k : ℕ) → length fs ≤ k → marked fs k ≡ false
 marked_past fs k h = ap (λ o. unwrap_or o false) (slice_get_past fs k h)
+
+pub marked_within : (fs : List Bool) (k : ℕ) → marked fs k ≡ true → k < length fs
+marked_within fs k h = ⊎_elim (λ l. l) (λ g. absurd (false≢true (sym (marked_past fs k g) ∙ h))) (cases_lt k (length fs))
 
 pub marked-none : (n k : ℕ) → marked (replicate n false) k ≡ false
 marked-none zero k = refl
@@ -286,3 +289,18 @@ marked-push_at gs b k e = ap (λ i. marked (gs ++ b ∷ []) i) e ∙ ap (λ o. u
 pub reaches-push : (ls : Links) → AreEarlier ls → (fs gs : List Bool) (p : ℕ) (b : Bool) (xs : List ℕ) → length gs ≡ p → linked ls p ≡ xs → b ≡ (marked fs p || list_any (marked gs) xs) → ((x : ℕ) → x < p → marked gs x ≡ reaches ls fs x) → (k : ℕ) → k < p + 1 → marked (gs ++ b ∷ []) k ≡ reaches ls fs k
 reaches-push ls a fs gs p b xs long named is m k h =
     ⊎_elim (λ e. marked-push_at gs b k (omega arith) ∙ is ∙ ap (λ ys. marked fs p || list_any (marked gs) ys) (sym named) ∙ reaches-step ls a fs gs p m ∙ ap (reaches ls fs) (sym e)) (⊎_elim (λ l. ap (λ o. unwrap_or o false) (slice_get-append_within gs (b ∷ []) k (omega arith)) ∙ m k l) (λ l. absurd (omega arith))) (cases_order k p)
+
+-- behind the last place nothing is reached but the place itself, which isn't marked
+pub reaches-past : (vs : List (Vec ℕ Global)) → AreEarlier (lists vs) → (fs : List Bool) → length fs ≤ length vs → (k : ℕ) → length vs ≤ k → reaches (lists vs) fs k ≡ false
+reaches-past vs a fs h k g =
+    ap (list_any (marked fs)) (trail-step (lists vs) a k ∙ ap (λ xs. flat_map (trail (lists vs)) xs ++ k ∷ []) (linked_past vs k g)) ∙ or_false (marked fs k) ∙ marked_past fs k (omega arith)
+
+-- what holds of each marked place holds of all that is reached
+pub reached_each : (ls : Links) (rs : List ℕ) (fs : List Bool) (P : ℕ → Type 0) → AreMarks fs (started ls rs) → ((k : ℕ) → marked fs k ≡ true → P k) → All (λ k. All P (trail ls k)) rs
+reached_each ls rs fs P m f =
+    All-from_has (λ k. All P (trail ls k)) rs (λ r h. All-from_has P (trail ls r) (λ j i. f j (m j ∙ has-started ls rs j ∙ in_all (trail ls) rs r j h i)))
+
+pub each_reached : (ls : Links) (rs : List ℕ) (fs : List Bool) (P : ℕ → Type 0) → AreMarks fs (started ls rs) → All (λ k. All P (trail ls k)) rs → (k : ℕ) → marked fs k ≡ true → P k
+each_reached ls rs fs P m a k h =
+    let r = in_one (trail ls) rs k (sym (has-started ls rs k) ∙ sym (m k) ∙ h) in
+    All-has P (trail ls r.0) k (All-has (λ i. All P (trail ls i)) rs r.0 a r.1) r.2

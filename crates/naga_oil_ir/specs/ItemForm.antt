@@ -1,6 +1,7 @@
 use Rattle.std.specs.Prelude.{◌≡◌, ◌<◌, ◌⊎◌, ℕ, Bool, true, false, List, [], ◌∷◌, ◌++◌, length, map, slice_get, Option, Some, None, option_to_list, is_none, All, IfSome, nat_eq, ◌||◌}
-use Rattle.std.specs.List.{flat_map, IsDistinct}
+use Rattle.std.specs.List.{flat_map, list_any, IsDistinct}
 use Rattle.naga_oil_ir.specs.Parts.{parts}
+use Rattle.naga_oil_ir.specs.BodyForm.{kinds}
 use Rattle.naga_oil_ir.specs.Rows.{Row, type_row, constant_row, override_row, global_row, expression_row}
 use Rattle.naga_oil_ir.specs.Links.{Links, AreEarlier, AtEach, trail, has, reaches}
 use Rattle.naga_oil_ir.specs.declared.module.Module.{Module}
@@ -10,8 +11,8 @@ use Rattle.naga_oil_ir.specs.declared.span.Span.{Span}
 use Rattle.naga_oil_ir.specs.declared.types.Type.{«Type» as TypeOfShader}
 use Rattle.naga_oil_ir.specs.declared.types.Constant.{Constant}
 use Rattle.naga_oil_ir.specs.declared.types.Override.{Override}
-use Rattle.naga_oil_ir.specs.declared.place.ItemPlace.{ItemPlace}
-use Rattle.naga_oil_ir.specs.declared.place.ItemPlace.TheVariants.{TypeItem, ConstantItem, OverrideItem, GlobalItem, ExpressionItem}
+use Rattle.naga_oil_ir.specs.declared.names.ItemPlace.{ItemPlace}
+use Rattle.naga_oil_ir.specs.declared.names.ItemPlace.TheVariants.{TypeItem, ConstantItem, OverrideItem, GlobalItem, ExpressionItem}
 
 -- ---- what there is
 
@@ -55,29 +56,40 @@ is_override (Some (OverrideItem k)) = true
 is_override (Some (GlobalItem k)) = false
 is_override (Some (ExpressionItem k)) = false
 
-abbrev pub any_override : List (Option ItemPlace) → Bool
-any_override [] = false
-any_override (o ∷ os) = is_override o || any_override os
-
 -- of each type whether its size is an override's
 abbrev pub pending : List TypeOfShader → List Bool
-pending ts = map (λ t. any_override (type_row t).names) ts
+pending ts = map (λ t. list_any is_override (type_row t).names) ts
 
 -- a type is sized: it is, or reaches, one whose size is an override's
 abbrev pub is_sized : Module → ℕ → Bool
 is_sized m k = reaches (type_links (types_of m)) (pending (types_of m)) k
 
--- whether an item is a sized type
-abbrev pub is_sized_item : Module → ItemPlace → Bool
-is_sized_item m (TypeItem k) = is_sized m k
-is_sized_item m (ConstantItem k) = false
-is_sized_item m (OverrideItem k) = false
-is_sized_item m (GlobalItem k) = false
-is_sized_item m (ExpressionItem k) = false
+-- whether a place is a type's that passes
+abbrev pub is_type_that : (ℕ → Bool) → Option ItemPlace → Bool
+is_type_that p None = false
+is_type_that p (Some (TypeItem k)) = p k
+is_type_that p (Some (ConstantItem k)) = false
+is_type_that p (Some (OverrideItem k)) = false
+is_type_that p (Some (GlobalItem k)) = false
+is_type_that p (Some (ExpressionItem k)) = false
 
--- an item names no sized type
-abbrev pub NamesNoSized : Module → Row → Type 0
-NamesNoSized m r = All (λ o. IfSome o (λ p. is_sized_item m p ≡ false)) r.names
+-- an item names no type that passes
+abbrev pub NamesNone : (ℕ → Bool) → Row → Type 0
+NamesNone p r = list_any (is_type_that p) r.names ≡ false
+
+-- what constants, overrides, global variables and global expressions name is there, and what types name
+pub record NamesAreThere (m : Module) : Type 0 where
+  pub types : AtEach (λ t. NamesThere m (type_row t)) (types_of m)
+  pub constants : AtEach (λ e. NamesThere m (constant_row e.0)) m.constants
+  pub overrides : AtEach (λ e. NamesThere m (override_row e.0)) m.overrides
+  pub globals : AtEach (λ e. NamesThere m (global_row e.0)) m.global_variables
+  pub expressions : AtEach (λ e. NamesThere m (expression_row e.0)) m.global_expressions
+
+-- constants, overrides and global expressions name no sized type
+pub record NamesAreUnsized (m : Module) : Type 0 where
+  pub constants : AtEach (λ e. NamesNone (is_sized m) (constant_row e.0)) m.constants
+  pub overrides : AtEach (λ e. NamesNone (is_sized m) (override_row e.0)) m.overrides
+  pub expressions : AtEach (λ e. NamesNone (is_sized m) (expression_row e.0)) m.global_expressions
 
 -- ---- global expressions
 
@@ -101,17 +113,23 @@ initialiser m (OverrideItem k) = init_of_override (slice_get m.overrides k)
 initialiser m (GlobalItem k) = None
 initialiser m (ExpressionItem k) = None
 
--- what an item names has its initialiser before a place
-abbrev pub StandsAfter : Module → ℕ → Row → Type 0
-StandsAfter m k r = All (λ o. IfSome o (λ p. IfSome (initialiser m p) (λ i. i < k))) r.names
+-- what is named has its initialiser before a place
+abbrev pub AreInitialisedBefore : Module → ℕ → List (Option ItemPlace) → Type 0
+AreInitialisedBefore m k os = All (λ o. IfSome o (λ p. IfSome (initialiser m p) (λ i. i < k))) os
+
+-- each expression that names a constant or an override stands after that one's initialiser
+abbrev pub StandAfter : Module → List (Expression × Span) → Type 0
+StandAfter m es = (k : ℕ) (e : Expression × Span) → slice_get es k ≡ Some e → AreInitialisedBefore m k (expression_row e.0).names
 
 -- a global expression is no global, local, argument or result
 abbrev pub IsGlobalKind : ℕ → Type 0
 IsGlobalKind k = (k < 4) ⊎ (12 < k)
 
--- each expression that names a constant or an override stands after that one's initialiser
-abbrev pub StandAfter : Module → Type 0
-StandAfter m = (k : ℕ) (e : Expression × Span) → slice_get m.global_expressions k ≡ Some e → StandsAfter m k (expression_row e.0)
+-- global expressions are of their kinds, and stand after what they need
+pub record ExpressionForm (m : Module) : Type 0 where
+  pub earlier_operands : AreEarlier (operand_links m.global_expressions)
+  pub after : StandAfter m m.global_expressions
+  pub kinds : All IsGlobalKind (kinds m.global_expressions)
 
 -- ---- special types
 
@@ -119,33 +137,29 @@ StandAfter m = (k : ℕ) (e : Expression × Span) → slice_get m.global_express
 abbrev pub special_types : SpecialTypes → List ℕ
 special_types s = option_to_list s.ray_desc ++ option_to_list s.ray_intersection ++ option_to_list s.ray_vertex_return ++ map (λ e. e.1) s.predeclared_types.entries
 
-abbrev pub is_unnamed_at : Option (TypeOfShader × Span) → Bool
-is_unnamed_at None = false
-is_unnamed_at (Some e) = is_none e.0.name
+abbrev pub is_unnamed : Option TypeOfShader → Bool
+is_unnamed None = false
+is_unnamed (Some t) = is_none t.name
 
 -- a type is unnamed or special
 abbrev pub is_plain : Module → ℕ → Bool
-is_plain m k = is_unnamed_at (slice_get m.types k) || has (special_types m.special_types) k
+is_plain m k = is_unnamed (slice_get (types_of m) k) || has (special_types m.special_types) k
+
+-- all that some types reach is unnamed or special
+abbrev pub ReachPlain : Module → List ℕ → Type 0
+ReachPlain m ks = All (λ k. All (λ j. is_plain m j ≡ true) (trail (type_links (types_of m)) k)) ks
 
 -- special types are there, are distinct, aren't sized, and reach only unnamed or special types
 pub record SpecialForm (m : Module) : Type 0 where
   pub there : All (λ k. k < length m.types) (special_types m.special_types)
   pub distinct : IsDistinct nat_eq (special_types m.special_types)
   pub unsized : All (λ k. is_sized m k ≡ false) (special_types m.special_types)
-  pub plain : All (λ k. All (λ j. is_plain m j ≡ true) (trail (type_links (types_of m)) k)) (special_types m.special_types)
+  pub plain : ReachPlain m (special_types m.special_types)
 
 -- the test of form of the items
 pub record ItemForm (m : Module) : Type 0 where
-  pub types : AtEach (λ t. NamesThere m (type_row t)) (types_of m)
+  pub there : NamesAreThere m
   pub earlier_types : AreEarlier (type_links (types_of m))
-  pub constants : AtEach (λ e. NamesThere m (constant_row e.0)) m.constants
-  pub overrides : AtEach (λ e. NamesThere m (override_row e.0)) m.overrides
-  pub globals : AtEach (λ e. NamesThere m (global_row e.0)) m.global_variables
-  pub expressions : AtEach (λ e. NamesThere m (expression_row e.0)) m.global_expressions
-  pub unsized_constants : AtEach (λ e. NamesNoSized m (constant_row e.0)) m.constants
-  pub unsized_overrides : AtEach (λ e. NamesNoSized m (override_row e.0)) m.overrides
-  pub unsized_expressions : AtEach (λ e. NamesNoSized m (expression_row e.0)) m.global_expressions
-  pub earlier_operands : AreEarlier (operand_links m.global_expressions)
-  pub after : StandAfter m
-  pub kinds : AtEach (λ e. IsGlobalKind (parts e.0).kind) m.global_expressions
+  pub unsized : NamesAreUnsized m
+  pub expressions : ExpressionForm m
   pub special : SpecialForm m

@@ -7,7 +7,7 @@ abbrev pub Links : Type 0
 Links = List (List ℕ)
 
 -- the lists that vectors hold
-abbrev pub lists : List (Vec ℕ Global) → Links
+abbrev pub lists : {A : Type 0} → List (Vec A Global) → List (List A)
 lists vs = map (λ v. v.items) vs
 
 -- the places that a place names

@@ -12,8 +12,8 @@ use Rattle.naga_oil_ir.specs.declared.types.TypeInner.{TypeInner}
 use Rattle.naga_oil_ir.specs.declared.types.TypeInner.TheVariants.{Scalar, Vector, Matrix, ValuePointer, Image, Sampler, Atomic, AccelerationStructure, RayQuery, Pointer, Struct, Array, BindingArray}
 use Rattle.naga_oil_ir.specs.declared.types.ArraySize.{ArraySize}
 use Rattle.naga_oil_ir.specs.declared.types.ArraySize.TheVariants.{Constant, Pending, Dynamic}
-use Rattle.naga_oil_ir.specs.declared.place.ItemPlace.{ItemPlace}
-use Rattle.naga_oil_ir.specs.declared.place.ItemPlace.TheVariants.{TypeItem, ConstantItem, OverrideItem, GlobalItem, ExpressionItem}
+use Rattle.naga_oil_ir.specs.declared.names.ItemPlace.{ItemPlace}
+use Rattle.naga_oil_ir.specs.declared.names.ItemPlace.TheVariants.{TypeItem, ConstantItem, OverrideItem, GlobalItem, ExpressionItem}
 
 -- what a member of a struct says beside its type
 pub record Member : Type 0 where

@@ -1,21 +1,16 @@
 ghost use Rattle.std.specs.Prelude.{◌≡◌, ◌↔◌, ◌<◌, ℕ, IsTrue, IfOk, IfSome, All, option_to_list};
 ghost use Rattle.std.specs.List.{flat_map};
-ghost use Rattle.naga_oil_ir.specs.Links.{lists, AtEach};
-ghost use Rattle.naga_oil_ir.specs.Rows.{type_row, constant_row, override_row, global_row, expression_row};
-ghost use Rattle.naga_oil_ir.specs.ItemForm.{IsThere, NamesThere, type_at, type_links, operand_links};
+ghost use Rattle.naga_oil_ir.specs.Links.{lists};
+ghost use Rattle.naga_oil_ir.specs.ItemForm.{operand_links};
 ghost use Rattle.naga_oil_ir.specs.BodyForm.{IsSpanFine, TokenSpanFine, CallsBelow, is_external, is_result, kinds, callee, callees};
 
-use super::expression::{Expression, Operand};
-use super::module::Module;
-use super::names::{constant_names, expression_names, global_names, override_names, type_names};
+use super::expression::Operand;
 use super::parts::Named;
-use super::place::ItemPlace;
-use super::span::Span;
-use super::token::Token;
-use super::types::{Constant, GlobalVariable, Override, Type};
+use super::{Expression, Span, Token};
 use std::alloc::{AllocError, Global};
 
-fn is_span_fine(span: Span, text_len: usize) -> bool
+/// Whether a span lies in a text of so many bytes.
+pub fn is_span_fine(span: Span, text_len: usize) -> bool
     ensures { IsTrue result ↔ IsSpanFine text_len span }
 {
     span.start <= span.end && span.end as usize <= text_len
@@ -60,139 +55,6 @@ pub fn calls_go_below(tokens: &[Token], limit: usize) -> bool
     ensures { IsTrue result ↔ All (CallsBelow limit) tokens.now }
 {
     tokens.iter().all(|token| call_goes_below(*token, limit))
-}
-
-fn is_there(of: &Module, place: ItemPlace) -> bool
-    ensures { IsTrue result ↔ IsThere of.now place }
-{
-    match place {
-        ItemPlace::TypeItem(handle) => handle.index() < of.types.len(),
-        ItemPlace::ConstantItem(handle) => handle.index() < of.constants.len(),
-        ItemPlace::OverrideItem(handle) => handle.index() < of.overrides.len(),
-        ItemPlace::GlobalItem(handle) => handle.index() < of.global_variables.len(),
-        ItemPlace::ExpressionItem(handle) => handle.index() < of.global_expressions.len(),
-    }
-}
-
-fn is_name_there(of: &Module, place: Option<ItemPlace>) -> bool
-    ensures { IsTrue result ↔ IfSome place (IsThere of.now) }
-{
-    match place {
-        None => true,
-        Some(place) => is_there(of, place),
-    }
-}
-
-fn are_names_there(of: &Module, places: &[Option<ItemPlace>]) -> bool
-    ensures { IsTrue result ↔ All (λ o. IfSome o (IsThere of.now)) places.now }
-{
-    places.iter().all(|place| is_name_there(of, *place))
-}
-
-/// Whether all that types name is there.
-pub fn types_name_there(of: &Module, items: &[Type], alloc: Global) -> Result<bool, AllocError>
-    ensures { IfOk result (λ b. IsTrue b ↔ AtEach (λ e. NamesThere of.now (type_row e)) items.now) }
-{
-    for (place, entry) in items.iter().enumerate() {
-        let names = type_names(entry, alloc)?;
-        if !are_names_there(of, &names) {
-            return Ok(false);
-        }
-    }
-    Ok(true)
-}
-
-/// Whether all that constants name is there.
-pub fn constants_name_there(
-    of: &Module,
-    items: &[(Constant, Span)],
-    alloc: Global,
-) -> Result<bool, AllocError>
-    ensures { IfOk result (λ b. IsTrue b ↔ AtEach (λ e. NamesThere of.now (constant_row e.0)) items.now) }
-{
-    for (place, entry) in items.iter().enumerate() {
-        let names = constant_names(&entry.0, alloc)?;
-        if !are_names_there(of, &names) {
-            return Ok(false);
-        }
-    }
-    Ok(true)
-}
-
-/// Whether all that overrides name is there.
-pub fn overrides_name_there(
-    of: &Module,
-    items: &[(Override, Span)],
-    alloc: Global,
-) -> Result<bool, AllocError>
-    ensures { IfOk result (λ b. IsTrue b ↔ AtEach (λ e. NamesThere of.now (override_row e.0)) items.now) }
-{
-    for (place, entry) in items.iter().enumerate() {
-        let names = override_names(&entry.0, alloc)?;
-        if !are_names_there(of, &names) {
-            return Ok(false);
-        }
-    }
-    Ok(true)
-}
-
-/// Whether all that global variables name is there.
-pub fn globals_name_there(
-    of: &Module,
-    items: &[(GlobalVariable, Span)],
-    alloc: Global,
-) -> Result<bool, AllocError>
-    ensures { IfOk result (λ b. IsTrue b ↔ AtEach (λ e. NamesThere of.now (global_row e.0)) items.now) }
-{
-    for (place, entry) in items.iter().enumerate() {
-        let names = global_names(&entry.0, alloc)?;
-        if !are_names_there(of, &names) {
-            return Ok(false);
-        }
-    }
-    Ok(true)
-}
-
-/// Whether all that global expressions name is there.
-pub fn expressions_name_there(
-    of: &Module,
-    items: &[(Expression, Span)],
-    alloc: Global,
-) -> Result<bool, AllocError>
-    ensures { IfOk result (λ b. IsTrue b ↔ AtEach (λ e. NamesThere of.now (expression_row e.0)) items.now) }
-{
-    for (place, entry) in items.iter().enumerate() {
-        let names = expression_names(&entry.0, alloc)?;
-        if !are_names_there(of, &names) {
-            return Ok(false);
-        }
-    }
-    Ok(true)
-}
-
-/// Of each type the types that it names.
-pub fn type_links(types: &[Type], alloc: Global) -> Result<Vec<Vec<usize>>, AllocError>
-    ensures { IfOk result (λ v. lists v.items ≡ type_links types.now) }
-{
-    let mut links = Vec::new(alloc);
-    for ty in types {
-        let names = type_names(ty, alloc)?;
-        let named = types_among(&names, alloc)?;
-        links.push(named)?;
-    }
-    Ok(links)
-}
-
-fn types_among(places: &[Option<ItemPlace>], alloc: Global) -> Result<Vec<usize>, AllocError>
-    ensures { IfOk result (λ v. v.items ≡ flat_map type_at places.now) }
-{
-    let mut types = Vec::new(alloc);
-    for place in places {
-        if let Some(ItemPlace::TypeItem(handle)) = place {
-            types.push(handle.index())?;
-        }
-    }
-    Ok(types)
 }
 
 fn present(operands: &[Option<Operand>], alloc: Global) -> Result<Vec<usize>, AllocError>

@@ -11,9 +11,11 @@
 
 pub mod arena;
 pub mod body;
+pub mod check_form;
 pub mod expression;
 pub mod form;
 pub mod form_function;
+pub mod form_items;
 pub mod form_names;
 pub mod handle;
 pub mod kind;
@@ -22,7 +24,6 @@ pub mod links;
 pub mod module;
 pub mod names;
 pub mod parts;
-pub mod place;
 pub mod same;
 pub mod span;
 pub mod statement;
@@ -34,17 +35,15 @@ pub mod types;
 pub mod unique_arena;
 
 pub use arena::Arena;
-pub use expression::{Expression, ImageQuery, SampleLevel};
+pub use check_form::FormFault;
+pub use expression::{Expression, ImageQuery, Operand, SampleLevel};
 pub use handle::{Handle, Index, Item, Places, Range};
 pub use language::ShaderLanguage;
 pub use module::{
     EntryPoint, Function, FunctionArgument, FunctionResult, MeshInfo, Module, SpecialTypes,
 };
-pub use names::{
-    constant_names, expression_names, global_names, named_item, override_names, type_names,
-};
+pub use names::{ItemPlace, NameList, Names};
 pub use parts::{ExpressionParts, Named};
-pub use place::ItemPlace;
 pub use same::{same_constant, same_expression, same_global, same_override, same_type};
 pub use span::Span;
 pub use statement::{Block, RayQueryFunction, Statement, SwitchCase};

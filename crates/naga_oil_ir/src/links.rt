@@ -64,6 +64,17 @@ pub fn no_marks(count: usize, alloc: Global) -> Result<Vec<bool>, AllocError>
     Ok(marks)
 }
 
+/// So many places, some of them marked.
+pub fn marks_of(places: &[usize], count: usize, alloc: Global) -> Result<Vec<bool>, AllocError>
+    requires { All (λ x. x < count) places.now }
+    ensures long { IfOk result (λ v. length v.items ≡ count) }
+    ensures marks { IfOk result (λ v. AreMarks v.items places.now) }
+{
+    let mut marks = no_marks(count, alloc)?;
+    mark_all(&mut marks, places);
+    Ok(marks)
+}
+
 /// Marks all that some places reach.
 pub fn reached_from(
     links: &[Vec<usize>],
@@ -74,8 +85,7 @@ pub fn reached_from(
     requires roots { All (λ x. x < length links.now) roots.now }
     ensures { IfOk result (λ v. AreMarks v.items (started (lists links.now) roots.now)) }
 {
-    let mut marks = vec![in alloc; false; links.len()]?;
-    mark_all(&mut marks, roots);
+    let mut marks = marks_of(roots, links.len(), alloc)?;
     let count = links.len();
     for step in 0..count {
         let place = count - 1 - step;
@@ -84,7 +94,8 @@ pub fn reached_from(
     Ok(marks)
 }
 
-fn any_marked(marks: &[bool], places: &[usize]) -> bool
+/// Whether one of some places is marked.
+pub fn any_marked(marks: &[bool], places: &[usize]) -> bool
     ensures { result ≡ list_any (marked marks.now) places.now }
 {
     places.iter().any(|place| is_marked(marks, *place))
@@ -102,8 +113,9 @@ pub fn reaching(
     marks: &[bool],
     alloc: Global,
 ) -> Result<Vec<bool>, AllocError>
-    requires { AreEarlier (lists links.now) }
-    ensures { IfOk result (λ v. (k : ℕ) → k < length links.now → marked v.items k ≡ reaches (lists links.now) marks.now k) }
+    requires earlier { AreEarlier (lists links.now) }
+    requires long { length marks.now ≡ length links.now }
+    ensures { IfOk result (λ v. (k : ℕ) → marked v.items k ≡ reaches (lists links.now) marks.now k) }
 {
     let mut out = Vec::new(alloc);
     for (place, named) in links.iter().enumerate() {

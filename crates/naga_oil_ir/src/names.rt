@@ -1,142 +1,137 @@
-ghost use Rattle.std.specs.Prelude.{◌≡◌, ◌++◌, OnOk, IfOk, map, option_map, string_bytes};
-ghost use Rattle.naga_oil_ir.specs.Rows.{size_name as size_name_of, member_type, named_place, type_row, constant_row, override_row, global_row, expression_row};
+ghost use Rattle.std.specs.Prelude.{◌≡◌, ◌∷◌, [], Some, IfOk, map, option_map};
+ghost use Rattle.naga_oil_ir.specs.Rows.{Row, size_name as size_name_of, member_type, named_place, type_row, constant_row, override_row, global_row, expression_row};
 
-use super::expression::Expression;
-use super::handle::Handle;
+use super::expression::Operand;
 use super::parts::Named;
-use super::place::ItemPlace;
-use super::types::{ArraySize, Constant, GlobalVariable, Override, StructMember, Type, TypeInner};
+use super::types::{ArraySize, StructMember, TypeInner};
+use super::{Constant, Expression, GlobalVariable, Handle, Override, Span, Type};
+use ItemPlace::{ConstantItem, ExpressionItem, GlobalItem, OverrideItem, TypeItem};
 use std::alloc::{AllocError, Global};
 
-fn name_of_size(size: &ArraySize) -> Option<ItemPlace>
+/// A place of an item in the arena of its kind; an expression is a global one.
+#[derive(Clone, Copy)]
+pub enum ItemPlace {
+    TypeItem(Handle<Type>),
+    ConstantItem(Handle<Constant>),
+    OverrideItem(Handle<Override>),
+    GlobalItem(Handle<GlobalVariable>),
+    ExpressionItem(Handle<Expression>),
+}
+
+/// The items that an item names, in the order of copying, with none in the places of absent options.
+pub type NameList = Vec<Option<ItemPlace>>;
+
+/// An item that may name others.
+pub trait Names {
+    ghost row_of: { Self → Row };
+
+    /// What it names.
+    fn names(&self, alloc: Global) -> Result<NameList, AllocError>
+        ensures { IfOk result (λ v. v.items ≡ (row_of self.now).names) };
+}
+
+fn size_name(size: &ArraySize) -> Option<ItemPlace>
     ensures { result ≡ size_name_of size.now }
 {
     match size {
-        ArraySize::Pending(handle) => Some(ItemPlace::OverrideItem(*handle)),
+        ArraySize::Pending(handle) => Some(OverrideItem(*handle)),
         _ => None,
     }
 }
 
-fn types_of_members(
-    members: &[StructMember],
-    alloc: Global,
-) -> Result<Vec<Option<ItemPlace>>, AllocError>
+fn types_of_members(members: &[StructMember], alloc: Global) -> Result<NameList, AllocError>
     ensures { IfOk result (λ v. v.items ≡ map member_type members.now) }
 {
-    members
-        .iter()
-        .map(|m| Some(ItemPlace::TypeItem(m.ty)))
-        .collect(alloc)
+    members.iter().map(|m| Some(TypeItem(m.ty))).collect(alloc)
 }
 
-/// What a type names, in the order of copying.
-pub fn type_names(ty: &Type, alloc: Global) -> Result<Vec<Option<ItemPlace>>, AllocError>
-    ensures { IfOk result (λ v. v.items ≡ (type_row ty.now).names) }
-{
-    match &ty.inner {
-        TypeInner::Pointer { base, .. } => {
-            Vec::from_slice(alloc, &[Some(ItemPlace::TypeItem(*base))])
-        }
-        TypeInner::Struct { members, .. } => types_of_members(members.as_slice(), alloc),
-        TypeInner::Array { base, size, .. } => {
-            Vec::from_slice(
-                alloc,
-                &[Some(ItemPlace::TypeItem(*base)), name_of_size(size)],
-            )
-        }
-        TypeInner::BindingArray { base, size } => {
-            Vec::from_slice(
-                alloc,
-                &[Some(ItemPlace::TypeItem(*base)), name_of_size(size)],
-            )
-        }
-        _ => Ok(Vec::new(alloc)),
-    }
-}
-
-fn name_of_initialiser(init: Option<Handle<Expression>>) -> Option<ItemPlace>
-    ensures { result ≡ option_map ItemPlace.ExpressionItem init }
-{
-    match init {
-        None => None,
-        Some(handle) => Some(ItemPlace::ExpressionItem(handle)),
-    }
-}
-
-/// What a constant names: its type and its initialiser.
-pub fn constant_names(item: &Constant, alloc: Global) -> Result<Vec<Option<ItemPlace>>, AllocError>
-    ensures { IfOk result (λ v. v.items ≡ (constant_row item.now).names) }
-{
-    Vec::from_slice(
-        alloc,
-        &[
-            Some(ItemPlace::TypeItem(item.ty)),
-            Some(ItemPlace::ExpressionItem(item.init)),
-        ],
-    )
-}
-
-/// What an override names: its type, and its initialiser if there is one.
-pub fn override_names(item: &Override, alloc: Global) -> Result<Vec<Option<ItemPlace>>, AllocError>
-    ensures { IfOk result (λ v. v.items ≡ (override_row item.now).names) }
-{
-    Vec::from_slice(
-        alloc,
-        &[
-            Some(ItemPlace::TypeItem(item.ty)),
-            name_of_initialiser(item.init),
-        ],
-    )
-}
-
-/// What a global variable names: its type, and its initialiser if there is one.
-pub fn global_names(
-    item: &GlobalVariable,
+fn type_and(
+    ty: Handle<Type>,
+    name: Option<ItemPlace>,
     alloc: Global,
-) -> Result<Vec<Option<ItemPlace>>, AllocError>
-    ensures { IfOk result (λ v. v.items ≡ (global_row item.now).names) }
+) -> Result<NameList, AllocError>
+    ensures { IfOk result (λ v. v.items ≡ Some (ItemPlace.TypeItem ty) ∷ name ∷ []) }
 {
-    Vec::from_slice(
-        alloc,
-        &[
-            Some(ItemPlace::TypeItem(item.ty)),
-            name_of_initialiser(item.init),
-        ],
-    )
+    Vec::from_slice(alloc, &[Some(TypeItem(ty)), name])
+}
+
+fn expression_name(operand: Option<Operand>) -> Option<ItemPlace>
+    ensures { result ≡ option_map ItemPlace.ExpressionItem operand }
+{
+    operand.map(|handle| ExpressionItem(handle))
+}
+
+impl Names for Type {
+    ghost row_of = { type_row };
+
+    fn names(&self, alloc: Global) -> Result<NameList, AllocError> {
+        match &self.inner {
+            TypeInner::Pointer { base, .. } => Vec::from_slice(alloc, &[Some(TypeItem(*base))]),
+            TypeInner::Struct { members, .. } => types_of_members(members, alloc),
+            TypeInner::Array { base, size, .. } | TypeInner::BindingArray { base, size } => {
+                type_and(*base, size_name(size), alloc)
+            }
+            _ => Ok(Vec::new(alloc)),
+        }
+    }
+}
+
+impl Names for Constant {
+    ghost row_of = { constant_row };
+
+    fn names(&self, alloc: Global) -> Result<NameList, AllocError> {
+        type_and(self.ty, Some(ExpressionItem(self.init)), alloc)
+    }
+}
+
+impl Names for Override {
+    ghost row_of = { override_row };
+
+    fn names(&self, alloc: Global) -> Result<NameList, AllocError> {
+        type_and(self.ty, expression_name(self.init), alloc)
+    }
+}
+
+impl Names for GlobalVariable {
+    ghost row_of = { global_row };
+
+    fn names(&self, alloc: Global) -> Result<NameList, AllocError> {
+        type_and(self.ty, expression_name(self.init), alloc)
+    }
 }
 
 /// The item that an expression names, if it names one.
-pub fn named_item(named: Named) -> Option<ItemPlace>
+fn named_item(named: Named) -> Option<ItemPlace>
     ensures { result ≡ named_place named }
 {
     match named {
-        Named::TypeOf(handle) => Some(ItemPlace::TypeItem(handle)),
-        Named::ConstantAt(handle) => Some(ItemPlace::ConstantItem(handle)),
-        Named::OverrideAt(handle) => Some(ItemPlace::OverrideItem(handle)),
-        Named::GlobalAt(handle) => Some(ItemPlace::GlobalItem(handle)),
+        Named::TypeOf(handle) => Some(TypeItem(handle)),
+        Named::ConstantAt(handle) => Some(ConstantItem(handle)),
+        Named::OverrideAt(handle) => Some(OverrideItem(handle)),
+        Named::GlobalAt(handle) => Some(GlobalItem(handle)),
         _ => None,
     }
 }
 
-fn operand_places(
-    operands: &[Option<Handle<Expression>>],
-    out: &mut Vec<Option<ItemPlace>>,
-) -> Result<(), AllocError>
-    ensures { OnOk result (out.new.items ≡ out.old.items ++ map (option_map ItemPlace.ExpressionItem) operands.now) }
-{
-    for operand in operands {
-        out.push(name_of_initialiser(*operand))?;
+impl Names for Expression {
+    ghost row_of = { expression_row };
+
+    fn names(&self, alloc: Global) -> Result<NameList, AllocError> {
+        let parts = self.parts(alloc)?;
+        let mut names = Vec::new(alloc);
+        names.push(named_item(parts.named))?;
+        for operand in &parts.operands {
+            names.push(expression_name(*operand))?;
+        }
+        Ok(names)
     }
-    Ok(())
 }
 
-/// What a global expression names: its item, and its operands in order.
-pub fn expression_names(e: &Expression, alloc: Global) -> Result<Vec<Option<ItemPlace>>, AllocError>
-    ensures { IfOk result (λ v. v.items ≡ (expression_row e.now).names) }
-{
-    let parts = e.parts(alloc)?;
-    let mut out = Vec::new(alloc);
-    out.push(named_item(parts.named))?;
-    operand_places(parts.operands.as_slice(), &mut out)?;
-    Ok(out)
+/// An item names what it does without its span.
+impl<T: Names> Names for (T, Span) {
+    ghost row_of = { λ e. T.row_of e.0 };
+
+    fn names(&self, alloc: Global) -> Result<NameList, AllocError> {
+        self.0.names(alloc)
+    }
 }

@@ -1,16 +1,13 @@
-use Rattle.std.proofs.Common.{◌≡◌, ◌∙◌, ◌||◌, ap, subst, arith, length, replicate, false, ℕ, Bool}
-use Rattle.std.proofs.lemmas.List.{length-replicate}
-use Rattle.naga_oil_ir.specs.Links.{lists, marked, has}
-use Rattle.naga_oil_ir.proofs.LinkLemmas.{IsSpread, IsSpread-start, IsSpread-step, IsSpread-end, marked-none}
+use Rattle.std.proofs.Common.{◌≡◌, ◌∙◌, subst, arith, length, ℕ}
+use Rattle.naga_oil_ir.specs.Links.{lists}
+use Rattle.naga_oil_ir.proofs.LinkLemmas.{IsSpread, IsSpread-start, IsSpread-step, IsSpread-end}
 use Rattle.naga_oil_ir.proofs.links.reached_from.Goals as goal
 
 pub loop-step-init : goal.loop-step-init
-loop-step-init c =
-    let fresh : c.in_ok-marks.marks.items ≡ replicate (length c.args.links.now) false = c.in_ok-marks.ensures.items_if_clones_equal (λ (y : Bool) h. cc) in
-    record {
-      long = c.mark_all.ensures.long ∙ ap length fresh ∙ length-replicate (length c.args.links.now) false;
-      spread = IsSpread-start c.args.links.now c.args.roots.now c.mark_all.new.marks.items (λ k. c.mark_all.ensures.marked k ∙ ap (λ b. b || has c.args.roots.now k) (ap (λ ms. marked ms k) fresh ∙ marked-none (length c.args.links.now) k));
-    }
+loop-step-init c = record {
+  long = c.in_ok-marks.ensures.long;
+  spread = IsSpread-start c.args.links.now c.args.roots.now c.in_ok-marks.marks.items c.in_ok-marks.ensures.marks;
+}
 
 pub loop-step-preserved : goal.loop-step-preserved
 loop-step-preserved c = record {

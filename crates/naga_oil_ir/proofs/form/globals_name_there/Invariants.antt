@@ -1,9 +1,0 @@
-use Rattle.std.proofs.Common.{◌≡◌, ℕ, ◌<◌, slice_get, Some}
-use Rattle.naga_oil_ir.specs.ItemForm.{NamesThere}
-use Rattle.naga_oil_ir.specs.Rows.{global_row}
-use Rattle.naga_oil_ir.specs.declared.types.GlobalVariable.{GlobalVariable}
-use Rattle.naga_oil_ir.specs.declared.span.Span.{Span}
-use Rattle.naga_oil_ir.proofs.form.globals_name_there.Given as goal
-
-abbrev pub invariant-loop-place : goal.invariant-loop-place
-invariant-loop-place l = (k : ℕ) (e : GlobalVariable × Span) → k < l.place → slice_get l.items k ≡ Some e → NamesThere l.of (global_row e.0)

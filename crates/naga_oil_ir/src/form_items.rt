@@ -1,0 +1,330 @@
+ghost use Rattle.std.specs.Prelude.{◌≡◌, ◌↔◌, ◌<◌, ◌||◌, ℕ, Some, true, false, IsTrue, IfOk, IfSome, All, map, length, nat_eq};
+ghost use Rattle.std.specs.Option.{option_copied};
+ghost use Rattle.std.specs.List.{flat_map, list_any, IsDistinct};
+ghost use Rattle.naga_oil_ir.specs.Links.{lists, marked, reaches, AreEarlier, AreMarks, AtEach};
+ghost use Rattle.naga_oil_ir.specs.Rows.{type_row, expression_row};
+ghost use Rattle.naga_oil_ir.specs.BodyForm.{IsSpanFine};
+ghost use Rattle.naga_oil_ir.specs.WellFormed.{SpanForm};
+ghost use Rattle.naga_oil_ir.specs.ItemForm.{types_of, type_at, type_links, is_type_that, is_override, pending, is_sized, IsThere, NamesThere, NamesNone, initialiser, AreInitialisedBefore, StandAfter, IsGlobalKind, special_types, is_unnamed, is_plain, ReachPlain, NamesAreThere, NamesAreUnsized, ExpressionForm, SpecialForm, ItemForm};
+
+use super::form::{are_spans_fine, is_span_fine, kinds, operand_links};
+use super::links::{
+    any_marked, are_below, are_earlier, is_marked, marks_of, reached_from, reaching,
+};
+use super::{Expression, Index, ItemPlace, Module, Names, Span, SpecialTypes, Type};
+use std::alloc::{AllocError, Global};
+use std::collections::HashSet;
+
+fn is_there(of: &Module, place: ItemPlace) -> bool
+    ensures { IsTrue result ↔ IsThere of.now place }
+{
+    match place {
+        ItemPlace::TypeItem(handle) => handle.index() < of.types.len(),
+        ItemPlace::ConstantItem(handle) => handle.index() < of.constants.len(),
+        ItemPlace::OverrideItem(handle) => handle.index() < of.overrides.len(),
+        ItemPlace::GlobalItem(handle) => handle.index() < of.global_variables.len(),
+        ItemPlace::ExpressionItem(handle) => handle.index() < of.global_expressions.len(),
+    }
+}
+
+fn are_there(of: &Module, names: &[Option<ItemPlace>]) -> bool
+    ensures { IsTrue result ↔ All (λ o. IfSome o (IsThere of.now)) names.now }
+{
+    names
+        .iter()
+        .all(|name| name.is_none_or(|place| is_there(of, place)))
+}
+
+/// Whether all that items name is there.
+fn items_are_there<T: Names>(of: &Module, items: &[T], alloc: Global) -> Result<bool, AllocError>
+    ensures { IfOk result (λ b. IsTrue b ↔ AtEach (λ e. NamesThere of.now (T.row_of e)) items.now) }
+{
+    for (place, item) in items.iter().enumerate() {
+        let names = item.names(alloc)?;
+        if !are_there(of, &names) {
+            return Ok(false);
+        }
+    }
+    Ok(true)
+}
+
+fn all_are_there(of: &Module, alloc: Global) -> Result<bool, AllocError>
+    ensures { IfOk result (λ b. IsTrue b ↔ NamesAreThere of.now) }
+{
+    let types = items_are_there(of, of.types.items(), alloc)?;
+    let constants = items_are_there(of, of.constants.as_slice(), alloc)?;
+    let overrides = items_are_there(of, of.overrides.as_slice(), alloc)?;
+    let globals = items_are_there(of, of.global_variables.as_slice(), alloc)?;
+    let expressions = items_are_there(of, of.global_expressions.as_slice(), alloc)?;
+    Ok(types & constants & overrides & globals & expressions)
+}
+
+/// Of each type the types that it names.
+fn type_links(types: &[Type], alloc: Global) -> Result<Vec<Vec<usize>>, AllocError>
+    ensures { IfOk result (λ v. lists v.items ≡ type_links types.now) }
+{
+    let mut links = Vec::new(alloc);
+    for ty in types {
+        let names = ty.names(alloc)?;
+        let named = types_among(&names, alloc)?;
+        links.push(named)?;
+    }
+    Ok(links)
+}
+
+fn types_among(names: &[Option<ItemPlace>], alloc: Global) -> Result<Vec<usize>, AllocError>
+    ensures { IfOk result (λ v. v.items ≡ flat_map type_at names.now) }
+{
+    let mut types = Vec::new(alloc);
+    for name in names {
+        if let Some(ItemPlace::TypeItem(handle)) = name {
+            types.push(handle.index())?;
+        }
+    }
+    Ok(types)
+}
+
+fn names_override(names: &[Option<ItemPlace>]) -> bool
+    ensures { result ≡ list_any is_override names.now }
+{
+    names
+        .iter()
+        .any(|name| matches!(name, Some(ItemPlace::OverrideItem(_))))
+}
+
+/// Of each type whether its size is an override's.
+fn pending(types: &[Type], alloc: Global) -> Result<Vec<bool>, AllocError>
+    ensures { IfOk result (λ v. v.items ≡ pending types.now) }
+{
+    let mut marks = Vec::new(alloc);
+    for ty in types {
+        let names = ty.names(alloc)?;
+        marks.push(names_override(&names))?;
+    }
+    Ok(marks)
+}
+
+fn is_sized(sized: &[bool], place: ItemPlace) -> bool
+    ensures { result ≡ is_type_that (marked sized.now) (Some place) }
+{
+    match place {
+        ItemPlace::TypeItem(handle) => is_marked(sized, handle.index()),
+        _ => false,
+    }
+}
+
+fn names_sized(sized: &[bool], names: &[Option<ItemPlace>]) -> bool
+    ensures { result ≡ list_any (is_type_that (marked sized.now)) names.now }
+{
+    names
+        .iter()
+        .any(|name| name.is_some_and(|place| is_sized(sized, place)))
+}
+
+/// Whether items name no sized type.
+fn items_are_unsized<T: Names>(
+    sized: &[bool],
+    items: &[T],
+    alloc: Global,
+) -> Result<bool, AllocError>
+    ensures { IfOk result (λ b. IsTrue b ↔ AtEach (λ e. NamesNone (marked sized.now) (T.row_of e)) items.now) }
+{
+    for (place, item) in items.iter().enumerate() {
+        let names = item.names(alloc)?;
+        if names_sized(sized, &names) {
+            return Ok(false);
+        }
+    }
+    Ok(true)
+}
+
+/// Whether the constants, the overrides and the global expressions name no sized type.
+fn all_are_unsized(of: &Module, sized: &[bool], alloc: Global) -> Result<bool, AllocError>
+    requires { (k : ℕ) → marked sized.now k ≡ is_sized of.now k }
+    ensures { IfOk result (λ b. IsTrue b ↔ NamesAreUnsized of.now) }
+{
+    let constants = items_are_unsized(sized, of.constants.as_slice(), alloc)?;
+    let overrides = items_are_unsized(sized, of.overrides.as_slice(), alloc)?;
+    let expressions = items_are_unsized(sized, of.global_expressions.as_slice(), alloc)?;
+    Ok(constants & overrides & expressions)
+}
+
+fn initialiser(of: &Module, place: ItemPlace) -> Option<usize>
+    ensures { result ≡ initialiser of.now place }
+{
+    match place {
+        ItemPlace::ConstantItem(handle) => {
+            of.constants.try_get(handle).map(|item| item.init.index())
+        }
+        ItemPlace::OverrideItem(handle) => {
+            let init = of.overrides.try_get(handle)?.init?;
+            Some(init.index())
+        }
+        _ => None,
+    }
+}
+
+fn initialiser_is_before(of: &Module, place: ItemPlace, limit: usize) -> bool
+    ensures { IsTrue result ↔ IfSome (initialiser of.now place) (λ i. i < limit) }
+{
+    initialiser(of, place).is_none_or(|init| init < limit)
+}
+
+fn initialisers_are_before(of: &Module, names: &[Option<ItemPlace>], limit: usize) -> bool
+    ensures { IsTrue result ↔ AreInitialisedBefore of.now limit names.now }
+{
+    names.iter().all(|name| name.is_none_or(|place| initialiser_is_before(of, place, limit)))
+}
+
+/// Whether each expression stands after the initialisers of what it names.
+fn stand_after(of: &Module, items: &[(Expression, Span)], alloc: Global) -> Result<bool, AllocError>
+    ensures { IfOk result (λ b. IsTrue b ↔ StandAfter of.now items.now) }
+{
+    for (place, entry) in items.iter().enumerate() {
+        let names = entry.0.names(alloc)?;
+        if !initialisers_are_before(of, &names, place) {
+            return Ok(false);
+        }
+    }
+    Ok(true)
+}
+
+fn are_global_kinds(kinds: &[u64]) -> bool
+    ensures { IsTrue result ↔ All IsGlobalKind kinds.now }
+{
+    kinds.iter().all(|kind| *kind < 4 || 12 < *kind)
+}
+
+/// Whether the global expressions may stand where they do.
+fn expressions_are_fine(of: &Module, alloc: Global) -> Result<bool, AllocError>
+    ensures { IfOk result (λ b. IsTrue b ↔ ExpressionForm of.now) }
+{
+    let items = of.global_expressions.as_slice();
+    let links = operand_links(items, alloc)?;
+    let kinds = kinds(items, alloc)?;
+    let after = stand_after(of, items, alloc)?;
+    Ok(are_earlier(&links) & after & are_global_kinds(&kinds))
+}
+
+/// The special types, the three named ones first.
+fn special_types(of: &SpecialTypes, alloc: Global) -> Result<Vec<usize>, AllocError>
+    ensures { IfOk result (λ v. v.items ≡ special_types of.now) }
+{
+    let mut places = Vec::new(alloc);
+    for ty in &[of.ray_desc, of.ray_intersection, of.ray_vertex_return] {
+        let Some(ty) = ty else { continue };
+        places.push(ty.index())?;
+    }
+    for ty in of.predeclared_types.values().as_slice() {
+        places.push(ty.index())?;
+    }
+    Ok(places)
+}
+
+fn are_distinct(places: &[usize], alloc: Global) -> Result<bool, AllocError>
+    ensures { IfOk result (λ b. IsTrue b ↔ IsDistinct nat_eq places.now) }
+{
+    let set: HashSet<usize> = places.iter().copied().collect(alloc)?;
+    Ok(set.len() == places.len())
+}
+
+fn is_plain(of: &Module, special: &[bool], place: usize) -> bool
+    requires { AreMarks special.now (special_types of.now.special_types) }
+    ensures { result ≡ is_plain of.now place }
+{
+    is_unnamed(of.types.get_handle(Index::new(place))) || is_marked(special, place)
+}
+
+fn is_unnamed(ty: Option<&Type>) -> bool
+    ensures { result ≡ is_unnamed (option_copied ty.entry) }
+{
+    ty.is_some_and(|ty| ty.name.is_none())
+}
+
+/// Whether marked types are unnamed or special.
+fn are_plain(of: &Module, special: &[bool], reached: &[bool]) -> bool
+    requires { AreMarks special.now (special_types of.now.special_types) }
+    ensures { IsTrue result ↔ ((k : ℕ) → marked reached.now k ≡ true → is_plain of.now k ≡ true) }
+{
+    for (place, mark) in reached.iter().enumerate() {
+        if *mark && !is_plain(of, special, place) {
+            return false;
+        }
+    }
+    true
+}
+
+/// Whether special types reach only unnamed or special ones.
+fn special_types_reach_plain(
+    of: &Module,
+    links: &[Vec<usize>],
+    places: &[usize],
+    alloc: Global,
+) -> Result<bool, AllocError>
+    requires links { lists links.now ≡ type_links (types_of of.now) }
+    requires earlier { AreEarlier (lists links.now) }
+    requires places { places.now ≡ special_types of.now.special_types }
+    requires there { All (λ k. k < length links.now) places.now }
+    ensures { IfOk result (λ b. IsTrue b ↔ ReachPlain of.now places.now) }
+{
+    let special = marks_of(places, links.len(), alloc)?;
+    let reached = reached_from(links, places, alloc)?;
+    Ok(are_plain(of, &special, &reached))
+}
+
+/// Whether the special types pass the test of form.
+fn special_types_are_fine(
+    of: &Module,
+    links: &[Vec<usize>],
+    sized: &[bool],
+    alloc: Global,
+) -> Result<bool, AllocError>
+    requires links { lists links.now ≡ type_links (types_of of.now) }
+    requires earlier { AreEarlier (lists links.now) }
+    requires sized { (k : ℕ) → marked sized.now k ≡ is_sized of.now k }
+    ensures { IfOk result (λ b. IsTrue b ↔ SpecialForm of.now) }
+{
+    let places = special_types(&of.special_types, alloc)?;
+    if !are_below(&places, links.len()) {
+        return Ok(false);
+    }
+    let distinct = are_distinct(&places, alloc)?;
+    let plain = special_types_reach_plain(of, links, &places, alloc)?;
+    Ok(distinct & !any_marked(sized, &places) & plain)
+}
+
+/// Whether the items of a module pass the test of form.
+pub fn items_are_fine(of: &Module, alloc: Global) -> Result<bool, AllocError>
+    ensures { IfOk result (λ b. IsTrue b ↔ ItemForm of.now) }
+{
+    let types = of.types.items();
+    let links = type_links(types, alloc)?;
+    if !are_earlier(&links) {
+        return Ok(false);
+    }
+    let pending = pending(types, alloc)?;
+    let sized = reaching(&links, &pending, alloc)?;
+    let there = all_are_there(of, alloc)?;
+    let unsized_ = all_are_unsized(of, &sized, alloc)?;
+    let expressions = expressions_are_fine(of, alloc)?;
+    let special = special_types_are_fine(of, &links, &sized, alloc)?;
+    Ok(there & unsized_ & expressions & special)
+}
+
+fn are_all_fine(spans: &[Span], text_len: usize) -> bool
+    ensures { IsTrue result ↔ All (IsSpanFine text_len) spans.now }
+{
+    spans.iter().all(|span| is_span_fine(*span, text_len))
+}
+
+/// Whether the spans of a module's items lie in a text of so many bytes.
+pub fn spans_are_fine(of: &Module, text_len: usize) -> bool
+    ensures { IsTrue result ↔ SpanForm of.now text_len }
+{
+    are_all_fine(of.types.spans(), text_len)
+        & are_spans_fine(of.constants.as_slice(), text_len)
+        & are_spans_fine(of.overrides.as_slice(), text_len)
+        & are_spans_fine(of.global_variables.as_slice(), text_len)
+        & are_spans_fine(of.global_expressions.as_slice(), text_len)
+        & are_spans_fine(of.functions.as_slice(), text_len)
+}
