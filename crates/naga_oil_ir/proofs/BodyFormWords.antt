@@ -67,8 +67,8 @@ part_words n ks fs ls ss gs s d m g e (Give h) = record {
   below = λ i. one_below h n i.0;
 }
 part_words n ks fs ls ss gs s d m g e (GiveCall f h) = record {
-  to = λ i. (i.0, i.1.0, sym (g h) ∙ i.1.1);
-  from = λ i. (i.0, (i.1, g h ∙ i.2));
+  to = λ i. (i.0, i.1.0, i.1.1.0, sym (g h) ∙ i.1.1.1);
+  from = λ i. (i.0, (i.1, (i.2, g h ∙ i.3)));
   below = λ i. one_below h n i.0;
 }
 part_words n ks fs ls ss gs s d m g e (Emitted r) =
@@ -88,14 +88,3 @@ fine_words n ks fs ls ss s m (t ∷ ts) gs d g e =
     let w = part_words n ks fs ls ss gs s d m g e t in
     let rest = λ (i : IsFine n ks fs ls s d t). fine_words n ks fs ls ss s m ts (marks_after gs (made t)) (d ++ made t) (AreMarks-after gs d (made t) (subst W (sym e) (w.below i)) g) (length-marks_after gs (made t) ∙ e) in
     (λ h. (w.to h.0, (rest (w.to h.0)).0 h.1), λ h. (w.from h.0, (rest h.0).1 h.1))
-
--- the test over marks, put in the words of a function's expressions
-pub body_returns : (b : Bool) (n : ℕ) (ks : List ℕ) (fs : List (Option ℕ)) (ls : Links) (is : List ℕ) (ts : Tokens) (n' : ℕ) (ks' : List ℕ) (fs' : List (Option ℕ)) (ls' ls'' : Links) (ss ss' gs gs' : List Bool) → n' ≡ n → ks' ≡ ks → fs' ≡ fs → ls' ≡ ls → ls'' ≡ ls → ss' ≡ ss → gs' ≡ gs → AreMarks ss (started ls'' is) → AreMarks gs [] → length gs ≡ n → (b ≡ true → AreFineBy n' ks' fs' ls' ss' gs' ts) × (AreFineBy n' ks' fs' ls' ss' gs' ts → b ≡ true) → (b ≡ true → AreFine n ks fs ls (started ls is) [] ts) × (AreFine n ks fs ls (started ls is) [] ts → b ≡ true)
-body_returns b n ks fs ls is ts n' ks' fs' ls' ls'' ss ss' gs gs' en ek ef el em es eg ms mg long d =
-    let Q : Links → Type 0 = λ x. AreMarks ss (started x is) in
-    let w = fine_words n ks fs ls ss (started ls is) (subst Q em ms) ts gs [] mg long in
-    let same : AreFineBy n' ks' fs' ls' ss' gs' ts ≡ AreFineBy n ks fs ls ss gs ts = ap (λ x. AreFineBy x ks' fs' ls' ss' gs' ts) en ∙ ap (λ x. AreFineBy n x fs' ls' ss' gs' ts) ek ∙ ap (λ x. AreFineBy n ks x ls' ss' gs' ts) ef ∙ ap (λ x. AreFineBy n ks fs x ss' gs' ts) el ∙ ap (λ x. AreFineBy n ks fs ls x gs' ts) es ∙ ap (λ x. AreFineBy n ks fs ls ss x ts) eg in
-    (λ h. w.0 (subst (λ (X : Type 0). X) same (d.0 h)), λ a. d.1 (subst (λ (X : Type 0). X) (sym same) (w.1 a)))
-
-pub links_long : (vs : List (Vec ℕ Global)) (ls : Links) (n : ℕ) → lists vs ≡ ls → length ls ≡ n → length vs ≡ n
-links_long vs ls n e h = sym (length-map vs (λ (v : Vec ℕ Global). v.items)) ∙ ap length e ∙ h

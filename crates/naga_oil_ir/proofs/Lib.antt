@@ -6,3 +6,5 @@ pub mod LinkLemmas
 pub mod FormLemmas
 pub mod BodyFormLemmas
 pub mod BodyFormWords
+pub mod FunctionLemmas
+pub mod NameFormLemmas

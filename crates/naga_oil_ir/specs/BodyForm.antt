@@ -72,12 +72,15 @@ made (GiveCall f h) = h ∷ []
 made (Emitted r) = places r
 made _ = []
 
--- a part of a body may stand: handles and ranges lie within n places, operands are known, results are given once, that of
--- a call by a call of its function alone
+-- a result of n places may be given once, a call's by a call of its function alone
+abbrev pub MayBeGiven : ℕ → List ℕ → List (Option ℕ) → List ℕ → Option ℕ → ℕ → Type 0
+MayBeGiven n ks fs done o h = (h < n) × (is_result ks h ≡ true) × (slice_get fs h ≡ Some o) × (has done h ≡ false)
+
+-- a part of a body may stand: handles and ranges lie within n places, operands are known, results may be given
 abbrev pub IsFine : ℕ → List ℕ → List (Option ℕ) → Links → List ℕ → List ℕ → Token → Type 0
 IsFine n ks fs ls s done (Use h) = (h < n) × (is_known ks s done h ≡ true)
-IsFine n ks fs ls s done (Give h) = (h < n) × (is_result ks h ≡ true) × (slice_get fs h ≡ Some None) × (has done h ≡ false)
-IsFine n ks fs ls s done (GiveCall f h) = (h < n) × (slice_get fs h ≡ Some (Some f)) × (has done h ≡ false)
+IsFine n ks fs ls s done (Give h) = MayBeGiven n ks fs done None h
+IsFine n ks fs ls s done (GiveCall f h) = MayBeGiven n ks fs done (Some f) h
 IsFine n ks fs ls s done (Emitted r) = (r.0 ≤ r.1) × (r.1 ≤ n) × AreEmitted ks ls s done (places r)
 IsFine n ks fs ls s done _ = Unit {0}
 
@@ -120,11 +123,15 @@ abbrev pub AreEmittedBy : List ℕ → Links → List Bool → List Bool → Lis
 AreEmittedBy ks ls fs gs [] = Unit {0}
 AreEmittedBy ks ls fs gs (k ∷ es) = MayBeEmitted ks fs gs (linked ls k) k × AreEmittedBy ks ls fs (slice_set gs k true) es
 
+-- a result may be given
+abbrev pub MayBeGivenBy : ℕ → List ℕ → List (Option ℕ) → List Bool → Option ℕ → ℕ → Type 0
+MayBeGivenBy n ks fs gs o h = (h < n) × ((is_result ks h ≡ true) × ((slice_get fs h ≡ Some o) × (marked gs h ≡ false)))
+
 -- a part of a body may stand
 abbrev pub IsFineBy : ℕ → List ℕ → List (Option ℕ) → Links → List Bool → List Bool → Token → Type 0
 IsFineBy n ks fs ls ss gs (Use h) = (h < n) × (known_by ks ss gs h ≡ true)
-IsFineBy n ks fs ls ss gs (Give h) = (h < n) × ((is_result ks h ≡ true) × ((slice_get fs h ≡ Some None) × (marked gs h ≡ false)))
-IsFineBy n ks fs ls ss gs (GiveCall f h) = (h < n) × ((slice_get fs h ≡ Some (Some f)) × (marked gs h ≡ false))
+IsFineBy n ks fs ls ss gs (Give h) = MayBeGivenBy n ks fs gs None h
+IsFineBy n ks fs ls ss gs (GiveCall f h) = MayBeGivenBy n ks fs gs (Some f) h
 IsFineBy n ks fs ls ss gs (Emitted r) = (r.0 ≤ r.1) × ((r.1 ≤ n) × AreEmittedBy ks ls ss gs (places r))
 IsFineBy n ks fs ls ss gs _ = Unit {0}
 

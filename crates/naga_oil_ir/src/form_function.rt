@@ -1,14 +1,20 @@
-ghost use Rattle.std.specs.Prelude.{◌≡◌, ◌↔◌, ◌<◌, ℕ, IsTrue, IsSome, IfOk, IfSome, All, length};
+ghost use Rattle.std.specs.Prelude.{◌≡◌, ◌↔◌, ◌<◌, ℕ, IsTrue, IsSome, IfOk, IfSome, All, length, slice_get, Some};
+ghost use Rattle.naga_oil_ir.specs.Body.{block_tokens};
 ghost use Rattle.naga_oil_ir.specs.Parts.{parts};
 ghost use Rattle.naga_oil_ir.specs.Links.{AtEach};
-ghost use Rattle.naga_oil_ir.specs.WellFormed.{NamedThere, initialisers_of, IsExpressionThere, MeshForm};
+ghost use Rattle.naga_oil_ir.specs.WellFormed.{NamedThere, initialisers_of, initialisers, MayStand, SpansWithin, FunctionForm, FunctionsForm, IsExpressionThere, MeshForm, EntryForm};
 
+use super::body::expressions_may_stand;
 use super::expression::Expression;
+use super::form::{are_spans_fine, are_token_spans_fine, calls_go_below};
 use super::handle::Handle;
-use super::module::{Function, FunctionArgument, FunctionResult, MeshInfo, Module};
+use super::module::{EntryPoint, Function, FunctionArgument, FunctionResult, MeshInfo, Module};
 use super::parts::Named;
 use super::span::Span;
+use super::token::Token;
+use super::tokens::push_block;
 use super::types::{GlobalVariable, LocalVariable, Type};
+use indexmap::IndexMap;
 use std::alloc::{AllocError, Global};
 
 fn is_type_there(of: &Module, ty: Handle<Type>) -> bool
@@ -18,7 +24,7 @@ fn is_type_there(of: &Module, ty: Handle<Type>) -> bool
 }
 
 /// Whether the types of arguments are there.
-pub fn arguments_are_there(of: &Module, arguments: &[FunctionArgument]) -> bool
+fn arguments_are_there(of: &Module, arguments: &[FunctionArgument]) -> bool
     ensures { IsTrue result ↔ All (λ a. a.ty < length of.now.types) arguments.now }
 {
     arguments
@@ -27,24 +33,34 @@ pub fn arguments_are_there(of: &Module, arguments: &[FunctionArgument]) -> bool
 }
 
 /// Whether the type of a result is there.
-pub fn result_is_there(of: &Module, outcome: Option<FunctionResult>) -> bool
+fn result_is_there(of: &Module, outcome: Option<FunctionResult>) -> bool
     ensures { IsTrue result ↔ IfSome outcome (λ r. r.ty < length of.now.types) }
 {
-    match outcome {
-        None => true,
-        Some(outcome) => is_type_there(of, outcome.ty),
-    }
+    outcome.is_none_or(|outcome| is_type_there(of, outcome.ty))
 }
 
 /// Whether the types of local variables are there.
-pub fn locals_are_there(of: &Module, locals: &[(LocalVariable, Span)]) -> bool
+fn locals_are_there(of: &Module, locals: &[(LocalVariable, Span)]) -> bool
     ensures { IsTrue result ↔ All (λ l. l.0.ty < length of.now.types) locals.now }
 {
     locals.iter().all(|local| is_type_there(of, local.0.ty))
 }
 
+fn are_handles_below(handles: &[Handle<Expression>], limit: usize) -> bool
+    ensures { IsTrue result ↔ All (λ h. h < limit) handles.now }
+{
+    handles.iter().all(|handle| handle.index() < limit)
+}
+
+fn names_are_there(names: &IndexMap<Handle<Expression>, String>, limit: usize) -> bool
+    ensures { IsTrue result ↔ All (λ e. e.0 < limit) names.now.entries }
+{
+    let handles = names.keys().as_slice();
+    are_handles_below(handles, limit)
+}
+
 /// The initialisers of local variables, in order.
-pub fn initialisers(
+fn initialisers(
     locals: &[(LocalVariable, Span)],
     alloc: Global,
 ) -> Result<Vec<usize>, AllocError>
@@ -59,7 +75,7 @@ pub fn initialisers(
 }
 
 /// Whether what an expression of a function names is there.
-pub fn is_named_there(of: &Module, function: &Function, named: Named) -> bool
+fn is_named_there(of: &Module, function: &Function, named: Named) -> bool
     ensures { IsTrue result ↔ NamedThere of.now function.now named }
 {
     match named {
@@ -75,7 +91,7 @@ pub fn is_named_there(of: &Module, function: &Function, named: Named) -> bool
 }
 
 /// Whether what the expressions of a function name is there.
-pub fn expressions_are_there(
+fn expressions_are_there(
     of: &Module,
     function: &Function,
     items: &[(Expression, Span)],
@@ -92,34 +108,136 @@ pub fn expressions_are_there(
     Ok(true)
 }
 
+fn signature_is_fine(of: &Module, function: &Function) -> bool
+    ensures { IsTrue result ↔ (All (λ a. a.ty < length of.now.types) function.now.arguments.items × IfSome function.now.result (λ r. r.ty < length of.now.types) × All (λ l. l.0.ty < length of.now.types) function.now.local_variables × All (λ e. e.0 < length function.now.expressions) function.now.named_expressions.entries) }
+{
+    arguments_are_there(of, &function.arguments)
+        && result_is_there(of, function.result)
+        && locals_are_there(of, function.local_variables.as_slice())
+        && names_are_there(&function.named_expressions, function.expressions.len())
+}
+
+fn spans_are_within(function: &Function, tokens: &[Token], text_len: usize) -> bool
+    requires { tokens.now ≡ block_tokens function.now.body }
+    ensures { IsTrue result ↔ SpansWithin text_len function.now }
+{
+    are_spans_fine(function.local_variables.as_slice(), text_len)
+        && are_spans_fine(function.expressions.as_slice(), text_len)
+        && are_token_spans_fine(tokens, text_len)
+}
+
+fn body_stands(function: &Function, tokens: &[Token], alloc: Global) -> Result<bool, AllocError>
+    ensures { IfOk result (λ b. IsTrue b ↔ MayStand function.now.expressions (initialisers function.now) tokens.now) }
+{
+    let inits = initialisers(function.local_variables.as_slice(), alloc)?;
+    let fine = expressions_may_stand(function.expressions.as_slice(), &inits, tokens, alloc)?;
+    Ok(fine)
+}
+
+/// Whether a function whose calls may go to the first functions, so many of them, passes the test of form in a text of so
+/// many bytes.
+fn function_is_fine(
+    of: &Module,
+    function: &Function,
+    calls_below: usize,
+    text_len: usize,
+    alloc: Global,
+) -> Result<bool, AllocError>
+    ensures { IfOk result (λ b. IsTrue b ↔ FunctionForm of.now calls_below text_len function.now) }
+{
+    let mut tokens = Vec::new(alloc);
+    push_block(&function.body, &mut tokens)?;
+    let there = expressions_are_there(of, function, function.expressions.as_slice(), alloc)?;
+    let stands = body_stands(function, &tokens, alloc)?;
+    Ok(there
+        && stands
+        && signature_is_fine(of, function)
+        && calls_go_below(&tokens, calls_below)
+        && spans_are_within(function, &tokens, text_len))
+}
+
 fn is_expression_there(of: &Module, handle: Option<Handle<Expression>>) -> bool
     ensures { IsTrue result ↔ IsExpressionThere of.now handle }
 {
-    match handle {
-        None => true,
-        Some(handle) => handle.index() < of.global_expressions.len(),
-    }
+    handle.is_none_or(|handle| handle.index() < of.global_expressions.len())
 }
 
 /// Whether a task's payload is there.
-pub fn payload_is_there(of: &Module, payload: Option<Handle<GlobalVariable>>) -> bool
+fn payload_is_there(of: &Module, payload: Option<Handle<GlobalVariable>>) -> bool
     ensures { IsTrue result ↔ IfSome payload (λ k. k < length of.now.global_variables) }
 {
-    match payload {
-        None => true,
-        Some(handle) => handle.index() < of.global_variables.len(),
-    }
+    payload.is_none_or(|handle| handle.index() < of.global_variables.len())
 }
 
 /// Whether what a mesh shader puts out is there.
-pub fn mesh_is_there(of: &Module, mesh: MeshInfo) -> bool
-    ensures { IsTrue result ↔ MeshForm of.now mesh }
+fn is_mesh_there(of: &Module, mesh: Option<MeshInfo>) -> bool
+    ensures { IsTrue result ↔ IfSome mesh (MeshForm of.now) }
 {
+    let Some(mesh) = mesh else { return true };
     is_type_there(of, mesh.vertex_output_type)
         && is_type_there(of, mesh.primitive_output_type)
         && mesh.output.index() < of.global_variables.len()
         && is_expression_there(of, mesh.max_vertices)
         && is_expression_there(of, mesh.max_primitives)
+}
+
+fn are_sizes_there(of: &Module, sizes: Option<[Option<Handle<Expression>>; 3]>) -> bool
+    ensures { IsTrue result ↔ IfSome sizes (λ os. All (IsExpressionThere of.now) os) }
+{
+    match sizes {
+        None => true,
+        Some(sizes) => sizes.iter().all(|size| is_expression_there(of, *size)),
+    }
+}
+
+/// Whether an entry point passes the test of form in a text of so many bytes.
+fn entry_is_fine(
+    of: &Module,
+    entry: &EntryPoint,
+    text_len: usize,
+    alloc: Global,
+) -> Result<bool, AllocError>
+    ensures { IfOk result (λ b. IsTrue b ↔ EntryForm of.now text_len entry.now) }
+{
+    let fine = function_is_fine(of, &entry.function, of.functions.len(), text_len, alloc)?;
+    Ok(fine
+        && are_sizes_there(of, entry.workgroup_size_overrides)
+        && is_mesh_there(of, entry.mesh_info)
+        && payload_is_there(of, entry.task_payload))
+}
+
+/// Whether functions pass the test of form in a text of so many bytes; the calls of each go to those before it.
+pub fn functions_are_fine(
+    of: &Module,
+    functions: &[(Function, Span)],
+    text_len: usize,
+    alloc: Global,
+) -> Result<bool, AllocError>
+    ensures { IfOk result (λ b. IsTrue b ↔ FunctionsForm of.now text_len functions.now) }
+{
+    for (place, entry) in functions.iter().enumerate() {
+        if !function_is_fine(of, &entry.0, place, text_len, alloc)? {
+            return Ok(false);
+        }
+    }
+    Ok(true)
+}
+
+/// Whether entry points pass the test of form in a text of so many bytes.
+pub fn entries_are_fine(
+    of: &Module,
+    entries: &[EntryPoint],
+    text_len: usize,
+    alloc: Global,
+) -> Result<bool, AllocError>
+    ensures { IfOk result (λ b. IsTrue b ↔ All (EntryForm of.now text_len) entries.now) }
+{
+    for entry in entries {
+        if !entry_is_fine(of, entry, text_len, alloc)? {
+            return Ok(false);
+        }
+    }
+    Ok(true)
 }
 
 /// Whether each function is named.

@@ -15,6 +15,7 @@ pub mod expression;
 pub mod form;
 pub mod form_function;
 pub mod form_items;
+pub mod form_names;
 pub mod handle;
 pub mod kind;
 pub mod language;

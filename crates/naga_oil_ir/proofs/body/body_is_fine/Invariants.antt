@@ -5,6 +5,6 @@ use Rattle.naga_oil_ir.proofs.body.body_is_fine.Given as goal
 
 abbrev pub invariant-loop-token : goal.invariant-loop-token
 invariant-loop-token l = record {
-  long : length l.done.items ≡ length l.links;
-  walk : IsWalking (length l.links) l.kinds l.callees (lists l.links) l.started l.fn.done.items l.done.items l.tokens l.token-index;
+  long : length l.done.items ≡ length l.of.links.now;
+  walk : IsWalking (length l.of.links.now) l.of.kinds.now l.of.callees.now (lists l.of.links.now) l.of.started.now l.fn.done.items l.done.items l.tokens l.token-index;
 }

@@ -6,5 +6,5 @@ use Rattle.naga_oil_ir.proofs.body.emit.Given as goal
 abbrev pub invariant-loop-place : goal.invariant-loop-place
 invariant-loop-place l = record {
   long : length l.done.items ≡ length l.fn.done.items;
-  walk : IsEmitting l.kinds (lists l.links) l.started l.fn.done.items l.done.items l.fn.range l.place;
+  walk : IsEmitting l.of.kinds.now (lists l.of.links.now) l.of.started.now l.fn.done.items l.done.items l.fn.range l.place;
 }
