@@ -35,7 +35,9 @@ fn is_token_fine(token: Token, calls_below: usize, text_len: usize) -> bool
 pub fn are_tokens_fine(tokens: &[Token], calls_below: usize, text_len: usize) -> bool
     ensures { IsTrue result ↔ All (IsTokenFine calls_below text_len) tokens.now }
 {
-    tokens.iter().all(|token| is_token_fine(*token, calls_below, text_len))
+    tokens
+        .iter()
+        .all(|token| is_token_fine(*token, calls_below, text_len))
 }
 
 fn present(operands: &[Option<Operand>], alloc: Global) -> Result<Vec<usize>, AllocError>

@@ -6,7 +6,10 @@ ghost use Rattle.naga_oil_ir.specs.WellFormed.{NamedThere, initialisers_of, init
 use super::body::may_stand;
 use super::form::{are_spans_fine, are_tokens_fine, read};
 use super::tokens::push_block;
-use super::{EntryPoint, Expression, Function, FunctionArgument, FunctionResult, GlobalVariable, Handle, LocalVariable, MeshInfo, Module, Named, Span, Token, Type};
+use super::{
+    EntryPoint, Expression, Function, FunctionArgument, FunctionResult, GlobalVariable, Handle,
+    LocalVariable, MeshInfo, Module, Named, Span, Token, Type,
+};
 use indexmap::IndexMap;
 use std::alloc::{AllocError, Global};
 
@@ -53,10 +56,7 @@ fn names_are_there(names: &IndexMap<Handle<Expression>, String>, limit: usize) -
 }
 
 /// The initialisers of local variables, in order.
-fn initialisers(
-    locals: &[(LocalVariable, Span)],
-    alloc: Global,
-) -> Result<Vec<usize>, AllocError>
+fn initialisers(locals: &[(LocalVariable, Span)], alloc: Global) -> Result<Vec<usize>, AllocError>
     ensures { IfOk result (λ v. v.items ≡ initialisers_of locals.now) }
 {
     let mut inits = Vec::new(alloc);
@@ -86,7 +86,9 @@ fn is_named_there(of: &Module, function: &Function, named: Named) -> bool
 fn are_named_there(of: &Module, function: &Function, named: &[Named]) -> bool
     ensures { IsTrue result ↔ All (NamedThere of.now function.now) named.now }
 {
-    named.iter().all(|named| is_named_there(of, function, *named))
+    named
+        .iter()
+        .all(|named| is_named_there(of, function, *named))
 }
 
 fn signature_is_fine(of: &Module, function: &Function) -> bool
@@ -134,10 +136,11 @@ fn function_is_fine(
     let mut tokens = Vec::new(alloc);
     push_block(&function.body, &mut tokens)?;
     let fine = expressions_are_fine(of, function, &tokens, alloc)?;
-    Ok(fine
-        && signature_is_fine(of, function)
-        && spans_are_within(function, text_len)
-        && are_tokens_fine(&tokens, calls_below, text_len))
+    Ok(
+        fine && signature_is_fine(of, function)
+            && spans_are_within(function, text_len)
+            && are_tokens_fine(&tokens, calls_below, text_len),
+    )
 }
 
 fn is_expression_there(of: &Module, handle: Option<Handle<Expression>>) -> bool
@@ -184,10 +187,11 @@ fn entry_is_fine(
     ensures { IfOk result (λ b. IsTrue b ↔ EntryForm of.now text_len entry.now) }
 {
     let fine = function_is_fine(of, &entry.function, of.functions.len(), text_len, alloc)?;
-    Ok(fine
-        && are_sizes_there(of, entry.workgroup_size_overrides)
-        && is_mesh_there(of, entry.mesh_info)
-        && payload_is_there(of, entry.task_payload))
+    Ok(
+        fine && are_sizes_there(of, entry.workgroup_size_overrides)
+            && is_mesh_there(of, entry.mesh_info)
+            && payload_is_there(of, entry.task_payload),
+    )
 }
 
 /// Whether functions pass the test of form in a text of so many bytes; the calls of each go to those before it.
