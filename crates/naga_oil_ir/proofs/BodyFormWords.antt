@@ -1,8 +1,7 @@
-use Rattle.std.proofs.Common.{Option, ◌≡◌, ℕ, zero, suc, ◌+◌, ◌-◌, ◌<◌, ◌≤◌, Bool, true, ◌||◌, ◌==◌, List, [], ◌∷◌, ◌++◌, length, slice_set, All, ap, sym, ◌∙◌, subst, arith, length-set, append-nil, append_assoc, Vec, Global}
-use Rattle.std.proofs.lemmas.List.{length-map}
+use Rattle.std.proofs.Common.{Option, ◌≡◌, ℕ, zero, suc, ◌+◌, ◌-◌, ◌<◌, ◌≤◌, Bool, true, ◌||◌, ◌==◌, List, [], ◌∷◌, ◌++◌, length, slice_set, All, ap, sym, ◌∙◌, subst, arith, length-set, append-nil, append_assoc}
 use Rattle.std.proofs.lemmas.List.Elements.{All-head, All-tail, All-nil, All-cons, All-weaker}
 use Rattle.naga_oil_ir.specs.Body.{Tokens}
-use Rattle.naga_oil_ir.specs.Links.{Links, lists, linked, marked, has, started, AreMarks}
+use Rattle.naga_oil_ir.specs.Links.{Links, linked, marked, has, AreMarks}
 use Rattle.naga_oil_ir.specs.BodyForm.{run, places, made, is_external, is_known, known_by, AreEmitted, AreEmittedBy, marks_after, IsFine, IsFineBy, AreFine, AreFineBy}
 use Rattle.naga_oil_ir.specs.declared.token.Token.{Token}
 use Rattle.naga_oil_ir.specs.declared.token.Token.TheVariants.{Use, Give, GiveCall, Emitted}

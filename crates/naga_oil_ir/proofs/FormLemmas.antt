@@ -1,17 +1,16 @@
-use Rattle.std.proofs.Common.{◌≡◌, Bool, true, false, not, ◌&&◌, ◌||◌, All, Vec, Global, map, Decides, Option, None, ⊎_elim, ℕ, ◌+◌, ◌<◌, ◌≤◌, List, [], ◌∷◌, ◌++◌, length, take, get_or, slice_get, Some, refl, ap, sym, ◌∙◌, subst, arith, append-nil}
+use Rattle.std.proofs.Common.{◌≡◌, Bool, true, false, not, ◌&&◌, ◌||◌, All, Vec, Global, Decides, ⊎_elim, ℕ, ◌+◌, ◌<◌, ◌≤◌, List, [], ◌∷◌, ◌++◌, length, take, get_or, slice_get, Some, refl, ap, sym, ◌∙◌, subst, arith, append-nil}
 use Rattle.std.specs.List.{flat_map, list_any}
 use Rattle.std.proofs.lemmas.Bool.{cases_order, false≢true}
 use Rattle.std.proofs.lemmas.List.{take_more, length-map}
-use Rattle.std.proofs.lemmas.List.Elements.{All-nil, All-cons, All-head, All-tail, All-map, All-weaker}
+use Rattle.std.proofs.lemmas.List.Elements.{All-nil, All-cons, All-weaker}
 use Rattle.std.proofs.lemmas.List.Folds.{list_any_none}
 use Rattle.std.proofs.lemmas.List.Concat.{flat_map-append}
 use Rattle.std.proofs.lemmas.Option.{slice_get_within, slice_get_read, same_Some}
-use Rattle.naga_oil_ir.specs.Links.{AtEach, lists}
+use Rattle.naga_oil_ir.specs.Links.{AtEach, lists, marked}
+use Rattle.naga_oil_ir.proofs.LinkLemmas.{marked_past}
 use Rattle.naga_oil_ir.specs.Rows.{Row}
-use Rattle.naga_oil_ir.specs.ItemForm.{is_type_that, NamesNone, types_of, type_links}
+use Rattle.naga_oil_ir.specs.ItemForm.{NamesThere, NamesWell, types_named, types_of, type_links}
 use Rattle.naga_oil_ir.specs.declared.module.Module.{Module}
-use Rattle.naga_oil_ir.specs.declared.names.ItemPlace.{ItemPlace}
-use Rattle.naga_oil_ir.specs.declared.names.ItemPlace.TheVariants.{TypeItem, ConstantItem, OverrideItem, GlobalItem, ExpressionItem}
 
 -- the element at a place
 pub at_place : {A : Type 0} (xs : List A) (i : ℕ) (x : A) → i < length xs → x ≡ get_or xs i x → slice_get xs i ≡ Some x
@@ -53,11 +52,6 @@ and_decides false t d e = (λ h. absurd (false≢true h), λ h. d.1 h.0)
 pub decides_same : {P Q : Type 0} (b : Bool) → (P → Q) → (Q → P) → Decides b P → Decides b Q
 decides_same b f g d = (λ h. f (d.0 h), λ h. d.1 (g h))
 
-mapped : {A B : Type 0} (P : B → Type 0) (f : A → B) (xs : List A) → All P (map f xs) → All (λ x. P (f x)) xs
-mapped P f [] a = All-nil (λ x. P (f x))
-mapped P f (x ∷ xs) a =
-    All-cons (λ y. P (f y)) x xs (All-head P (f x) (map f xs) a) (mapped P f xs (All-tail P (f x) (map f xs) a))
-
 -- a test, where what is tested goes by another name
 pub decides_by : {A : Type 0} (P : A → Type 0) (x y : A) (b : Bool) → x ≡ y → Decides b (P x) → Decides b (P y)
 decides_by {A} P x y b e d = let Q : A → Type 0 = λ z. Decides b (P z) in subst Q e d
@@ -84,28 +78,26 @@ pub none_decides : (p q : ℕ → Bool) → ((k : ℕ) → p k ≡ q k) → (xs 
 none_decides p q e xs b is =
     not_decides b (λ h. none_pass p q e xs (sym is ∙ h)) (λ a. is ∙ list_any_none p xs (All-weaker (λ k. q k ≡ false) (λ k. p k ≡ false) (λ k h. e k ∙ h) xs a))
 
--- a test of each element of a list that was made element by element
-pub mapped_decides : {A B : Type 0} (P : B → Type 0) (f : A → B) (xs : List A) (b : Bool) → Decides b (All P (map f xs)) → Decides b (All (λ x. P (f x)) xs)
-mapped_decides P f xs b d = decides_same b (mapped P f xs) (All-map P f xs) d
-
 pub types_long : (vs : List (Vec ℕ Global)) (m : Module) → lists vs ≡ type_links (types_of m) → length vs ≡ length m.types
 types_long vs m e =
     sym (length-map vs (λ (v : Vec ℕ Global). v.items)) ∙ ap length e ∙ length-map (types_of m) _ ∙ length-map m.types _
 
--- ---- types that pass a test
+-- ---- names
 
-type_same : (f g : ℕ → Bool) → ((k : ℕ) → f k ≡ g k) → (o : Option ItemPlace) → is_type_that f o ≡ is_type_that g o
-type_same f g e None = refl
-type_same f g e (Some (TypeItem k)) = e k
-type_same f g e (Some (ConstantItem k)) = refl
-type_same f g e (Some (OverrideItem k)) = refl
-type_same f g e (Some (GlobalItem k)) = refl
-type_same f g e (Some (ExpressionItem k)) = refl
+any_same : (p q : ℕ → Bool) → ((k : ℕ) → p k ≡ q k) → (xs : List ℕ) → list_any p xs ≡ list_any q xs
+any_same p q e [] = refl
+any_same p q e (x ∷ xs) = let h = e x in let t = any_same p q e xs in cc
 
-any_type_same : (f g : ℕ → Bool) → ((k : ℕ) → f k ≡ g k) → (os : List (Option ItemPlace)) → list_any (is_type_that f) os ≡ list_any (is_type_that g) os
-any_type_same f g e [] = refl
-any_type_same f g e (o ∷ os) = let h = type_same f g e o in let t = any_type_same f g e os in cc
+-- the same items name well by two tests that agree
+pub well_same : {A : Type 0} (m : Module) (row : A → Row) (p q : ℕ → Bool) → ((k : ℕ) → p k ≡ q k) → (xs : List A) (b : Bool) → Decides b (AtEach (λ x. NamesWell m p (row x)) xs) → Decides b (AtEach (λ x. NamesWell m q (row x)) xs)
+well_same m row p q e xs b d =
+    decides_same b (λ a k x at. ((a k x at).0, sym (any_same p q e (types_named (row x))) ∙ (a k x at).1)) (λ a k x at. ((a k x at).0, any_same p q e (types_named (row x)) ∙ (a k x at).1)) d
 
-pub none_same : {A : Type 0} (row : A → Row) (f g : ℕ → Bool) → ((k : ℕ) → f k ≡ g k) → (xs : List A) (b : Bool) → Decides b (AtEach (λ x. NamesNone f (row x)) xs) → Decides b (AtEach (λ x. NamesNone g (row x)) xs)
-none_same row f g e xs b d =
-    decides_same b (λ a k x at. sym (any_type_same f g e (row x).names) ∙ a k x at) (λ a k x at. any_type_same f g e (row x).names ∙ a k x at) d
+none_marked : (fs : List Bool) → fs ≡ [] → (xs : List ℕ) → list_any (marked fs) xs ≡ false
+none_marked fs e [] = refl
+none_marked fs e (x ∷ xs) = let h = marked_past [] x (omega arith) in let t = none_marked fs e xs in let f = ap (λ gs. marked gs x) e in cc
+
+-- where nothing is marked, what is named need only be there
+pub well_there : {A : Type 0} (m : Module) (row : A → Row) (fs : List Bool) → fs ≡ [] → (xs : List A) (b : Bool) → Decides b (AtEach (λ x. NamesWell m (marked fs) (row x)) xs) → Decides b (AtEach (λ x. NamesThere m (row x)) xs)
+well_there m row fs e xs b d =
+    decides_same b (λ a k x at. (a k x at).0) (λ a k x at. (a k x at, none_marked fs e (types_named (row x)))) d

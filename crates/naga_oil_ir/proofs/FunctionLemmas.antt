@@ -1,7 +1,7 @@
 use Rattle.std.proofs.Common.{◌≡◌, ⊎_elim, ℕ, ◌+◌, ◌<◌, ◌≤◌, Bool, true, false, List, length, get_or, slice_get, Some, All, ap, sym, ◌∙◌, subst, arith}
 use Rattle.std.proofs.lemmas.Bool.{cases_order, false≢true}
 use Rattle.std.proofs.lemmas.Option.{slice_get_within, same_Some}
-use Rattle.naga_oil_ir.specs.Links.{has, marked, AreMarks}
+use Rattle.naga_oil_ir.specs.Links.{marked, AreMarks}
 use Rattle.naga_oil_ir.proofs.FormLemmas.{at_place}
 use Rattle.naga_oil_ir.proofs.LinkLemmas.{All-has, All-from_has, marked_past}
 

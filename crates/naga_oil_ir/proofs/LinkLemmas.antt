@@ -1,4 +1,4 @@
-use Rattle.std.proofs.Common.{◌≡◌, ◌≢◌, ⊎_elim, ℕ, zero, suc, ◌+◌, ◌<◌, ◌≤◌, Bool, true, false, cond, ◌||◌, ◌&&◌, ◌==◌, List, [], ◌∷◌, ◌++◌, length, option_map, take, get_or, slice_get, slice_set, unwrap_or, Some, None, Vec, Global, All, refl, ap, sym, ◌∙◌, subst, arith, rules, tests, replicate}
+use Rattle.std.proofs.Common.{◌≡◌, ◌≢◌, ⊎_elim, ℕ, zero, suc, ◌+◌, ◌<◌, ◌≤◌, Bool, true, false, cond, ◌||◌, ◌&&◌, ◌==◌, List, [], ◌∷◌, ◌++◌, length, map, option_map, take, get_or, slice_get, slice_set, unwrap_or, Some, None, Vec, Global, All, refl, ap, sym, ◌∙◌, subst, arith, rules, tests, replicate}
 use Rattle.std.specs.List.{flat_map, list_any}
 use Rattle.std.proofs.lemmas.Bool.{cases_order, cases_lt, or_cases, false≢true}
 use Rattle.std.proofs.lemmas.List.Elements.{All-head, All-tail, All-nil, All-cons, All-weaker}
@@ -291,9 +291,16 @@ reaches-push ls a fs gs p b xs long named is m k h =
     ⊎_elim (λ e. marked-push_at gs b k (omega arith) ∙ is ∙ ap (λ ys. marked fs p || list_any (marked gs) ys) (sym named) ∙ reaches-step ls a fs gs p m ∙ ap (reaches ls fs) (sym e)) (⊎_elim (λ l. ap (λ o. unwrap_or o false) (slice_get-append_within gs (b ∷ []) k (omega arith)) ∙ m k l) (λ l. absurd (omega arith))) (cases_order k p)
 
 -- behind the last place nothing is reached but the place itself, which isn't marked
-pub reaches-past : (vs : List (Vec ℕ Global)) → AreEarlier (lists vs) → (fs : List Bool) → length fs ≤ length vs → (k : ℕ) → length vs ≤ k → reaches (lists vs) fs k ≡ false
-reaches-past vs a fs h k g =
-    ap (list_any (marked fs)) (trail-step (lists vs) a k ∙ ap (λ xs. flat_map (trail (lists vs)) xs ++ k ∷ []) (linked_past vs k g)) ∙ or_false (marked fs k) ∙ marked_past fs k (omega arith)
+pub reaches-past : (ls : Links) → AreEarlier ls → (fs : List Bool) → length fs ≤ length ls → (k : ℕ) → length ls ≤ k → reaches ls fs k ≡ false
+reaches-past ls a fs h k g =
+    ap (list_any (marked fs)) (trail-step ls a k ∙ ap (λ o. flat_map (trail ls) (unwrap_or o []) ++ k ∷ []) (slice_get_past ls k g)) ∙ or_false (marked fs k) ∙ marked_past fs k (omega arith)
+
+-- what a place names, where links were made element by element
+pub linked-map : {A : Type 0} (f : A → List ℕ) (xs : List A) (k : ℕ) (x : A) → slice_get xs k ≡ Some x → linked (map f xs) k ≡ f x
+linked-map f xs k x h = ap (λ o. unwrap_or o []) (slice_get-map f xs k ∙ ap (option_map f) h)
+
+pub marked-map : {A : Type 0} (f : A → Bool) (xs : List A) (k : ℕ) (x : A) → slice_get xs k ≡ Some x → marked (map f xs) k ≡ f x
+marked-map f xs k x h = ap (λ o. unwrap_or o false) (slice_get-map f xs k ∙ ap (option_map f) h)
 
 -- what holds of each marked place holds of all that is reached
 pub reached_each : (ls : Links) (rs : List ℕ) (fs : List Bool) (P : ℕ → Type 0) → AreMarks fs (started ls rs) → ((k : ℕ) → marked fs k ≡ true → P k) → All (λ k. All P (trail ls k)) rs

@@ -1,5 +1,5 @@
-use Rattle.std.specs.Prelude.{◌≡◌, ◌<◌, ◌⊎◌, ℕ, Bool, true, false, List, [], ◌∷◌, ◌++◌, length, map, slice_get, Option, Some, None, option_to_list, is_none, All, IfSome, nat_eq, ◌||◌}
-use Rattle.std.specs.List.{flat_map, list_any, IsDistinct}
+use Rattle.std.specs.Prelude.{◌≡◌, ◌<◌, ◌⊎◌, ℕ, Bool, true, false, List, ◌++◌, length, map, slice_get, Option, Some, None, option_to_list, is_none, All, IfSome, nat_eq, ◌||◌}
+use Rattle.std.specs.List.{flat_map, filter_map, list_any, IsDistinct}
 use Rattle.naga_oil_ir.specs.Parts.{parts}
 use Rattle.naga_oil_ir.specs.BodyForm.{kinds, operand_links}
 use Rattle.naga_oil_ir.specs.Rows.{Row, type_row, constant_row, override_row, global_row, expression_row}
@@ -30,14 +30,18 @@ NamesThere m r = All (λ o. IfSome o (IsThere m)) r.names
 
 -- ---- types
 
--- the type at a place of one
-abbrev pub type_at : Option ItemPlace → List ℕ
-type_at None = []
-type_at (Some (TypeItem k)) = k ∷ []
-type_at (Some (ConstantItem k)) = []
-type_at (Some (OverrideItem k)) = []
-type_at (Some (GlobalItem k)) = []
-type_at (Some (ExpressionItem k)) = []
+-- the type that is named
+abbrev pub type_at : Option ItemPlace → Option ℕ
+type_at None = None
+type_at (Some (TypeItem k)) = Some k
+type_at (Some (ConstantItem k)) = None
+type_at (Some (OverrideItem k)) = None
+type_at (Some (GlobalItem k)) = None
+type_at (Some (ExpressionItem k)) = None
+
+-- the types that an item names
+abbrev pub types_named : Row → List ℕ
+types_named r = filter_map type_at r.names
 
 -- the types of a module
 abbrev pub types_of : Module → List TypeOfShader
@@ -45,9 +49,9 @@ types_of m = map (λ e. e.0) m.types
 
 -- of each type the types that it names
 abbrev pub type_links : List TypeOfShader → Links
-type_links ts = map (λ t. flat_map type_at (type_row t).names) ts
+type_links ts = map (λ t. types_named (type_row t)) ts
 
--- whether a place is an override's
+-- whether an override is named
 abbrev pub is_override : Option ItemPlace → Bool
 is_override None = false
 is_override (Some (TypeItem k)) = false
@@ -64,32 +68,17 @@ pending ts = map (λ t. list_any is_override (type_row t).names) ts
 abbrev pub is_sized : Module → ℕ → Bool
 is_sized m k = reaches (type_links (types_of m)) (pending (types_of m)) k
 
--- whether a place is a type's that passes
-abbrev pub is_type_that : (ℕ → Bool) → Option ItemPlace → Bool
-is_type_that p None = false
-is_type_that p (Some (TypeItem k)) = p k
-is_type_that p (Some (ConstantItem k)) = false
-is_type_that p (Some (OverrideItem k)) = false
-is_type_that p (Some (GlobalItem k)) = false
-is_type_that p (Some (ExpressionItem k)) = false
+-- all that an item names is there, and none of it is a type that passes a test
+abbrev pub NamesWell : Module → (ℕ → Bool) → Row → Type 0
+NamesWell m p r = NamesThere m r × (list_any p (types_named r) ≡ false)
 
--- an item names no type that passes
-abbrev pub NamesNone : (ℕ → Bool) → Row → Type 0
-NamesNone p r = list_any (is_type_that p) r.names ≡ false
-
--- what constants, overrides, global variables and global expressions name is there, and what types name
-pub record NamesAreThere (m : Module) : Type 0 where
+-- what the items name is there, and constants, overrides and global expressions name no sized type
+pub record NamesForm (m : Module) : Type 0 where
   pub types : AtEach (λ t. NamesThere m (type_row t)) (types_of m)
-  pub constants : AtEach (λ e. NamesThere m (constant_row e.0)) m.constants
-  pub overrides : AtEach (λ e. NamesThere m (override_row e.0)) m.overrides
+  pub constants : AtEach (λ e. NamesWell m (is_sized m) (constant_row e.0)) m.constants
+  pub overrides : AtEach (λ e. NamesWell m (is_sized m) (override_row e.0)) m.overrides
   pub globals : AtEach (λ e. NamesThere m (global_row e.0)) m.global_variables
-  pub expressions : AtEach (λ e. NamesThere m (expression_row e.0)) m.global_expressions
-
--- constants, overrides and global expressions name no sized type
-pub record NamesAreUnsized (m : Module) : Type 0 where
-  pub constants : AtEach (λ e. NamesNone (is_sized m) (constant_row e.0)) m.constants
-  pub overrides : AtEach (λ e. NamesNone (is_sized m) (override_row e.0)) m.overrides
-  pub expressions : AtEach (λ e. NamesNone (is_sized m) (expression_row e.0)) m.global_expressions
+  pub expressions : AtEach (λ e. NamesWell m (is_sized m) (expression_row e.0)) m.global_expressions
 
 -- ---- global expressions
 
@@ -101,21 +90,18 @@ abbrev pub init_of_override : Option (Override × Span) → Option ℕ
 init_of_override None = None
 init_of_override (Some e) = e.0.init
 
--- the initialiser of a constant or an override
-abbrev pub initialiser : Module → ItemPlace → Option ℕ
-initialiser m (TypeItem k) = None
-initialiser m (ConstantItem k) = init_of_constant (slice_get m.constants k)
-initialiser m (OverrideItem k) = init_of_override (slice_get m.overrides k)
-initialiser m (GlobalItem k) = None
-initialiser m (ExpressionItem k) = None
-
--- what is named has its initialiser before a place
-abbrev pub AreInitialisedBefore : Module → ℕ → List (Option ItemPlace) → Type 0
-AreInitialisedBefore m k os = All (λ o. IfSome o (λ p. IfSome (initialiser m p) (λ i. i < k))) os
+-- the initialiser of the constant or override that is named
+abbrev pub initialiser : Module → Option ItemPlace → Option ℕ
+initialiser m None = None
+initialiser m (Some (TypeItem k)) = None
+initialiser m (Some (ConstantItem k)) = init_of_constant (slice_get m.constants k)
+initialiser m (Some (OverrideItem k)) = init_of_override (slice_get m.overrides k)
+initialiser m (Some (GlobalItem k)) = None
+initialiser m (Some (ExpressionItem k)) = None
 
 -- each expression that names a constant or an override stands after that one's initialiser
 abbrev pub StandAfter : Module → List (Expression × Span) → Type 0
-StandAfter m es = (k : ℕ) (e : Expression × Span) → slice_get es k ≡ Some e → AreInitialisedBefore m k (expression_row e.0).names
+StandAfter m es = (k : ℕ) (e : Expression × Span) → slice_get es k ≡ Some e → All (λ o. IfSome (initialiser m o) (λ i. i < k)) (expression_row e.0).names
 
 -- a global expression is no global, local, argument or result
 abbrev pub IsGlobalKind : ℕ → Type 0
@@ -154,8 +140,7 @@ pub record SpecialForm (m : Module) : Type 0 where
 
 -- the test of form of the items
 pub record ItemForm (m : Module) : Type 0 where
-  pub there : NamesAreThere m
   pub earlier_types : AreEarlier (type_links (types_of m))
-  pub unsized : NamesAreUnsized m
+  pub names : NamesForm m
   pub expressions : ExpressionForm m
   pub special : SpecialForm m

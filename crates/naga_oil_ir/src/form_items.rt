@@ -1,17 +1,15 @@
 ghost use Rattle.std.specs.Prelude.{◌≡◌, ◌↔◌, ◌<◌, ◌||◌, ℕ, Some, true, false, IsTrue, IfOk, IfSome, All, map, length, nat_eq};
 ghost use Rattle.std.specs.Option.{option_copied};
-ghost use Rattle.std.specs.List.{flat_map, list_any, IsDistinct};
+ghost use Rattle.std.specs.List.{filter_map, list_any, IsDistinct};
 ghost use Rattle.naga_oil_ir.specs.Links.{lists, marked, reaches, AreEarlier, AreMarks, AtEach};
 ghost use Rattle.naga_oil_ir.specs.Rows.{type_row, expression_row};
 ghost use Rattle.naga_oil_ir.specs.BodyForm.{IsSpanFine};
 ghost use Rattle.naga_oil_ir.specs.WellFormed.{SpanForm};
-ghost use Rattle.naga_oil_ir.specs.ItemForm.{types_of, type_at, type_links, is_type_that, is_override, pending, is_sized, IsThere, NamesThere, NamesNone, initialiser, AreInitialisedBefore, StandAfter, IsGlobalKind, special_types, is_unnamed, is_plain, ReachPlain, NamesAreThere, NamesAreUnsized, ExpressionForm, SpecialForm, ItemForm};
+ghost use Rattle.naga_oil_ir.specs.ItemForm.{types_of, type_at, type_links, is_override, pending, is_sized, IsThere, NamesWell, NamesForm, initialiser, StandAfter, IsGlobalKind, special_types, is_plain, ReachPlain, ExpressionForm, SpecialForm, ItemForm};
 
 use super::form::{are_spans_fine, is_span_fine, read};
-use super::links::{
-    any_marked, are_below, are_earlier, is_marked, marks_of, reached_from, reaching,
-};
-use super::{Expression, Index, ItemPlace, Module, Names, Span, SpecialTypes, Type};
+use super::links::{any_marked, are_below, are_earlier, is_marked, marks_of, reached_from};
+use super::{Expression, Index, ItemPlace, Module, Names, Span, SpecialTypes, Type, UniqueArena};
 use std::alloc::{AllocError, Global};
 use std::collections::HashSet;
 
@@ -35,27 +33,58 @@ fn are_there(of: &Module, names: &[Option<ItemPlace>]) -> bool
         .all(|name| name.is_none_or(|place| is_there(of, place)))
 }
 
-/// Whether all that items name is there.
-fn items_are_there<T: Names>(of: &Module, items: &[T], alloc: Global) -> Result<bool, AllocError>
-    ensures { IfOk result (λ b. IsTrue b ↔ AtEach (λ e. NamesThere of.now (T.row_of e)) items.now) }
+fn type_at(name: &Option<ItemPlace>) -> Option<usize>
+    ensures { result ≡ type_at name.now }
+{
+    match name {
+        Some(ItemPlace::TypeItem(handle)) => Some(handle.index()),
+        _ => None,
+    }
+}
+
+fn types_named(names: &[Option<ItemPlace>], alloc: Global) -> Result<Vec<usize>, AllocError>
+    ensures { IfOk result (λ v. v.items ≡ filter_map type_at names.now) }
+{
+    names.iter().filter_map(|name| type_at(name)).collect(alloc)
+}
+
+fn names_marked(marks: &[bool], names: &[Option<ItemPlace>]) -> bool
+    ensures { result ≡ list_any (marked marks.now) (filter_map type_at names.now) }
+{
+    names
+        .iter()
+        .filter_map(|name| type_at(name))
+        .any(|ty| is_marked(marks, ty))
+}
+
+/// Whether all that items name is there, and none of it is a marked type.
+fn items_name_well<T: Names>(
+    of: &Module,
+    marks: &[bool],
+    items: &[T],
+    alloc: Global,
+) -> Result<bool, AllocError>
+    ensures { IfOk result (λ b. IsTrue b ↔ AtEach (λ e. NamesWell of.now (marked marks.now) (T.row_of e)) items.now) }
 {
     for (place, item) in items.iter().enumerate() {
         let names = item.names(alloc)?;
-        if !are_there(of, &names) {
+        if !are_there(of, &names) || names_marked(marks, &names) {
             return Ok(false);
         }
     }
     Ok(true)
 }
 
-fn all_are_there(of: &Module, alloc: Global) -> Result<bool, AllocError>
-    ensures { IfOk result (λ b. IsTrue b ↔ NamesAreThere of.now) }
+/// Whether all that the items name is there, and constants, overrides and global expressions name no sized type.
+fn all_items_name_well(of: &Module, sized: &[bool], alloc: Global) -> Result<bool, AllocError>
+    requires { (k : ℕ) → marked sized.now k ≡ is_sized of.now k }
+    ensures { IfOk result (λ b. IsTrue b ↔ NamesForm of.now) }
 {
-    let types = items_are_there(of, of.types.items(), alloc)?;
-    let constants = items_are_there(of, of.constants.as_slice(), alloc)?;
-    let overrides = items_are_there(of, of.overrides.as_slice(), alloc)?;
-    let globals = items_are_there(of, of.global_variables.as_slice(), alloc)?;
-    let expressions = items_are_there(of, of.global_expressions.as_slice(), alloc)?;
+    let types = items_name_well(of, &[], of.types.items(), alloc)?;
+    let constants = items_name_well(of, sized, of.constants.as_slice(), alloc)?;
+    let overrides = items_name_well(of, sized, of.overrides.as_slice(), alloc)?;
+    let globals = items_name_well(of, &[], of.global_variables.as_slice(), alloc)?;
+    let expressions = items_name_well(of, sized, of.global_expressions.as_slice(), alloc)?;
     Ok(types & constants & overrides & globals & expressions)
 }
 
@@ -66,22 +95,10 @@ fn type_links(types: &[Type], alloc: Global) -> Result<Vec<Vec<usize>>, AllocErr
     let mut links = Vec::new(alloc);
     for ty in types {
         let names = ty.names(alloc)?;
-        let named = types_among(&names, alloc)?;
+        let named = types_named(&names, alloc)?;
         links.push(named)?;
     }
     Ok(links)
-}
-
-fn types_among(names: &[Option<ItemPlace>], alloc: Global) -> Result<Vec<usize>, AllocError>
-    ensures { IfOk result (λ v. v.items ≡ flat_map type_at names.now) }
-{
-    let mut types = Vec::new(alloc);
-    for name in names {
-        if let Some(ItemPlace::TypeItem(handle)) = name {
-            types.push(handle.index())?;
-        }
-    }
-    Ok(types)
 }
 
 fn names_override(names: &[Option<ItemPlace>]) -> bool
@@ -92,88 +109,34 @@ fn names_override(names: &[Option<ItemPlace>]) -> bool
         .any(|name| matches!(name, Some(ItemPlace::OverrideItem(_))))
 }
 
-/// Of each type whether its size is an override's.
-fn pending(types: &[Type], alloc: Global) -> Result<Vec<bool>, AllocError>
-    ensures { IfOk result (λ v. v.items ≡ pending types.now) }
+/// Marks the sized types.
+fn sized_types(types: &[Type], alloc: Global) -> Result<Vec<bool>, AllocError>
+    requires { AreEarlier (type_links types.now) }
+    ensures { IfOk result (λ v. (k : ℕ) → marked v.items k ≡ reaches (type_links types.now) (pending types.now) k) }
 {
-    let mut marks = Vec::new(alloc);
+    let mut sized = Vec::new(alloc);
     for ty in types {
         let names = ty.names(alloc)?;
-        marks.push(names_override(&names))?;
+        let mark = names_override(&names) | names_marked(&sized, &names);
+        sized.push(mark)?;
     }
-    Ok(marks)
+    Ok(sized)
 }
 
-fn is_sized(sized: &[bool], place: ItemPlace) -> bool
-    ensures { result ≡ is_type_that (marked sized.now) (Some place) }
+fn initialiser(of: &Module, name: &Option<ItemPlace>) -> Option<usize>
+    ensures { result ≡ initialiser of.now name.now }
 {
-    match place {
-        ItemPlace::TypeItem(handle) => is_marked(sized, handle.index()),
-        _ => false,
-    }
-}
-
-fn names_sized(sized: &[bool], names: &[Option<ItemPlace>]) -> bool
-    ensures { result ≡ list_any (is_type_that (marked sized.now)) names.now }
-{
-    names
-        .iter()
-        .any(|name| name.is_some_and(|place| is_sized(sized, place)))
-}
-
-/// Whether items name no sized type.
-fn items_are_unsized<T: Names>(
-    sized: &[bool],
-    items: &[T],
-    alloc: Global,
-) -> Result<bool, AllocError>
-    ensures { IfOk result (λ b. IsTrue b ↔ AtEach (λ e. NamesNone (marked sized.now) (T.row_of e)) items.now) }
-{
-    for (place, item) in items.iter().enumerate() {
-        let names = item.names(alloc)?;
-        if names_sized(sized, &names) {
-            return Ok(false);
-        }
-    }
-    Ok(true)
-}
-
-/// Whether the constants, the overrides and the global expressions name no sized type.
-fn all_are_unsized(of: &Module, sized: &[bool], alloc: Global) -> Result<bool, AllocError>
-    requires { (k : ℕ) → marked sized.now k ≡ is_sized of.now k }
-    ensures { IfOk result (λ b. IsTrue b ↔ NamesAreUnsized of.now) }
-{
-    let constants = items_are_unsized(sized, of.constants.as_slice(), alloc)?;
-    let overrides = items_are_unsized(sized, of.overrides.as_slice(), alloc)?;
-    let expressions = items_are_unsized(sized, of.global_expressions.as_slice(), alloc)?;
-    Ok(constants & overrides & expressions)
-}
-
-fn initialiser(of: &Module, place: ItemPlace) -> Option<usize>
-    ensures { result ≡ initialiser of.now place }
-{
-    match place {
-        ItemPlace::ConstantItem(handle) => {
-            of.constants.try_get(handle).map(|item| item.init.index())
-        }
-        ItemPlace::OverrideItem(handle) => {
-            let init = of.overrides.try_get(handle)?.init?;
-            Some(init.index())
-        }
+    match name {
+        Some(ItemPlace::ConstantItem(handle)) => Some(of.constants.try_get(*handle)?.init.index()),
+        Some(ItemPlace::OverrideItem(handle)) => Some(of.overrides.try_get(*handle)?.init?.index()),
         _ => None,
     }
 }
 
-fn initialiser_is_before(of: &Module, place: ItemPlace, limit: usize) -> bool
-    ensures { IsTrue result ↔ IfSome (initialiser of.now place) (λ i. i < limit) }
-{
-    initialiser(of, place).is_none_or(|init| init < limit)
-}
-
 fn initialisers_are_before(of: &Module, names: &[Option<ItemPlace>], limit: usize) -> bool
-    ensures { IsTrue result ↔ AreInitialisedBefore of.now limit names.now }
+    ensures { IsTrue result ↔ All (λ o. IfSome (initialiser of.now o) (λ i. i < limit)) names.now }
 {
-    names.iter().all(|name| name.is_none_or(|place| initialiser_is_before(of, place, limit)))
+    names.iter().all(|name| initialiser(of, name).is_none_or(|init| init < limit))
 }
 
 /// Whether each expression stands after the initialisers of what it names.
@@ -231,13 +194,8 @@ fn is_plain(of: &Module, special: &[bool], place: usize) -> bool
     requires { AreMarks special.now (special_types of.now.special_types) }
     ensures { result ≡ is_plain of.now place }
 {
-    is_unnamed(of.types.get_handle(Index::new(place))) || is_marked(special, place)
-}
-
-fn is_unnamed(ty: Option<&Type>) -> bool
-    ensures { result ≡ is_unnamed (option_copied ty.entry) }
-{
-    ty.is_some_and(|ty| ty.name.is_none())
+    let ty = of.types.get_handle(Index::new(place));
+    ty.is_some_and(|ty| ty.name.is_none()) || is_marked(special, place)
 }
 
 /// Whether marked types are unnamed or special.
@@ -245,12 +203,8 @@ fn are_plain(of: &Module, special: &[bool], reached: &[bool]) -> bool
     requires { AreMarks special.now (special_types of.now.special_types) }
     ensures { IsTrue result ↔ ((k : ℕ) → marked reached.now k ≡ true → is_plain of.now k ≡ true) }
 {
-    for (place, mark) in reached.iter().enumerate() {
-        if *mark && !is_plain(of, special, place) {
-            return false;
-        }
-    }
-    true
+    let mut marks = reached.iter().enumerate();
+    marks.all(|(place, mark)| !*mark || is_plain(of, special, place))
 }
 
 /// Whether special types reach only unnamed or special ones.
@@ -301,26 +255,24 @@ pub fn items_are_fine(of: &Module, alloc: Global) -> Result<bool, AllocError>
     if !are_earlier(&links) {
         return Ok(false);
     }
-    let pending = pending(types, alloc)?;
-    let sized = reaching(&links, &pending, alloc)?;
-    let there = all_are_there(of, alloc)?;
-    let unsized_ = all_are_unsized(of, &sized, alloc)?;
+    let sized = sized_types(types, alloc)?;
+    let names = all_items_name_well(of, &sized, alloc)?;
     let expressions = expressions_are_fine(of, alloc)?;
     let special = special_types_are_fine(of, &links, &sized, alloc)?;
-    Ok(there & unsized_ & expressions & special)
+    Ok(names & expressions & special)
 }
 
-fn are_all_fine(spans: &[Span], text_len: usize) -> bool
-    ensures { IsTrue result ↔ All (IsSpanFine text_len) spans.now }
+fn are_type_spans_fine(types: &UniqueArena<Type>, text_len: usize) -> bool
+    ensures { IsTrue result ↔ All (λ e. IsSpanFine text_len e.1) types.now }
 {
-    spans.iter().all(|span| is_span_fine(*span, text_len))
+    types.iter().all(|ty| is_span_fine(*ty.1, text_len))
 }
 
 /// Whether the spans of a module's items lie in a text of so many bytes.
 pub fn spans_are_fine(of: &Module, text_len: usize) -> bool
     ensures { IsTrue result ↔ SpanForm of.now text_len }
 {
-    are_all_fine(of.types.spans(), text_len)
+    are_type_spans_fine(&of.types, text_len)
         & are_spans_fine(of.constants.as_slice(), text_len)
         & are_spans_fine(of.overrides.as_slice(), text_len)
         & are_spans_fine(of.global_variables.as_slice(), text_len)

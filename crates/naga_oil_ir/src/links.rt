@@ -1,6 +1,6 @@
 ghost use Rattle.std.specs.Prelude.{[], ◌≡◌, ◌↔◌, ◌<◌, ◌||◌, ◌&&◌, ℕ, IsTrue, IfOk, All, length};
 ghost use Rattle.std.specs.List.{list_any};
-ghost use Rattle.naga_oil_ir.specs.Links.{lists, linked, AreEarlier, has, started, marked, AreMarks, reaches};
+ghost use Rattle.naga_oil_ir.specs.Links.{lists, linked, AreEarlier, has, started, marked, AreMarks};
 
 use std::alloc::{AllocError, Global};
 
@@ -99,28 +99,4 @@ pub fn any_marked(marks: &[bool], places: &[usize]) -> bool
     ensures { result ≡ list_any (marked marks.now) places.now }
 {
     places.iter().any(|place| is_marked(marks, *place))
-}
-
-fn leads_to_mark(marks: &[bool], reaching: &[bool], place: usize, named: &[usize]) -> bool
-    ensures { result ≡ (marked marks.now place || list_any (marked reaching.now) named.now) }
-{
-    is_marked(marks, place) || any_marked(reaching, named)
-}
-
-/// Marks the places that are, or reach, a marked one.
-pub fn reaching(
-    links: &[Vec<usize>],
-    marks: &[bool],
-    alloc: Global,
-) -> Result<Vec<bool>, AllocError>
-    requires earlier { AreEarlier (lists links.now) }
-    requires long { length marks.now ≡ length links.now }
-    ensures { IfOk result (λ v. (k : ℕ) → marked v.items k ≡ reaches (lists links.now) marks.now k) }
-{
-    let mut out = Vec::new(alloc);
-    for (place, named) in links.iter().enumerate() {
-        let mark = leads_to_mark(marks, &out, place, named);
-        out.push(mark)?;
-    }
-    Ok(out)
 }

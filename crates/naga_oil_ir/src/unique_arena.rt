@@ -64,13 +64,6 @@ impl<T: Item + Eq + Hash> UniqueArena<T> {
         self.items.keys().as_slice()
     }
 
-    /// The items' spans, in order.
-    pub fn spans(&self) -> &[Span]
-        ensures { result.now ≡ map (λ e. e.1) self.now }
-    {
-        self.items.values().as_slice()
-    }
-
     /// The items with their spans, in order.
     pub fn iter(&self) -> map::Iter<'_, T, Span>
         ensures { result ≡ self.now }

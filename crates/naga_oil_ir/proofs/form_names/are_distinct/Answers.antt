@@ -1,11 +1,6 @@
 use Rattle.std.proofs.Common.{rules, arith, ◌∙◌}
-use Rattle.std.specs.Ordering.{eq_by_cmp}
 use Rattle.std.specs.String.{string_cmp, string_cmp_total}
 use Rattle.std.specs.BTreeSet as sorted
-use Rattle.std.specs.BTreeSet.{btree_set_len}
-use Rattle.std.specs.Set.{distinct_count}
-use Rattle.std.proofs.lemmas.Cmp.{eq_by_cmp_equiv}
-use Rattle.std.proofs.lemmas.Map.Made.{IsDistinct-from_count, distinct_count-from_IsDistinct}
 use Rattle.std.proofs.lemmas.Map.Views.{btree_set_len-from_list}
 use Rattle.naga_oil_ir.proofs.NameFormLemmas.{count_decides}
 use Rattle.naga_oil_ir.proofs.form_names.are_distinct.Goals as goal

@@ -1,6 +1,0 @@
-use Rattle.std.proofs.Common.{◌≡◌, ℕ, ◌<◌, slice_get, Some}
-use Rattle.naga_oil_ir.specs.ItemForm.{NamesThere}
-use Rattle.naga_oil_ir.proofs.form_items.items_are_there.Given as goal
-
-abbrev pub invariant-loop-place : goal.invariant-loop-place
-invariant-loop-place g l = (k : ℕ) (e : _) → k < l.place → slice_get l.items k ≡ Some e → NamesThere l.of (g.T.Names.row_of e)
