@@ -1,7 +1,9 @@
-use Rattle.std.specs.Prelude.{◌≡◌, ◌<◌, ◌≤◌, ◌-◌, ℕ, zero, suc, Bool, true, false, List, [], ◌∷◌, ◌++◌, map, slice_get, slice_set, Option, Some, None, All, nat_lt, ◌||◌, ◌&&◌}
+use Rattle.std.specs.List.{flat_map}
+use Rattle.std.specs.Prelude.{option_to_list, length, ◌≡◌, ◌<◌, ◌≤◌, ◌-◌, ℕ, zero, suc, Bool, true, false, List, [], ◌∷◌, ◌++◌, map, slice_get, slice_set, Option, Some, None, All, nat_lt, ◌||◌, ◌&&◌}
 use Rattle.naga_oil_ir.specs.Parts.{parts}
 use Rattle.naga_oil_ir.specs.Body.{Tokens}
-use Rattle.naga_oil_ir.specs.Links.{Links, linked, has, marked}
+use Rattle.naga_oil_ir.specs.Links.{Links, lists, linked, has, marked, started, AreEarlier}
+use Rattle.naga_oil_ir.specs.declared.form.Reading.{Reading}
 use Rattle.naga_oil_ir.specs.declared.parts.Named.{Named}
 use Rattle.naga_oil_ir.specs.declared.parts.Named.TheVariants.{Nothing, TypeOf, ConstantAt, OverrideAt, GlobalAt, LocalAt, ArgumentAt, FunctionAt}
 use Rattle.naga_oil_ir.specs.declared.expression.Expression.{Expression}
@@ -25,9 +27,17 @@ callee (LocalAt h) = None
 callee (ArgumentAt n) = None
 callee (FunctionAt h) = Some h
 
+-- what each names
+abbrev pub named_of : List (Expression × Span) → List Named
+named_of es = map (λ e. (parts e.0).named) es
+
 -- of each the function whose result it is
 abbrev pub callees : List (Expression × Span) → List (Option ℕ)
-callees es = map (λ e. callee (parts e.0).named) es
+callees es = map callee (named_of es)
+
+-- of each expression the operands that are there
+abbrev pub operand_links : List (Expression × Span) → Links
+operand_links es = map (λ e. flat_map option_to_list (parts e.0).operands) es
 
 abbrev pub external_kind : Option ℕ → Bool
 external_kind None = false
@@ -89,19 +99,30 @@ abbrev pub AreFine : ℕ → List ℕ → List (Option ℕ) → Links → List �
 AreFine n ks fs ls s done [] = Unit {0}
 AreFine n ks fs ls s done (t ∷ ts) = IsFine n ks fs ls s done t × AreFine n ks fs ls s (done ++ made t) ts
 
--- a call goes to one of the first n functions
-abbrev pub CallsBelow : ℕ → Token → Type 0
-CallsBelow n (Callee f) = f < n
-CallsBelow n _ = Unit {0}
-
 -- the span of a statement lies in a text of n bytes, or is undefined, (0, 0), which lies in each
 abbrev pub IsSpanFine : ℕ → Span → Type 0
 IsSpanFine n s = (s.start ≤ s.end) × (s.end ≤ n)
 
--- the span that a part of a body says lies in a text of n bytes
-abbrev pub TokenSpanFine : ℕ → Token → Type 0
-TokenSpanFine n (At s) = IsSpanFine n s
-TokenSpanFine n _ = Unit {0}
+-- a part of a body may stand by itself: a call goes to one of the first c functions, a span lies in a text of n bytes
+abbrev pub IsTokenFine : ℕ → ℕ → Token → Type 0
+IsTokenFine c n (Callee f) = f < c
+IsTokenFine c n (At s) = IsSpanFine n s
+IsTokenFine c n _ = Unit {0}
+
+-- expressions of these kinds, callees and operands may stand behind the initialisers is: each behind its operands, where
+-- initialisers are there and reach no result, and so may the parts of the body
+pub record MayStand (ks : List ℕ) (fs : List (Option ℕ)) (ls : Links) (is : List ℕ) (ts : Tokens) : Type 0 where
+  pub earlier : AreEarlier ls
+  pub there : All (λ h. h < length ls) is
+  pub no_results : All (λ h. is_result ks h ≡ false) (started ls is)
+  pub body : AreFine (length ls) ks fs ls (started ls is) [] ts
+
+-- ---- what the code reads of expressions
+
+pub record IsReading (es : List (Expression × Span)) (r : Reading) : Type 0 where
+  pub kinds : r.kinds.items ≡ kinds es
+  pub named : r.named.items ≡ named_of es
+  pub links : lists r.links.items ≡ operand_links es
 
 -- ---- the same over marks: fs of what initialisers reach, gs of what was emitted or given
 

@@ -1,7 +1,6 @@
 use Rattle.std.specs.Prelude.{◌≡◌, ◌<◌, ◌⊎◌, ℕ, Bool, true, false, List, ◌++◌, length, map, slice_get, Option, Some, None, option_to_list, is_none, All, IfSome, nat_eq, ◌||◌}
-use Rattle.std.specs.List.{flat_map, filter_map, list_any, IsDistinct}
-use Rattle.naga_oil_ir.specs.Parts.{parts}
-use Rattle.naga_oil_ir.specs.BodyForm.{kinds}
+use Rattle.std.specs.List.{filter_map, list_any, IsDistinct}
+use Rattle.naga_oil_ir.specs.BodyForm.{kinds, operand_links}
 use Rattle.naga_oil_ir.specs.Rows.{Row, type_row, constant_row, override_row, global_row, expression_row}
 use Rattle.naga_oil_ir.specs.Links.{Links, AreEarlier, AtEach, trail, has, reaches}
 use Rattle.naga_oil_ir.specs.declared.module.Module.{Module}
@@ -81,10 +80,6 @@ pub record NamesForm (m : Module) : Type 0 where
   pub expressions : AtEach (λ e. NamesWell m (is_sized m) (expression_row e.0)) m.global_expressions
 
 -- ---- global expressions
-
--- of each expression the operands that are there
-abbrev pub operand_links : List (Expression × Span) → Links
-operand_links es = map (λ e. flat_map option_to_list (parts e.0).operands) es
 
 abbrev pub init_of_constant : Option (Constant × Span) → Option ℕ
 init_of_constant None = None

@@ -1,14 +1,11 @@
-use Rattle.std.specs.Prelude.{◌≡◌, ◌<◌, ℕ, false, List, [], length, slice_get, Option, Some, option_to_list, All, IfSome}
+use Rattle.std.specs.Prelude.{◌≡◌, ◌<◌, ℕ, List, length, slice_get, Option, Some, option_to_list, All, IfSome}
 use Rattle.std.specs.List.{flat_map}
-use Rattle.naga_oil_ir.specs.Parts.{parts}
-use Rattle.naga_oil_ir.specs.Body.{Tokens, block_tokens}
-use Rattle.naga_oil_ir.specs.Links.{AreEarlier, AtEach, started}
-use Rattle.naga_oil_ir.specs.ItemForm.{ItemForm, operand_links}
-use Rattle.naga_oil_ir.specs.BodyForm.{kinds, callees, is_result, AreFine, CallsBelow, IsSpanFine, TokenSpanFine}
+use Rattle.naga_oil_ir.specs.Body.{block_tokens}
+use Rattle.naga_oil_ir.specs.ItemForm.{ItemForm}
+use Rattle.naga_oil_ir.specs.BodyForm.{named_of, kinds, callees, MayStand, IsSpanFine, IsTokenFine, operand_links}
 use Rattle.naga_oil_ir.specs.NameForm.{Name, NameForm}
 use Rattle.naga_oil_ir.specs.declared.parts.Named.{Named}
 use Rattle.naga_oil_ir.specs.declared.parts.Named.TheVariants.{Nothing, TypeOf, ConstantAt, OverrideAt, GlobalAt, LocalAt, ArgumentAt, FunctionAt}
-use Rattle.naga_oil_ir.specs.declared.expression.Expression.{Expression}
 use Rattle.naga_oil_ir.specs.declared.module.Module.{Module}
 use Rattle.naga_oil_ir.specs.declared.module.Function.{Function}
 use Rattle.naga_oil_ir.specs.declared.module.EntryPoint.{EntryPoint}
@@ -37,18 +34,10 @@ initialisers_of ls = flat_map init_of ls
 abbrev pub initialisers : Function → List ℕ
 initialisers f = initialisers_of f.local_variables
 
--- expressions stand behind what they name, initialisers are there and reach no result, and the parts of a body may stand
-pub record MayStand (es : List (Expression × Span)) (is : List ℕ) (ts : Tokens) : Type 0 where
-  pub earlier : AreEarlier (operand_links es)
-  pub there : All (λ h. h < length es) is
-  pub no_results : All (λ h. is_result (kinds es) h ≡ false) (started (operand_links es) is)
-  pub body : AreFine (length es) (kinds es) (callees es) (operand_links es) (started (operand_links es) is) [] ts
-
--- the spans of what stands in a function
+-- the spans of what stands in a function, apart from its statements
 pub record SpansWithin (n : ℕ) (f : Function) : Type 0 where
   pub locals : All (λ e. IsSpanFine n e.1) f.local_variables
   pub expressions : All (λ e. IsSpanFine n e.1) f.expressions
-  pub statements : All (TokenSpanFine n) (block_tokens f.body)
 
 -- the test of form of a function whose calls go to the first c functions, in a text of n bytes
 pub record FunctionForm (m : Module) (c n : ℕ) (f : Function) : Type 0 where
@@ -56,9 +45,9 @@ pub record FunctionForm (m : Module) (c n : ℕ) (f : Function) : Type 0 where
   pub result : IfSome f.result (λ r. r.ty < length m.types)
   pub locals : All (λ l. l.0.ty < length m.types) f.local_variables
   pub named_expressions : All (λ e. e.0 < length f.expressions) f.named_expressions.entries
-  pub expressions : AtEach (λ e. NamedThere m f (parts e.0).named) f.expressions
-  pub calls : All (CallsBelow c) (block_tokens f.body)
-  pub body : MayStand f.expressions (initialisers f) (block_tokens f.body)
+  pub expressions : All (NamedThere m f) (named_of f.expressions)
+  pub statements : All (IsTokenFine c n) (block_tokens f.body)
+  pub body : MayStand (kinds f.expressions) (callees f.expressions) (operand_links f.expressions) (initialisers f) (block_tokens f.body)
   pub spans : SpansWithin n f
 
 -- functions pass the test of form, the calls of each going to those before it

@@ -1,8 +1,6 @@
-ghost use Rattle.std.specs.Prelude.{◌≡◌, ◌↔◌, ◌<◌, ℕ, IsTrue, IfOk, IfSome, All, option_to_list};
+ghost use Rattle.std.specs.Prelude.{◌≡◌, ◌↔◌, ◌<◌, ℕ, IsTrue, IfOk, IfSome, All, map, slice_get, option_to_list};
 ghost use Rattle.std.specs.List.{flat_map};
-ghost use Rattle.naga_oil_ir.specs.Links.{lists};
-ghost use Rattle.naga_oil_ir.specs.ItemForm.{operand_links};
-ghost use Rattle.naga_oil_ir.specs.BodyForm.{IsSpanFine, TokenSpanFine, CallsBelow, is_external, is_result, kinds, callee, callees};
+ghost use Rattle.naga_oil_ir.specs.BodyForm.{IsSpanFine, IsTokenFine, IsReading, is_external, is_result, callee};
 
 use super::expression::Operand;
 use super::parts::Named;
@@ -23,38 +21,21 @@ pub fn are_spans_fine<T>(items: &[(T, Span)], text_len: usize) -> bool
     items.iter().all(|item| is_span_fine(item.1, text_len))
 }
 
-fn is_token_span_fine(token: Token, text_len: usize) -> bool
-    ensures { IsTrue result ↔ TokenSpanFine text_len token }
+fn is_token_fine(token: Token, calls_below: usize, text_len: usize) -> bool
+    ensures { IsTrue result ↔ IsTokenFine calls_below text_len token }
 {
     match token {
+        Token::Callee(function) => function.index() < calls_below,
         Token::At(span) => is_span_fine(span, text_len),
         _ => true,
     }
 }
 
-/// Whether the spans of a body's statements lie in a text of so many bytes.
-pub fn are_token_spans_fine(tokens: &[Token], text_len: usize) -> bool
-    ensures { IsTrue result ↔ All (TokenSpanFine text_len) tokens.now }
+/// Whether a body's calls go to the first functions, so many of them, and its spans lie in a text of so many bytes.
+pub fn are_tokens_fine(tokens: &[Token], calls_below: usize, text_len: usize) -> bool
+    ensures { IsTrue result ↔ All (IsTokenFine calls_below text_len) tokens.now }
 {
-    tokens
-        .iter()
-        .all(|token| is_token_span_fine(*token, text_len))
-}
-
-fn call_goes_below(token: Token, limit: usize) -> bool
-    ensures { IsTrue result ↔ CallsBelow limit token }
-{
-    match token {
-        Token::Callee(function) => function.index() < limit,
-        _ => true,
-    }
-}
-
-/// Whether a body's calls go to functions before a place.
-pub fn calls_go_below(tokens: &[Token], limit: usize) -> bool
-    ensures { IsTrue result ↔ All (CallsBelow limit) tokens.now }
-{
-    tokens.iter().all(|token| call_goes_below(*token, limit))
+    tokens.iter().all(|token| is_token_fine(*token, calls_below, text_len))
 }
 
 fn present(operands: &[Option<Operand>], alloc: Global) -> Result<Vec<usize>, AllocError>
@@ -68,32 +49,34 @@ fn present(operands: &[Option<Operand>], alloc: Global) -> Result<Vec<usize>, Al
     Ok(places)
 }
 
-/// Of each expression the operands that are there.
-pub fn operand_links(
-    items: &[(Expression, Span)],
-    alloc: Global,
-) -> Result<Vec<Vec<usize>>, AllocError>
-    ensures { IfOk result (λ v. lists v.items ≡ operand_links items.now) }
+/// What the test of form looks at in expressions, of each one.
+#[derive(Drop)]
+pub struct Reading {
+    pub kinds: Vec<u64>,
+    pub named: Vec<Named>,
+    /// The operands that are there.
+    pub links: Vec<Vec<usize>>,
+}
+
+/// Reads expressions.
+pub fn read(items: &[(Expression, Span)], alloc: Global) -> Result<Reading, AllocError>
+    ensures { IfOk result (IsReading items.now) }
 {
+    let mut kinds = Vec::new(alloc);
+    let mut named = Vec::new(alloc);
     let mut links = Vec::new(alloc);
     for entry in items {
         let parts = entry.0.parts(alloc)?;
-        let named = present(&parts.operands, alloc)?;
-        links.push(named)?;
-    }
-    Ok(links)
-}
-
-/// The kinds of expressions.
-pub fn kinds(items: &[(Expression, Span)], alloc: Global) -> Result<Vec<u64>, AllocError>
-    ensures { IfOk result (λ v. v.items ≡ kinds items.now) }
-{
-    let mut kinds = Vec::new(alloc);
-    for entry in items {
-        let parts = entry.0.parts(alloc)?;
+        let operands = present(&parts.operands, alloc)?;
         kinds.push(parts.kind)?;
+        named.push(parts.named)?;
+        links.push(operands)?;
     }
-    Ok(kinds)
+    Ok(Reading {
+        kinds,
+        named,
+        links,
+    })
 }
 
 /// Whether an expression of this kind is external.
@@ -110,26 +93,13 @@ pub fn is_result(kinds: &[u64], place: usize) -> bool
     kinds.get(place).is_some_and(|kind| 6 < *kind && *kind < 13)
 }
 
-fn callee(named: Named) -> Option<usize>
-    ensures { result ≡ callee named }
+/// Of an expression the function whose result it is.
+pub fn callee_at(named: &[Named], place: usize) -> Option<Option<usize>>
+    ensures { result ≡ slice_get (map callee named.now) place }
 {
-    match named {
-        Named::FunctionAt(function) => Some(function.index()),
-        _ => None,
+    match named.get(place) {
+        None => None,
+        Some(Named::FunctionAt(function)) => Some(Some(function.index())),
+        Some(_) => Some(None),
     }
-}
-
-/// Of each expression the function whose result it is.
-pub fn callees(
-    items: &[(Expression, Span)],
-    alloc: Global,
-) -> Result<Vec<Option<usize>>, AllocError>
-    ensures { IfOk result (λ v. v.items ≡ callees items.now) }
-{
-    let mut callees = Vec::new(alloc);
-    for entry in items {
-        let parts = entry.0.parts(alloc)?;
-        callees.push(callee(parts.named))?;
-    }
-    Ok(callees)
 }

@@ -1,19 +1,12 @@
 ghost use Rattle.std.specs.Prelude.{◌≡◌, ◌↔◌, ◌<◌, ℕ, IsTrue, IsSome, IfOk, IfSome, All, length, slice_get, Some};
 ghost use Rattle.naga_oil_ir.specs.Body.{block_tokens};
-ghost use Rattle.naga_oil_ir.specs.Parts.{parts};
-ghost use Rattle.naga_oil_ir.specs.Links.{AtEach};
-ghost use Rattle.naga_oil_ir.specs.WellFormed.{NamedThere, initialisers_of, initialisers, MayStand, SpansWithin, FunctionForm, FunctionsForm, IsExpressionThere, MeshForm, EntryForm};
+ghost use Rattle.naga_oil_ir.specs.BodyForm.{MayStand, kinds, callees, named_of, operand_links};
+ghost use Rattle.naga_oil_ir.specs.WellFormed.{NamedThere, initialisers_of, initialisers, SpansWithin, FunctionForm, FunctionsForm, IsExpressionThere, MeshForm, EntryForm};
 
-use super::body::expressions_may_stand;
-use super::expression::Expression;
-use super::form::{are_spans_fine, are_token_spans_fine, calls_go_below};
-use super::handle::Handle;
-use super::module::{EntryPoint, Function, FunctionArgument, FunctionResult, MeshInfo, Module};
-use super::parts::Named;
-use super::span::Span;
-use super::token::Token;
+use super::body::may_stand;
+use super::form::{are_spans_fine, are_tokens_fine, read};
 use super::tokens::push_block;
-use super::types::{GlobalVariable, LocalVariable, Type};
+use super::{EntryPoint, Expression, Function, FunctionArgument, FunctionResult, GlobalVariable, Handle, LocalVariable, MeshInfo, Module, Named, Span, Token, Type};
 use indexmap::IndexMap;
 use std::alloc::{AllocError, Global};
 
@@ -90,22 +83,10 @@ fn is_named_there(of: &Module, function: &Function, named: Named) -> bool
     }
 }
 
-/// Whether what the expressions of a function name is there.
-fn expressions_are_there(
-    of: &Module,
-    function: &Function,
-    items: &[(Expression, Span)],
-    alloc: Global,
-) -> Result<bool, AllocError>
-    ensures { IfOk result (λ b. IsTrue b ↔ AtEach (λ e. NamedThere of.now function.now (parts e.0).named) items.now) }
+fn are_named_there(of: &Module, function: &Function, named: &[Named]) -> bool
+    ensures { IsTrue result ↔ All (NamedThere of.now function.now) named.now }
 {
-    for (place, entry) in items.iter().enumerate() {
-        let parts = entry.0.parts(alloc)?;
-        if !is_named_there(of, function, parts.named) {
-            return Ok(false);
-        }
-    }
-    Ok(true)
+    named.iter().all(|named| is_named_there(of, function, *named))
 }
 
 fn signature_is_fine(of: &Module, function: &Function) -> bool
@@ -117,21 +98,26 @@ fn signature_is_fine(of: &Module, function: &Function) -> bool
         && names_are_there(&function.named_expressions, function.expressions.len())
 }
 
-fn spans_are_within(function: &Function, tokens: &[Token], text_len: usize) -> bool
-    requires { tokens.now ≡ block_tokens function.now.body }
+fn spans_are_within(function: &Function, text_len: usize) -> bool
     ensures { IsTrue result ↔ SpansWithin text_len function.now }
 {
     are_spans_fine(function.local_variables.as_slice(), text_len)
         && are_spans_fine(function.expressions.as_slice(), text_len)
-        && are_token_spans_fine(tokens, text_len)
 }
 
-fn body_stands(function: &Function, tokens: &[Token], alloc: Global) -> Result<bool, AllocError>
-    ensures { IfOk result (λ b. IsTrue b ↔ MayStand function.now.expressions (initialisers function.now) tokens.now) }
+/// Whether what the expressions of a function name is there, and they may stand with its body.
+fn expressions_are_fine(
+    of: &Module,
+    function: &Function,
+    tokens: &[Token],
+    alloc: Global,
+) -> Result<bool, AllocError>
+    ensures { IfOk result (λ b. IsTrue b ↔ (All (NamedThere of.now function.now) (named_of function.now.expressions) × MayStand (kinds function.now.expressions) (callees function.now.expressions) (operand_links function.now.expressions) (initialisers function.now) tokens.now)) }
 {
+    let read = read(function.expressions.as_slice(), alloc)?;
     let inits = initialisers(function.local_variables.as_slice(), alloc)?;
-    let fine = expressions_may_stand(function.expressions.as_slice(), &inits, tokens, alloc)?;
-    Ok(fine)
+    let stand = may_stand(&read, &inits, tokens, alloc)?;
+    Ok(are_named_there(of, function, &read.named) & stand)
 }
 
 /// Whether a function whose calls may go to the first functions, so many of them, passes the test of form in a text of so
@@ -147,13 +133,11 @@ fn function_is_fine(
 {
     let mut tokens = Vec::new(alloc);
     push_block(&function.body, &mut tokens)?;
-    let there = expressions_are_there(of, function, function.expressions.as_slice(), alloc)?;
-    let stands = body_stands(function, &tokens, alloc)?;
-    Ok(there
-        && stands
+    let fine = expressions_are_fine(of, function, &tokens, alloc)?;
+    Ok(fine
         && signature_is_fine(of, function)
-        && calls_go_below(&tokens, calls_below)
-        && spans_are_within(function, &tokens, text_len))
+        && spans_are_within(function, text_len)
+        && are_tokens_fine(&tokens, calls_below, text_len))
 }
 
 fn is_expression_there(of: &Module, handle: Option<Handle<Expression>>) -> bool

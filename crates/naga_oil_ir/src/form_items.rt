@@ -7,7 +7,7 @@ ghost use Rattle.naga_oil_ir.specs.BodyForm.{IsSpanFine};
 ghost use Rattle.naga_oil_ir.specs.WellFormed.{SpanForm};
 ghost use Rattle.naga_oil_ir.specs.ItemForm.{types_of, type_at, type_links, is_override, pending, is_sized, IsThere, NamesWell, NamesForm, initialiser, StandAfter, IsGlobalKind, special_types, is_plain, ReachPlain, ExpressionForm, SpecialForm, ItemForm};
 
-use super::form::{are_spans_fine, is_span_fine, kinds, operand_links};
+use super::form::{are_spans_fine, is_span_fine, read};
 use super::links::{any_marked, are_below, are_earlier, is_marked, marks_of, reached_from};
 use super::{Expression, Index, ItemPlace, Module, Names, Span, SpecialTypes, Type, UniqueArena};
 use std::alloc::{AllocError, Global};
@@ -163,10 +163,9 @@ fn expressions_are_fine(of: &Module, alloc: Global) -> Result<bool, AllocError>
     ensures { IfOk result (λ b. IsTrue b ↔ ExpressionForm of.now) }
 {
     let items = of.global_expressions.as_slice();
-    let links = operand_links(items, alloc)?;
-    let kinds = kinds(items, alloc)?;
+    let read = read(items, alloc)?;
     let after = stand_after(of, items, alloc)?;
-    Ok(are_earlier(&links) & after & are_global_kinds(&kinds))
+    Ok(are_earlier(&read.links) & after & are_global_kinds(&read.kinds))
 }
 
 /// The special types, the three named ones first.

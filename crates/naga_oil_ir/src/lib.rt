@@ -11,6 +11,7 @@
 
 pub mod arena;
 pub mod body;
+pub mod check_form;
 pub mod expression;
 pub mod form;
 pub mod form_function;
@@ -34,6 +35,7 @@ pub mod types;
 pub mod unique_arena;
 
 pub use arena::Arena;
+pub use check_form::FormFault;
 pub use expression::{Expression, ImageQuery, Operand, SampleLevel};
 pub use handle::{Handle, Index, Item, Places, Range};
 pub use language::ShaderLanguage;

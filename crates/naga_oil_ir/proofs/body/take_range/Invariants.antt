@@ -1,7 +1,7 @@
 use Rattle.std.proofs.Common.{◌≡◌, length}
 use Rattle.naga_oil_ir.specs.Links.{lists}
 use Rattle.naga_oil_ir.proofs.BodyFormLemmas.{IsEmitting}
-use Rattle.naga_oil_ir.proofs.body.emit.Given as goal
+use Rattle.naga_oil_ir.proofs.body.take_range.Given as goal
 
 abbrev pub invariant-loop-place : goal.invariant-loop-place
 invariant-loop-place l = record {
