@@ -2,9 +2,7 @@ ghost use Rattle.std.specs.Prelude.{◌≡◌, ◌↔◌, ◌<◌, ℕ, IsTrue, 
 ghost use Rattle.std.specs.List.{flat_map};
 ghost use Rattle.naga_oil_ir.specs.BodyForm.{IsSpanFine, IsTokenFine, IsReading, is_external, is_result, callee};
 
-use super::expression::Operand;
-use super::parts::Named;
-use super::{Expression, Span, Token};
+use super::{Expression, Named, Operand, Span, Token};
 use std::alloc::{AllocError, Global};
 
 /// Whether a span lies in a text of so many bytes.
@@ -35,7 +33,9 @@ fn is_token_fine(token: Token, calls_below: usize, text_len: usize) -> bool
 pub fn are_tokens_fine(tokens: &[Token], calls_below: usize, text_len: usize) -> bool
     ensures { IsTrue result ↔ All (IsTokenFine calls_below text_len) tokens.now }
 {
-    tokens.iter().all(|token| is_token_fine(*token, calls_below, text_len))
+    tokens
+        .iter()
+        .all(|token| is_token_fine(*token, calls_below, text_len))
 }
 
 fn present(operands: &[Option<Operand>], alloc: Global) -> Result<Vec<usize>, AllocError>
