@@ -1,14 +1,11 @@
-use Rattle.std.specs.Prelude.{◌≡◌, ◌<◌, ℕ, false, List, [], length, slice_get, Option, Some, option_to_list, All, IfSome}
+use Rattle.std.specs.Prelude.{◌≡◌, ◌<◌, ℕ, List, length, slice_get, Option, Some, option_to_list, All, IfSome}
 use Rattle.std.specs.List.{flat_map}
-use Rattle.naga_oil_ir.specs.Parts.{parts}
-use Rattle.naga_oil_ir.specs.Body.{Tokens, block_tokens}
-use Rattle.naga_oil_ir.specs.Links.{AreEarlier, AtEach, started}
+use Rattle.naga_oil_ir.specs.Body.{block_tokens}
 use Rattle.naga_oil_ir.specs.ItemForm.{ItemForm}
 use Rattle.naga_oil_ir.specs.BodyForm.{named_of, kinds, callees, MayStand, IsSpanFine, IsTokenFine, operand_links}
 use Rattle.naga_oil_ir.specs.NameForm.{Name, NameForm}
 use Rattle.naga_oil_ir.specs.declared.parts.Named.{Named}
 use Rattle.naga_oil_ir.specs.declared.parts.Named.TheVariants.{Nothing, TypeOf, ConstantAt, OverrideAt, GlobalAt, LocalAt, ArgumentAt, FunctionAt}
-use Rattle.naga_oil_ir.specs.declared.expression.Expression.{Expression}
 use Rattle.naga_oil_ir.specs.declared.module.Module.{Module}
 use Rattle.naga_oil_ir.specs.declared.module.Function.{Function}
 use Rattle.naga_oil_ir.specs.declared.module.EntryPoint.{EntryPoint}

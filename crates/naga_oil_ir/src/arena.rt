@@ -3,8 +3,7 @@ ghost use Rattle.std.specs.Slice.Iter.{iter_rest};
 ghost use Rattle.naga_oil_ir.specs.Places.{place_of, fetched};
 ghost use Rattle.naga_oil_ir.specs.Spans.{undefined};
 
-use super::handle::{Handle, Index, Item};
-use super::span::Span;
+use super::{Handle, Index, Item, Span};
 use std::alloc::{AllocError, Global};
 use std::marker::Model;
 use std::slice;

@@ -1,7 +1,5 @@
-use super::handle::{Handle, Item};
-use super::kind;
-use super::module::Function;
 use super::types::{Constant, GlobalVariable, LocalVariable, Override, Type};
+use super::{Function, Handle, Item, kind};
 
 /// A place of an expression that another one or a statement takes.
 pub type Operand = Handle<Expression>;

@@ -2,9 +2,7 @@ ghost use Rattle.std.specs.Prelude.{◌≡◌, ◌↔◌, ◌<◌, ℕ, IsTrue, 
 ghost use Rattle.std.specs.List.{flat_map};
 ghost use Rattle.naga_oil_ir.specs.BodyForm.{IsSpanFine, IsTokenFine, IsReading, is_external, is_result, callee};
 
-use super::expression::Operand;
-use super::parts::Named;
-use super::{Expression, Span, Token};
+use super::{Expression, Named, Operand, Span, Token};
 use std::alloc::{AllocError, Global};
 
 /// Whether a span lies in a text of so many bytes.

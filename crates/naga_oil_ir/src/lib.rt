@@ -24,7 +24,6 @@ pub mod links;
 pub mod module;
 pub mod names;
 pub mod parts;
-pub mod same;
 pub mod span;
 pub mod statement;
 #[cfg(test)]
@@ -44,7 +43,6 @@ pub use module::{
 };
 pub use names::{ItemPlace, NameList, Names};
 pub use parts::{ExpressionParts, Named};
-pub use same::{same_constant, same_expression, same_global, same_override, same_type};
 pub use span::Span;
 pub use statement::{Block, RayQueryFunction, Statement, SwitchCase};
 pub use token::Token;

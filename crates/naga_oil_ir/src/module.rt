@@ -1,12 +1,7 @@
 ghost use Rattle.std.specs.Prelude.{◌≡◌, [], None};
 
-use super::arena::Arena;
-use super::expression::Expression;
-use super::handle::{Handle, Item};
-use super::kind;
-use super::statement::Block;
 use super::types::{Constant, GlobalVariable, LocalVariable, Override, Type};
-use super::unique_arena::UniqueArena;
+use super::{Arena, Block, Expression, Handle, Item, UniqueArena, kind};
 use indexmap::IndexMap;
 use std::alloc::Global;
 

@@ -1,10 +1,8 @@
 ghost use Rattle.std.specs.Prelude.{◌≡◌, IfOk, length, map, Some};
 ghost use Rattle.naga_oil_ir.specs.Parts.{parts, ReadsAs, level_x, level_y, query_level};
 
-use super::expression::{Expression, ImageQuery, SampleLevel};
-use super::handle::Handle;
-use super::module::Function;
 use super::types::{Constant, GlobalVariable, LocalVariable, Override, Type};
+use super::{Expression, Function, Handle, ImageQuery, Operand, SampleLevel};
 use std::alloc::{AllocError, Global};
 
 /// The item that an expression names, if it names one.
@@ -29,14 +27,14 @@ pub struct ExpressionParts {
     pub kind: u64,
     pub named: Named,
     /// The operands in the order of copying, with none in the places of absent options.
-    pub operands: Vec<Option<Handle<Expression>>>,
+    pub operands: Vec<Option<Operand>>,
 }
 
 fn read_parts(
     alloc: Global,
     kind: u64,
     named: Named,
-    operands: &[Option<Handle<Expression>>],
+    operands: &[Option<Operand>],
 ) -> Result<ExpressionParts, AllocError>
     ensures { IfOk result (λ r. (r.kind ≡ kind) × (r.named ≡ named) × (r.operands.items ≡ operands.now)) }
 {
@@ -50,7 +48,7 @@ fn read_parts(
 
 impl SampleLevel {
     /// The operand, or the gradient's first.
-    pub fn x(&self) -> Option<Handle<Expression>>
+    pub fn x(&self) -> Option<Operand>
         ensures { result ≡ level_x self.now }
     {
         match self {
@@ -61,7 +59,7 @@ impl SampleLevel {
     }
 
     /// The gradient's second operand.
-    pub fn y(&self) -> Option<Handle<Expression>>
+    pub fn y(&self) -> Option<Operand>
         ensures { result ≡ level_y self.now }
     {
         match self {
@@ -73,7 +71,7 @@ impl SampleLevel {
 
 impl ImageQuery {
     /// The operand, if there is one.
-    pub fn level(&self) -> Option<Handle<Expression>>
+    pub fn level(&self) -> Option<Operand>
         ensures { result ≡ query_level self.now }
     {
         match self {
@@ -83,71 +81,52 @@ impl ImageQuery {
     }
 }
 
-/// Reads an expression: first the kinds that name an item or hold a list, then a table of the others, each with its
-/// number, the fields that are looked at, and its operands.
-macro_rules! read_kind {
-    ($expression:expr, $alloc:ident;
-     $($pattern:pat => $number:literal $named:expr, $operands:expr;)*
-     @
-     $($kind:ident $place:literal { $($field:ident)* } [$($operand:expr),*])*) => {
-        match $expression {
-            $($pattern => read_parts($alloc, $number, $named, $operands),)*
-            $(Expression::$kind { $($field,)* .. } => {
-                read_parts($alloc, $place, Nothing, &[$($operand),*])
-            })*
-        }
-    };
-}
-
 impl Expression {
     /// The kind of an expression, the item that it names and its operands.
+    #[rattlefmt::skip]
     pub fn parts(&self, alloc: Global) -> Result<ExpressionParts, AllocError>
         ensures { IfOk result (λ r. ReadsAs r (parts self.now)) }
     {
-        read_kind! { self, alloc;
-            Expression::Literal { .. } => 0 Nothing, &[];
-            Expression::ZeroValue(ty) => 1 TypeOf(*ty), &[];
-            Expression::Constant(c) => 2 ConstantAt(*c), &[];
-            Expression::Override(o) => 3 OverrideAt(*o), &[];
-            Expression::GlobalVariable(g) => 4 GlobalAt(*g), &[];
-            Expression::LocalVariable(l) => 5 LocalAt(*l), &[];
-            Expression::FunctionArgument(n) => 6 ArgumentAt(*n), &[];
-            Expression::CallResult(f) => 7 FunctionAt(*f), &[];
-            Expression::AtomicResult { ty, .. } => 8 TypeOf(*ty), &[];
-            Expression::WorkGroupUniformLoadResult { ty } => 9 TypeOf(*ty), &[];
-            Expression::RayQueryProceedResult => 10 Nothing, &[];
-            Expression::SubgroupBallotResult => 11 Nothing, &[];
-            Expression::SubgroupOperationResult { ty } => 12 TypeOf(*ty), &[];
-            Expression::Compose { ty, components } => 13 TypeOf(*ty), &all_some(components, alloc)?;
-            Expression::ArrayLength(e) => 29 Nothing, &[Some(*e)];
-            @
-            Access 14 { base index } [Some(*base), Some(*index)]
-            AccessIndex 15 { base } [Some(*base)]
-            Splat 16 { value } [Some(*value)]
-            Swizzle 17 { vector } [Some(*vector)]
-            Load 18 { pointer } [Some(*pointer)]
-            ImageSample 19 { image sampler coordinate array_index offset level depth_ref }
-                [Some(*image), Some(*sampler), Some(*coordinate), *array_index, *offset, level.x(), level.y(), *depth_ref]
-            ImageLoad 20 { image coordinate array_index sample level }
-                [Some(*image), Some(*coordinate), *array_index, *sample, *level]
-            ImageQuery 21 { image query } [Some(*image), query.level()]
-            Unary 22 { expr } [Some(*expr)]
-            Binary 23 { left right } [Some(*left), Some(*right)]
-            Select 24 { condition accept reject } [Some(*condition), Some(*accept), Some(*reject)]
-            Derivative 25 { expr } [Some(*expr)]
-            Relational 26 { argument } [Some(*argument)]
-            Math 27 { arg arg1 arg2 arg3 } [Some(*arg), *arg1, *arg2, *arg3]
-            As 28 { expr } [Some(*expr)]
-            RayQueryGetIntersection 30 { query } [Some(*query)]
-            RayQueryVertexPositions 31 { query } [Some(*query)]
+        match self {
+            Expression::Literal { .. } => read_parts(alloc, 0, Nothing, &[]),
+            Expression::ZeroValue(ty) => read_parts(alloc, 1, TypeOf(*ty), &[]),
+            Expression::Constant(c) => read_parts(alloc, 2, ConstantAt(*c), &[]),
+            Expression::Override(o) => read_parts(alloc, 3, OverrideAt(*o), &[]),
+            Expression::GlobalVariable(g) => read_parts(alloc, 4, GlobalAt(*g), &[]),
+            Expression::LocalVariable(l) => read_parts(alloc, 5, LocalAt(*l), &[]),
+            Expression::FunctionArgument(n) => read_parts(alloc, 6, ArgumentAt(*n), &[]),
+            Expression::CallResult(f) => read_parts(alloc, 7, FunctionAt(*f), &[]),
+            Expression::AtomicResult { ty, .. } => read_parts(alloc, 8, TypeOf(*ty), &[]),
+            Expression::WorkGroupUniformLoadResult { ty } => read_parts(alloc, 9, TypeOf(*ty), &[]),
+            Expression::RayQueryProceedResult => read_parts(alloc, 10, Nothing, &[]),
+            Expression::SubgroupBallotResult => read_parts(alloc, 11, Nothing, &[]),
+            Expression::SubgroupOperationResult { ty } => read_parts(alloc, 12, TypeOf(*ty), &[]),
+            Expression::Compose { ty, components } => read_parts(alloc, 13, TypeOf(*ty), &all_some(components, alloc)?),
+            Expression::Access { base, index } => read_parts(alloc, 14, Nothing, &[Some(*base), Some(*index)]),
+            Expression::AccessIndex { base, .. } => read_parts(alloc, 15, Nothing, &[Some(*base)]),
+            Expression::Splat { value, .. } => read_parts(alloc, 16, Nothing, &[Some(*value)]),
+            Expression::Swizzle { vector, .. } => read_parts(alloc, 17, Nothing, &[Some(*vector)]),
+            Expression::Load { pointer } => read_parts(alloc, 18, Nothing, &[Some(*pointer)]),
+            Expression::ImageSample { image, sampler, coordinate, array_index, offset, level, depth_ref, .. } =>
+                read_parts(alloc, 19, Nothing, &[Some(*image), Some(*sampler), Some(*coordinate), *array_index, *offset, level.x(), level.y(), *depth_ref]),
+            Expression::ImageLoad { image, coordinate, array_index, sample, level } =>
+                read_parts(alloc, 20, Nothing, &[Some(*image), Some(*coordinate), *array_index, *sample, *level]),
+            Expression::ImageQuery { image, query } => read_parts(alloc, 21, Nothing, &[Some(*image), query.level()]),
+            Expression::Unary { expr, .. } => read_parts(alloc, 22, Nothing, &[Some(*expr)]),
+            Expression::Binary { left, right, .. } => read_parts(alloc, 23, Nothing, &[Some(*left), Some(*right)]),
+            Expression::Select { condition, accept, reject } => read_parts(alloc, 24, Nothing, &[Some(*condition), Some(*accept), Some(*reject)]),
+            Expression::Derivative { expr, .. } => read_parts(alloc, 25, Nothing, &[Some(*expr)]),
+            Expression::Relational { argument, .. } => read_parts(alloc, 26, Nothing, &[Some(*argument)]),
+            Expression::Math { arg, arg1, arg2, arg3, .. } => read_parts(alloc, 27, Nothing, &[Some(*arg), *arg1, *arg2, *arg3]),
+            Expression::As { expr, .. } => read_parts(alloc, 28, Nothing, &[Some(*expr)]),
+            Expression::ArrayLength(e) => read_parts(alloc, 29, Nothing, &[Some(*e)]),
+            Expression::RayQueryGetIntersection { query, .. } => read_parts(alloc, 30, Nothing, &[Some(*query)]),
+            Expression::RayQueryVertexPositions { query, .. } => read_parts(alloc, 31, Nothing, &[Some(*query)]),
         }
     }
 }
 
-fn all_some(
-    handles: &[Handle<Expression>],
-    alloc: Global,
-) -> Result<Vec<Option<Handle<Expression>>>, AllocError>
+fn all_some(handles: &[Operand], alloc: Global) -> Result<Vec<Option<Operand>>, AllocError>
     ensures { IfOk result (λ v. v.items ≡ map Some handles.now) }
 {
     handles.iter().map(|e| Some(*e)).collect(alloc)

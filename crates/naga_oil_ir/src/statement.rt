@@ -1,7 +1,4 @@
-use super::expression::Operand;
-use super::handle::{Handle, Range};
-use super::module::Function;
-use super::{Expression, Span};
+use super::{Expression, Function, Handle, Operand, Range, Span};
 
 /// A list of statements with spans.
 #[cycle(ast)]

@@ -27,7 +27,7 @@ fn an_arena_keeps_places_and_first_spans(rt: HostRuntime) -> Result<(), Fail> {
     assert!(rt; arena.try_get(Index::new(3)).is_none());
     assert_eq!(rt; arena.iter().count(), 3);
     match arena.try_get(other) {
-        Some(item) => assert!(rt; same_expression(item, &literal(9))),
+        Some(item) => assert!(rt; *item == literal(9)),
         None => assert!(rt; false),
     }
     Ok(())

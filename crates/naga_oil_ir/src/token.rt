@@ -1,7 +1,4 @@
-use super::expression::Expression;
-use super::handle::{Handle, Range};
-use super::module::Function;
-use super::span::Span;
+use super::{Expression, Function, Handle, Range, Span};
 
 /// A part of a body, which a list of them gives in order and without blocks inside blocks.
 #[derive(Clone, Copy)]

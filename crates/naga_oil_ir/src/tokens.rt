@@ -1,27 +1,23 @@
 ghost use Rattle.std.specs.Prelude.{◌≡◌, ◌++◌, OnOk, map};
 ghost use Rattle.naga_oil_ir.specs.Body.{block_tokens, statement_tokens, case_tokens, ray_query_tokens, inside, used, given, given_by};
 
-use super::expression::Expression;
-use super::handle::Handle;
-use super::module::Function;
-use super::statement::{Block, RayQueryFunction, Statement, SwitchCase};
-use super::token::Token;
-use super::token::Token::{Callee, Emitted, Flag, Give, Head, Plain, Use};
+use super::{Block, Function, Handle, Operand, RayQueryFunction, Statement, SwitchCase, Token};
+use Token::{Callee, Emitted, Flag, Give, Head, Plain, Use};
 use std::alloc::AllocError;
 
-fn used(handle: Option<Handle<Expression>>) -> Token
+fn used(handle: Option<Operand>) -> Token
     ensures { result ≡ used handle }
 {
     handle.map_or(Token::Absent, |h| Token::Use(h))
 }
 
-fn given_by(function: Handle<Function>, handle: Option<Handle<Expression>>) -> Token
+fn given_by(function: Handle<Function>, handle: Option<Operand>) -> Token
     ensures { result ≡ given_by function handle }
 {
     handle.map_or(Token::Absent, |h| Token::GiveCall(function, h))
 }
 
-fn given(handle: Option<Handle<Expression>>) -> Token
+fn given(handle: Option<Operand>) -> Token
     ensures { result ≡ given handle }
 {
     handle.map_or(Token::Absent, |h| Token::Give(h))
@@ -34,14 +30,13 @@ macro_rules! push {
     };
 }
 
+#[rattlefmt::skip]
 fn push_ray_query(fun: &RayQueryFunction, out: &mut Vec<Token>) -> Result<(), AllocError>
     ensures { OnOk result (out.new.items ≡ out.old.items ++ ray_query_tokens fun.now) }
 {
     match fun {
-        RayQueryFunction::Initialize {
-            acceleration_structure,
-            descriptor,
-        } => push!(out; Plain(0), Use(*acceleration_structure), Use(*descriptor)),
+        RayQueryFunction::Initialize { acceleration_structure, descriptor } =>
+            push!(out; Plain(0), Use(*acceleration_structure), Use(*descriptor)),
         RayQueryFunction::Proceed { result } => push!(out; Plain(1), Give(*result)),
         RayQueryFunction::Terminate => push!(out; Plain(2)),
         RayQueryFunction::GenerateIntersection { hit_t } => push!(out; Plain(3), Use(*hit_t)),
@@ -49,7 +44,7 @@ fn push_ray_query(fun: &RayQueryFunction, out: &mut Vec<Token>) -> Result<(), Al
     }
 }
 
-fn push_uses(handles: &[Handle<Expression>], out: &mut Vec<Token>) -> Result<(), AllocError>
+fn push_uses(handles: &[Operand], out: &mut Vec<Token>) -> Result<(), AllocError>
     ensures { OnOk result (out.new.items ≡ out.old.items ++ map Token.Use handles.now) }
 {
     for h in handles {
@@ -90,81 +85,68 @@ fn push_case(case: &SwitchCase, out: &mut Vec<Token>) -> Result<(), AllocError>
     push_inside(&case.body, out)
 }
 
-/// Pushes the tokens of a statement: first the kinds with blocks or lists, then a table of the others, each with its
-/// fields and its tokens.
-macro_rules! push_kind {
-    ($statement:expr, $out:ident;
-     $($pattern:pat => $value:expr;)*
-     @
-     $($kind:ident { $($field:ident)* } [$($token:expr),*])*) => {
-        match $statement {
-            $($pattern => $value,)*
-            $(Statement::$kind { $($field,)* } => $out.extend_from_slice(&[$($token),*]),)*
-        }
-    };
-}
-
-/// Pushes a statement, without its span.
+/// Pushes a statement, without its span: the kinds with blocks, lists or results in them at length, the others by their
+/// tokens.
 #[cycle(tokens)]
+#[rattlefmt::skip]
 fn push_statement(statement: &Statement, out: &mut Vec<Token>) -> Result<(), AllocError>
     ensures { OnOk result (out.new.items ≡ out.old.items ++ statement_tokens statement.now) }
 {
-    push_kind! { statement, out;
-        Statement::Emit(range) => push!(out; Head(0), Emitted(*range));
+    match statement {
+        Statement::Emit(range) => push!(out; Head(0), Emitted(*range)),
         Statement::Block(block) => {
             out.push(Token::Head(1))?;
             push_inside(block, out)
-        };
+        }
         Statement::If { condition, accept, reject } => {
             push!(out; Head(2), Use(*condition))?;
             push_inside(accept, out)?;
             push_inside(reject, out)?;
             Ok(())
-        };
+        }
         Statement::Switch { selector, cases } => {
             push!(out; Head(3), Use(*selector))?;
             for case in cases {
                 push_case(case, out)?;
             }
             Ok(())
-        };
+        }
         Statement::Loop { body, continuing, break_if } => {
             out.push(Token::Head(4))?;
             push_inside(body, out)?;
             push_inside(continuing, out)?;
             push!(out; used(*break_if))?;
             Ok(())
-        };
-        Statement::Break => push!(out; Head(5));
-        Statement::Continue => push!(out; Head(6));
-        Statement::Kill => push!(out; Head(7));
-        Statement::ControlBarrier(code) => push!(out; Head(8), Plain(*code));
-        Statement::MemoryBarrier(code) => push!(out; Head(9), Plain(*code));
+        }
+        Statement::Break => push!(out; Head(5)),
+        Statement::Continue => push!(out; Head(6)),
+        Statement::Kill => push!(out; Head(7)),
+        Statement::ControlBarrier(code) => push!(out; Head(8), Plain(*code)),
+        Statement::MemoryBarrier(code) => push!(out; Head(9), Plain(*code)),
+        Statement::Return { value } => push!(out; Head(10), used(*value)),
+        Statement::Store { pointer, value } => push!(out; Head(11), Use(*pointer), Use(*value)),
+        Statement::ImageStore { image, coordinate, array_index, value } =>
+            push!(out; Head(12), Use(*image), Use(*coordinate), used(*array_index), Use(*value)),
+        Statement::Atomic { pointer, fun, compare, value, result } =>
+            push!(out; Head(13), Plain(*fun), used(*compare), Use(*pointer), Use(*value), given(*result)),
+        Statement::ImageAtomic { image, coordinate, array_index, fun, compare, value } =>
+            push!(out; Head(14), Plain(*fun), used(*compare), Use(*image), Use(*coordinate), used(*array_index), Use(*value)),
+        Statement::WorkGroupUniformLoad { pointer, result } => push!(out; Head(15), Use(*pointer), Give(*result)),
         Statement::Call { function, arguments, result } => {
             push!(out; Head(16), Callee(*function))?;
             push_uses(arguments, out)?;
             push!(out; given_by(*function, *result))?;
             Ok(())
-        };
+        }
         Statement::RayQuery { query, fun } => {
             push!(out; Head(17), Use(*query))?;
             push_ray_query(fun, out)?;
             Ok(())
-        };
-        @
-        Return { value } [Head(10), used(*value)]
-        Store { pointer value } [Head(11), Use(*pointer), Use(*value)]
-        ImageStore { image coordinate array_index value }
-            [Head(12), Use(*image), Use(*coordinate), used(*array_index), Use(*value)]
-        Atomic { pointer fun compare value result }
-            [Head(13), Plain(*fun), used(*compare), Use(*pointer), Use(*value), given(*result)]
-        ImageAtomic { image coordinate array_index fun compare value }
-            [Head(14), Plain(*fun), used(*compare), Use(*image), Use(*coordinate), used(*array_index), Use(*value)]
-        WorkGroupUniformLoad { pointer result } [Head(15), Use(*pointer), Give(*result)]
-        SubgroupBallot { result predicate } [Head(18), Give(*result), used(*predicate)]
-        SubgroupGather { mode index argument result }
-            [Head(19), Plain(*mode), used(*index), Use(*argument), Give(*result)]
-        SubgroupCollectiveOperation { op collective argument result }
-            [Head(20), Plain(*op), Plain(*collective), Use(*argument), Give(*result)]
+        }
+        Statement::SubgroupBallot { result, predicate } => push!(out; Head(18), Give(*result), used(*predicate)),
+        Statement::SubgroupGather { mode, index, argument, result } =>
+            push!(out; Head(19), Plain(*mode), used(*index), Use(*argument), Give(*result)),
+        Statement::SubgroupCollectiveOperation { op, collective, argument, result } =>
+            push!(out; Head(20), Plain(*op), Plain(*collective), Use(*argument), Give(*result)),
     }
 }

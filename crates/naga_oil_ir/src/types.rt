@@ -1,6 +1,4 @@
-use super::expression::Expression;
-use super::handle::{Handle, Item};
-use super::kind;
+use super::{Expression, Handle, Item, kind};
 
 /// How many elements an array has.
 #[derive(Clone, Copy, PartialEq, Eq, Hash)]
@@ -21,6 +19,7 @@ pub struct StructMember {
 
 /// What a type is made of.
 #[derive(PartialEq, Eq, Hash, Drop)]
+#[rattlefmt::skip]
 pub enum TypeInner {
     Scalar(u64),
     Vector(u64),
@@ -31,23 +30,10 @@ pub enum TypeInner {
     Atomic(u64),
     AccelerationStructure(u64),
     RayQuery(u64),
-    Pointer {
-        base: Handle<Type>,
-        space: u64,
-    },
-    Struct {
-        members: Vec<StructMember>,
-        span: u32,
-    },
-    Array {
-        base: Handle<Type>,
-        size: ArraySize,
-        stride: u32,
-    },
-    BindingArray {
-        base: Handle<Type>,
-        size: ArraySize,
-    },
+    Pointer { base: Handle<Type>, space: u64 },
+    Struct { members: Vec<StructMember>, span: u32 },
+    Array { base: Handle<Type>, size: ArraySize, stride: u32 },
+    BindingArray { base: Handle<Type>, size: ArraySize },
 }
 
 /// A type.

@@ -2,8 +2,7 @@ ghost use Rattle.std.specs.Prelude.{◌≡◌, ℕ, ◌+◌, ◌<◌, ◌++◌, 
 ghost use Rattle.naga_oil_ir.specs.Places.{place_of, fetched};
 ghost use Rattle.naga_oil_ir.specs.Spans.{undefined};
 
-use super::handle::{Handle, Index, Item};
-use super::span::Span;
+use super::{Handle, Index, Item, Span};
 use indexmap::{IndexMap, map};
 use std::alloc::{AllocError, Global};
 use std::hash::Hash;

@@ -1,6 +1,0 @@
-use Rattle.std.proofs.Common.{rules}
-use Rattle.naga_oil_ir.proofs.ExpressionEquality.{same, back}
-use Rattle.naga_oil_ir.proofs.same.same_expression.Goals as goal
-
-pub returns : goal.returns
-returns c = let s = same c.args.a.now c.args.b.now in let b = back c.args.a.now c.args.b.now in search rules
