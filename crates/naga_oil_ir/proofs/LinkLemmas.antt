@@ -156,6 +156,10 @@ pub spread_one : (m a b : Bool) → m ≡ true → a ≡ b → a ≡ (m && b)
 spread_one true a b h e = e
 spread_one false a b h e = absurd (false≢true h)
 
+pub spread_none : (m a b : Bool) → m ≡ false → a ≡ (a || (m && b))
+spread_none true a b h = absurd (false≢true (sym h))
+spread_none false a b h = sym (or_false a)
+
 -- earlier as far as a walk has come
 pub earlier_push : (ls : Links) (p : ℕ) → ((k : ℕ) → k < p → All (λ x. x < k) (linked ls k)) → All (λ x. x < p) (linked ls p) → (k : ℕ) → k < p + 1 → All (λ x. x < k) (linked ls k)
 earlier_push ls p f h k l =

@@ -7,9 +7,10 @@ ghost use Rattle.naga_oil_ir.specs.BodyForm.{IsSpanFine};
 ghost use Rattle.naga_oil_ir.specs.WellFormed.{SpanForm};
 ghost use Rattle.naga_oil_ir.specs.ItemForm.{types_of, type_at, type_links, is_override, pending, is_sized, IsThere, NamesWell, NamesForm, initialiser, StandAfter, IsGlobalKind, special_types, is_plain, ReachPlain, ExpressionForm, SpecialForm, ItemForm};
 
-use super::form::{are_spans_fine, is_span_fine, read};
+use super::form::{Verdict, are_spans_fine, is_span_fine, read};
 use super::links::{any_marked, are_below, are_earlier, is_marked, marks_of, reached_from};
 use super::{Expression, Index, ItemPlace, Module, Names, Span, SpecialTypes, Type, UniqueArena};
+use ItemPlace::{ConstantItem, ExpressionItem, GlobalItem, OverrideItem, TypeItem};
 use std::alloc::{AllocError, Global};
 use std::collections::HashSet;
 
@@ -17,11 +18,11 @@ fn is_there(of: &Module, place: ItemPlace) -> bool
     ensures { IsTrue result ↔ IsThere of.now place }
 {
     match place {
-        ItemPlace::TypeItem(handle) => handle.index() < of.types.len(),
-        ItemPlace::ConstantItem(handle) => handle.index() < of.constants.len(),
-        ItemPlace::OverrideItem(handle) => handle.index() < of.overrides.len(),
-        ItemPlace::GlobalItem(handle) => handle.index() < of.global_variables.len(),
-        ItemPlace::ExpressionItem(handle) => handle.index() < of.global_expressions.len(),
+        TypeItem(handle) => handle.index() < of.types.len(),
+        ConstantItem(handle) => handle.index() < of.constants.len(),
+        OverrideItem(handle) => handle.index() < of.overrides.len(),
+        GlobalItem(handle) => handle.index() < of.global_variables.len(),
+        ExpressionItem(handle) => handle.index() < of.global_expressions.len(),
     }
 }
 
@@ -37,7 +38,7 @@ fn type_at(name: &Option<ItemPlace>) -> Option<usize>
     ensures { result ≡ type_at name.now }
 {
     match name {
-        Some(ItemPlace::TypeItem(handle)) => Some(handle.index()),
+        Some(TypeItem(handle)) => Some(handle.index()),
         _ => None,
     }
 }
@@ -45,25 +46,24 @@ fn type_at(name: &Option<ItemPlace>) -> Option<usize>
 fn types_named(names: &[Option<ItemPlace>], alloc: Global) -> Result<Vec<usize>, AllocError>
     ensures { IfOk result (λ v. v.items ≡ filter_map type_at names.now) }
 {
-    names.iter().filter_map(|name| type_at(name)).collect(alloc)
+    names.iter().filter_map(|n| type_at(n)).collect(alloc)
+}
+
+fn names_override(names: &[Option<ItemPlace>]) -> bool
+    ensures { result ≡ list_any is_override names.now }
+{
+    names.iter().any(|n| matches!(n, Some(OverrideItem(_))))
 }
 
 fn names_marked(marks: &[bool], names: &[Option<ItemPlace>]) -> bool
     ensures { result ≡ list_any (marked marks.now) (filter_map type_at names.now) }
 {
-    names
-        .iter()
-        .filter_map(|name| type_at(name))
-        .any(|ty| is_marked(marks, ty))
+    let mut types = names.iter().filter_map(|n| type_at(n));
+    types.any(|ty| is_marked(marks, ty))
 }
 
 /// Whether all that items name is there, and none of it is a marked type.
-fn items_name_well<T: Names>(
-    of: &Module,
-    marks: &[bool],
-    items: &[T],
-    alloc: Global,
-) -> Result<bool, AllocError>
+fn items_name_well<T: Names>(of: &Module, marks: &[bool], items: &[T], alloc: Global) -> Verdict
     ensures { IfOk result (λ b. IsTrue b ↔ AtEach (λ e. NamesWell of.now (marked marks.now) (T.row_of e)) items.now) }
 {
     for (place, item) in items.iter().enumerate() {
@@ -76,7 +76,7 @@ fn items_name_well<T: Names>(
 }
 
 /// Whether all that the items name is there, and constants, overrides and global expressions name no sized type.
-fn all_items_name_well(of: &Module, sized: &[bool], alloc: Global) -> Result<bool, AllocError>
+fn all_items_name_well(of: &Module, sized: &[bool], alloc: Global) -> Verdict
     requires { (k : ℕ) → marked sized.now k ≡ is_sized of.now k }
     ensures { IfOk result (λ b. IsTrue b ↔ NamesForm of.now) }
 {
@@ -101,14 +101,6 @@ fn type_links(types: &[Type], alloc: Global) -> Result<Vec<Vec<usize>>, AllocErr
     Ok(links)
 }
 
-fn names_override(names: &[Option<ItemPlace>]) -> bool
-    ensures { result ≡ list_any is_override names.now }
-{
-    names
-        .iter()
-        .any(|name| matches!(name, Some(ItemPlace::OverrideItem(_))))
-}
-
 /// Marks the sized types.
 fn sized_types(types: &[Type], alloc: Global) -> Result<Vec<bool>, AllocError>
     requires { AreEarlier (type_links types.now) }
@@ -127,8 +119,8 @@ fn initialiser(of: &Module, name: &Option<ItemPlace>) -> Option<usize>
     ensures { result ≡ initialiser of.now name.now }
 {
     match name {
-        Some(ItemPlace::ConstantItem(handle)) => Some(of.constants.try_get(*handle)?.init.index()),
-        Some(ItemPlace::OverrideItem(handle)) => Some(of.overrides.try_get(*handle)?.init?.index()),
+        Some(ConstantItem(handle)) => Some(of.constants.try_get(*handle)?.init.index()),
+        Some(OverrideItem(handle)) => Some(of.overrides.try_get(*handle)?.init?.index()),
         _ => None,
     }
 }
@@ -140,7 +132,7 @@ fn initialisers_are_before(of: &Module, names: &[Option<ItemPlace>], limit: usiz
 }
 
 /// Whether each expression stands after the initialisers of what it names.
-fn stand_after(of: &Module, items: &[(Expression, Span)], alloc: Global) -> Result<bool, AllocError>
+fn stand_after(of: &Module, items: &[(Expression, Span)], alloc: Global) -> Verdict
     ensures { IfOk result (λ b. IsTrue b ↔ StandAfter of.now items.now) }
 {
     for (place, entry) in items.iter().enumerate() {
@@ -159,7 +151,7 @@ fn are_global_kinds(kinds: &[u64]) -> bool
 }
 
 /// Whether the global expressions may stand where they do.
-fn expressions_are_fine(of: &Module, alloc: Global) -> Result<bool, AllocError>
+fn expressions_are_fine(of: &Module, alloc: Global) -> Verdict
     ensures { IfOk result (λ b. IsTrue b ↔ ExpressionForm of.now) }
 {
     let items = of.global_expressions.as_slice();
@@ -183,7 +175,7 @@ fn special_types(of: &SpecialTypes, alloc: Global) -> Result<Vec<usize>, AllocEr
     Ok(places)
 }
 
-fn are_distinct(places: &[usize], alloc: Global) -> Result<bool, AllocError>
+fn are_distinct(places: &[usize], alloc: Global) -> Verdict
     ensures { IfOk result (λ b. IsTrue b ↔ IsDistinct nat_eq places.now) }
 {
     let set: HashSet<usize> = places.iter().copied().collect(alloc)?;
@@ -207,31 +199,13 @@ fn are_plain(of: &Module, special: &[bool], reached: &[bool]) -> bool
     marks.all(|(place, mark)| !*mark || is_plain(of, special, place))
 }
 
-/// Whether special types reach only unnamed or special ones.
-fn special_types_reach_plain(
-    of: &Module,
-    links: &[Vec<usize>],
-    places: &[usize],
-    alloc: Global,
-) -> Result<bool, AllocError>
-    requires links { lists links.now ≡ type_links (types_of of.now) }
-    requires earlier { AreEarlier (lists links.now) }
-    requires places { places.now ≡ special_types of.now.special_types }
-    requires there { All (λ k. k < length links.now) places.now }
-    ensures { IfOk result (λ b. IsTrue b ↔ ReachPlain of.now places.now) }
-{
-    let special = marks_of(places, links.len(), alloc)?;
-    let reached = reached_from(links, places, alloc)?;
-    Ok(are_plain(of, &special, &reached))
-}
-
 /// Whether the special types pass the test of form.
 fn special_types_are_fine(
     of: &Module,
     links: &[Vec<usize>],
     sized: &[bool],
     alloc: Global,
-) -> Result<bool, AllocError>
+) -> Verdict
     requires links { lists links.now ≡ type_links (types_of of.now) }
     requires earlier { AreEarlier (lists links.now) }
     requires sized { (k : ℕ) → marked sized.now k ≡ is_sized of.now k }
@@ -242,12 +216,13 @@ fn special_types_are_fine(
         return Ok(false);
     }
     let distinct = are_distinct(&places, alloc)?;
-    let plain = special_types_reach_plain(of, links, &places, alloc)?;
-    Ok(distinct & !any_marked(sized, &places) & plain)
+    let special = marks_of(&places, links.len(), alloc)?;
+    let reached = reached_from(links, &places, alloc)?;
+    Ok(distinct & !any_marked(sized, &places) & are_plain(of, &special, &reached))
 }
 
 /// Whether the items of a module pass the test of form.
-pub fn items_are_fine(of: &Module, alloc: Global) -> Result<bool, AllocError>
+pub fn items_are_fine(of: &Module, alloc: Global) -> Verdict
     ensures { IfOk result (λ b. IsTrue b ↔ ItemForm of.now) }
 {
     let types = of.types.items();

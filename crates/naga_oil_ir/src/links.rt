@@ -41,20 +41,6 @@ fn mark_all(marks: &mut Vec<bool>, places: &[usize])
     }
 }
 
-/// Marks what a marked place names.
-fn spread(marks: &mut Vec<bool>, links: &[Vec<usize>], place: usize)
-    requires long { length marks.old.items ≡ length links.now }
-    requires earlier { AreEarlier (lists links.now) }
-    requires within { place < length links.now }
-    ensures long { length marks.new.items ≡ length marks.old.items }
-    ensures marked { (k : ℕ) → marked marks.new.items k ≡ (marked marks.old.items k || (marked marks.old.items place && has (linked (lists links.now) place) k)) }
-{
-    if !is_marked(marks, place) {
-        return;
-    }
-    mark_all(marks, links[place].as_slice());
-}
-
 /// So many places, none of them marked.
 pub fn no_marks(count: usize, alloc: Global) -> Result<Vec<bool>, AllocError>
     ensures long { IfOk result (λ v. length v.items ≡ count) }
@@ -89,7 +75,9 @@ pub fn reached_from(
     let count = links.len();
     for step in 0..count {
         let place = count - 1 - step;
-        spread(&mut marks, links, place);
+        if is_marked(&marks, place) {
+            mark_all(&mut marks, links[place].as_slice());
+        }
     }
     Ok(marks)
 }

@@ -46,38 +46,34 @@ fn read_parts(
     })
 }
 
-impl SampleLevel {
-    /// The operand, or the gradient's first.
-    pub fn x(&self) -> Option<Operand>
-        ensures { result ≡ level_x self.now }
-    {
-        match self {
-            SampleLevel::Auto | SampleLevel::Zero => None,
-            SampleLevel::Exact(e) | SampleLevel::Bias(e) => Some(*e),
-            SampleLevel::Gradient { x, .. } => Some(*x),
-        }
-    }
-
-    /// The gradient's second operand.
-    pub fn y(&self) -> Option<Operand>
-        ensures { result ≡ level_y self.now }
-    {
-        match self {
-            SampleLevel::Gradient { y, .. } => Some(*y),
-            _ => None,
-        }
+/// A level's operand, or the first of a gradient.
+fn level_x(level: &SampleLevel) -> Option<Operand>
+    ensures { result ≡ level_x level.now }
+{
+    match level {
+        SampleLevel::Auto | SampleLevel::Zero => None,
+        SampleLevel::Exact(e) | SampleLevel::Bias(e) => Some(*e),
+        SampleLevel::Gradient { x, .. } => Some(*x),
     }
 }
 
-impl ImageQuery {
-    /// The operand, if there is one.
-    pub fn level(&self) -> Option<Operand>
-        ensures { result ≡ query_level self.now }
-    {
-        match self {
-            ImageQuery::Size { level } => *level,
-            ImageQuery::Other(_) => None,
-        }
+/// The second operand of a gradient.
+fn level_y(level: &SampleLevel) -> Option<Operand>
+    ensures { result ≡ level_y level.now }
+{
+    match level {
+        SampleLevel::Gradient { y, .. } => Some(*y),
+        _ => None,
+    }
+}
+
+/// The operand of a query, if there is one.
+fn query_level(query: &ImageQuery) -> Option<Operand>
+    ensures { result ≡ query_level query.now }
+{
+    match query {
+        ImageQuery::Size { level } => *level,
+        ImageQuery::Other(_) => None,
     }
 }
 
@@ -108,10 +104,10 @@ impl Expression {
             Expression::Swizzle { vector, .. } => read_parts(alloc, 17, Nothing, &[Some(*vector)]),
             Expression::Load { pointer } => read_parts(alloc, 18, Nothing, &[Some(*pointer)]),
             Expression::ImageSample { image, sampler, coordinate, array_index, offset, level, depth_ref, .. } =>
-                read_parts(alloc, 19, Nothing, &[Some(*image), Some(*sampler), Some(*coordinate), *array_index, *offset, level.x(), level.y(), *depth_ref]),
+                read_parts(alloc, 19, Nothing, &[Some(*image), Some(*sampler), Some(*coordinate), *array_index, *offset, level_x(level), level_y(level), *depth_ref]),
             Expression::ImageLoad { image, coordinate, array_index, sample, level } =>
                 read_parts(alloc, 20, Nothing, &[Some(*image), Some(*coordinate), *array_index, *sample, *level]),
-            Expression::ImageQuery { image, query } => read_parts(alloc, 21, Nothing, &[Some(*image), query.level()]),
+            Expression::ImageQuery { image, query } => read_parts(alloc, 21, Nothing, &[Some(*image), query_level(query)]),
             Expression::Unary { expr, .. } => read_parts(alloc, 22, Nothing, &[Some(*expr)]),
             Expression::Binary { left, right, .. } => read_parts(alloc, 23, Nothing, &[Some(*left), Some(*right)]),
             Expression::Select { condition, accept, reject } => read_parts(alloc, 24, Nothing, &[Some(*condition), Some(*accept), Some(*reject)]),
