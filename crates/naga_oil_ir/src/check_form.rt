@@ -42,8 +42,8 @@ impl Module {
     {
         let items = items_are_fine(self, alloc)?;
         let names = names_are_fine(self, decoration, alloc)?;
-        let functions = functions_are_fine(self, self.functions.as_slice(), text_len, alloc)?;
-        let entries = entries_are_fine(self, &self.entry_points, text_len, alloc)?;
+        let functions = functions_are_fine(self, text_len, alloc)?;
+        let entries = entries_are_fine(self, text_len, alloc)?;
         if items & names & functions & entries & spans_are_fine(self, text_len) {
             return Ok(());
         }

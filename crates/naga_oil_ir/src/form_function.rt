@@ -4,9 +4,12 @@ ghost use Rattle.naga_oil_ir.specs.BodyForm.{MayStand, kinds, callees, named_of,
 ghost use Rattle.naga_oil_ir.specs.WellFormed.{NamedThere, initialisers_of, initialisers, SpansWithin, FunctionForm, FunctionsForm, IsExpressionThere, MeshForm, EntryForm};
 
 use super::body::may_stand;
-use super::form::{are_spans_fine, are_tokens_fine, read};
+use super::form::{Tested, are_spans_fine, are_tokens_fine, read};
 use super::tokens::push_block;
-use super::{EntryPoint, Expression, Function, FunctionArgument, FunctionResult, GlobalVariable, Handle, LocalVariable, MeshInfo, Module, Named, Span, Token, Type};
+use super::{
+    EntryPoint, Expression, Function, FunctionArgument, FunctionResult, GlobalVariable, Handle,
+    LocalVariable, MeshInfo, Module, Named, Span, Token, Type,
+};
 use indexmap::IndexMap;
 use std::alloc::{AllocError, Global};
 
@@ -53,10 +56,7 @@ fn names_are_there(names: &IndexMap<Handle<Expression>, String>, limit: usize) -
 }
 
 /// The initialisers of local variables, in order.
-fn initialisers(
-    locals: &[(LocalVariable, Span)],
-    alloc: Global,
-) -> Result<Vec<usize>, AllocError>
+fn initialisers(locals: &[(LocalVariable, Span)], alloc: Global) -> Result<Vec<usize>, AllocError>
     ensures { IfOk result (λ v. v.items ≡ initialisers_of locals.now) }
 {
     let mut inits = Vec::new(alloc);
@@ -86,7 +86,9 @@ fn is_named_there(of: &Module, function: &Function, named: Named) -> bool
 fn are_named_there(of: &Module, function: &Function, named: &[Named]) -> bool
     ensures { IsTrue result ↔ All (NamedThere of.now function.now) named.now }
 {
-    named.iter().all(|named| is_named_there(of, function, *named))
+    named
+        .iter()
+        .all(|named| is_named_there(of, function, *named))
 }
 
 fn signature_is_fine(of: &Module, function: &Function) -> bool
@@ -106,12 +108,7 @@ fn spans_are_within(function: &Function, text_len: usize) -> bool
 }
 
 /// Whether what the expressions of a function name is there, and they may stand with its body.
-fn expressions_are_fine(
-    of: &Module,
-    function: &Function,
-    tokens: &[Token],
-    alloc: Global,
-) -> Result<bool, AllocError>
+fn expressions_are_fine(of: &Module, function: &Function, tokens: &[Token], alloc: Global) -> Tested
     ensures { IfOk result (λ b. IsTrue b ↔ (All (NamedThere of.now function.now) (named_of function.now.expressions) × MayStand (kinds function.now.expressions) (callees function.now.expressions) (operand_links function.now.expressions) (initialisers function.now) tokens.now)) }
 {
     let read = read(function.expressions.as_slice(), alloc)?;
@@ -128,16 +125,17 @@ fn function_is_fine(
     calls_below: usize,
     text_len: usize,
     alloc: Global,
-) -> Result<bool, AllocError>
+) -> Tested
     ensures { IfOk result (λ b. IsTrue b ↔ FunctionForm of.now calls_below text_len function.now) }
 {
     let mut tokens = Vec::new(alloc);
     push_block(&function.body, &mut tokens)?;
     let fine = expressions_are_fine(of, function, &tokens, alloc)?;
-    Ok(fine
-        && signature_is_fine(of, function)
-        && spans_are_within(function, text_len)
-        && are_tokens_fine(&tokens, calls_below, text_len))
+    Ok(
+        fine && signature_is_fine(of, function)
+            && spans_are_within(function, text_len)
+            && are_tokens_fine(&tokens, calls_below, text_len),
+    )
 }
 
 fn is_expression_there(of: &Module, handle: Option<Handle<Expression>>) -> bool
@@ -175,30 +173,22 @@ fn are_sizes_there(of: &Module, sizes: Option<[Option<Handle<Expression>>; 3]>) 
 }
 
 /// Whether an entry point passes the test of form in a text of so many bytes.
-fn entry_is_fine(
-    of: &Module,
-    entry: &EntryPoint,
-    text_len: usize,
-    alloc: Global,
-) -> Result<bool, AllocError>
+fn entry_is_fine(of: &Module, entry: &EntryPoint, text_len: usize, alloc: Global) -> Tested
     ensures { IfOk result (λ b. IsTrue b ↔ EntryForm of.now text_len entry.now) }
 {
     let fine = function_is_fine(of, &entry.function, of.functions.len(), text_len, alloc)?;
-    Ok(fine
-        && are_sizes_there(of, entry.workgroup_size_overrides)
-        && is_mesh_there(of, entry.mesh_info)
-        && payload_is_there(of, entry.task_payload))
+    Ok(
+        fine && are_sizes_there(of, entry.workgroup_size_overrides)
+            && is_mesh_there(of, entry.mesh_info)
+            && payload_is_there(of, entry.task_payload),
+    )
 }
 
 /// Whether functions pass the test of form in a text of so many bytes; the calls of each go to those before it.
-pub fn functions_are_fine(
-    of: &Module,
-    functions: &[(Function, Span)],
-    text_len: usize,
-    alloc: Global,
-) -> Result<bool, AllocError>
-    ensures { IfOk result (λ b. IsTrue b ↔ FunctionsForm of.now text_len functions.now) }
+pub fn functions_are_fine(of: &Module, text_len: usize, alloc: Global) -> Tested
+    ensures { IfOk result (λ b. IsTrue b ↔ FunctionsForm of.now text_len of.now.functions) }
 {
+    let functions = of.functions.as_slice();
     for (place, entry) in functions.iter().enumerate() {
         if !function_is_fine(of, &entry.0, place, text_len, alloc)? {
             return Ok(false);
@@ -208,15 +198,10 @@ pub fn functions_are_fine(
 }
 
 /// Whether entry points pass the test of form in a text of so many bytes.
-pub fn entries_are_fine(
-    of: &Module,
-    entries: &[EntryPoint],
-    text_len: usize,
-    alloc: Global,
-) -> Result<bool, AllocError>
-    ensures { IfOk result (λ b. IsTrue b ↔ All (EntryForm of.now text_len) entries.now) }
+pub fn entries_are_fine(of: &Module, text_len: usize, alloc: Global) -> Tested
+    ensures { IfOk result (λ b. IsTrue b ↔ All (EntryForm of.now text_len) of.now.entry_points.items) }
 {
-    for entry in entries {
+    for entry in &of.entry_points {
         if !entry_is_fine(of, entry, text_len, alloc)? {
             return Ok(false);
         }

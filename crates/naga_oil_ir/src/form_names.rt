@@ -4,9 +4,9 @@ ghost use Rattle.std.specs.List.{IsDistinct};
 ghost use Rattle.std.specs.Cmp.Lexicographic.{pointwise};
 ghost use Rattle.naga_oil_ir.specs.NameForm.{is_within, module_mark, decorated, function_name, entry_name, NameForm};
 
+use super::form::Tested;
 use super::form_function::functions_are_named;
-use super::module::{EntryPoint, Function, Module};
-use super::span::Span;
+use super::{EntryPoint, Function, Module, Span};
 use std::alloc::{AllocError, Global};
 use std::collections::BTreeSet;
 
@@ -65,7 +65,7 @@ fn entry_names(
     Ok(names)
 }
 
-fn are_distinct(names: Vec<String>, alloc: Global) -> Result<bool, AllocError>
+fn are_distinct(names: Vec<String>, alloc: Global) -> Tested
     ensures { IfOk result (λ b. IsTrue b ↔ IsDistinct (pointwise nat_eq) (map string_bytes names.items)) }
 {
     let count = names.len();
@@ -73,26 +73,12 @@ fn are_distinct(names: Vec<String>, alloc: Global) -> Result<bool, AllocError>
     Ok(set.len() == count)
 }
 
-fn are_functions_apart(of: &Module, decoration: &str, alloc: Global) -> Result<bool, AllocError>
-    ensures { IfOk result (λ b. IsTrue b ↔ IsDistinct (pointwise nat_eq) (map (λ e. decorated decoration.now (function_name e.0)) of.now.functions)) }
-{
-    let names = function_names(of.functions.as_slice(), decoration, alloc)?;
-    are_distinct(names, alloc)
-}
-
-fn are_entries_apart(of: &Module, decoration: &str, alloc: Global) -> Result<bool, AllocError>
-    ensures { IfOk result (λ b. IsTrue b ↔ IsDistinct (pointwise nat_eq) (map (λ e. decorated decoration.now (entry_name e.function)) of.now.entry_points.items)) }
-{
-    let names = entry_names(&of.entry_points, decoration, alloc)?;
-    are_distinct(names, alloc)
-}
-
 /// Whether functions are named, and their names, decorated, are distinct, and so are those of entry points' functions.
-pub fn names_are_fine(of: &Module, decoration: &str, alloc: Global) -> Result<bool, AllocError>
+pub fn names_are_fine(of: &Module, decoration: &str, alloc: Global) -> Tested
     ensures { IfOk result (λ b. IsTrue b ↔ NameForm of.now decoration.now) }
 {
-    let named = functions_are_named(of.functions.as_slice());
-    let apart = are_functions_apart(of, decoration, alloc)?;
-    let entries_apart = are_entries_apart(of, decoration, alloc)?;
-    Ok(named && apart && entries_apart)
+    let functions = function_names(of.functions.as_slice(), decoration, alloc)?;
+    let entries = entry_names(&of.entry_points, decoration, alloc)?;
+    let apart = are_distinct(functions, alloc)? & are_distinct(entries, alloc)?;
+    Ok(functions_are_named(of.functions.as_slice()) & apart)
 }

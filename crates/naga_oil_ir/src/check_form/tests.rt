@@ -87,14 +87,18 @@ fn entry(function: Function, alloc: Global) -> Result<EntryPoint, AllocError> {
 fn small(alloc: Global) -> Result<Module, AllocError> {
     let mut module = Module::new(alloc);
     module.types.insert(scalar(1), Span::new(0, 10))?;
-    module.global_expressions.append(literal(), Span::UNDEFINED)?;
+    module
+        .global_expressions
+        .append(literal(), Span::UNDEFINED)?;
     let constant = Constant {
         name: None,
         ty: Index::new(0),
         init: Index::new(0),
     };
     module.constants.append(constant, Span::new(3, 3))?;
-    module.functions.append(named("f", alloc)?, Span::UNDEFINED)?;
+    module
+        .functions
+        .append(named("f", alloc)?, Span::UNDEFINED)?;
     Ok(module)
 }
 
@@ -263,7 +267,11 @@ fn locals_and_names_are_there(rt: HostRuntime) -> Result<(), Fail> {
 #[test]
 fn what_expressions_name_is_there(rt: HostRuntime) -> Result<(), Fail> {
     let alloc = rt.alloc();
-    let there = vec![in alloc; Expression::ZeroValue(Index::new(0)), Expression::Constant(Index::new(0)), Expression::CallResult(Index::new(1))]?;
+    let there = vec![in alloc;
+        Expression::ZeroValue(Index::new(0)),
+        Expression::Constant(Index::new(0)),
+        Expression::CallResult(Index::new(1)),
+    ]?;
     assert!(rt; is_body_taken(there, Vec::new(alloc), alloc)?);
     let expressions = vec![in alloc; Expression::ZeroValue(Index::new(1))]?;
     assert!(rt; !is_body_taken(expressions, Vec::new(alloc), alloc)?);
@@ -414,7 +422,9 @@ fn spans_of_items_lie_in_the_text(rt: HostRuntime) -> Result<(), Fail> {
     module.types.insert(scalar(2), Span::new(0, 11))?;
     assert!(rt; !is_taken(&module, "", alloc)?);
     let mut module = small(alloc)?;
-    module.functions.append(named("g", alloc)?, Span::new(0, 11))?;
+    module
+        .functions
+        .append(named("g", alloc)?, Span::new(0, 11))?;
     assert!(rt; !is_taken(&module, "", alloc)?);
     Ok(())
 }
@@ -513,11 +523,7 @@ fn expressions_stand_after_initialisers(rt: HostRuntime) -> Result<(), Fail> {
             init: Index::new(init),
         };
         module.constants.append(constant, Span::UNDEFINED)?;
-        for expression in [
-            literal(),
-            Expression::Constant(Index::new(1)),
-            literal(),
-        ] {
+        for expression in [literal(), Expression::Constant(Index::new(1)), literal()] {
             module
                 .global_expressions
                 .append(expression, Span::UNDEFINED)?;
