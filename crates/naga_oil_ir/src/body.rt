@@ -3,7 +3,7 @@ ghost use Rattle.naga_oil_ir.specs.Links.{lists, marked, AreMarks};
 ghost use Rattle.naga_oil_ir.specs.BodyForm.{callee, MayStand, known_by, MayBeEmitted, AreEmittedBy, marks_after, places, made, is_result, MayBeGivenBy, IsFineBy, AreFineBy, AreFine};
 
 use super::expression::Expression;
-use super::form::{Reading, Verdict, callee_at, is_external, is_result};
+use super::form::{Reading, Tested, callee_at, is_external, is_result};
 use super::handle::Range;
 use super::links::{are_below, are_earlier, is_marked, no_marks, reached_from};
 use super::{Named, Token};
@@ -98,7 +98,7 @@ fn no_result_is_marked(kinds: &[u64], marks: &[bool]) -> bool
 }
 
 /// Whether the parts of a body may stand one after another.
-fn body_may_stand(of: &Known<'_>, tokens: &[Token], alloc: Global) -> Verdict
+fn body_may_stand(of: &Known<'_>, tokens: &[Token], alloc: Global) -> Tested
     ensures { IfOk result (λ b. (s : List ℕ) → AreMarks of.now.started.now s → (IsTrue b ↔ AreFine (length of.now.links.now) of.now.kinds.now (map callee of.now.named.now) (lists of.now.links.now) s [] tokens.now)) }
 {
     let mut done = no_marks(of.links.len(), alloc)?;
@@ -112,7 +112,7 @@ fn body_may_stand(of: &Known<'_>, tokens: &[Token], alloc: Global) -> Verdict
 
 /// Whether what was read of a function's expressions may stand with the initialisers of its local variables and the parts
 /// of its body.
-pub fn may_stand(read: &Reading, inits: &[usize], tokens: &[Token], alloc: Global) -> Verdict
+pub fn may_stand(read: &Reading, inits: &[usize], tokens: &[Token], alloc: Global) -> Tested
     ensures { IfOk result (λ b. IsTrue b ↔ MayStand read.now.kinds.items (map callee read.now.named.items) (lists read.now.links.items) inits.now tokens.now) }
 {
     let kinds = read.kinds.as_slice();

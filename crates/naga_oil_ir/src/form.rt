@@ -5,8 +5,8 @@ ghost use Rattle.naga_oil_ir.specs.BodyForm.{IsSpanFine, IsTokenFine, IsReading,
 use super::{Expression, Named, Operand, Span, Token};
 use std::alloc::{AllocError, Global};
 
-/// Whether a clause of the test of form holds, or want of memory.
-pub type Verdict = Result<bool, AllocError>;
+/// What a test answers, unless it finds no memory.
+pub type Tested = Result<bool, AllocError>;
 
 /// Whether a span lies in a text of so many bytes.
 pub fn is_span_fine(span: Span, text_len: usize) -> bool

@@ -4,7 +4,7 @@ ghost use Rattle.naga_oil_ir.specs.BodyForm.{MayStand, kinds, callees, named_of,
 ghost use Rattle.naga_oil_ir.specs.WellFormed.{NamedThere, initialisers_of, initialisers, SpansWithin, FunctionForm, FunctionsForm, IsExpressionThere, MeshForm, EntryForm};
 
 use super::body::may_stand;
-use super::form::{Verdict, are_spans_fine, are_tokens_fine, read};
+use super::form::{Tested, are_spans_fine, are_tokens_fine, read};
 use super::tokens::push_block;
 use super::{
     EntryPoint, Expression, Function, FunctionArgument, FunctionResult, GlobalVariable, Handle,
@@ -108,12 +108,7 @@ fn spans_are_within(function: &Function, text_len: usize) -> bool
 }
 
 /// Whether what the expressions of a function name is there, and they may stand with its body.
-fn expressions_are_fine(
-    of: &Module,
-    function: &Function,
-    tokens: &[Token],
-    alloc: Global,
-) -> Verdict
+fn expressions_are_fine(of: &Module, function: &Function, tokens: &[Token], alloc: Global) -> Tested
     ensures { IfOk result (λ b. IsTrue b ↔ (All (NamedThere of.now function.now) (named_of function.now.expressions) × MayStand (kinds function.now.expressions) (callees function.now.expressions) (operand_links function.now.expressions) (initialisers function.now) tokens.now)) }
 {
     let read = read(function.expressions.as_slice(), alloc)?;
@@ -130,7 +125,7 @@ fn function_is_fine(
     calls_below: usize,
     text_len: usize,
     alloc: Global,
-) -> Verdict
+) -> Tested
     ensures { IfOk result (λ b. IsTrue b ↔ FunctionForm of.now calls_below text_len function.now) }
 {
     let mut tokens = Vec::new(alloc);
@@ -178,7 +173,7 @@ fn are_sizes_there(of: &Module, sizes: Option<[Option<Handle<Expression>>; 3]>) 
 }
 
 /// Whether an entry point passes the test of form in a text of so many bytes.
-fn entry_is_fine(of: &Module, entry: &EntryPoint, text_len: usize, alloc: Global) -> Verdict
+fn entry_is_fine(of: &Module, entry: &EntryPoint, text_len: usize, alloc: Global) -> Tested
     ensures { IfOk result (λ b. IsTrue b ↔ EntryForm of.now text_len entry.now) }
 {
     let fine = function_is_fine(of, &entry.function, of.functions.len(), text_len, alloc)?;
@@ -190,7 +185,7 @@ fn entry_is_fine(of: &Module, entry: &EntryPoint, text_len: usize, alloc: Global
 }
 
 /// Whether functions pass the test of form in a text of so many bytes; the calls of each go to those before it.
-pub fn functions_are_fine(of: &Module, text_len: usize, alloc: Global) -> Verdict
+pub fn functions_are_fine(of: &Module, text_len: usize, alloc: Global) -> Tested
     ensures { IfOk result (λ b. IsTrue b ↔ FunctionsForm of.now text_len of.now.functions) }
 {
     let functions = of.functions.as_slice();
@@ -203,7 +198,7 @@ pub fn functions_are_fine(of: &Module, text_len: usize, alloc: Global) -> Verdic
 }
 
 /// Whether entry points pass the test of form in a text of so many bytes.
-pub fn entries_are_fine(of: &Module, text_len: usize, alloc: Global) -> Verdict
+pub fn entries_are_fine(of: &Module, text_len: usize, alloc: Global) -> Tested
     ensures { IfOk result (λ b. IsTrue b ↔ All (EntryForm of.now text_len) of.now.entry_points.items) }
 {
     for entry in &of.entry_points {

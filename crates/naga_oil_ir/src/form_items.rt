@@ -7,7 +7,7 @@ ghost use Rattle.naga_oil_ir.specs.BodyForm.{IsSpanFine};
 ghost use Rattle.naga_oil_ir.specs.WellFormed.{SpanForm};
 ghost use Rattle.naga_oil_ir.specs.ItemForm.{types_of, type_at, type_links, is_override, pending, is_sized, IsThere, NamesWell, NamesForm, initialiser, StandAfter, IsGlobalKind, special_types, is_plain, ReachPlain, ExpressionForm, SpecialForm, ItemForm};
 
-use super::form::{Verdict, are_spans_fine, is_span_fine, read};
+use super::form::{Tested, are_spans_fine, is_span_fine, read};
 use super::links::{any_marked, are_below, are_earlier, is_marked, marks_of, reached_from};
 use super::{Expression, Index, ItemPlace, Module, Names, Span, SpecialTypes, Type, UniqueArena};
 use ItemPlace::{ConstantItem, ExpressionItem, GlobalItem, OverrideItem, TypeItem};
@@ -63,7 +63,7 @@ fn names_marked(marks: &[bool], names: &[Option<ItemPlace>]) -> bool
 }
 
 /// Whether all that items name is there, and none of it is a marked type.
-fn items_name_well<T: Names>(of: &Module, marks: &[bool], items: &[T], alloc: Global) -> Verdict
+fn items_name_well<T: Names>(of: &Module, marks: &[bool], items: &[T], alloc: Global) -> Tested
     ensures { IfOk result (λ b. IsTrue b ↔ AtEach (λ e. NamesWell of.now (marked marks.now) (T.row_of e)) items.now) }
 {
     for (place, item) in items.iter().enumerate() {
@@ -76,7 +76,7 @@ fn items_name_well<T: Names>(of: &Module, marks: &[bool], items: &[T], alloc: Gl
 }
 
 /// Whether all that the items name is there, and constants, overrides and global expressions name no sized type.
-fn all_items_name_well(of: &Module, sized: &[bool], alloc: Global) -> Verdict
+fn all_items_name_well(of: &Module, sized: &[bool], alloc: Global) -> Tested
     requires { (k : ℕ) → marked sized.now k ≡ is_sized of.now k }
     ensures { IfOk result (λ b. IsTrue b ↔ NamesForm of.now) }
 {
@@ -132,7 +132,7 @@ fn initialisers_are_before(of: &Module, names: &[Option<ItemPlace>], limit: usiz
 }
 
 /// Whether each expression stands after the initialisers of what it names.
-fn stand_after(of: &Module, items: &[(Expression, Span)], alloc: Global) -> Verdict
+fn stand_after(of: &Module, items: &[(Expression, Span)], alloc: Global) -> Tested
     ensures { IfOk result (λ b. IsTrue b ↔ StandAfter of.now items.now) }
 {
     for (place, entry) in items.iter().enumerate() {
@@ -151,7 +151,7 @@ fn are_global_kinds(kinds: &[u64]) -> bool
 }
 
 /// Whether the global expressions may stand where they do.
-fn expressions_are_fine(of: &Module, alloc: Global) -> Verdict
+fn expressions_are_fine(of: &Module, alloc: Global) -> Tested
     ensures { IfOk result (λ b. IsTrue b ↔ ExpressionForm of.now) }
 {
     let items = of.global_expressions.as_slice();
@@ -175,7 +175,7 @@ fn special_types(of: &SpecialTypes, alloc: Global) -> Result<Vec<usize>, AllocEr
     Ok(places)
 }
 
-fn are_distinct(places: &[usize], alloc: Global) -> Verdict
+fn are_distinct(places: &[usize], alloc: Global) -> Tested
     ensures { IfOk result (λ b. IsTrue b ↔ IsDistinct nat_eq places.now) }
 {
     let set: HashSet<usize> = places.iter().copied().collect(alloc)?;
@@ -205,7 +205,7 @@ fn special_types_are_fine(
     links: &[Vec<usize>],
     sized: &[bool],
     alloc: Global,
-) -> Verdict
+) -> Tested
     requires links { lists links.now ≡ type_links (types_of of.now) }
     requires earlier { AreEarlier (lists links.now) }
     requires sized { (k : ℕ) → marked sized.now k ≡ is_sized of.now k }
@@ -222,7 +222,7 @@ fn special_types_are_fine(
 }
 
 /// Whether the items of a module pass the test of form.
-pub fn items_are_fine(of: &Module, alloc: Global) -> Verdict
+pub fn items_are_fine(of: &Module, alloc: Global) -> Tested
     ensures { IfOk result (λ b. IsTrue b ↔ ItemForm of.now) }
 {
     let types = of.types.items();

@@ -4,7 +4,7 @@ ghost use Rattle.std.specs.List.{IsDistinct};
 ghost use Rattle.std.specs.Cmp.Lexicographic.{pointwise};
 ghost use Rattle.naga_oil_ir.specs.NameForm.{is_within, module_mark, decorated, function_name, entry_name, NameForm};
 
-use super::form::Verdict;
+use super::form::Tested;
 use super::form_function::functions_are_named;
 use super::{EntryPoint, Function, Module, Span};
 use std::alloc::{AllocError, Global};
@@ -65,7 +65,7 @@ fn entry_names(
     Ok(names)
 }
 
-fn are_distinct(names: Vec<String>, alloc: Global) -> Verdict
+fn are_distinct(names: Vec<String>, alloc: Global) -> Tested
     ensures { IfOk result (λ b. IsTrue b ↔ IsDistinct (pointwise nat_eq) (map string_bytes names.items)) }
 {
     let count = names.len();
@@ -74,7 +74,7 @@ fn are_distinct(names: Vec<String>, alloc: Global) -> Verdict
 }
 
 /// Whether functions are named, and their names, decorated, are distinct, and so are those of entry points' functions.
-pub fn names_are_fine(of: &Module, decoration: &str, alloc: Global) -> Verdict
+pub fn names_are_fine(of: &Module, decoration: &str, alloc: Global) -> Tested
     ensures { IfOk result (λ b. IsTrue b ↔ NameForm of.now decoration.now) }
 {
     let functions = function_names(of.functions.as_slice(), decoration, alloc)?;

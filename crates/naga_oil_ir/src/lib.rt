@@ -38,12 +38,16 @@ pub use check_form::FormFault;
 pub use expression::{Expression, ImageQuery, Operand, SampleLevel};
 pub use handle::{Handle, Index, Item, Places, Range};
 pub use language::ShaderLanguage;
-pub use module::*;
+pub use module::{
+    EntryPoint, Function, FunctionArgument, FunctionResult, MeshInfo, Module, SpecialTypes,
+};
 pub use names::{ItemPlace, NameList, Names};
 pub use parts::{ExpressionParts, Named};
 pub use span::Span;
 pub use statement::{Block, RayQueryFunction, Statement, SwitchCase};
 pub use token::Token;
 pub use tokens::push_block;
-pub use types::*;
+pub use types::{
+    ArraySize, Constant, GlobalVariable, LocalVariable, Override, StructMember, Type, TypeInner,
+};
 pub use unique_arena::UniqueArena;
