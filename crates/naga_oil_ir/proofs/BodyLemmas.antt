@@ -1,0 +1,22 @@
+use Rattle.std.proofs.Common.{◌≡◌, ◌++◌, List, [], ◌∷◌, map, refl, ap, sym, ◌∙◌, ℕ, Vec, Global}
+use Rattle.naga_oil_ir.specs.declared.token.Token.TheVariants.{At, Head, Use}
+use Rattle.naga_oil_ir.specs.declared.statement.Statement.TheOpen as open_
+use Rattle.naga_oil_ir.specs.declared.statement.SwitchCase.{SwitchCase}
+use Rattle.std.specs.List.{flat_map}
+use Rattle.naga_oil_ir.specs.Body.{spanned_tokens, Tokens, block_tokens, statement_tokens, case_tokens, statement_step, block_step, case_step}
+use Rattle.naga_oil_ir.specs.declared.statement.Block.{Block, out-Block, fold_out-Block}
+use Rattle.naga_oil_ir.specs.declared.statement.Statement.{fold-roll-Statement, Switch}
+use Rattle.naga_oil_ir.specs.declared.statement.Statement.TheVariants.{rolls-Switch}
+
+flat_map-map : {X Y A : Type 0} (f : Y → List A) (g : X → Y) (xs : List X) → flat_map f (map g xs) ≡ flat_map (λ x. f (g x)) xs
+flat_map-map f g [] = refl
+flat_map-map f g (x ∷ xs) = ap (λ t. f (g x) ++ t) (flat_map-map f g xs)
+
+-- a body's tokens are those of its statements
+pub block_tokens-out : (b : Block) → block_tokens b ≡ flat_map spanned_tokens (out-Block b).body.items
+block_tokens-out b = fold_out-Block Tokens Tokens Tokens statement_step block_step case_step b ∙ flat_map-map (λ p. At p.1 ∷ p.0) (λ p. (statement_tokens p.0, p.1)) (out-Block b).body.items
+
+-- a switch's tokens end in those of its arms
+pub switch_tokens : (h : ℕ) (cases : Vec SwitchCase Global) → statement_tokens (Switch h cases) ≡ (Head 3 ∷ Use h ∷ []) ++ flat_map case_tokens cases.items
+switch_tokens h cases =
+    ap statement_tokens (sym (rolls-Switch h cases)) ∙ fold-roll-Statement Tokens Tokens Tokens statement_step block_step case_step (open_.Switch h cases) ∙ ap (λ t. (Head 3 ∷ Use h ∷ []) ++ t) (flat_map-map (λ c. c) case_tokens cases.items)

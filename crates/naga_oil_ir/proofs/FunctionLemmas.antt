@@ -1,0 +1,42 @@
+use Rattle.std.proofs.Common.{◌≡◌, ⊎_elim, ℕ, ◌+◌, ◌<◌, ◌≤◌, Bool, true, false, List, [], ◌∷◌, map, length, get_or, slice_get, Some, All, ap, sym, ◌∙◌, subst, arith}
+use Rattle.std.proofs.lemmas.List.Elements.{All-nil, All-cons, All-head, All-tail, All-map}
+use Rattle.std.proofs.lemmas.Bool.{cases_order, false≢true}
+use Rattle.std.proofs.lemmas.Option.{slice_get_within, same_Some}
+use Rattle.naga_oil_ir.specs.Links.{marked, AreMarks}
+use Rattle.naga_oil_ir.proofs.FormLemmas.{at_place}
+use Rattle.naga_oil_ir.proofs.LinkLemmas.{All-has, All-from_has, marked_past}
+
+-- ---- marks and the places that they stand for
+
+-- what holds of each marked place as far as a walk came: at the end it holds of each place of the list
+pub unmarked_all : (fs : List Bool) (r : ℕ → Bool) (i : ℕ) → ((k : ℕ) → k < i → marked fs k ≡ true → r k ≡ false) → length fs ≤ i → (o : List ℕ) → AreMarks fs o → All (λ h. r h ≡ false) o
+unmarked_all fs r i f h o m =
+    let past : (k : ℕ) → marked fs k ≡ true → i ≤ k → r k ≡ false = λ k t l. absurd (false≢true (sym (marked_past fs k (omega arith)) ∙ t)) in
+    All-from_has (λ k. r k ≡ false) o (λ k t. let at = m k ∙ t in ⊎_elim (λ q. past k at (omega arith)) (⊎_elim (λ q. f k q at) (λ q. past k at (omega arith))) (cases_order k i))
+
+-- a marked place at which it doesn't hold
+pub marked_one : (fs : List Bool) (r : ℕ → Bool) (k : ℕ) → marked fs k ≡ true → r k ≡ true → (o : List ℕ) → AreMarks fs o → All (λ h. r h ≡ false) o → true ≡ false
+marked_one fs r k t b o m a = sym b ∙ All-has (λ h. r h ≡ false) o k a (sym (m k) ∙ t)
+
+-- ---- the keys of a map
+
+unmapped : {X Y : Type 0} (P : Y → Type 0) (f : X → Y) (xs : List X) → All P (map f xs) → All (λ x. P (f x)) xs
+unmapped P f [] a = All-nil (λ x. P (f x))
+unmapped P f (x ∷ xs) a = All-cons (λ y. P (f y)) x xs (All-head P (f x) (map f xs) a) (unmapped P f xs (All-tail P (f x) (map f xs) a))
+
+-- a test of the keys tests the entries
+pub keys_tested : {X : Type 0} (P : ℕ → Type 0) (es : List (ℕ × X)) (ks : List ℕ) (b : Bool) → ks ≡ map (λ e. e.0) es → (b ≡ true → All P ks) × (All P ks → b ≡ true) → (b ≡ true → All (λ e. P e.0) es) × (All (λ e. P e.0) es → b ≡ true)
+keys_tested P es ks b e d =
+    (λ h. unmapped P (λ x. x.0) es (subst (All P) e (d.0 h)), λ a. d.1 (subst (All P) (sym e) (All-map P (λ x. x.0) es a)))
+
+-- ---- elements one after another
+
+-- a fact of each element and its place, one element further
+pub each_more : {A : Type 0} (P : ℕ → A → Type 0) (xs : List A) (i : ℕ) (x : A) → i < length xs → x ≡ get_or xs i x → P i x → ((k : ℕ) (e : A) → k < i → slice_get xs k ≡ Some e → P k e) → (k : ℕ) (e : A) → k < i + 1 → slice_get xs k ≡ Some e → P k e
+each_more {A} P xs i x h is p f k e l at =
+    let here : k ≡ i → P k e = λ q. let same : Some x ≡ Some e = sym (at_place xs i x h is) ∙ ap (slice_get xs) (sym q) ∙ at in let Q : ℕ → Type 0 = λ j. P j e in subst Q (sym q) (subst (P i) (same_Some x e same) p) in
+    ⊎_elim here (⊎_elim (λ q. f k e q at) (λ q. absurd (omega arith))) (cases_order k i)
+
+-- and at the end
+pub each_all : {A : Type 0} (P : ℕ → A → Type 0) (xs : List A) (i : ℕ) → ((k : ℕ) (e : A) → k < i → slice_get xs k ≡ Some e → P k e) → length xs ≤ i → (k : ℕ) (e : A) → slice_get xs k ≡ Some e → P k e
+each_all P xs i f h = λ k e at. let within = slice_get_within xs k e at in f k e (omega arith) at

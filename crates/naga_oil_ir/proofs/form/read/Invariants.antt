@@ -1,0 +1,11 @@
+use Rattle.std.proofs.Common.{◌≡◌, take}
+use Rattle.naga_oil_ir.specs.Links.{lists}
+use Rattle.naga_oil_ir.specs.BodyForm.{kinds, named_of, operand_links}
+use Rattle.naga_oil_ir.proofs.form.read.Given as goal
+
+abbrev pub invariant-loop-entry : goal.invariant-loop-entry
+invariant-loop-entry l = record {
+  kinds : l.kinds.items ≡ kinds (take l.entry-index l.items);
+  named : l.named.items ≡ named_of (take l.entry-index l.items);
+  links : lists l.links.items ≡ operand_links (take l.entry-index l.items);
+}

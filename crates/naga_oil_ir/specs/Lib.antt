@@ -1,0 +1,10 @@
+pub mod Places
+pub mod Spans
+pub mod Parts
+pub mod Rows
+pub mod Body
+pub mod Links
+pub mod ItemForm
+pub mod BodyForm
+pub mod NameForm
+pub mod WellFormed

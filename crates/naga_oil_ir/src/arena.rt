@@ -1,0 +1,108 @@
+ghost use Rattle.std.specs.Prelude.{◌≡◌, ℕ, ◌+◌, ◌<◌, ◌++◌, ◌∷◌, [], List, length, Option, IfOk, OnOk, OnErr, position, slice_get, option_map, option_copied, unwrap_or};
+ghost use Rattle.std.specs.Slice.Iter.{iter_rest};
+ghost use Rattle.naga_oil_ir.specs.Places.{place_of, fetched};
+ghost use Rattle.naga_oil_ir.specs.Spans.{undefined};
+
+use super::{Handle, Index, Item, Span};
+use std::alloc::{AllocError, Global};
+use std::marker::Model;
+use std::slice;
+
+/// A list of items with spans; a handle is a place in it.
+#[derive(Drop)]
+pub struct Arena<T: Item> {
+    items: Vec<(T, Span)>,
+}
+
+impl<T: Item> Model for Arena<T> {
+    ghost use Rattle.std.specs.Prelude.{List};
+    ghost use Rattle.naga_oil_ir.specs.declared.span.Span.{Span};
+
+    ghost Value = { List (T × Span) };
+
+    ghost view = { λ a. a.items.items };
+}
+
+impl<T: Item> Arena<T> {
+    /// The arena of no items.
+    pub fn new(alloc: Global) -> Self
+        ensures { result ≡ [] }
+    {
+        Arena {
+            items: Vec::new(alloc),
+        }
+    }
+
+    /// How many items there are.
+    pub fn len(&self) -> usize
+        ensures { result ≡ length self.now }
+    {
+        self.items.len()
+    }
+
+    /// The item at a place, or `None` behind the last.
+    pub fn try_get(&self, handle: Handle<T>) -> Option<&T>
+        ensures { option_copied result ≡ option_map (λ e. e.0) (slice_get self.now handle) }
+    {
+        self.items.get(handle.index()).map(|entry| &entry.0)
+    }
+
+    /// The span of the item at a place, undefined behind the last.
+    pub fn get_span(&self, handle: Handle<T>) -> Span
+        ensures { result ≡ unwrap_or (option_map (λ e. e.1) (slice_get self.now handle)) undefined }
+    {
+        self.items
+            .get(handle.index())
+            .map_or(Span::UNDEFINED, |entry| entry.1)
+    }
+
+    /// The items with their spans, in order.
+    pub fn as_slice(&self) -> &[(T, Span)]
+        ensures { result.now ≡ self.now }
+    {
+        self.items.as_slice()
+    }
+
+    /// The items with their spans, in order.
+    pub fn iter(&self) -> slice::Iter<'_, (T, Span)>
+        ensures { iter_rest result ≡ self.now }
+    {
+        self.items.iter()
+    }
+
+    /// Puts an item last and answers its place.
+    pub fn append(&mut self, item: T, span: Span) -> Result<Handle<T>, AllocError>
+    where
+        T: Drop,
+        ensures place { IfOk result (λ h. h ≡ length self.old) }
+        ensures appended { OnOk result (self.new ≡ self.old ++ (item, span) ∷ []) }
+        ensures err { OnErr result (self.new ≡ self.old) }
+    {
+        let index = self.items.len();
+        self.items.push((item, span))?;
+        Ok(Index::new(index))
+    }
+
+    /// The place of the first equal item, which keeps its span; without one the item is put last.
+    pub fn fetch_or_append(&mut self, item: T, span: Span) -> Result<Handle<T>, AllocError>
+    where
+        T: PartialEq + Drop,
+        ensures place { IfOk result (λ h. h ≡ place_of (λ e. T.eq item e.0) self.old) }
+        ensures items { OnOk result (self.new ≡ fetched (λ e. T.eq item e.0) self.old (item, span)) }
+        ensures err { OnErr result (self.new ≡ self.old) }
+    {
+        match position_of(self.items.as_slice(), &item) {
+            Some(index) => Ok(Index::new(index)),
+            None => {
+                let place = self.append(item, span)?;
+                Ok(place)
+            }
+        }
+    }
+}
+
+fn position_of<T: PartialEq>(items: &[(T, Span)], item: &T) -> Option<usize>
+    ensures { result ≡ position (λ e. T.eq item.now e.0) items.now }
+{
+    items.iter().position(|e| *item == e.0)
+}

@@ -1,0 +1,84 @@
+//! The names of functions in the test of form.
+ghost use Rattle.std.specs.Prelude.{◌≡◌, ◌↔◌, IsTrue, IfOk, map, nat_eq, option_map, unwrap_or, string_bytes};
+ghost use Rattle.std.specs.List.{IsDistinct};
+ghost use Rattle.std.specs.Cmp.Lexicographic.{pointwise};
+ghost use Rattle.naga_oil_ir.specs.NameForm.{is_within, module_mark, decorated, function_name, entry_name, NameForm};
+
+use super::form::Tested;
+use super::form_function::functions_are_named;
+use super::{EntryPoint, Function, Module, Span};
+use std::alloc::{AllocError, Global};
+use std::collections::BTreeSet;
+
+/// What stands between an item and the code of its module.
+const MODULE_MARK: &str = "X_naga_oil_mod_X";
+
+fn has_module_mark(name: &str) -> bool
+    ensures { result ≡ is_within module_mark name.now }
+{
+    name.contains(MODULE_MARK)
+}
+
+fn decorated(name: &str, decoration: &str, alloc: Global) -> Result<String, AllocError>
+    ensures { IfOk result (λ s. string_bytes s ≡ decorated decoration.now name.now) }
+{
+    let mut text = String::from_str(alloc, name)?;
+    if !has_module_mark(name) {
+        text.push_str(decoration)?;
+    }
+    Ok(text)
+}
+
+fn name_or<'a>(function: &'a Function, other: &'a str) -> &'a str
+    ensures { result.now ≡ unwrap_or (option_map string_bytes function.now.name) other.now }
+{
+    function.name.as_ref().map_or(other, |name| name.as_str())
+}
+
+fn function_names(
+    functions: &[(Function, Span)],
+    decoration: &str,
+    alloc: Global,
+) -> Result<Vec<String>, AllocError>
+    ensures { IfOk result (λ v. map string_bytes v.items ≡ map (λ e. decorated decoration.now (function_name e.0)) functions.now) }
+{
+    let mut names = Vec::new(alloc);
+    for entry in functions {
+        let name = decorated(name_or(&entry.0, ""), decoration, alloc)?;
+        names.push(name)?;
+    }
+    Ok(names)
+}
+
+fn entry_names(
+    entries: &[EntryPoint],
+    decoration: &str,
+    alloc: Global,
+) -> Result<Vec<String>, AllocError>
+    ensures { IfOk result (λ v. map string_bytes v.items ≡ map (λ e. decorated decoration.now (entry_name e.function)) entries.now) }
+{
+    let mut names = Vec::new(alloc);
+    for entry in entries {
+        let name = decorated(name_or(&entry.function, "main"), decoration, alloc)?;
+        names.push(name)?;
+    }
+    Ok(names)
+}
+
+fn are_distinct(names: Vec<String>, alloc: Global) -> Tested
+    ensures { IfOk result (λ b. IsTrue b ↔ IsDistinct (pointwise nat_eq) (map string_bytes names.items)) }
+{
+    let count = names.len();
+    let set: BTreeSet<String> = names.into_iter().collect(alloc)?;
+    Ok(set.len() == count)
+}
+
+/// Whether functions are named, and their names, decorated, are distinct, and so are those of entry points' functions.
+pub fn names_are_fine(of: &Module, decoration: &str, alloc: Global) -> Tested
+    ensures { IfOk result (λ b. IsTrue b ↔ NameForm of.now decoration.now) }
+{
+    let functions = function_names(of.functions.as_slice(), decoration, alloc)?;
+    let entries = entry_names(&of.entry_points, decoration, alloc)?;
+    let apart = are_distinct(functions, alloc)? & are_distinct(entries, alloc)?;
+    Ok(functions_are_named(of.functions.as_slice()) & apart)
+}

@@ -1,0 +1,53 @@
+//! The intermediate form of a shader: types, constants, overrides, global variables, functions and entry points in arenas.
+//!
+//! `arena` and `unique_arena` hold items with spans, and `handle` names their places. `types`, `expression`, `statement` and
+//! `module` are the items. `parts`, `names` and `tokens` read an expression, an item and a body by one list each. `links`,
+//! `form`, `form_function` and
+//! `body` test whether a module is well formed, each clause of the test by a function of its own.
+//!
+//! An item is found in a `UniqueArena` in expected constant time, if the hasher spreads the items, and in an `Arena` by a
+//! walk over it. The tests of form take time in proportion to what they test.
+#![tactic(auto)]
+
+pub mod arena;
+pub mod body;
+pub mod check_form;
+pub mod expression;
+pub mod form;
+pub mod form_function;
+pub mod form_items;
+pub mod form_names;
+pub mod handle;
+pub mod kind;
+pub mod language;
+pub mod links;
+pub mod module;
+pub mod names;
+pub mod parts;
+pub mod span;
+pub mod statement;
+#[cfg(test)]
+mod tests;
+pub mod token;
+pub mod tokens;
+pub mod types;
+pub mod unique_arena;
+
+pub use arena::Arena;
+pub use check_form::FormFault;
+pub use expression::{Expression, ImageQuery, Operand, SampleLevel};
+pub use handle::{Handle, Index, Item, Places, Range};
+pub use language::ShaderLanguage;
+pub use module::{
+    EntryPoint, Function, FunctionArgument, FunctionResult, MeshInfo, Module, SpecialTypes,
+};
+pub use names::{ItemPlace, NameList, Names};
+pub use parts::{ExpressionParts, Named};
+pub use span::Span;
+pub use statement::{Block, RayQueryFunction, Statement, SwitchCase};
+pub use token::Token;
+pub use tokens::push_block;
+pub use types::{
+    ArraySize, Constant, GlobalVariable, LocalVariable, Override, StructMember, Type, TypeInner,
+};
+pub use unique_arena::UniqueArena;

@@ -1,0 +1,129 @@
+ghost use Rattle.std.specs.Prelude.{◌≡◌, IfOk, length, map, Some};
+ghost use Rattle.naga_oil_ir.specs.Parts.{parts, ReadsAs, level_x, level_y, query_level};
+
+use super::types::{Constant, GlobalVariable, LocalVariable, Override, Type};
+use super::{Expression, Function, Handle, ImageQuery, Operand, SampleLevel};
+use std::alloc::{AllocError, Global};
+
+/// The item that an expression names, if it names one.
+#[derive(Clone, Copy)]
+pub enum Named {
+    Nothing,
+    TypeOf(Handle<Type>),
+    ConstantAt(Handle<Constant>),
+    OverrideAt(Handle<Override>),
+    GlobalAt(Handle<GlobalVariable>),
+    LocalAt(Handle<LocalVariable>),
+    ArgumentAt(u32),
+    FunctionAt(Handle<Function>),
+}
+
+use Named::{ArgumentAt, ConstantAt, FunctionAt, GlobalAt, LocalAt, Nothing, OverrideAt, TypeOf};
+
+/// What an expression is made of, apart from its plain values.
+#[derive(Drop)]
+pub struct ExpressionParts {
+    /// Its place in the list of the kinds, from 0: below 7 external, below 13 a result.
+    pub kind: u64,
+    pub named: Named,
+    /// The operands in the order of copying, with none in the places of absent options.
+    pub operands: Vec<Option<Operand>>,
+}
+
+fn read_parts(
+    alloc: Global,
+    kind: u64,
+    named: Named,
+    operands: &[Option<Operand>],
+) -> Result<ExpressionParts, AllocError>
+    ensures { IfOk result (λ r. (r.kind ≡ kind) × (r.named ≡ named) × (r.operands.items ≡ operands.now)) }
+{
+    let operands = Vec::from_slice(alloc, operands)?;
+    Ok(ExpressionParts {
+        kind,
+        named,
+        operands,
+    })
+}
+
+/// A level's operand, or the first of a gradient.
+fn level_x(level: &SampleLevel) -> Option<Operand>
+    ensures { result ≡ level_x level.now }
+{
+    match level {
+        SampleLevel::Auto | SampleLevel::Zero => None,
+        SampleLevel::Exact(e) | SampleLevel::Bias(e) => Some(*e),
+        SampleLevel::Gradient { x, .. } => Some(*x),
+    }
+}
+
+/// The second operand of a gradient.
+fn level_y(level: &SampleLevel) -> Option<Operand>
+    ensures { result ≡ level_y level.now }
+{
+    match level {
+        SampleLevel::Gradient { y, .. } => Some(*y),
+        _ => None,
+    }
+}
+
+/// The operand of a query, if there is one.
+fn query_level(query: &ImageQuery) -> Option<Operand>
+    ensures { result ≡ query_level query.now }
+{
+    match query {
+        ImageQuery::Size { level } => *level,
+        ImageQuery::Other(_) => None,
+    }
+}
+
+impl Expression {
+    /// The kind of an expression, the item that it names and its operands.
+    #[rattlefmt::skip]
+    pub fn parts(&self, alloc: Global) -> Result<ExpressionParts, AllocError>
+        ensures { IfOk result (λ r. ReadsAs r (parts self.now)) }
+    {
+        match self {
+            Expression::Literal { .. } => read_parts(alloc, 0, Nothing, &[]),
+            Expression::ZeroValue(ty) => read_parts(alloc, 1, TypeOf(*ty), &[]),
+            Expression::Constant(c) => read_parts(alloc, 2, ConstantAt(*c), &[]),
+            Expression::Override(o) => read_parts(alloc, 3, OverrideAt(*o), &[]),
+            Expression::GlobalVariable(g) => read_parts(alloc, 4, GlobalAt(*g), &[]),
+            Expression::LocalVariable(l) => read_parts(alloc, 5, LocalAt(*l), &[]),
+            Expression::FunctionArgument(n) => read_parts(alloc, 6, ArgumentAt(*n), &[]),
+            Expression::CallResult(f) => read_parts(alloc, 7, FunctionAt(*f), &[]),
+            Expression::AtomicResult { ty, .. } => read_parts(alloc, 8, TypeOf(*ty), &[]),
+            Expression::WorkGroupUniformLoadResult { ty } => read_parts(alloc, 9, TypeOf(*ty), &[]),
+            Expression::RayQueryProceedResult => read_parts(alloc, 10, Nothing, &[]),
+            Expression::SubgroupBallotResult => read_parts(alloc, 11, Nothing, &[]),
+            Expression::SubgroupOperationResult { ty } => read_parts(alloc, 12, TypeOf(*ty), &[]),
+            Expression::Compose { ty, components } => read_parts(alloc, 13, TypeOf(*ty), &all_some(components, alloc)?),
+            Expression::Access { base, index } => read_parts(alloc, 14, Nothing, &[Some(*base), Some(*index)]),
+            Expression::AccessIndex { base, .. } => read_parts(alloc, 15, Nothing, &[Some(*base)]),
+            Expression::Splat { value, .. } => read_parts(alloc, 16, Nothing, &[Some(*value)]),
+            Expression::Swizzle { vector, .. } => read_parts(alloc, 17, Nothing, &[Some(*vector)]),
+            Expression::Load { pointer } => read_parts(alloc, 18, Nothing, &[Some(*pointer)]),
+            Expression::ImageSample { image, sampler, coordinate, array_index, offset, level, depth_ref, .. } =>
+                read_parts(alloc, 19, Nothing, &[Some(*image), Some(*sampler), Some(*coordinate), *array_index, *offset, level_x(level), level_y(level), *depth_ref]),
+            Expression::ImageLoad { image, coordinate, array_index, sample, level } =>
+                read_parts(alloc, 20, Nothing, &[Some(*image), Some(*coordinate), *array_index, *sample, *level]),
+            Expression::ImageQuery { image, query } => read_parts(alloc, 21, Nothing, &[Some(*image), query_level(query)]),
+            Expression::Unary { expr, .. } => read_parts(alloc, 22, Nothing, &[Some(*expr)]),
+            Expression::Binary { left, right, .. } => read_parts(alloc, 23, Nothing, &[Some(*left), Some(*right)]),
+            Expression::Select { condition, accept, reject } => read_parts(alloc, 24, Nothing, &[Some(*condition), Some(*accept), Some(*reject)]),
+            Expression::Derivative { expr, .. } => read_parts(alloc, 25, Nothing, &[Some(*expr)]),
+            Expression::Relational { argument, .. } => read_parts(alloc, 26, Nothing, &[Some(*argument)]),
+            Expression::Math { arg, arg1, arg2, arg3, .. } => read_parts(alloc, 27, Nothing, &[Some(*arg), *arg1, *arg2, *arg3]),
+            Expression::As { expr, .. } => read_parts(alloc, 28, Nothing, &[Some(*expr)]),
+            Expression::ArrayLength(e) => read_parts(alloc, 29, Nothing, &[Some(*e)]),
+            Expression::RayQueryGetIntersection { query, .. } => read_parts(alloc, 30, Nothing, &[Some(*query)]),
+            Expression::RayQueryVertexPositions { query, .. } => read_parts(alloc, 31, Nothing, &[Some(*query)]),
+        }
+    }
+}
+
+fn all_some(handles: &[Operand], alloc: Global) -> Result<Vec<Option<Operand>>, AllocError>
+    ensures { IfOk result (λ v. v.items ≡ map Some handles.now) }
+{
+    handles.iter().map(|e| Some(*e)).collect(alloc)
+}
