@@ -101,8 +101,7 @@ fn push_statement(statement: &Statement, out: &mut Vec<Token>) -> Result<(), All
         Statement::If { condition, accept, reject } => {
             push!(out; Head(2), Use(*condition))?;
             push_inside(accept, out)?;
-            push_inside(reject, out)?;
-            Ok(())
+            push_inside(reject, out)
         }
         Statement::Switch { selector, cases } => {
             push!(out; Head(3), Use(*selector))?;
@@ -115,8 +114,7 @@ fn push_statement(statement: &Statement, out: &mut Vec<Token>) -> Result<(), All
             out.push(Token::Head(4))?;
             push_inside(body, out)?;
             push_inside(continuing, out)?;
-            push!(out; used(*break_if))?;
-            Ok(())
+            push!(out; used(*break_if))
         }
         Statement::Break => push!(out; Head(5)),
         Statement::Continue => push!(out; Head(6)),
@@ -135,13 +133,11 @@ fn push_statement(statement: &Statement, out: &mut Vec<Token>) -> Result<(), All
         Statement::Call { function, arguments, result } => {
             push!(out; Head(16), Callee(*function))?;
             push_uses(arguments, out)?;
-            push!(out; given_by(*function, *result))?;
-            Ok(())
+            push!(out; given_by(*function, *result))
         }
         Statement::RayQuery { query, fun } => {
             push!(out; Head(17), Use(*query))?;
-            push_ray_query(fun, out)?;
-            Ok(())
+            push_ray_query(fun, out)
         }
         Statement::SubgroupBallot { result, predicate } => push!(out; Head(18), Give(*result), used(*predicate)),
         Statement::SubgroupGather { mode, index, argument, result } =>
