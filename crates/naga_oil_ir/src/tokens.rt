@@ -1,7 +1,7 @@
 ghost use Rattle.std.specs.Prelude.{◌≡◌, ◌++◌, OnOk, map};
 ghost use Rattle.naga_oil_ir.specs.Body.{block_tokens, statement_tokens, case_tokens, ray_query_tokens, inside, used, given, given_by};
 
-use super::{Block, Function, Handle, Operand, RayQueryFunction, Statement, SwitchCase, Token};
+use super::{Block, Function, Handle, Operand, RayQueryFunction, Statement, Token};
 use Token::{Callee, Emitted, Flag, Give, Head, Plain, Use};
 use std::alloc::AllocError;
 
@@ -76,15 +76,6 @@ pub fn push_block(block: &Block, out: &mut Vec<Token>) -> Result<(), AllocError>
     Ok(())
 }
 
-/// Pushes an arm of a switch.
-#[cycle(tokens)]
-fn push_case(case: &SwitchCase, out: &mut Vec<Token>) -> Result<(), AllocError>
-    ensures { OnOk result (out.new.items ≡ out.old.items ++ case_tokens case.now) }
-{
-    push!(out; Plain(case.value), Flag(case.fall_through))?;
-    push_inside(&case.body, out)
-}
-
 /// Pushes a statement, without its span: the kinds with blocks, lists or results in them at length, the others by their
 /// tokens.
 #[cycle(tokens)]
@@ -106,7 +97,8 @@ fn push_statement(statement: &Statement, out: &mut Vec<Token>) -> Result<(), All
         Statement::Switch { selector, cases } => {
             push!(out; Head(3), Use(*selector))?;
             for case in cases {
-                push_case(case, out)?;
+                push!(out; Plain(case.value), Flag(case.fall_through))?;
+                push_inside(&case.body, out)?;
             }
             Ok(())
         }
