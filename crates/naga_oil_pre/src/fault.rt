@@ -4,6 +4,7 @@ use thiserror::Error;
 
 /// What is wrong with a text. Places are bytes from 0; where nothing else is said, those of the first byte of a line.
 #[derive(Debug, Drop, Error)]
+#[rattlefmt::skip]
 pub enum ComposerErrorInner {
     /// What is wrong with an import line, or with an identifier that stands for several paths, and the place of it.
     #[error("{0}")]
@@ -16,39 +17,20 @@ pub enum ComposerErrorInner {
     #[error("'#else' without preceding condition.")]
     ElseWithoutCondition(usize),
     #[error("Unknown shader def operator: '{operator}'")]
-    UnknownShaderDefOperator {
-        pos: usize,
-        operator: String,
-    },
+    UnknownShaderDefOperator { pos: usize, operator: String },
     #[error("Unknown shader def: '{shader_def_name}'")]
-    UnknownShaderDef {
-        pos: usize,
-        shader_def_name: String,
-    },
+    UnknownShaderDef { pos: usize, shader_def_name: String },
     /// A value that can't be read as the kind of the definition that it is compared to.
     #[error("Invalid shader def comparison for '{shader_def_name}': expected {expected}, got {value}")]
-    InvalidShaderDefComparisonValue {
-        pos: usize,
-        shader_def_name: String,
-        expected: String,
-        value: String,
-    },
+    InvalidShaderDefComparisonValue { pos: usize, shader_def_name: String, expected: String, value: String },
     #[error("naga oil only supports glsl 440 and 450")]
     GlslInvalidVersion(usize),
     /// A define's value that is no number and neither `true` nor `false`.
     #[error("Invalid value for `#define`d shader def {name}: {value}")]
-    InvalidShaderDefDefinitionValue {
-        name: String,
-        value: String,
-        pos: usize,
-    },
+    InvalidShaderDefDefinitionValue { name: String, value: String, pos: usize },
     /// A directive that names no extensions or no known severity: the line without the white space round it, and its index from 0.
     #[error("Invalid WGSL directive '{directive}' at line {position}: {reason}")]
-    InvalidWgslDirective {
-        directive: String,
-        position: usize,
-        reason: String,
-    },
+    InvalidWgslDirective { directive: String, position: usize, reason: String },
     /// A define in a text that may have none.
     #[error("#define statements are only allowed at the start of the top-level shaders")]
     DefineInModule(usize),
@@ -80,79 +62,4 @@ impl<T: Drop> From<AllocFailed<T>> for ComposerErrorInner {
 }
 
 #[cfg(test)]
-mod tests {
-    use super::*;
-    use std::test::Fail;
-
-    #[test]
-    fn says_what_is_wrong(rt: HostRuntime) -> Result<(), Fail> {
-        let text = |text: &str| String::from_str(rt.alloc(), text);
-        let table = [
-            (
-                ComposerErrorInner::NotEnoughEndIfs(1),
-                "Not enough '# endif' lines. Each if statement should be followed by an endif statement.",
-            ),
-            (
-                ComposerErrorInner::TooManyEndIfs(1),
-                "Too many '# endif' lines. Each endif should be preceded by an if statement.",
-            ),
-            (
-                ComposerErrorInner::ElseWithoutCondition(1),
-                "'#else' without preceding condition.",
-            ),
-            (
-                ComposerErrorInner::UnknownShaderDefOperator {
-                    pos: 1,
-                    operator: text("!!")?,
-                },
-                "Unknown shader def operator: '!!'",
-            ),
-            (
-                ComposerErrorInner::UnknownShaderDef {
-                    pos: 1,
-                    shader_def_name: text("FO")?,
-                },
-                "Unknown shader def: 'FO'",
-            ),
-            (
-                ComposerErrorInner::InvalidShaderDefComparisonValue {
-                    pos: 1,
-                    shader_def_name: text("T")?,
-                    expected: text("int")?,
-                    value: text("true")?,
-                },
-                "Invalid shader def comparison for 'T': expected int, got true",
-            ),
-            (
-                ComposerErrorInner::GlslInvalidVersion(1),
-                "naga oil only supports glsl 440 and 450",
-            ),
-            (
-                ComposerErrorInner::InvalidShaderDefDefinitionValue {
-                    name: text("A")?,
-                    value: text("x1")?,
-                    pos: 1,
-                },
-                "Invalid value for `#define`d shader def A: x1",
-            ),
-            (
-                ComposerErrorInner::InvalidWgslDirective {
-                    directive: text("enable  ;")?,
-                    position: 2,
-                    reason: text("No extensions specified")?,
-                },
-                "Invalid WGSL directive 'enable  ;' at line 2: No extensions specified",
-            ),
-            (
-                ComposerErrorInner::DefineInModule(1),
-                "#define statements are only allowed at the start of the top-level shaders",
-            ),
-            (ComposerErrorInner::Memory, "out of memory"),
-        ];
-        for (error, expected) in table.iter() {
-            let shown = format!(in rt.alloc(); "{error}")?;
-            assert_eq!(rt; shown.as_str(), *expected);
-        }
-        Ok(())
-    }
-}
+mod tests;
