@@ -4,9 +4,10 @@ use indexmap::IndexMap;
 use std::alloc::{AllocError, Global};
 use std::test::Fail;
 
-/// An expression of a test.
+/// An expression of a test, or none.
 #[derive(Clone, Copy)]
 enum Part {
+    Nothing,
     Literal,
     Zero(usize),
     Constant(usize),
@@ -24,73 +25,74 @@ enum Step {
     Store(usize, usize),
     Give(usize),
     Call(usize, usize),
-    At(u32, u32),
+    Kill(u32, u32),
 }
 
-/// A function of a test; a type and an initialiser make a local variable.
+/// The function of a test; a type and an initialiser make a local variable.
 #[derive(Clone, Copy)]
-struct Shape<'a> {
-    name: Option<&'a str>,
+struct Shape {
+    name: u64,
     argument: Option<usize>,
     given: Option<usize>,
     local: Option<(usize, usize)>,
     named: Option<usize>,
-    parts: &'a [Part],
-    steps: &'a [Step],
+    parts: [Part; 4],
+    steps: [Step; 3],
 }
 
-/// What an entry point of a test names beside its function.
+/// An item of a test. An array has the size of an override, or is dynamic.
 #[derive(Clone, Copy)]
-struct Ends {
-    size: Option<usize>,
-    output: Option<usize>,
-    payload: Option<usize>,
-}
-
-/// What is added to a module.
-#[derive(Clone, Copy)]
-enum Addition<'a> {
-    Scalar(Option<&'a str>, Span),
-    Array(usize, ArraySize),
+enum Added {
+    Named(u32, u32),
+    Array(usize, Option<usize>),
     Constant(usize, usize),
     Override,
     Global,
     Expression(Part),
     Special(u64, usize),
-    Function(Shape<'a>, Span),
-    Entry(Shape<'a>, Ends),
 }
 
-use Addition::{Array, Entry, Scalar, Special};
-use Part::{Ballot, CallResult, Literal, Negation, Zero};
-use Step::{Emit, Give, Store};
+use Added::{Array, Special};
+use Part::{Ballot, CallResult, Literal, Negation, Nothing, Zero};
+use Step::{Emit, Give, Kill, Store};
 
 const NONE: Span = Span::UNDEFINED;
 
-const G: Shape<'static> = Shape {
-    name: Some("g"),
+const HERE: Step = Kill(0, 0);
+
+const G: Shape = Shape {
+    name: 2,
     argument: None,
     given: None,
     local: None,
     named: None,
-    parts: &[],
-    steps: &[],
+    parts: [Nothing; 4],
+    steps: [HERE; 3],
 };
 
-const NO_ENDS: Ends = Ends {
-    size: None,
-    output: None,
-    payload: None,
-};
+fn name_of(code: u64) -> Option<&'static str> {
+    match code {
+        0 => None,
+        1 => Some("f"),
+        2 => Some("g"),
+        3 => Some("main"),
+        _ => Some("fX_naga_oil_mod_XMEX"),
+    }
+}
 
-const F: Shape<'static> = Shape {
-    name: Some("f"),
-    ..G
-};
+fn text_of(code: u64, alloc: Global) -> Result<Option<String>, AllocError> {
+    match name_of(code) {
+        None => Ok(None),
+        Some(name) => {
+            let text = String::from_str(alloc, name)?;
+            Ok(Some(text))
+        }
+    }
+}
 
 fn expression_of(part: Part) -> Expression {
     match part {
-        Literal => Expression::Literal { kind: 0, bits: 7 },
+        Nothing | Literal => Expression::Literal { kind: 0, bits: 7 },
         Zero(ty) => Expression::ZeroValue(Index::new(ty)),
         Part::Constant(place) => Expression::Constant(Index::new(place)),
         Part::Local(place) => Expression::LocalVariable(Index::new(place)),
@@ -104,10 +106,13 @@ fn expression_of(part: Part) -> Expression {
     }
 }
 
-fn expressions_of(parts: &[Part], alloc: Global) -> Result<Arena<Expression>, AllocError> {
+fn expressions_of(parts: [Part; 4], alloc: Global) -> Result<Arena<Expression>, AllocError> {
     let mut list = Arena::new(alloc);
     for part in parts {
-        list.append(expression_of(*part), NONE)?;
+        if matches!(part, Nothing) {
+            continue;
+        }
+        list.append(expression_of(part), NONE)?;
     }
     Ok(list)
 }
@@ -120,38 +125,32 @@ fn statement_of(step: Step, alloc: Global) -> (Statement, Span) {
             let value = Index::new(from);
             (Statement::Store { pointer, value }, NONE)
         }
-        Give(place) => (
-            Statement::SubgroupBallot {
-                result: Index::new(place),
+        Give(place) => {
+            let given = Index::new(place);
+            let ballot = Statement::SubgroupBallot {
+                result: given,
                 predicate: None,
-            },
-            NONE,
-        ),
-        Step::Call(function, place) => (
-            Statement::Call {
+            };
+            (ballot, NONE)
+        }
+        Step::Call(function, place) => {
+            let call = Statement::Call {
                 function: Index::new(function),
                 arguments: Vec::new(alloc),
                 result: Some(Index::new(place)),
-            },
-            NONE,
-        ),
-        Step::At(start, end) => (Statement::Kill, Span::new(start, end)),
+            };
+            (call, NONE)
+        }
+        Kill(start, end) => (Statement::Kill, Span::new(start, end)),
     }
 }
 
-fn block_of(steps: &[Step], alloc: Global) -> Result<Block, AllocError> {
+fn block_of(steps: [Step; 3], alloc: Global) -> Result<Block, AllocError> {
     let mut body = Vec::new(alloc);
     for step in steps {
-        body.push(statement_of(*step, alloc))?;
+        body.push(statement_of(step, alloc))?;
     }
     Ok(Block { body })
-}
-
-fn text_of(name: Option<&str>, alloc: Global) -> Result<Option<String>, AllocError> {
-    match name {
-        None => Ok(None),
-        Some(name) => Ok(Some(String::from_str(alloc, name)?)),
-    }
 }
 
 fn locals_of(
@@ -191,19 +190,27 @@ fn names_of(
 ) -> Result<IndexMap<Handle<Expression>, String>, AllocError> {
     let mut list = IndexMap::new(alloc);
     if let Some(place) = named {
-        list.insert(Index::new(place), String::from_str(alloc, "x")?)?;
+        let text = String::from_str(alloc, "x")?;
+        list.insert(Index::new(place), text)?;
     }
     Ok(list)
 }
 
-fn function_of(shape: Shape<'_>, alloc: Global) -> Result<Function, AllocError> {
-    Ok(Function {
-        name: text_of(shape.name, alloc)?,
-        arguments: arguments_of(shape.argument, alloc)?,
-        result: shape.given.map(|ty| FunctionResult {
+fn given_of(given: Option<usize>) -> Option<FunctionResult> {
+    match given {
+        None => None,
+        Some(ty) => Some(FunctionResult {
             ty: Index::new(ty),
             binding: None,
         }),
+    }
+}
+
+fn function_of(shape: Shape, alloc: Global) -> Result<Function, AllocError> {
+    Ok(Function {
+        name: text_of(shape.name, alloc)?,
+        arguments: arguments_of(shape.argument, alloc)?,
+        result: given_of(shape.given),
         local_variables: locals_of(shape.local, alloc)?,
         expressions: expressions_of(shape.parts, alloc)?,
         named_expressions: names_of(shape.named, alloc)?,
@@ -212,102 +219,138 @@ fn function_of(shape: Shape<'_>, alloc: Global) -> Result<Function, AllocError> 
     })
 }
 
-fn mesh_of(output: usize) -> MeshInfo {
-    MeshInfo {
-        vertex_output_type: Index::new(0),
-        primitive_output_type: Index::new(0),
-        output: Index::new(output),
-        max_vertices: None,
-        max_primitives: None,
-        topology: 0,
+fn mesh_of(output: Option<usize>) -> Option<MeshInfo> {
+    match output {
+        None => None,
+        Some(output) => Some(MeshInfo {
+            vertex_output_type: Index::new(0),
+            primitive_output_type: Index::new(0),
+            output: Index::new(output),
+            max_vertices: None,
+            max_primitives: None,
+            topology: 0,
+        }),
     }
 }
 
-fn entry_of(shape: Shape<'_>, ends: Ends, alloc: Global) -> Result<EntryPoint, AllocError> {
+fn sizes_of(size: Option<usize>) -> Option<[Option<Handle<Expression>>; 3]> {
+    match size {
+        None => None,
+        Some(place) => Some([None, Some(Index::new(place)), None]),
+    }
+}
+
+fn payload_of(payload: Option<usize>) -> Option<Handle<GlobalVariable>> {
+    match payload {
+        None => None,
+        Some(place) => Some(Index::new(place)),
+    }
+}
+
+fn entry_of(
+    shape: Shape,
+    size: Option<usize>,
+    output: Option<usize>,
+    payload: Option<usize>,
+    alloc: Global,
+) -> Result<EntryPoint, AllocError> {
     Ok(EntryPoint {
         name: String::new(alloc),
         stage: 0,
         early_depth_test: None,
         workgroup_size: [1, 1, 1],
-        workgroup_size_overrides: ends.size.map(|place| [None, Some(Index::new(place)), None]),
+        workgroup_size_overrides: sizes_of(size),
         function: function_of(shape, alloc)?,
-        mesh_info: ends.output.map(|place| mesh_of(place)),
-        task_payload: ends.payload.map(|place| Index::new(place)),
+        mesh_info: mesh_of(output),
+        task_payload: payload_of(payload),
     })
 }
 
-fn add_special(special: &mut SpecialTypes, key: u64, ty: usize) -> Result<(), AllocError> {
+fn add_named(module: &mut Module, span: Span, alloc: Global) -> Result<(), AllocError> {
+    let name = Some(String::from_str(alloc, "t")?);
+    let inner = TypeInner::Scalar(2);
+    module.types.insert(Type { name, inner }, span)?;
+    Ok(())
+}
+
+fn add_array(module: &mut Module, base: usize, size: Option<usize>) -> Result<(), AllocError> {
+    let size = match size {
+        None => ArraySize::Dynamic,
+        Some(place) => ArraySize::Pending(Index::new(place)),
+    };
+    let base = Index::new(base);
+    let inner = TypeInner::BindingArray { base, size };
+    module.types.insert(Type { name: None, inner }, NONE)?;
+    Ok(())
+}
+
+fn add_constant(module: &mut Module, ty: usize, init: usize) -> Result<(), AllocError> {
+    let constant = Constant {
+        name: None,
+        ty: Index::new(ty),
+        init: Index::new(init),
+    };
+    module.constants.append(constant, NONE)?;
+    Ok(())
+}
+
+fn add_override(module: &mut Module) -> Result<(), AllocError> {
+    let item = Override {
+        name: None,
+        id: None,
+        ty: Index::new(0),
+        init: None,
+    };
+    module.overrides.append(item, NONE)?;
+    Ok(())
+}
+
+fn add_global(module: &mut Module) -> Result<(), AllocError> {
+    let global = GlobalVariable {
+        name: None,
+        space: 0,
+        binding: None,
+        ty: Index::new(0),
+        init: None,
+    };
+    module.global_variables.append(global, NONE)?;
+    Ok(())
+}
+
+fn add_special(module: &mut Module, key: u64, ty: usize) -> Result<(), AllocError> {
     match key {
-        0 => special.ray_desc = Some(Index::new(ty)),
-        1 => special.ray_intersection = Some(Index::new(ty)),
+        0 => module.special_types.ray_desc = Some(Index::new(ty)),
+        1 => module.special_types.ray_intersection = Some(Index::new(ty)),
         _ => {
-            special.predeclared_types.insert(key, Index::new(ty))?;
+            module
+                .special_types
+                .predeclared_types
+                .insert(key, Index::new(ty))?;
         }
     }
     Ok(())
 }
 
-fn type_of(addition: Addition<'_>, alloc: Global) -> Result<(Type, Span), AllocError> {
-    match addition {
-        Array(base, size) => {
-            let base = Index::new(base);
-            let inner = TypeInner::BindingArray { base, size };
-            Ok((Type { name: None, inner }, NONE))
-        }
-        Scalar(name, span) => {
-            let name = text_of(name, alloc)?;
-            let inner = TypeInner::Scalar(2);
-            Ok((Type { name, inner }, span))
-        }
-        _ => Err(AllocError),
-    }
-}
-
-fn add_type(module: &mut Module, addition: Addition<'_>, alloc: Global) -> Result<(), AllocError> {
-    let (ty, span) = type_of(addition, alloc)?;
-    module.types.insert(ty, span)?;
+fn add_expression(module: &mut Module, part: Part) -> Result<(), AllocError> {
+    module.global_expressions.append(expression_of(part), NONE)?;
     Ok(())
 }
 
-fn add_item(module: &mut Module, addition: Addition<'_>) -> Result<(), AllocError> {
-    let name = None;
-    let binding = None;
-    match addition {
-        Addition::Constant(ty, init) => {
-            let ty = Index::new(ty);
-            let init = Index::new(init);
-            module.constants.append(Constant { name, ty, init }, NONE)?;
-        }
-        Addition::Override => {
-            let ty = Index::new(0);
-            module.overrides.append(
-                Override {
-                    name,
-                    id: None,
-                    ty,
-                    init: None,
-                },
-                NONE,
-            )?;
-        }
-        _ => {
-            let ty = Index::new(0);
-            let global = GlobalVariable {
-                name,
-                space: 0,
-                binding,
-                ty,
-                init: None,
-            };
-            module.global_variables.append(global, NONE)?;
-        }
+fn add(module: &mut Module, added: Added, alloc: Global) -> Result<(), AllocError> {
+    match added {
+        Added::Named(start, end) => add_named(module, Span::new(start, end), alloc),
+        Array(base, size) => add_array(module, base, size),
+        Added::Constant(ty, init) => add_constant(module, ty, init),
+        Added::Override => add_override(module),
+        Added::Global => add_global(module),
+        Added::Expression(part) => add_expression(module, part),
+        Special(key, ty) => add_special(module, key, ty),
     }
-    Ok(())
 }
 
 fn add_function(
     module: &mut Module,
-    shape: Shape<'_>,
+    shape: Shape,
     span: Span,
     alloc: Global,
 ) -> Result<(), AllocError> {
@@ -318,57 +361,35 @@ fn add_function(
 
 fn add_entry(
     module: &mut Module,
-    shape: Shape<'_>,
-    ends: Ends,
+    shape: Shape,
+    size: Option<usize>,
+    output: Option<usize>,
+    payload: Option<usize>,
     alloc: Global,
 ) -> Result<(), AllocError> {
-    let entry = entry_of(shape, ends, alloc)?;
+    let entry = entry_of(shape, size, output, payload, alloc)?;
     module.entry_points.push(entry)?;
     Ok(())
 }
 
-fn add(module: &mut Module, addition: Addition<'_>, alloc: Global) -> Result<(), AllocError> {
-    match addition {
-        Array(..) | Scalar(..) => add_type(module, addition, alloc),
-        Special(key, ty) => add_special(&mut module.special_types, key, ty),
-        Addition::Function(shape, span) => add_function(module, shape, span, alloc),
-        Entry(shape, ends) => add_entry(module, shape, ends, alloc),
-        Addition::Expression(part) => {
-            module.global_expressions.append(expression_of(part), NONE)?;
-            Ok(())
-        }
-        _ => add_item(module, addition),
-    }
-}
-
-fn add_all(
-    module: &mut Module,
-    additions: &[Addition<'_>],
-    alloc: Global,
-) -> Result<(), AllocError> {
-    for addition in additions {
-        add(module, *addition, alloc)?;
+/// Adds a type, a global expression, a constant of both, a function `f`, and items.
+fn fill(module: &mut Module, items: &[Added], alloc: Global) -> Result<(), AllocError> {
+    let ty = Type {
+        name: None,
+        inner: TypeInner::Scalar(1),
+    };
+    module.types.insert(ty, Span::new(0, 10))?;
+    add_expression(module, Literal)?;
+    add_constant(module, 0, 0)?;
+    add_function(module, Shape { name: 1, ..G }, NONE, alloc)?;
+    for item in items {
+        add(module, *item, alloc)?;
     }
     Ok(())
 }
 
-/// A type, a global expression, a constant of both, and a function `f`.
-const SMALL: [Addition<'static>; 4] = [
-    Scalar(None, Span { start: 0, end: 10 }),
-    Addition::Expression(Literal),
-    Addition::Constant(0, 0),
-    Addition::Function(F, NONE),
-];
-
-/// Whether the small module is taken with additions, over a text of ten bytes.
-fn is_taken(
-    additions: &[Addition<'_>],
-    decoration: &str,
-    alloc: Global,
-) -> Result<bool, AllocError> {
-    let mut module = Module::new(alloc);
-    add_all(&mut module, &SMALL, alloc)?;
-    add_all(&mut module, additions, alloc)?;
+/// Whether a module is taken, over a text of ten bytes.
+fn is_taken(module: &Module, decoration: &str, alloc: Global) -> Result<bool, AllocError> {
     match module.check_form(alloc, decoration, 10) {
         Ok(_) => Ok(true),
         Err(FormFault::WrongForm) => Ok(false),
@@ -376,57 +397,86 @@ fn is_taken(
     }
 }
 
-/// Whether the small module is taken with a second function.
-fn is_function_taken(shape: Shape<'_>, alloc: Global) -> Result<bool, AllocError> {
-    is_taken(&[Addition::Function(shape, NONE)], "", alloc)
+/// Whether the small module is taken with items.
+fn are_items_taken(items: &[Added], alloc: Global) -> Result<bool, AllocError> {
+    let mut module = Module::new(alloc);
+    fill(&mut module, items, alloc)?;
+    is_taken(&module, "", alloc)
 }
 
-/// Whether the small module is taken with a second function of these expressions and statements.
-fn is_body_taken(parts: &[Part], steps: &[Step], alloc: Global) -> Result<bool, AllocError> {
-    is_function_taken(Shape { parts, steps, ..G }, alloc)
+/// Whether the small module is taken with a second function.
+fn is_function_taken(
+    shape: Shape,
+    span: Span,
+    decoration: &str,
+    alloc: Global,
+) -> Result<bool, AllocError> {
+    let mut module = Module::new(alloc);
+    fill(&mut module, &[], alloc)?;
+    add_function(&mut module, shape, span, alloc)?;
+    is_taken(&module, decoration, alloc)
+}
+
+/// Whether the small module is taken with a function of these expressions and statements.
+fn is_body_taken(parts: [Part; 4], steps: [Step; 3], alloc: Global) -> Result<bool, AllocError> {
+    is_function_taken(Shape { parts, steps, ..G }, NONE, "", alloc)
+}
+
+/// Whether the small module is taken with two entry points, the second of no name.
+fn are_entries_taken(
+    shape: Shape,
+    size: Option<usize>,
+    output: Option<usize>,
+    payload: Option<usize>,
+    alloc: Global,
+) -> Result<bool, AllocError> {
+    let mut module = Module::new(alloc);
+    fill(&mut module, &[Added::Global], alloc)?;
+    add_entry(&mut module, shape, size, output, payload, alloc)?;
+    add_entry(&mut module, Shape { name: 0, ..G }, None, None, None, alloc)?;
+    is_taken(&module, "", alloc)
 }
 
 #[test]
-fn an_empty_module_is_taken(rt: HostRuntime) {
+fn an_empty_module_is_taken(rt: HostRuntime) -> Result<(), Fail> {
     let module = Module::new(rt.alloc());
-    assert!(rt; module.check_form(rt.alloc(), "", 0) == Ok(()));
+    assert!(rt; is_taken(&module, "", rt.alloc())?);
+    Ok(())
 }
 
 #[test]
 fn functions_are_named_and_apart(rt: HostRuntime) -> Result<(), Fail> {
-    for (name, taken) in [(None, false), (Some("f"), false), (Some("g"), true)] {
-        assert_eq!(rt; is_function_taken(Shape { name, ..G }, rt.alloc())?, taken);
+    for (name, taken) in [(0, false), (1, false), (2, true)] {
+        let shape = Shape { name, ..G };
+        assert_eq!(rt; is_function_taken(shape, NONE, "", rt.alloc())?, taken);
     }
     Ok(())
 }
 
 #[test]
 fn names_are_decorated(rt: HostRuntime) -> Result<(), Fail> {
-    let decorated = Shape {
-        name: Some("fX_naga_oil_mod_XMEX"),
-        ..G
-    };
-    let additions = [Addition::Function(decorated, NONE)];
+    let shape = Shape { name: 4, ..G };
     for (decoration, taken) in [
         ("", true),
         ("X_naga_oil_mod_XMEX", false),
         ("X_naga_oil_mod_XMIX", true),
     ] {
-        assert_eq!(rt; is_taken(&additions, decoration, rt.alloc())?, taken);
+        assert_eq!(rt;
+            is_function_taken(shape, NONE, decoration, rt.alloc())?,
+            taken
+        );
     }
     Ok(())
 }
 
 #[test]
 fn entry_points_are_apart(rt: HostRuntime) -> Result<(), Fail> {
-    let unnamed = Shape { name: None, ..G };
-    for (name, taken) in [("f", true), ("main", false)] {
-        let shape = Shape {
-            name: Some(name),
-            ..G
-        };
-        let additions = [Entry(shape, NO_ENDS), Entry(unnamed, NO_ENDS)];
-        assert_eq!(rt; is_taken(&additions, "", rt.alloc())?, taken);
+    for (name, taken) in [(1, true), (3, false), (0, false)] {
+        let shape = Shape { name, ..G };
+        assert_eq!(rt;
+            are_entries_taken(shape, None, None, None, rt.alloc())?,
+            taken
+        );
     }
     Ok(())
 }
@@ -434,18 +484,13 @@ fn entry_points_are_apart(rt: HostRuntime) -> Result<(), Fail> {
 #[test]
 fn what_entry_points_name_is_there(rt: HostRuntime) -> Result<(), Fail> {
     for (size, output, payload, taken) in [
-        (Some(0), Some(0), Some(0), true),
-        (Some(1), None, None, false),
-        (None, Some(1), None, false),
-        (None, None, Some(1), false),
+        (0, 0, 0, true),
+        (1, 0, 0, false),
+        (0, 1, 0, false),
+        (0, 0, 1, false),
     ] {
-        let ends = Ends {
-            size,
-            output,
-            payload,
-        };
-        let additions = [Addition::Global, Entry(G, ends)];
-        assert_eq!(rt; is_taken(&additions, "", rt.alloc())?, taken);
+        let answer = are_entries_taken(G, Some(size), Some(output), Some(payload), rt.alloc())?;
+        assert_eq!(rt; answer, taken);
     }
     Ok(())
 }
@@ -465,10 +510,10 @@ fn what_functions_name_is_there(rt: HostRuntime) -> Result<(), Fail> {
             given: Some(given),
             local: Some(local),
             named: Some(named),
-            parts: &[Literal],
+            parts: [Literal, Nothing, Nothing, Nothing],
             ..G
         };
-        assert_eq!(rt; is_function_taken(shape, rt.alloc())?, taken);
+        assert_eq!(rt; is_function_taken(shape, NONE, "", rt.alloc())?, taken);
     }
     Ok(())
 }
@@ -485,7 +530,8 @@ fn what_expressions_name_is_there(rt: HostRuntime) -> Result<(), Fail> {
         (Part::Local(0), false),
         (Part::Argument(0), false),
     ] {
-        assert_eq!(rt; is_body_taken(&[part], &[], rt.alloc())?, taken);
+        let parts = [part, Nothing, Nothing, Nothing];
+        assert_eq!(rt; is_body_taken(parts, [HERE; 3], rt.alloc())?, taken);
     }
     Ok(())
 }
@@ -493,10 +539,8 @@ fn what_expressions_name_is_there(rt: HostRuntime) -> Result<(), Fail> {
 #[test]
 fn operands_are_earlier(rt: HostRuntime) -> Result<(), Fail> {
     for (place, taken) in [(0, true), (1, false), (2, false)] {
-        assert_eq!(rt;
-            is_body_taken(&[Literal, Negation(place), Literal], &[], rt.alloc())?,
-            taken
-        );
+        let parts = [Literal, Negation(place), Literal, Nothing];
+        assert_eq!(rt; is_body_taken(parts, [HERE; 3], rt.alloc())?, taken);
     }
     Ok(())
 }
@@ -509,25 +553,24 @@ fn calls_go_to_earlier_functions(rt: HostRuntime) -> Result<(), Fail> {
         (0, CallResult(1), false),
         (0, Ballot, false),
     ] {
-        assert_eq!(rt;
-            is_body_taken(&[part], &[Step::Call(callee, 0)], rt.alloc())?,
-            taken
-        );
+        let parts = [part, Nothing, Nothing, Nothing];
+        let steps = [Step::Call(callee, 0), HERE, HERE];
+        assert_eq!(rt; is_body_taken(parts, steps, rt.alloc())?, taken);
     }
     Ok(())
 }
 
 #[test]
 fn results_are_given_once(rt: HostRuntime) -> Result<(), Fail> {
-    for (part, twice, taken) in [
-        (Ballot, false, true),
-        (Ballot, true, false),
-        (Literal, false, false),
-        (CallResult(0), false, false),
+    for (part, again, taken) in [
+        (Ballot, HERE, true),
+        (Ballot, Give(0), false),
+        (Literal, HERE, false),
+        (CallResult(0), HERE, false),
     ] {
-        let again = if twice { Give(0) } else { Step::At(0, 0) };
+        let parts = [part, Nothing, Nothing, Nothing];
         assert_eq!(rt;
-            is_body_taken(&[part], &[Give(0), again], rt.alloc())?,
+            is_body_taken(parts, [Give(0), HERE, again], rt.alloc())?,
             taken
         );
     }
@@ -536,17 +579,17 @@ fn results_are_given_once(rt: HostRuntime) -> Result<(), Fail> {
 
 #[test]
 fn operands_are_known(rt: HostRuntime) -> Result<(), Fail> {
-    let parts = [Literal, Negation(0), Ballot];
-    for (before, to, from, after, taken) in [
-        (Emit(1, 2), 0, 1, Give(2), true),
-        (Give(2), 2, 0, Emit(1, 2), true),
-        (Give(2), 0, 1, Emit(1, 2), false),
-        (Emit(1, 2), 2, 0, Give(2), false),
-        (Emit(1, 2), 0, 3, Give(2), false),
-        (Emit(1, 2), 0, 1, Emit(1, 2), false),
+    for (before, used, after, taken) in [
+        (Emit(1, 2), Store(0, 1), Give(2), true),
+        (Give(2), Store(2, 0), Emit(1, 2), true),
+        (Give(2), Store(0, 1), Emit(1, 2), false),
+        (Emit(1, 2), Store(2, 0), Give(2), false),
+        (Emit(1, 2), Store(0, 3), Give(2), false),
+        (Emit(1, 2), Store(0, 1), Emit(1, 2), false),
     ] {
+        let parts = [Literal, Negation(0), Ballot, Nothing];
         assert_eq!(rt;
-            is_body_taken(&parts, &[before, Store(to, from), after], rt.alloc())?,
+            is_body_taken(parts, [before, used, after], rt.alloc())?,
             taken
         );
     }
@@ -555,7 +598,6 @@ fn operands_are_known(rt: HostRuntime) -> Result<(), Fail> {
 
 #[test]
 fn emitted_ranges_are_fine(rt: HostRuntime) -> Result<(), Fail> {
-    let parts = [Literal, Negation(0), Negation(1), Ballot];
     for (start, end, taken) in [
         (1, 3, true),
         (4, 4, true),
@@ -565,8 +607,9 @@ fn emitted_ranges_are_fine(rt: HostRuntime) -> Result<(), Fail> {
         (4, 5, false),
         (2, 1, false),
     ] {
+        let parts = [Literal, Negation(0), Negation(1), Ballot];
         assert_eq!(rt;
-            is_body_taken(&parts, &[Emit(start, end)], rt.alloc())?,
+            is_body_taken(parts, [HERE, HERE, Emit(start, end)], rt.alloc())?,
             taken
         );
     }
@@ -578,11 +621,11 @@ fn initialisers_reach_no_result(rt: HostRuntime) -> Result<(), Fail> {
     for (part, taken) in [(Literal, true), (Ballot, false)] {
         let shape = Shape {
             local: Some((0, 1)),
-            parts: &[part, Negation(0)],
-            steps: &[Store(1, 1)],
+            parts: [part, Negation(0), Nothing, Nothing],
+            steps: [Store(1, 1), HERE, HERE],
             ..G
         };
-        assert_eq!(rt; is_function_taken(shape, rt.alloc())?, taken);
+        assert_eq!(rt; is_function_taken(shape, NONE, "", rt.alloc())?, taken);
     }
     Ok(())
 }
@@ -592,15 +635,12 @@ fn spans_lie_in_the_text(rt: HostRuntime) -> Result<(), Fail> {
     for (start, end, taken) in [(0, 0, true), (2, 10, true), (2, 11, false), (3, 2, false)] {
         let span = Span::new(start, end);
         assert_eq!(rt;
-            is_body_taken(&[], &[Step::At(start, end)], rt.alloc())?,
+            is_body_taken([Nothing; 4], [Kill(start, end); 3], rt.alloc())?,
             taken
         );
+        assert_eq!(rt; is_function_taken(G, span, "", rt.alloc())?, taken);
         assert_eq!(rt;
-            is_taken(&[Addition::Function(G, span)], "", rt.alloc())?,
-            taken
-        );
-        assert_eq!(rt;
-            is_taken(&[Scalar(Some("t"), span)], "", rt.alloc())?,
+            are_items_taken(&[Added::Named(start, end)], rt.alloc())?,
             taken
         );
     }
@@ -610,32 +650,26 @@ fn spans_lie_in_the_text(rt: HostRuntime) -> Result<(), Fail> {
 #[test]
 fn types_name_earlier_types(rt: HostRuntime) -> Result<(), Fail> {
     for (base, size, taken) in [
-        (0, ArraySize::Dynamic, true),
-        (1, ArraySize::Dynamic, false),
-        (2, ArraySize::Dynamic, false),
-        (0, ArraySize::Pending(Index::new(0)), false),
+        (0, None, true),
+        (1, None, false),
+        (2, None, false),
+        (0, Some(0), false),
     ] {
-        assert_eq!(rt; is_taken(&[Array(base, size)], "", rt.alloc())?, taken);
+        assert_eq!(rt; are_items_taken(&[Array(base, size)], rt.alloc())?, taken);
     }
     Ok(())
 }
 
 #[test]
 fn items_name_no_sized_type(rt: HostRuntime) -> Result<(), Fail> {
-    let size = ArraySize::Pending(Index::new(0));
     for (item, taken) in [
-        (Addition::Global, true),
-        (Addition::Constant(2, 0), false),
-        (Addition::Expression(Zero(1)), false),
+        (Added::Global, true),
+        (Added::Constant(2, 0), false),
+        (Added::Expression(Zero(1)), false),
         (Special(0, 2), false),
     ] {
-        let additions = [
-            Addition::Override,
-            Array(0, size),
-            Array(1, ArraySize::Dynamic),
-            item,
-        ];
-        assert_eq!(rt; is_taken(&additions, "", rt.alloc())?, taken);
+        let items = [Added::Override, Array(0, Some(0)), Array(1, None), item];
+        assert_eq!(rt; are_items_taken(&items, rt.alloc())?, taken);
     }
     Ok(())
 }
@@ -651,7 +685,7 @@ fn global_expressions_are_fine(rt: HostRuntime) -> Result<(), Fail> {
         (Part::Argument(0), false),
     ] {
         assert_eq!(rt;
-            is_taken(&[Addition::Expression(part)], "", rt.alloc())?,
+            are_items_taken(&[Added::Expression(part)], rt.alloc())?,
             taken
         );
     }
@@ -661,13 +695,13 @@ fn global_expressions_are_fine(rt: HostRuntime) -> Result<(), Fail> {
 #[test]
 fn expressions_stand_after_initialisers(rt: HostRuntime) -> Result<(), Fail> {
     for (init, taken) in [(1, true), (2, false), (3, false), (4, false)] {
-        let additions = [
-            Addition::Constant(0, init),
-            Addition::Expression(Literal),
-            Addition::Expression(Part::Constant(1)),
-            Addition::Expression(Literal),
+        let items = [
+            Added::Constant(0, init),
+            Added::Expression(Literal),
+            Added::Expression(Part::Constant(1)),
+            Added::Expression(Literal),
         ];
-        assert_eq!(rt; is_taken(&additions, "", rt.alloc())?, taken);
+        assert_eq!(rt; are_items_taken(&items, rt.alloc())?, taken);
     }
     Ok(())
 }
@@ -675,12 +709,8 @@ fn expressions_stand_after_initialisers(rt: HostRuntime) -> Result<(), Fail> {
 #[test]
 fn special_types_are_distinct(rt: HostRuntime) -> Result<(), Fail> {
     for (key, ty, taken) in [(2, 1, true), (2, 0, false), (1, 0, false), (1, 2, false)] {
-        let additions = [
-            Array(0, ArraySize::Dynamic),
-            Special(0, 0),
-            Special(key, ty),
-        ];
-        assert_eq!(rt; is_taken(&additions, "", rt.alloc())?, taken);
+        let items = [Array(0, None), Special(0, 0), Special(key, ty)];
+        assert_eq!(rt; are_items_taken(&items, rt.alloc())?, taken);
     }
     Ok(())
 }
@@ -688,13 +718,13 @@ fn special_types_are_distinct(rt: HostRuntime) -> Result<(), Fail> {
 #[test]
 fn special_types_reach_unnamed_types(rt: HostRuntime) -> Result<(), Fail> {
     for (ty, taken) in [(0, false), (1, true)] {
-        let additions = [
-            Scalar(Some("t"), NONE),
-            Array(1, ArraySize::Dynamic),
+        let items = [
+            Added::Named(0, 0),
+            Array(1, None),
             Special(0, 2),
             Special(7, ty),
         ];
-        assert_eq!(rt; is_taken(&additions, "", rt.alloc())?, taken);
+        assert_eq!(rt; are_items_taken(&items, rt.alloc())?, taken);
     }
     Ok(())
 }
