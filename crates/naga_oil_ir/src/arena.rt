@@ -93,10 +93,7 @@ impl<T: Item> Arena<T> {
     {
         match position_of(self.items.as_slice(), &item) {
             Some(index) => Ok(Index::new(index)),
-            None => {
-                let place = self.append(item, span)?;
-                Ok(place)
-            }
+            None => self.append(item, span),
         }
     }
 }

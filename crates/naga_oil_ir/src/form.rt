@@ -65,21 +65,19 @@ pub struct Reading {
 pub fn read(items: &[(Expression, Span)], alloc: Global) -> Result<Reading, AllocError>
     ensures { IfOk result (IsReading items.now) }
 {
-    let mut kinds = Vec::new(alloc);
-    let mut named = Vec::new(alloc);
-    let mut links = Vec::new(alloc);
+    let mut read = Reading {
+        kinds: Vec::new(alloc),
+        named: Vec::new(alloc),
+        links: Vec::new(alloc),
+    };
     for entry in items {
         let parts = entry.0.parts(alloc)?;
         let operands = present(&parts.operands, alloc)?;
-        kinds.push(parts.kind)?;
-        named.push(parts.named)?;
-        links.push(operands)?;
+        read.kinds.push(parts.kind)?;
+        read.named.push(parts.named)?;
+        read.links.push(operands)?;
     }
-    Ok(Reading {
-        kinds,
-        named,
-        links,
-    })
+    Ok(read)
 }
 
 /// Whether an expression of this kind is external.

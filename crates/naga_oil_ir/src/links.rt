@@ -46,8 +46,7 @@ pub fn no_marks(count: usize, alloc: Global) -> Result<Vec<bool>, AllocError>
     ensures long { IfOk result (λ v. length v.items ≡ count) }
     ensures none { IfOk result (λ v. AreMarks v.items []) }
 {
-    let marks = vec![in alloc; false; count]?;
-    Ok(marks)
+    vec![in alloc; false; count]
 }
 
 /// So many places, some of them marked.

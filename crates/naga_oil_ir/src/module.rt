@@ -70,21 +70,6 @@ pub struct SpecialTypes {
     pub predeclared_types: IndexMap<u64, Handle<Type>>,
 }
 
-impl SpecialTypes {
-    /// None of them.
-    pub fn new(alloc: Global) -> Self
-        ensures named { (result.ray_desc ≡ None) × (result.ray_intersection ≡ None) × (result.ray_vertex_return ≡ None) }
-        ensures predeclared { result.predeclared_types.entries ≡ [] }
-    {
-        SpecialTypes {
-            ray_desc: None,
-            ray_intersection: None,
-            ray_vertex_return: None,
-            predeclared_types: IndexMap::new(alloc),
-        }
-    }
-}
-
 /// A module.
 #[derive(Drop)]
 pub struct Module {
@@ -111,7 +96,12 @@ impl Module {
     {
         Module {
             types: UniqueArena::new(alloc),
-            special_types: SpecialTypes::new(alloc),
+            special_types: SpecialTypes {
+                ray_desc: None,
+                ray_intersection: None,
+                ray_vertex_return: None,
+                predeclared_types: IndexMap::new(alloc),
+            },
             constants: Arena::new(alloc),
             overrides: Arena::new(alloc),
             global_variables: Arena::new(alloc),

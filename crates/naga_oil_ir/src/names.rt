@@ -45,11 +45,7 @@ fn types_of_members(members: &[StructMember], alloc: Global) -> Result<NameList,
     members.iter().map(|m| Some(TypeItem(m.ty))).collect(alloc)
 }
 
-fn type_and(
-    ty: Handle<Type>,
-    name: Option<ItemPlace>,
-    alloc: Global,
-) -> Result<NameList, AllocError>
+fn typed(ty: Handle<Type>, name: Option<ItemPlace>, alloc: Global) -> Result<NameList, AllocError>
     ensures { IfOk result (λ v. v.items ≡ Some (ItemPlace.TypeItem ty) ∷ name ∷ []) }
 {
     Vec::from_slice(alloc, &[Some(TypeItem(ty)), name])
@@ -69,7 +65,7 @@ impl Names for Type {
             TypeInner::Pointer { base, .. } => Vec::from_slice(alloc, &[Some(TypeItem(*base))]),
             TypeInner::Struct { members, .. } => types_of_members(members, alloc),
             TypeInner::Array { base, size, .. } | TypeInner::BindingArray { base, size } => {
-                type_and(*base, size_name(size), alloc)
+                typed(*base, size_name(size), alloc)
             }
             _ => Ok(Vec::new(alloc)),
         }
@@ -80,7 +76,7 @@ impl Names for Constant {
     ghost row_of = { constant_row };
 
     fn names(&self, alloc: Global) -> Result<NameList, AllocError> {
-        type_and(self.ty, Some(ExpressionItem(self.init)), alloc)
+        typed(self.ty, Some(ExpressionItem(self.init)), alloc)
     }
 }
 
@@ -88,7 +84,7 @@ impl Names for Override {
     ghost row_of = { override_row };
 
     fn names(&self, alloc: Global) -> Result<NameList, AllocError> {
-        type_and(self.ty, expression_name(self.init), alloc)
+        typed(self.ty, expression_name(self.init), alloc)
     }
 }
 
@@ -96,7 +92,7 @@ impl Names for GlobalVariable {
     ghost row_of = { global_row };
 
     fn names(&self, alloc: Global) -> Result<NameList, AllocError> {
-        type_and(self.ty, expression_name(self.init), alloc)
+        typed(self.ty, expression_name(self.init), alloc)
     }
 }
 

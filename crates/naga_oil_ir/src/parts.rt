@@ -1,5 +1,5 @@
 ghost use Rattle.std.specs.Prelude.{◌≡◌, IfOk, length, map, Some};
-ghost use Rattle.naga_oil_ir.specs.Parts.{parts, ReadsAs, level_x, level_y, query_level};
+ghost use Rattle.naga_oil_ir.specs.Parts.{parts, ReadsAs, level_x, level_y};
 
 use super::types::{Constant, GlobalVariable, LocalVariable, Override, Type};
 use super::{Expression, Function, Handle, ImageQuery, Operand, SampleLevel};
@@ -30,12 +30,10 @@ pub struct ExpressionParts {
     pub operands: Vec<Option<Operand>>,
 }
 
-fn read_parts(
-    alloc: Global,
-    kind: u64,
-    named: Named,
-    operands: &[Option<Operand>],
-) -> Result<ExpressionParts, AllocError>
+/// What is read of an expression, unless no memory is found.
+pub type PartsRead = Result<ExpressionParts, AllocError>;
+
+fn read_parts(alloc: Global, kind: u64, named: Named, operands: &[Option<Operand>]) -> PartsRead
     ensures { IfOk result (λ r. (r.kind ≡ kind) × (r.named ≡ named) × (r.operands.items ≡ operands.now)) }
 {
     let operands = Vec::from_slice(alloc, operands)?;
@@ -67,20 +65,10 @@ fn level_y(level: &SampleLevel) -> Option<Operand>
     }
 }
 
-/// The operand of a query, if there is one.
-fn query_level(query: &ImageQuery) -> Option<Operand>
-    ensures { result ≡ query_level query.now }
-{
-    match query {
-        ImageQuery::Size { level } => *level,
-        ImageQuery::Other(_) => None,
-    }
-}
-
 impl Expression {
     /// The kind of an expression, the item that it names and its operands.
     #[rattlefmt::skip]
-    pub fn parts(&self, alloc: Global) -> Result<ExpressionParts, AllocError>
+    pub fn parts(&self, alloc: Global) -> PartsRead
         ensures { IfOk result (λ r. ReadsAs r (parts self.now)) }
     {
         match self {
@@ -107,7 +95,8 @@ impl Expression {
                 read_parts(alloc, 19, Nothing, &[Some(*image), Some(*sampler), Some(*coordinate), *array_index, *offset, level_x(level), level_y(level), *depth_ref]),
             Expression::ImageLoad { image, coordinate, array_index, sample, level } =>
                 read_parts(alloc, 20, Nothing, &[Some(*image), Some(*coordinate), *array_index, *sample, *level]),
-            Expression::ImageQuery { image, query } => read_parts(alloc, 21, Nothing, &[Some(*image), query_level(query)]),
+            Expression::ImageQuery { image, query: ImageQuery::Size { level } } => read_parts(alloc, 21, Nothing, &[Some(*image), *level]),
+            Expression::ImageQuery { image, query: ImageQuery::Other(_) } => read_parts(alloc, 21, Nothing, &[Some(*image), None]),
             Expression::Unary { expr, .. } => read_parts(alloc, 22, Nothing, &[Some(*expr)]),
             Expression::Binary { left, right, .. } => read_parts(alloc, 23, Nothing, &[Some(*left), Some(*right)]),
             Expression::Select { condition, accept, reject } => read_parts(alloc, 24, Nothing, &[Some(*condition), Some(*accept), Some(*reject)]),

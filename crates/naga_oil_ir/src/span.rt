@@ -25,9 +25,6 @@ impl Span {
     pub fn to_range(self) -> Option<ops::Range<usize>>
         ensures { result ≡ bounds_of self }
     {
-        if self.start == 0 && self.end == 0 {
-            return None;
-        }
-        Some(self.start as usize..self.end as usize)
+        (self != Span::UNDEFINED).then_some(self.start as usize..self.end as usize)
     }
 }

@@ -1,7 +1,7 @@
 ghost use Rattle.std.specs.Prelude.{◌≡◌, ◌++◌, OnOk, map};
 ghost use Rattle.naga_oil_ir.specs.Body.{block_tokens, statement_tokens, case_tokens, ray_query_tokens, inside, used, given, given_by};
 
-use super::{Block, Function, Handle, Operand, RayQueryFunction, Statement, SwitchCase, Token};
+use super::{Block, Function, Handle, Operand, RayQueryFunction, Statement, Token};
 use Token::{Callee, Emitted, Flag, Give, Head, Plain, Use};
 use std::alloc::AllocError;
 
@@ -76,15 +76,6 @@ pub fn push_block(block: &Block, out: &mut Vec<Token>) -> Result<(), AllocError>
     Ok(())
 }
 
-/// Pushes an arm of a switch.
-#[cycle(tokens)]
-fn push_case(case: &SwitchCase, out: &mut Vec<Token>) -> Result<(), AllocError>
-    ensures { OnOk result (out.new.items ≡ out.old.items ++ case_tokens case.now) }
-{
-    push!(out; Plain(case.value), Flag(case.fall_through))?;
-    push_inside(&case.body, out)
-}
-
 /// Pushes a statement, without its span: the kinds with blocks, lists or results in them at length, the others by their
 /// tokens.
 #[cycle(tokens)]
@@ -101,13 +92,13 @@ fn push_statement(statement: &Statement, out: &mut Vec<Token>) -> Result<(), All
         Statement::If { condition, accept, reject } => {
             push!(out; Head(2), Use(*condition))?;
             push_inside(accept, out)?;
-            push_inside(reject, out)?;
-            Ok(())
+            push_inside(reject, out)
         }
         Statement::Switch { selector, cases } => {
             push!(out; Head(3), Use(*selector))?;
             for case in cases {
-                push_case(case, out)?;
+                push!(out; Plain(case.value), Flag(case.fall_through))?;
+                push_inside(&case.body, out)?;
             }
             Ok(())
         }
@@ -115,8 +106,7 @@ fn push_statement(statement: &Statement, out: &mut Vec<Token>) -> Result<(), All
             out.push(Token::Head(4))?;
             push_inside(body, out)?;
             push_inside(continuing, out)?;
-            push!(out; used(*break_if))?;
-            Ok(())
+            push!(out; used(*break_if))
         }
         Statement::Break => push!(out; Head(5)),
         Statement::Continue => push!(out; Head(6)),
@@ -135,13 +125,11 @@ fn push_statement(statement: &Statement, out: &mut Vec<Token>) -> Result<(), All
         Statement::Call { function, arguments, result } => {
             push!(out; Head(16), Callee(*function))?;
             push_uses(arguments, out)?;
-            push!(out; given_by(*function, *result))?;
-            Ok(())
+            push!(out; given_by(*function, *result))
         }
         Statement::RayQuery { query, fun } => {
             push!(out; Head(17), Use(*query))?;
-            push_ray_query(fun, out)?;
-            Ok(())
+            push_ray_query(fun, out)
         }
         Statement::SubgroupBallot { result, predicate } => push!(out; Head(18), Give(*result), used(*predicate)),
         Statement::SubgroupGather { mode, index, argument, result } =>

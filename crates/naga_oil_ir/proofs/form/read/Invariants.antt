@@ -5,7 +5,7 @@ use Rattle.naga_oil_ir.proofs.form.read.Given as goal
 
 abbrev pub invariant-loop-entry : goal.invariant-loop-entry
 invariant-loop-entry l = record {
-  kinds : l.kinds.items ≡ kinds (take l.entry-index l.items);
-  named : l.named.items ≡ named_of (take l.entry-index l.items);
-  links : lists l.links.items ≡ operand_links (take l.entry-index l.items);
+  kinds : l.read.kinds.items ≡ kinds (take l.entry-index l.items);
+  named : l.read.named.items ≡ named_of (take l.entry-index l.items);
+  links : lists l.read.links.items ≡ operand_links (take l.entry-index l.items);
 }

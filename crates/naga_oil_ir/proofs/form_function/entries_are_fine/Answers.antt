@@ -1,4 +1,4 @@
-use Rattle.std.proofs.Common.{All, true, take, refl, subst, arith}
+use Rattle.std.proofs.Common.{All, true, refl, subst, arith}
 use Rattle.std.proofs.lemmas.List.{take_all}
 use Rattle.std.proofs.lemmas.List.Elements.{All-more}
 use Rattle.naga_oil_ir.specs.WellFormed.{EntryForm}
