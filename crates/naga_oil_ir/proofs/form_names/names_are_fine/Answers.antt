@@ -1,4 +1,4 @@
-use Rattle.std.proofs.Common.{◌∙◌, ap, map, nat_eq, All, List, IsSome}
+use Rattle.std.proofs.Common.{map, nat_eq, All, List, IsSome}
 use Rattle.std.specs.List.{IsDistinct}
 use Rattle.std.specs.Cmp.Lexicographic.{pointwise}
 use Rattle.naga_oil_ir.specs.NameForm.{Name, decorated, function_name, entry_name}
