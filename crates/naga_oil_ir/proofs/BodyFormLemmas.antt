@@ -3,7 +3,7 @@ use Rattle.std.proofs.lemmas.List.{drop_all}
 use Rattle.naga_oil_ir.specs.Links.{Links, linked}
 use Rattle.std.proofs.lemmas.Option.{slice_get_within, get_or_from_slice_get}
 use Rattle.naga_oil_ir.specs.Body.{Tokens}
-use Rattle.naga_oil_ir.specs.declared.token.Token.{Token}
+use Rattle.naga_oil_ir.specs.declared.tokens.Token.{Token}
 use Rattle.naga_oil_ir.specs.BodyForm.{run, places, made, MayBeEmitted, AreEmittedBy, marks_after, IsFineBy, AreFineBy}
 
 -- a run begins with its first number

@@ -3,8 +3,8 @@ use Rattle.std.proofs.lemmas.List.Elements.{All-head, All-tail, All-nil, All-con
 use Rattle.naga_oil_ir.specs.Body.{Tokens}
 use Rattle.naga_oil_ir.specs.Links.{Links, linked, marked, has, AreMarks}
 use Rattle.naga_oil_ir.specs.BodyForm.{run, places, made, is_external, is_known, known_by, AreEmitted, AreEmittedBy, marks_after, IsFine, IsFineBy, AreFine, AreFineBy}
-use Rattle.naga_oil_ir.specs.declared.token.Token.{Token}
-use Rattle.naga_oil_ir.specs.declared.token.Token.TheVariants.{Use, Give, GiveCall, Emitted}
+use Rattle.naga_oil_ir.specs.declared.tokens.Token.{Token}
+use Rattle.naga_oil_ir.specs.declared.tokens.Token.TheVariants.{Use, Give, GiveCall, Emitted}
 use Rattle.naga_oil_ir.proofs.LinkLemmas.{or_false, has-append, marked-set}
 use Rattle.naga_oil_ir.proofs.BodyFormLemmas.{length-marks_after}
 

@@ -1,5 +1,5 @@
 use Rattle.std.proofs.Common.{◌≡◌, ◌++◌, List, [], ◌∷◌, map, refl, ap, sym, ◌∙◌, ℕ, Vec, Global}
-use Rattle.naga_oil_ir.specs.declared.token.Token.TheVariants.{At, Head, Use}
+use Rattle.naga_oil_ir.specs.declared.tokens.Token.TheVariants.{At, Head, Use}
 use Rattle.naga_oil_ir.specs.declared.statement.Statement.TheOpen as open_
 use Rattle.naga_oil_ir.specs.declared.statement.SwitchCase.{SwitchCase}
 use Rattle.std.specs.List.{flat_map}

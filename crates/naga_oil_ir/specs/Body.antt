@@ -1,8 +1,8 @@
 use Rattle.std.specs.Prelude.{ℕ, List, [], ◌∷◌, ◌++◌, map, Option, Some, None}
 use Rattle.std.specs.List.{flat_map}
 use Rattle.naga_oil_ir.specs.declared.span.Span.{Span}
-use Rattle.naga_oil_ir.specs.declared.token.Token.{Token}
-use Rattle.naga_oil_ir.specs.declared.token.Token.TheVariants.{At, Head, Plain, Flag, Absent, Use, Give, GiveCall, Emitted, Callee, Open, Close}
+use Rattle.naga_oil_ir.specs.declared.tokens.Token.{Token}
+use Rattle.naga_oil_ir.specs.declared.tokens.Token.TheVariants.{At, Head, Plain, Flag, Absent, Use, Give, GiveCall, Emitted, Callee, Open, Close}
 use Rattle.naga_oil_ir.specs.declared.statement.RayQueryFunction.{RayQueryFunction}
 use Rattle.naga_oil_ir.specs.declared.statement.RayQueryFunction.TheVariants.{Initialize, Proceed, Terminate, GenerateIntersection, ConfirmIntersection}
 use Rattle.naga_oil_ir.specs.declared.statement.Statement.{Statement, Statement-F, fold-Statement}

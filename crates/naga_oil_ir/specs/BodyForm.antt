@@ -8,8 +8,8 @@ use Rattle.naga_oil_ir.specs.declared.parts.Named.{Named}
 use Rattle.naga_oil_ir.specs.declared.parts.Named.TheVariants.{Nothing, TypeOf, ConstantAt, OverrideAt, GlobalAt, LocalAt, ArgumentAt, FunctionAt}
 use Rattle.naga_oil_ir.specs.declared.expression.Expression.{Expression}
 use Rattle.naga_oil_ir.specs.declared.span.Span.{Span}
-use Rattle.naga_oil_ir.specs.declared.token.Token.{Token}
-use Rattle.naga_oil_ir.specs.declared.token.Token.TheVariants.{At, Use, Give, GiveCall, Emitted, Callee}
+use Rattle.naga_oil_ir.specs.declared.tokens.Token.{Token}
+use Rattle.naga_oil_ir.specs.declared.tokens.Token.TheVariants.{At, Use, Give, GiveCall, Emitted, Callee}
 
 -- ---- what is known of a function's expressions
 

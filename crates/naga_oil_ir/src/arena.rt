@@ -1,10 +1,12 @@
-ghost use Rattle.std.specs.Prelude.{◌≡◌, ℕ, ◌+◌, ◌<◌, ◌++◌, ◌∷◌, [], List, length, Option, IfOk, OnOk, OnErr, position, slice_get, option_map, option_copied, unwrap_or};
+ghost use Rattle.std.specs.Prelude.{◌≡◌, ℕ, ◌+◌, ◌<◌, ◌++◌, ◌∷◌, [], List, length, map, Option, IfOk, OnOk, OnErr, position, slice_get, option_map, option_copied, unwrap_or};
 ghost use Rattle.std.specs.Slice.Iter.{iter_rest};
 ghost use Rattle.naga_oil_ir.specs.Places.{place_of, fetched};
 ghost use Rattle.naga_oil_ir.specs.Spans.{undefined};
 
 use super::{Handle, Index, Item, Span};
+use indexmap::{IndexMap, map};
 use std::alloc::{AllocError, Global};
+use std::hash::Hash;
 use std::marker::Model;
 use std::slice;
 
@@ -102,4 +104,85 @@ fn position_of<T: PartialEq>(items: &[(T, Span)], item: &T) -> Option<usize>
     ensures { result ≡ position (λ e. T.eq item.now e.0) items.now }
 {
     items.iter().position(|e| *item == e.0)
+}
+
+/// A list of items with spans, no two of them equal; a handle is a place in it. An item is found by its hash.
+#[derive(Drop)]
+pub struct UniqueArena<T: Item + Eq + Hash> {
+    items: IndexMap<T, Span>,
+}
+
+impl<T: Item + Eq + Hash> Model for UniqueArena<T> {
+    ghost use Rattle.std.specs.Prelude.{List};
+    ghost use Rattle.naga_oil_ir.specs.declared.span.Span.{Span};
+
+    ghost Value = { List (T × Span) };
+
+    ghost view = { λ a. a.items.entries };
+}
+
+impl<T: Item + Eq + Hash> UniqueArena<T> {
+    /// The arena of no items.
+    pub fn new(alloc: Global) -> Self
+        ensures { result ≡ [] }
+    {
+        UniqueArena {
+            items: IndexMap::new(alloc),
+        }
+    }
+
+    /// How many items there are.
+    pub fn len(&self) -> usize
+        ensures { result ≡ length self.now }
+    {
+        self.items.len()
+    }
+
+    /// The item at a place, or `None` behind the last.
+    pub fn get_handle(&self, handle: Handle<T>) -> Option<&T>
+        ensures { option_copied result ≡ option_map (λ e. e.0) (slice_get self.now handle) }
+    {
+        self.items.get_index(handle.index()).map(|entry| entry.0)
+    }
+
+    /// The span of the item at a place, undefined behind the last.
+    pub fn get_span(&self, handle: Handle<T>) -> Span
+        ensures { result ≡ unwrap_or (option_map (λ e. e.1) (slice_get self.now handle)) undefined }
+    {
+        self.items
+            .get_index(handle.index())
+            .map_or(Span::UNDEFINED, |entry| *entry.1)
+    }
+
+    /// The items, in order.
+    pub fn items(&self) -> &[T]
+        ensures { result.now ≡ map (λ e. e.0) self.now }
+    {
+        self.items.keys().as_slice()
+    }
+
+    /// The items with their spans, in order.
+    pub fn iter(&self) -> map::Iter<'_, T, Span>
+        ensures { result ≡ self.now }
+    {
+        self.items.iter()
+    }
+
+    /// The place of the first equal item, which keeps its span; without one the item is put last.
+    pub fn insert(&mut self, item: T, span: Span) -> Result<Handle<T>, AllocError>
+    where
+        T: Drop,
+        ensures place { IfOk result (λ h. h ≡ place_of (λ e. T.eq item e.0) self.old) }
+        ensures items { OnOk result (self.new ≡ fetched (λ e. T.eq item e.0) self.old (item, span)) }
+        ensures err { OnErr result (self.new ≡ self.old) }
+    {
+        match self.items.get_index_of(&item) {
+            Some(index) => Ok(Index::new(index)),
+            None => {
+                let index = self.items.len();
+                self.items.insert(item, span)?;
+                Ok(Index::new(index))
+            }
+        }
+    }
 }

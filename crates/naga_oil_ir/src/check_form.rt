@@ -50,3 +50,6 @@ impl Module {
         Err(FormFault::WrongForm)
     }
 }
+
+#[cfg(test)]
+mod tests;

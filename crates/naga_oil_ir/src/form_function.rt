@@ -23,9 +23,7 @@ fn is_type_there(of: &Module, ty: Handle<Type>) -> bool
 fn arguments_are_there(of: &Module, arguments: &[FunctionArgument]) -> bool
     ensures { IsTrue result ↔ All (λ a. a.ty < length of.now.types) arguments.now }
 {
-    arguments
-        .iter()
-        .all(|argument| is_type_there(of, argument.ty))
+    arguments.iter().all(|item| is_type_there(of, item.ty))
 }
 
 /// Whether the type of a result is there.
@@ -86,9 +84,7 @@ fn is_named_there(of: &Module, function: &Function, named: Named) -> bool
 fn are_named_there(of: &Module, function: &Function, named: &[Named]) -> bool
     ensures { IsTrue result ↔ All (NamedThere of.now function.now) named.now }
 {
-    named
-        .iter()
-        .all(|named| is_named_there(of, function, *named))
+    named.iter().all(|item| is_named_there(of, function, *item))
 }
 
 fn signature_is_fine(of: &Module, function: &Function) -> bool
@@ -131,11 +127,9 @@ fn function_is_fine(
     let mut tokens = Vec::new(alloc);
     push_block(&function.body, &mut tokens)?;
     let fine = expressions_are_fine(of, function, &tokens, alloc)?;
-    Ok(
-        fine && signature_is_fine(of, function)
-            && spans_are_within(function, text_len)
-            && are_tokens_fine(&tokens, calls_below, text_len),
-    )
+    let signed = signature_is_fine(of, function);
+    let spanned = spans_are_within(function, text_len);
+    Ok(fine & signed & spanned & are_tokens_fine(&tokens, calls_below, text_len))
 }
 
 fn is_expression_there(of: &Module, handle: Option<Handle<Expression>>) -> bool

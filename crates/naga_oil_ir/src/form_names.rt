@@ -6,7 +6,7 @@ ghost use Rattle.naga_oil_ir.specs.NameForm.{is_within, module_mark, decorated, 
 
 use super::form::Tested;
 use super::form_function::functions_are_named;
-use super::{EntryPoint, Function, Module, Span};
+use super::{Function, Module, Span};
 use std::alloc::{AllocError, Global};
 use std::collections::BTreeSet;
 
@@ -35,30 +35,22 @@ fn name_or<'a>(function: &'a Function, other: &'a str) -> &'a str
     function.name.as_ref().map_or(other, |name| name.as_str())
 }
 
-fn function_names(
-    functions: &[(Function, Span)],
-    decoration: &str,
-    alloc: Global,
-) -> Result<Vec<String>, AllocError>
-    ensures { IfOk result (λ v. map string_bytes v.items ≡ map (λ e. decorated decoration.now (function_name e.0)) functions.now) }
+fn function_names(of: &Module, decoration: &str, alloc: Global) -> Result<Vec<String>, AllocError>
+    ensures { IfOk result (λ v. map string_bytes v.items ≡ map (λ e. decorated decoration.now (function_name e.0)) of.now.functions) }
 {
     let mut names = Vec::new(alloc);
-    for entry in functions {
+    for entry in of.functions.as_slice() {
         let name = decorated(name_or(&entry.0, ""), decoration, alloc)?;
         names.push(name)?;
     }
     Ok(names)
 }
 
-fn entry_names(
-    entries: &[EntryPoint],
-    decoration: &str,
-    alloc: Global,
-) -> Result<Vec<String>, AllocError>
-    ensures { IfOk result (λ v. map string_bytes v.items ≡ map (λ e. decorated decoration.now (entry_name e.function)) entries.now) }
+fn entry_names(of: &Module, decoration: &str, alloc: Global) -> Result<Vec<String>, AllocError>
+    ensures { IfOk result (λ v. map string_bytes v.items ≡ map (λ e. decorated decoration.now (entry_name e.function)) of.now.entry_points.items) }
 {
     let mut names = Vec::new(alloc);
-    for entry in entries {
+    for entry in &of.entry_points {
         let name = decorated(name_or(&entry.function, "main"), decoration, alloc)?;
         names.push(name)?;
     }
@@ -77,8 +69,8 @@ fn are_distinct(names: Vec<String>, alloc: Global) -> Tested
 pub fn names_are_fine(of: &Module, decoration: &str, alloc: Global) -> Tested
     ensures { IfOk result (λ b. IsTrue b ↔ NameForm of.now decoration.now) }
 {
-    let functions = function_names(of.functions.as_slice(), decoration, alloc)?;
-    let entries = entry_names(&of.entry_points, decoration, alloc)?;
+    let functions = function_names(of, decoration, alloc)?;
+    let entries = entry_names(of, decoration, alloc)?;
     let apart = are_distinct(functions, alloc)? & are_distinct(entries, alloc)?;
     Ok(functions_are_named(of.functions.as_slice()) & apart)
 }

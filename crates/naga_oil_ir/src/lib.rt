@@ -28,12 +28,10 @@ pub mod span;
 pub mod statement;
 #[cfg(test)]
 mod tests;
-pub mod token;
 pub mod tokens;
 pub mod types;
-pub mod unique_arena;
 
-pub use arena::Arena;
+pub use arena::{Arena, UniqueArena};
 pub use check_form::FormFault;
 pub use expression::{Expression, ImageQuery, Operand, SampleLevel};
 pub use handle::{Handle, Index, Item, Places, Range};
@@ -45,9 +43,7 @@ pub use names::{ItemPlace, NameList, Names};
 pub use parts::{ExpressionParts, Named};
 pub use span::Span;
 pub use statement::{Block, RayQueryFunction, Statement, SwitchCase};
-pub use token::Token;
-pub use tokens::push_block;
+pub use tokens::{Token, push_block};
 pub use types::{
     ArraySize, Constant, GlobalVariable, LocalVariable, Override, StructMember, Type, TypeInner,
 };
-pub use unique_arena::UniqueArena;

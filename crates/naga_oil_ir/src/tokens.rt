@@ -1,9 +1,36 @@
 ghost use Rattle.std.specs.Prelude.{◌≡◌, ◌++◌, OnOk, map};
 ghost use Rattle.naga_oil_ir.specs.Body.{block_tokens, statement_tokens, case_tokens, ray_query_tokens, inside, used, given, given_by};
 
-use super::{Block, Function, Handle, Operand, RayQueryFunction, Statement, Token};
+use super::{
+    Block, Expression, Function, Handle, Operand, Range, RayQueryFunction, Span, Statement,
+};
 use Token::{Callee, Emitted, Flag, Give, Head, Plain, Use};
 use std::alloc::AllocError;
+
+/// A part of a body, which a list of them gives in order and without blocks inside blocks.
+#[derive(Clone, Copy)]
+pub enum Token {
+    /// The span of the statement that follows.
+    At(Span),
+    /// The kind of a statement.
+    Head(u64),
+    /// A plain value.
+    Plain(u64),
+    Flag(bool),
+    /// An option that is absent.
+    Absent,
+    /// An operand.
+    Use(Handle<Expression>),
+    /// A result, but for that of a call.
+    Give(Handle<Expression>),
+    /// The result of a call, with what it calls.
+    GiveCall(Handle<Function>, Handle<Expression>),
+    Emitted(Range<Expression>),
+    Callee(Handle<Function>),
+    /// A block begins or ends.
+    Open,
+    Close,
+}
 
 fn used(handle: Option<Operand>) -> Token
     ensures { result ≡ used handle }

@@ -3,4 +3,4 @@ use Rattle.naga_oil_ir.specs.NameForm.{decorated, function_name}
 use Rattle.naga_oil_ir.proofs.form_names.function_names.Given as goal
 
 abbrev pub invariant-loop-entry : goal.invariant-loop-entry
-invariant-loop-entry l = map string_bytes l.names.items ≡ map (λ e. decorated l.decoration (function_name e.0)) (take l.entry-index l.functions)
+invariant-loop-entry l = map string_bytes l.names.items ≡ map (λ e. decorated l.decoration (function_name e.0)) (take l.entry-index l.entry-items)

@@ -1,7 +1,7 @@
 use Rattle.std.proofs.Common.{◌∙◌, sym}
 use Rattle.indexmap.proofs.CallerLemmas.{insert_entry-new}
 use Rattle.naga_oil_ir.proofs.PlaceLemmas.{position-keys, place_of-found, place_of-absent, fetched-found, fetched-absent, none_both}
-use Rattle.naga_oil_ir.proofs.unique_arena.UniqueArena.insert.Goals as goal
+use Rattle.naga_oil_ir.proofs.arena.UniqueArena.insert.Goals as goal
 
 pub returns-in-Some-clause-place : goal.returns-in-Some-clause-place
 returns-in-Some-clause-place g c =
