@@ -189,6 +189,22 @@ printf '#import a::{b,\n' > "$text"
 refuse_each 'an open import' 1 pre "$text"
 
 cat > "$text" <<'END'
+// lights
+enable f16, subgroups;
+
+requires packed_4x8_integer_dot_product;
+diagnostic(off, derivative_uniformity);
+#define_import_path lights
+#define COUNT 3
+#import tone
+let a = tone::map(#COUNT, #MISSING); // #NAMED
+END
+refuse_each 'directives' 0 pre "$text"
+
+printf 'enable f16;\ndiagnostic(no, rule);\n' > "$text"
+refuse_each 'a wrong directive' 1 pre "$text"
+
+cat > "$text" <<'END'
 // Füße, 足, 🦶
 #import maße::{größe, 長さ as 丈}
 #ifdef größe

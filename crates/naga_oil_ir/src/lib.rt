@@ -1,7 +1,7 @@
 //! The intermediate form of a shader: types, constants, overrides, global variables, functions and entry points in arenas.
 //!
-//! `arena` and `unique_arena` hold items with spans, and `handle` names their places. `types`, `expression`, `statement` and
-//! `module` are the items. `parts`, `names` and `tokens` read an expression, an item and a body by one list each.
+//! `arena` holds items with spans, as a list or found by their hash, and `handle` names their places. `types`, `expression`,
+//! `statement` and `module` are the items. `parts`, `names` and `tokens` read an expression, an item and a body by one list each.
 //! `check_form` tests whether a module is well formed: its items in `form_items`, names in `form_names`, functions in
 //! `form_function` and their bodies in `body`, over `links` of what names what, each clause by a function of its own.
 //!
