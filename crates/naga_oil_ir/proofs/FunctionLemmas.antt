@@ -1,22 +1,17 @@
-use Rattle.std.proofs.Common.{◌≡◌, ⊎_elim, ℕ, ◌+◌, ◌<◌, ◌≤◌, Bool, true, false, List, [], ◌∷◌, map, length, get_or, slice_get, Some, All, ap, sym, ◌∙◌, subst, arith}
+use Rattle.std.proofs.Common.{◌≡◌, Decides, ⊎_elim, ℕ, ◌+◌, ◌<◌, ◌≤◌, Bool, true, false, List, [], ◌∷◌, map, length, get_or, slice_get, Some, All, ap, sym, ◌∙◌, subst, arith}
 use Rattle.std.proofs.lemmas.List.Elements.{All-nil, All-cons, All-head, All-tail, All-map}
-use Rattle.std.proofs.lemmas.Bool.{cases_order, false≢true}
+use Rattle.std.proofs.lemmas.Bool.{cases_order}
 use Rattle.std.proofs.lemmas.Option.{slice_get_within, same_Some}
 use Rattle.naga_oil_ir.specs.Links.{marked, AreMarks}
-use Rattle.naga_oil_ir.proofs.FormLemmas.{at_place}
-use Rattle.naga_oil_ir.proofs.LinkLemmas.{All-has, All-from_has, marked_past}
+use Rattle.naga_oil_ir.proofs.FormLemmas.{at_place, decides_same}
+use Rattle.naga_oil_ir.proofs.LinkLemmas.{All-has, All-from_has}
 
 -- ---- marks and the places that they stand for
 
--- what holds of each marked place as far as a walk came: at the end it holds of each place of the list
-pub unmarked_all : (fs : List Bool) (r : ℕ → Bool) (i : ℕ) → ((k : ℕ) → k < i → marked fs k ≡ true → r k ≡ false) → length fs ≤ i → (o : List ℕ) → AreMarks fs o → All (λ h. r h ≡ false) o
-unmarked_all fs r i f h o m =
-    let past : (k : ℕ) → marked fs k ≡ true → i ≤ k → r k ≡ false = λ k t l. absurd (false≢true (sym (marked_past fs k (omega arith)) ∙ t)) in
-    All-from_has (λ k. r k ≡ false) o (λ k t. let at = m k ∙ t in ⊎_elim (λ q. past k at (omega arith)) (⊎_elim (λ q. f k q at) (λ q. past k at (omega arith))) (cases_order k i))
-
--- a marked place at which it doesn't hold
-pub marked_one : (fs : List Bool) (r : ℕ → Bool) (k : ℕ) → marked fs k ≡ true → r k ≡ true → (o : List ℕ) → AreMarks fs o → All (λ h. r h ≡ false) o → true ≡ false
-marked_one fs r k t b o m a = sym b ∙ All-has (λ h. r h ≡ false) o k a (sym (m k) ∙ t)
+-- a test of each marked place tests the places of the list
+pub unmarked_decides : (fs : List Bool) (r : ℕ → Bool) (o : List ℕ) (b : Bool) → AreMarks fs o → Decides b ((k : ℕ) → marked fs k ≡ true → r k ≡ false) → Decides b (All (λ h. r h ≡ false) o)
+unmarked_decides fs r o b m d =
+    decides_same b (λ f. All-from_has (λ k. r k ≡ false) o (λ k t. f k (m k ∙ t))) (λ a k t. All-has (λ h. r h ≡ false) o k a (sym (m k) ∙ t)) d
 
 -- ---- the keys of a map
 

@@ -8,3 +8,5 @@ pub mod ItemForm
 pub mod BodyForm
 pub mod NameForm
 pub mod WellFormed
+pub mod ModuleValue
+pub mod Backend

@@ -12,9 +12,7 @@ use std::slice;
 
 /// A list of items with spans; a handle is a place in it.
 #[derive(Drop)]
-pub struct Arena<T: Item> {
-    items: Vec<(T, Span)>,
-}
+pub struct Arena<T: Item>(Vec<(T, Span)>);
 
 impl<T: Item> Model for Arena<T> {
     ghost use Rattle.std.specs.Prelude.{List};
@@ -22,7 +20,7 @@ impl<T: Item> Model for Arena<T> {
 
     ghost Value = { List (T × Span) };
 
-    ghost view = { λ a. a.items.items };
+    ghost view = { λ a. a.0.items };
 }
 
 impl<T: Item> Arena<T> {
@@ -30,46 +28,43 @@ impl<T: Item> Arena<T> {
     pub fn new(alloc: Global) -> Self
         ensures { result ≡ [] }
     {
-        Arena {
-            items: Vec::new(alloc),
-        }
+        Arena(Vec::new(alloc))
     }
 
     /// How many items there are.
     pub fn len(&self) -> usize
         ensures { result ≡ length self.now }
     {
-        self.items.len()
+        self.as_slice().len()
     }
 
     /// The item at a place, or `None` behind the last.
     pub fn try_get(&self, handle: Handle<T>) -> Option<&T>
         ensures { option_copied result ≡ option_map (λ e. e.0) (slice_get self.now handle) }
     {
-        self.items.get(handle.index()).map(|entry| &entry.0)
+        self.0.get(handle.index()).map(|entry| &entry.0)
     }
 
     /// The span of the item at a place, undefined behind the last.
     pub fn get_span(&self, handle: Handle<T>) -> Span
         ensures { result ≡ unwrap_or (option_map (λ e. e.1) (slice_get self.now handle)) undefined }
     {
-        self.items
-            .get(handle.index())
-            .map_or(Span::UNDEFINED, |entry| entry.1)
+        let entry = self.0.get(handle.index());
+        entry.map_or(Span::UNDEFINED, |entry| entry.1)
     }
 
     /// The items with their spans, in order.
     pub fn as_slice(&self) -> &[(T, Span)]
         ensures { result.now ≡ self.now }
     {
-        self.items.as_slice()
+        self.0.as_slice()
     }
 
     /// The items with their spans, in order.
     pub fn iter(&self) -> slice::Iter<'_, (T, Span)>
         ensures { iter_rest result ≡ self.now }
     {
-        self.items.iter()
+        self.as_slice().iter()
     }
 
     /// Puts an item last and answers its place.
@@ -80,8 +75,8 @@ impl<T: Item> Arena<T> {
         ensures appended { OnOk result (self.new ≡ self.old ++ (item, span) ∷ []) }
         ensures err { OnErr result (self.new ≡ self.old) }
     {
-        let index = self.items.len();
-        self.items.push((item, span))?;
+        let index = self.len();
+        self.0.push((item, span))?;
         Ok(Index::new(index))
     }
 
@@ -93,7 +88,7 @@ impl<T: Item> Arena<T> {
         ensures items { OnOk result (self.new ≡ fetched (λ e. T.eq item e.0) self.old (item, span)) }
         ensures err { OnErr result (self.new ≡ self.old) }
     {
-        match position_of(self.items.as_slice(), &item) {
+        match position_of(self.as_slice(), &item) {
             Some(index) => Ok(Index::new(index)),
             None => self.append(item, span),
         }
@@ -108,9 +103,7 @@ fn position_of<T: PartialEq>(items: &[(T, Span)], item: &T) -> Option<usize>
 
 /// A list of items with spans, no two of them equal; a handle is a place in it. An item is found by its hash.
 #[derive(Drop)]
-pub struct UniqueArena<T: Item + Eq + Hash> {
-    items: IndexMap<T, Span>,
-}
+pub struct UniqueArena<T: Item + Eq + Hash>(IndexMap<T, Span>);
 
 impl<T: Item + Eq + Hash> Model for UniqueArena<T> {
     ghost use Rattle.std.specs.Prelude.{List};
@@ -118,7 +111,7 @@ impl<T: Item + Eq + Hash> Model for UniqueArena<T> {
 
     ghost Value = { List (T × Span) };
 
-    ghost view = { λ a. a.items.entries };
+    ghost view = { λ a. a.0.entries };
 }
 
 impl<T: Item + Eq + Hash> UniqueArena<T> {
@@ -126,46 +119,43 @@ impl<T: Item + Eq + Hash> UniqueArena<T> {
     pub fn new(alloc: Global) -> Self
         ensures { result ≡ [] }
     {
-        UniqueArena {
-            items: IndexMap::new(alloc),
-        }
+        UniqueArena(IndexMap::new(alloc))
     }
 
     /// How many items there are.
     pub fn len(&self) -> usize
         ensures { result ≡ length self.now }
     {
-        self.items.len()
+        self.0.len()
     }
 
     /// The item at a place, or `None` behind the last.
     pub fn get_handle(&self, handle: Handle<T>) -> Option<&T>
         ensures { option_copied result ≡ option_map (λ e. e.0) (slice_get self.now handle) }
     {
-        self.items.get_index(handle.index()).map(|entry| entry.0)
+        self.0.get_index(handle.index()).map(|entry| entry.0)
     }
 
     /// The span of the item at a place, undefined behind the last.
     pub fn get_span(&self, handle: Handle<T>) -> Span
         ensures { result ≡ unwrap_or (option_map (λ e. e.1) (slice_get self.now handle)) undefined }
     {
-        self.items
-            .get_index(handle.index())
-            .map_or(Span::UNDEFINED, |entry| *entry.1)
+        let entry = self.0.get_index(handle.index());
+        entry.map_or(Span::UNDEFINED, |entry| *entry.1)
     }
 
     /// The items, in order.
     pub fn items(&self) -> &[T]
         ensures { result.now ≡ map (λ e. e.0) self.now }
     {
-        self.items.keys().as_slice()
+        self.0.keys().as_slice()
     }
 
     /// The items with their spans, in order.
     pub fn iter(&self) -> map::Iter<'_, T, Span>
         ensures { result ≡ self.now }
     {
-        self.items.iter()
+        self.0.iter()
     }
 
     /// The place of the first equal item, which keeps its span; without one the item is put last.
@@ -176,11 +166,11 @@ impl<T: Item + Eq + Hash> UniqueArena<T> {
         ensures items { OnOk result (self.new ≡ fetched (λ e. T.eq item e.0) self.old (item, span)) }
         ensures err { OnErr result (self.new ≡ self.old) }
     {
-        match self.items.get_index_of(&item) {
+        match self.0.get_index_of(&item) {
             Some(index) => Ok(Index::new(index)),
             None => {
-                let index = self.items.len();
-                self.items.insert(item, span)?;
+                let index = self.len();
+                self.0.insert(item, span)?;
                 Ok(Index::new(index))
             }
         }

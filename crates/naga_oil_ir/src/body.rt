@@ -2,51 +2,49 @@ ghost use Rattle.std.specs.Prelude.{[], IfOk, ◌≡◌, ◌↔◌, ◌<◌, ◌
 ghost use Rattle.naga_oil_ir.specs.Links.{lists, marked, AreMarks};
 ghost use Rattle.naga_oil_ir.specs.BodyForm.{callee, MayStand, known_by, MayBeEmitted, AreEmittedBy, marks_after, places, made, is_result, MayBeGivenBy, IsFineBy, AreFineBy, AreFine};
 
+use super::Token;
 use super::expression::Expression;
 use super::form::{Reading, Tested, callee_at, is_external, is_result};
 use super::handle::Range;
 use super::links::{are_below, are_earlier, is_marked, no_marks, reached_from};
-use super::{Named, Token};
 use std::alloc::Global;
 
 /// What is known of a function's expressions before its body is walked.
 #[derive(Clone, Copy)]
 struct Known<'a> {
-    kinds: &'a [u64],
-    named: &'a [Named],
-    links: &'a [Vec<usize>],
+    read: &'a Reading,
     /// What initialisers reach.
     started: &'a [bool],
 }
 
 fn is_known(of: &Known<'_>, done: &[bool], place: usize) -> bool
-    ensures { result ≡ known_by of.now.kinds.now of.now.started.now done.now place }
+    ensures { result ≡ known_by of.now.read.now.kinds.items of.now.started.now done.now place }
 {
-    is_external(of.kinds, place) || is_marked(of.started, place) || is_marked(done, place)
+    is_external(&of.read.kinds, place) || is_marked(of.started, place) || is_marked(done, place)
 }
 
 fn may_be_emitted(of: &Known<'_>, done: &[bool], operands: &[usize], place: usize) -> bool
-    ensures { IsTrue result ↔ MayBeEmitted of.now.kinds.now of.now.started.now done.now operands.now place }
+    ensures { IsTrue result ↔ MayBeEmitted of.now.read.now.kinds.items of.now.started.now done.now operands.now place }
 {
     let all_known = operands.iter().all(|operand| is_known(of, done, *operand));
-    !is_external(of.kinds, place)
-        & !is_result(of.kinds, place)
+    !is_external(&of.read.kinds, place)
+        & !is_result(&of.read.kinds, place)
         & !is_marked(done, place)
         & all_known
 }
 
 /// Whether a range may be emitted; its places are marked as far as they may.
 fn take_range(of: &Known<'_>, done: &mut Vec<bool>, range: Range<Expression>) -> bool
-    requires { length done.old.items ≡ length of.now.links.now }
+    requires { length done.old.items ≡ length of.now.read.now.links.items }
     ensures long { length done.new.items ≡ length done.old.items }
-    ensures fine { IsTrue result ↔ ((range.0 ≤ range.1) × ((range.1 ≤ length of.now.links.now) × AreEmittedBy of.now.kinds.now (lists of.now.links.now) of.now.started.now done.old.items (places range))) }
+    ensures fine { IsTrue result ↔ ((range.0 ≤ range.1) × ((range.1 ≤ length of.now.read.now.links.items) × AreEmittedBy of.now.read.now.kinds.items (lists of.now.read.now.links.items) of.now.started.now done.old.items (places range))) }
     ensures done { IsTrue result → done.new.items ≡ marks_after done.old.items (places range) }
 {
-    if range.start() > range.end() || range.end() > of.links.len() {
+    if range.start() > range.end() || range.end() > of.read.links.len() {
         return false;
     }
     for place in range.start()..range.end() {
-        if !may_be_emitted(of, done, of.links[place].as_slice(), place) {
+        if !may_be_emitted(of, done, of.read.links[place].as_slice(), place) {
             return false;
         }
         done[place] = true;
@@ -56,13 +54,13 @@ fn take_range(of: &Known<'_>, done: &mut Vec<bool>, range: Range<Expression>) ->
 
 /// Whether a result may be given, by a call of a function or by another statement; it is marked if it may.
 fn take_given(of: &Known<'_>, done: &mut Vec<bool>, by: Option<usize>, place: usize) -> bool
-    requires { length done.old.items ≡ length of.now.links.now }
+    requires { length done.old.items ≡ length of.now.read.now.links.items }
     ensures long { length done.new.items ≡ length done.old.items }
-    ensures fine { IsTrue result ↔ MayBeGivenBy (length of.now.links.now) of.now.kinds.now (map callee of.now.named.now) done.old.items by place }
+    ensures fine { IsTrue result ↔ MayBeGivenBy (length of.now.read.now.links.items) of.now.read.now.kinds.items (map callee of.now.read.now.named.items) done.old.items by place }
     ensures done { IsTrue result → done.new.items ≡ slice_set done.old.items place true }
 {
-    let given = is_result(of.kinds, place) & (callee_at(of.named, place) == Some(by));
-    if place >= of.links.len() || !given || is_marked(done, place) {
+    let given = is_result(&of.read.kinds, place) & (callee_at(&of.read.named, place) == Some(by));
+    if place >= of.read.links.len() || !given || is_marked(done, place) {
         return false;
     }
     done[place] = true;
@@ -71,13 +69,13 @@ fn take_given(of: &Known<'_>, done: &mut Vec<bool>, by: Option<usize>, place: us
 
 /// Whether a part of a body may stand; what it emits or gives is marked if it may.
 fn take_token(of: &Known<'_>, done: &mut Vec<bool>, token: Token) -> bool
-    requires { length done.old.items ≡ length of.now.links.now }
+    requires { length done.old.items ≡ length of.now.read.now.links.items }
     ensures long { length done.new.items ≡ length done.old.items }
-    ensures fine { IsTrue result ↔ IsFineBy (length of.now.links.now) of.now.kinds.now (map callee of.now.named.now) (lists of.now.links.now) of.now.started.now done.old.items token }
+    ensures fine { IsTrue result ↔ IsFineBy (length of.now.read.now.links.items) of.now.read.now.kinds.items (map callee of.now.read.now.named.items) (lists of.now.read.now.links.items) of.now.started.now done.old.items token }
     ensures done { IsTrue result → done.new.items ≡ marks_after done.old.items (made token) }
 {
     match token {
-        Token::Use(h) => h.index() < of.links.len() && is_known(of, done, h.index()),
+        Token::Use(h) => h.index() < of.read.links.len() && is_known(of, done, h.index()),
         Token::Give(h) => take_given(of, done, None, h.index()),
         Token::GiveCall(f, h) => take_given(of, done, Some(f.index()), h.index()),
         Token::Emitted(range) => take_range(of, done, range),
@@ -87,21 +85,17 @@ fn take_token(of: &Known<'_>, done: &mut Vec<bool>, token: Token) -> bool
 
 /// Whether no marked place is a result.
 fn no_result_is_marked(kinds: &[u64], marks: &[bool]) -> bool
-    ensures { (s : List ℕ) → AreMarks marks.now s → (IsTrue result ↔ All (λ h. is_result kinds.now h ≡ false) s) }
+    ensures { IsTrue result ↔ ((k : ℕ) → marked marks.now k ≡ true → is_result kinds.now k ≡ false) }
 {
-    for place in 0..marks.len() {
-        if is_marked(marks, place) && is_result(kinds, place) {
-            return false;
-        }
-    }
-    true
+    let mut places = marks.iter().enumerate();
+    places.all(|(place, mark)| !*mark || !is_result(kinds, place))
 }
 
 /// Whether the parts of a body may stand one after another.
 fn body_may_stand(of: &Known<'_>, tokens: &[Token], alloc: Global) -> Tested
-    ensures { IfOk result (λ b. (s : List ℕ) → AreMarks of.now.started.now s → (IsTrue b ↔ AreFine (length of.now.links.now) of.now.kinds.now (map callee of.now.named.now) (lists of.now.links.now) s [] tokens.now)) }
+    ensures { IfOk result (λ b. (s : List ℕ) → AreMarks of.now.started.now s → (IsTrue b ↔ AreFine (length of.now.read.now.links.items) of.now.read.now.kinds.items (map callee of.now.read.now.named.items) (lists of.now.read.now.links.items) s [] tokens.now)) }
 {
-    let mut done = no_marks(of.links.len(), alloc)?;
+    let mut done = no_marks(of.read.links.len(), alloc)?;
     for token in tokens {
         if !take_token(of, &mut done, *token) {
             return Ok(false);
@@ -115,21 +109,10 @@ fn body_may_stand(of: &Known<'_>, tokens: &[Token], alloc: Global) -> Tested
 pub fn may_stand(read: &Reading, inits: &[usize], tokens: &[Token], alloc: Global) -> Tested
     ensures { IfOk result (λ b. IsTrue b ↔ MayStand read.now.kinds.items (map callee read.now.named.items) (lists read.now.links.items) inits.now tokens.now) }
 {
-    let kinds = read.kinds.as_slice();
-    let named = read.named.as_slice();
-    let links = read.links.as_slice();
-    if !are_earlier(links) || !are_below(inits, links.len()) {
+    if !are_earlier(&read.links) || !are_below(inits, read.links.len()) {
         return Ok(false);
     }
-    let started = reached_from(links, inits, alloc)?;
-    let started = started.as_slice();
-    let clear = no_result_is_marked(kinds, started);
-    let known = Known {
-        kinds,
-        named,
-        links,
-        started,
-    };
-    let fine = body_may_stand(&known, tokens, alloc)?;
-    Ok(clear & fine)
+    let started = &reached_from(&read.links, inits, alloc)?;
+    let fine = body_may_stand(&Known { read, started }, tokens, alloc)?;
+    Ok(fine & no_result_is_marked(&read.kinds, started))
 }

@@ -7,7 +7,7 @@ use super::body::may_stand;
 use super::form::{Tested, are_spans_fine, are_tokens_fine, read};
 use super::tokens::push_block;
 use super::{
-    EntryPoint, Expression, Function, FunctionArgument, FunctionResult, GlobalVariable, Handle,
+    EntryPoint, Expression, Function, FunctionArgument, FunctionResult, Handle, Index,
     LocalVariable, MeshInfo, Module, Named, Span, Token, Type,
 };
 use indexmap::IndexMap;
@@ -132,17 +132,11 @@ fn function_is_fine(
     Ok(fine & signed & spanned & are_tokens_fine(&tokens, calls_below, text_len))
 }
 
-fn is_expression_there(of: &Module, handle: Option<Handle<Expression>>) -> bool
-    ensures { IsTrue result ↔ IsExpressionThere of.now handle }
+/// Whether a handle that may be absent names one of the first places, so many of them.
+fn is_below<K>(handle: Option<Index<K>>, limit: usize) -> bool
+    ensures { IsTrue result ↔ IfSome handle (λ k. k < limit) }
 {
-    handle.is_none_or(|handle| handle.index() < of.global_expressions.len())
-}
-
-/// Whether a task's payload is there.
-fn payload_is_there(of: &Module, payload: Option<Handle<GlobalVariable>>) -> bool
-    ensures { IsTrue result ↔ IfSome payload (λ k. k < length of.now.global_variables) }
-{
-    payload.is_none_or(|handle| handle.index() < of.global_variables.len())
+    handle.is_none_or(|handle| handle.index() < limit)
 }
 
 /// Whether what a mesh shader puts out is there.
@@ -153,16 +147,17 @@ fn is_mesh_there(of: &Module, mesh: Option<MeshInfo>) -> bool
     is_type_there(of, mesh.vertex_output_type)
         && is_type_there(of, mesh.primitive_output_type)
         && mesh.output.index() < of.global_variables.len()
-        && is_expression_there(of, mesh.max_vertices)
-        && is_expression_there(of, mesh.max_primitives)
+        && is_below(mesh.max_vertices, of.global_expressions.len())
+        && is_below(mesh.max_primitives, of.global_expressions.len())
 }
 
 fn are_sizes_there(of: &Module, sizes: Option<[Option<Handle<Expression>>; 3]>) -> bool
     ensures { IsTrue result ↔ IfSome sizes (λ os. All (IsExpressionThere of.now) os) }
 {
+    let limit = of.global_expressions.len();
     match sizes {
         None => true,
-        Some(sizes) => sizes.iter().all(|size| is_expression_there(of, *size)),
+        Some(sizes) => sizes.iter().all(|size| is_below(*size, limit)),
     }
 }
 
@@ -174,7 +169,7 @@ fn entry_is_fine(of: &Module, entry: &EntryPoint, text_len: usize, alloc: Global
     Ok(
         fine && are_sizes_there(of, entry.workgroup_size_overrides)
             && is_mesh_there(of, entry.mesh_info)
-            && payload_is_there(of, entry.task_payload),
+            && is_below(entry.task_payload, of.global_variables.len()),
     )
 }
 

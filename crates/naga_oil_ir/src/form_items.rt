@@ -55,20 +55,14 @@ fn names_override(names: &[Option<ItemPlace>]) -> bool
     names.iter().any(|n| matches!(n, Some(OverrideItem(_))))
 }
 
-fn names_marked(marks: &[bool], names: &[Option<ItemPlace>]) -> bool
-    ensures { result ≡ list_any (marked marks.now) (filter_map type_at names.now) }
-{
-    let mut types = names.iter().filter_map(|n| type_at(n));
-    types.any(|ty| is_marked(marks, ty))
-}
-
 /// Whether all that items name is there, and none of it is a marked type.
 fn items_name_well<T: Names>(of: &Module, marks: &[bool], items: &[T], alloc: Global) -> Tested
     ensures { IfOk result (λ b. IsTrue b ↔ AtEach (λ e. NamesWell of.now (marked marks.now) (T.row_of e)) items.now) }
 {
     for (place, item) in items.iter().enumerate() {
         let names = item.names(alloc)?;
-        if !are_there(of, &names) || names_marked(marks, &names) {
+        let types = types_named(&names, alloc)?;
+        if !are_there(of, &names) || any_marked(marks, &types) {
             return Ok(false);
         }
     }
@@ -109,8 +103,8 @@ fn sized_types(types: &[Type], alloc: Global) -> Result<Vec<bool>, AllocError>
     let mut sized = Vec::new(alloc);
     for ty in types {
         let names = ty.names(alloc)?;
-        let mark = names_override(&names) | names_marked(&sized, &names);
-        sized.push(mark)?;
+        let types = types_named(&names, alloc)?;
+        sized.push(names_override(&names) | any_marked(&sized, &types))?;
     }
     Ok(sized)
 }

@@ -40,8 +40,7 @@ fn function_names(of: &Module, decoration: &str, alloc: Global) -> Result<Vec<St
 {
     let mut names = Vec::new(alloc);
     for entry in of.functions.as_slice() {
-        let name = decorated(name_or(&entry.0, ""), decoration, alloc)?;
-        names.push(name)?;
+        names.push(decorated(name_or(&entry.0, ""), decoration, alloc)?)?;
     }
     Ok(names)
 }
@@ -51,8 +50,7 @@ fn entry_names(of: &Module, decoration: &str, alloc: Global) -> Result<Vec<Strin
 {
     let mut names = Vec::new(alloc);
     for entry in &of.entry_points {
-        let name = decorated(name_or(&entry.function, "main"), decoration, alloc)?;
-        names.push(name)?;
+        names.push(decorated(name_or(&entry.function, "main"), decoration, alloc)?)?;
     }
     Ok(names)
 }

@@ -10,10 +10,7 @@ pub trait Item {
 
 /// A place in an arena of the items of a kind, from 0.
 #[derive_where(Clone, Copy, PartialEq, Eq, PartialOrd, Ord, Hash, Debug)]
-pub struct Index<K> {
-    index: usize,
-    of: PhantomData<K>,
-}
+pub struct Index<K>(usize, PhantomData<K>);
 
 /// A place in an arena of `T`, from 0.
 pub type Handle<T> = Index<<T as Item>::Kind>;
@@ -23,9 +20,9 @@ impl<K> Model for Index<K> {
 
     ghost Value = { ℕ };
 
-    ghost view = { λ h. h.index };
+    ghost view = { λ h. h.0 };
 
-    ghost inverse = { λ n. record { index = n; of = record {} } };
+    ghost inverse = { λ n. record { 0 = n; 1 = record {} } };
 }
 
 impl<K> Index<K> {
@@ -33,26 +30,22 @@ impl<K> Index<K> {
     pub fn new(index: usize) -> Self
         ensures { result ≡ index }
     {
-        Index {
-            index,
-            of: PhantomData,
-        }
+        Index(index, PhantomData)
     }
 
     /// The place.
     pub fn index(self) -> usize
         ensures { result ≡ self }
     {
-        self.index
+        self.0
     }
 }
 
 /// The places from `start` up to `end`, which is not one of them.
 #[derive_where(Clone, Copy, PartialEq, Eq)]
 pub struct Places<K> {
-    start: usize,
-    end: usize,
-    of: PhantomData<K>,
+    start: Index<K>,
+    end: Index<K>,
 }
 
 /// The places of an arena of `T` from one up to another.
@@ -65,7 +58,7 @@ impl<K> Model for Places<K> {
 
     ghost view = { λ r. (r.start, r.end) };
 
-    ghost inverse = { λ p. record { start = p.0; end = p.1; of = record {} } };
+    ghost inverse = { λ p. record { start = p.0; end = p.1 } };
 }
 
 impl<K> Places<K> {
@@ -73,24 +66,21 @@ impl<K> Places<K> {
     pub fn new(start: usize, end: usize) -> Self
         ensures { result ≡ (start, end) }
     {
-        Places {
-            start,
-            end,
-            of: PhantomData,
-        }
+        let (start, end) = (Index::new(start), Index::new(end));
+        Places { start, end }
     }
 
     /// The first place.
     pub fn start(self) -> usize
         ensures { result ≡ self.0 }
     {
-        self.start
+        self.start.index()
     }
 
     /// The place behind the last.
     pub fn end(self) -> usize
         ensures { result ≡ self.1 }
     {
-        self.end
+        self.end.index()
     }
 }

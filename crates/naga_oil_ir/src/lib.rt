@@ -10,6 +10,7 @@
 #![tactic(auto)]
 
 pub mod arena;
+pub mod backend;
 pub mod body;
 pub mod check_form;
 pub mod expression;
@@ -32,6 +33,7 @@ pub mod tokens;
 pub mod types;
 
 pub use arena::{Arena, UniqueArena};
+pub use backend::{Backend, BackendRefusal, Capabilities, ParseFault, ValidFault, WriteFault};
 pub use check_form::FormFault;
 pub use expression::{Expression, ImageQuery, Operand, SampleLevel};
 pub use handle::{Handle, Index, Item, Places, Range};

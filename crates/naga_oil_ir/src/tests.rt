@@ -1,4 +1,5 @@
 use super::*;
+use std::alloc::{AllocError, Global};
 use std::test::Fail;
 
 fn literal(bits: u64) -> Expression {
@@ -46,6 +47,85 @@ fn a_unique_arena_keeps_items_once(rt: HostRuntime) -> Result<(), Fail> {
     assert!(rt; arena.get_handle(Index::new(2)).is_none());
     assert_eq!(rt; arena.iter().count(), 2);
     Ok(())
+}
+
+/// Whether an answer is the place behind the last, which is then one further, or want of memory, which changes nothing.
+fn is_grown<K>(answer: Result<Index<K>, AllocError>, before: usize, after: usize) -> bool {
+    match answer {
+        Ok(handle) => handle.index() == before && before < after,
+        Err(_) => before == after,
+    }
+}
+
+// The tests below pass whichever allocation is refused.
+
+#[test]
+fn a_refused_arena_is_as_it_was(rt: HostRuntime) {
+    let mut arena: Arena<Expression> = Arena::new(rt.alloc());
+    for _ in 0..20 {
+        let before = arena.len();
+        let answer = arena.append(literal(before as u64), Span::UNDEFINED);
+        assert!(rt; is_grown(answer, before, arena.len()));
+        let before = arena.len();
+        let answer = arena.fetch_or_append(literal(before as u64), Span::UNDEFINED);
+        assert!(rt; is_grown(answer, before, arena.len()));
+    }
+    for place in 0..arena.len() {
+        let found = arena.fetch_or_append(literal(place as u64), Span::UNDEFINED);
+        assert!(rt; found.is_ok_and(|handle| handle.index() == place));
+    }
+}
+
+#[test]
+fn a_refused_unique_arena_is_as_it_was(rt: HostRuntime) {
+    let mut arena: UniqueArena<Type> = UniqueArena::new(rt.alloc());
+    for _ in 0..40 {
+        let before = arena.len();
+        let answer = arena.insert(scalar(before as u64), Span::UNDEFINED);
+        assert!(rt; is_grown(answer, before, arena.len()));
+    }
+    for place in 0..arena.len() {
+        let found = arena.insert(scalar(place as u64), Span::UNDEFINED);
+        assert!(rt; found.is_ok_and(|handle| handle.index() == place));
+    }
+}
+
+/// Whether what an item names is so much, or want of memory.
+fn are_so_many<T: Names>(item: &T, count: usize, alloc: Global) -> bool {
+    item.names(alloc).map_or(true, |names| names.len() == count)
+}
+
+fn pair(ty: Handle<Type>, alloc: Global) -> Result<Type, AllocError> {
+    let mut members = Vec::new(alloc);
+    for offset in [0, 4] {
+        members.push(StructMember {
+            name: None,
+            ty,
+            binding: None,
+            offset,
+        })?;
+    }
+    let inner = TypeInner::Struct { members, span: 8 };
+    Ok(Type { name: None, inner })
+}
+
+#[test]
+fn refused_names_are_no_others(rt: HostRuntime) {
+    let alloc = rt.alloc();
+    let Ok(pair) = pair(Index::new(0), alloc) else {
+        return;
+    };
+    assert!(rt; are_so_many(&pair, 2, alloc));
+    let (name, ty, init) = (None, Index::new(0), Index::new(0));
+    let inner = TypeInner::Pointer { base: ty, space: 0 };
+    assert!(rt; are_so_many(&Type { name: None, inner }, 1, alloc));
+    let size = ArraySize::Pending(Index::new(0));
+    let inner = TypeInner::BindingArray { base: ty, size };
+    assert!(rt; are_so_many(&Type { name: None, inner }, 2, alloc));
+    assert!(rt; are_so_many(&Constant { name, ty, init }, 2, alloc));
+    let expr = Index::new(0);
+    assert!(rt; are_so_many(&Expression::Unary { op: 0, expr }, 2, alloc));
+    assert!(rt; are_so_many(&(literal(1), Span::UNDEFINED), 1, alloc));
 }
 
 #[test]

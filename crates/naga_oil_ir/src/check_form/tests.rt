@@ -1,3 +1,6 @@
+mod every_kind;
+mod refused;
+
 use super::FormFault;
 use crate::*;
 use indexmap::IndexMap;

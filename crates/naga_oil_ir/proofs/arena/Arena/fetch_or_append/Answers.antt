@@ -4,12 +4,10 @@ use Rattle.naga_oil_ir.proofs.arena.Arena.fetch_or_append.Goals as goal
 
 pub returns-in-None-clause-place : goal.returns-in-None-clause-place
 returns-in-None-clause-place g c =
-    let view : c.args.self.now ≡ c.self.inside.items.items = cc c.self.view_is in
-    let absent : position (λ e. g.T.PartialEq.eq c.args.item e.0) c.args.self.now ≡ None = ap (position (λ e. g.T.PartialEq.eq c.args.item e.0)) (view ∙ sym c.as_slice.ensures.value) ∙ sym c.position_of.ensures ∙ c.in-None.is in
+    let absent : position (λ e. g.T.PartialEq.eq c.args.item e.0) c.args.self.now ≡ None = ap (position (λ e. g.T.PartialEq.eq c.args.item e.0)) (sym c.as_slice.ensures) ∙ sym c.position_of.ensures ∙ c.in-None.is in
     rw (place_of-absent (λ e. g.T.PartialEq.eq c.args.item e.0) c.args.self.now absent) c.append.ensures.place
 
 pub returns-in-None-clause-items : goal.returns-in-None-clause-items
 returns-in-None-clause-items g c =
-    let view : c.args.self.now ≡ c.self.inside.items.items = cc c.self.view_is in
-    let absent : position (λ e. g.T.PartialEq.eq c.args.item e.0) c.args.self.now ≡ None = ap (position (λ e. g.T.PartialEq.eq c.args.item e.0)) (view ∙ sym c.as_slice.ensures.value) ∙ sym c.position_of.ensures ∙ c.in-None.is in
+    let absent : position (λ e. g.T.PartialEq.eq c.args.item e.0) c.args.self.now ≡ None = ap (position (λ e. g.T.PartialEq.eq c.args.item e.0)) (sym c.as_slice.ensures) ∙ sym c.position_of.ensures ∙ c.in-None.is in
     rw (fetched-absent (λ e. g.T.PartialEq.eq c.args.item e.0) c.args.self.now (c.args.item, c.args.span) absent) c.append.ensures.appended

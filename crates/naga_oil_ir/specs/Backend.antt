@@ -1,0 +1,50 @@
+-- What a front end answers.
+use Rattle.std.specs.Prelude.{◌≡◌, ℕ, List, map, Result, Ok, Err, String, string_bytes}
+use Rattle.std.specs.declared.alloc.Global.{Global}
+use Rattle.naga_oil_ir.specs.ModuleValue.{ModuleValue}
+use Rattle.naga_oil_ir.specs.declared.backend.Capabilities.{Capabilities}
+use Rattle.naga_oil_ir.specs.declared.backend.ParseFault.{ParseFault}
+use Rattle.naga_oil_ir.specs.declared.backend.WriteFault.{WriteFault}
+use Rattle.naga_oil_ir.specs.declared.backend.ValidFault.{ValidFault}
+use Rattle.naga_oil_ir.specs.declared.backend.BackendRefusal.{BackendRefusal}
+use Rattle.naga_oil_ir.specs.declared.backend.BackendRefusal.TheVariants.{Fault, Memory}
+use Rattle.naga_oil_ir.specs.declared.language.ShaderLanguage.{ShaderLanguage}
+use Rattle.naga_oil_ir.specs.declared.span.Span.{Span}
+
+-- why an input is refused: what is said, of which places what, and what is added
+pub record FaultValue : Type 0 where
+  pub message : List ℕ
+  pub spans : List (Span × List ℕ)
+  pub notes : List (List ℕ)
+
+-- places with what is said of them
+abbrev pub labels : List (Span × String Global) → List (Span × List ℕ)
+labels spans = map (λ s. (s.0, string_bytes s.1)) spans
+
+abbrev pub parse_fault : ParseFault → FaultValue
+parse_fault f = record { message = string_bytes f.message; spans = labels f.spans.items; notes = map string_bytes f.notes.items }
+
+abbrev pub write_fault : WriteFault → FaultValue
+write_fault f = record { message = string_bytes f.message; spans = labels f.spans.items; notes = map string_bytes f.notes.items }
+
+abbrev pub valid_fault : ValidFault → FaultValue
+valid_fault f = record { message = string_bytes f.message; spans = labels f.spans.items; notes = map string_bytes f.notes.items }
+
+-- the bytes of a text
+abbrev pub text : String Global → List ℕ
+text s = string_bytes s
+
+abbrev pub nothing : Unit {0} → Unit {0}
+nothing x = x
+
+-- the three functions of a front end
+pub record FrontEnd : Type 0 where
+  pub parse : ShaderLanguage → List ℕ → Result ModuleValue FaultValue
+  pub write : ModuleValue → ShaderLanguage → Capabilities → Result (List ℕ) FaultValue
+  pub valid : ModuleValue → Capabilities → Result (Unit {0}) FaultValue
+
+-- a call answers the value, seen as plain data, or want of memory
+abbrev pub Answers : {X Y F : Type 0} → (X → Y) → (F → FaultValue) → Result X (BackendRefusal F) → Result Y FaultValue → Type 0
+Answers view told (Ok x) value = value ≡ Ok (view x)
+Answers view told (Err (Fault f)) value = value ≡ Err (told f)
+Answers view told (Err Memory) value = Unit {0}
