@@ -1,0 +1,227 @@
+use Rattle.std.proofs.Common.{◌⊎◌, inl, inr, ⊎_elim, ◌≡◌, ℕ, zero, suc, ◌<◌, ◌≤◌, ◌+◌, ◌*◌, List, [], ◌∷◌, ◌++◌, Option, Some, None, option_map, refl, ap, sym, ◌∙◌, subst, arith, All, IfSome, append-nil, append_assoc, take, get_or, length, take_all}
+use Rattle.std.specs.List.{AllZip}
+use Rattle.std.proofs.lemmas.List.{take_more}
+use Rattle.std.proofs.lemmas.List.Elements.{All-head, All-tail, All-weaker}
+use Rattle.naga_oil_ir.specs.Rows.{Row}
+use Rattle.naga_oil_ir.specs.ModuleValue.{ModuleValue}
+use Rattle.naga_oil_ir.specs.declared.module.Module.{Module}
+use Rattle.naga_oil_ir.specs.declared.span.Span.{Span}
+use Rattle.naga_oil_ir.specs.declared.names.ItemPlace.{ItemPlace}
+use Rattle.naga_oil_derive.specs.declared.maps.Maps.{Maps}
+use Rattle.naga_oil_derive.specs.Tree.{World, Kept, Tree, Then, Absent, Item, tree, trees, row_tree, kept_tree, reading}
+use Rattle.naga_oil_derive.specs.World.{value_of, world, span_at, shifted}
+use Rattle.naga_oil_derive.specs.Collected.{names_trail, row_trail, kept_trail, reached, depth, Stands, Collects, Done, Known, Fresh}
+use Rattle.naga_oil_derive.specs.Copying.{IsWhole, Goes, NameGoesTo, AreCopied, IsSound, Fetches, goes_under, source_world, kept_between, copied_span, rank, AreRanked, IsBelowItem, IsCopying, AreNames, Grows, CopiesOne, IsCollected, trail_of, CollectsItem, CollectsNames}
+use Rattle.naga_oil_derive.proofs.TreeLemmas.{reads, same_place, tree-later}
+use Rattle.naga_oil_derive.proofs.WorldLemmas.{named_none, named_names}
+use Rattle.naga_oil_derive.proofs.CopyLemmas.{free, kept_same, IsCopying-step, reads-step}
+
+pub Collects-append : {w : World} {kept : Kept} {spans : ItemPlace → Option Span} {v t u : ModuleValue} {xs : List ItemPlace} (ys : List ItemPlace) → Collects w kept spans v xs t → Collects w kept spans t ys u → Collects w kept spans v (xs ++ ys) u
+Collects-append ys Done c = c
+Collects-append ys (Known s d) c = Known s (Collects-append ys d c)
+Collects-append ys (Fresh s d) c = Fresh s (Collects-append ys d c)
+
+-- each of some places
+abbrev pub EachPlace : (ItemPlace → Type 0) → List ItemPlace → Type 0
+EachPlace P [] = Unit {0}
+EachPlace P (p ∷ ps) = P p × EachPlace P ps
+
+pub Collects-known : (w : World) (kept : Kept) (spans : ItemPlace → Option Span) (v : ModuleValue) (ps : List ItemPlace) → EachPlace (Stands w kept (world v)) ps → Collects w kept spans v ps v
+Collects-known w kept spans v [] a = Done
+Collects-known w kept spans v (p ∷ ps) a = Known a.0 (Collects-known w kept spans v ps a.1)
+
+EachPlace-append : (P : ItemPlace → Type 0) (xs ys : List ItemPlace) → EachPlace P xs → EachPlace P ys → EachPlace P (xs ++ ys)
+EachPlace-append P [] ys a b = b
+EachPlace-append P (x ∷ xs) ys a b = (a.0, EachPlace-append P xs ys a.1 b)
+
+stands : (w v : World) (kept m : Goes) → AreCopied w v kept m → (p q : ItemPlace) → m p ≡ Some q → Stands w kept v p
+stands w v kept m a p q g = (q, a.there p q g, λ n. reads w v kept m a n p q g)
+
+known_names : (w v : World) (kept m : Goes) (f : ItemPlace → List ItemPlace) → ((p q : ItemPlace) → m p ≡ Some q → EachPlace (Stands w kept v) (f p)) → (ps qs : List (Option ItemPlace)) → AllZip (NameGoesTo m) ps qs → EachPlace (Stands w kept v) (names_trail f ps)
+known_names w v kept m f h [] [] z = tt
+known_names w v kept m f h [] (q ∷ qs) z = tt
+known_names w v kept m f h (p ∷ ps) [] z = absurd z
+known_names w v kept m f h (None ∷ ps) (None ∷ qs) z = known_names w v kept m f h ps qs z.1
+known_names w v kept m f h (None ∷ ps) (Some q ∷ qs) z = absurd z.0
+known_names w v kept m f h (Some p ∷ ps) (None ∷ qs) z = absurd z.0
+known_names w v kept m f h (Some p ∷ ps) (Some q ∷ qs) z = EachPlace-append (Stands w kept v) (f p) (names_trail f ps) (h p q z.0) (known_names w v kept m f h ps qs z.1)
+
+known_at : (w v : World) (kept m : Goes) → AreCopied w v kept m → (n : ℕ) → ((p q : ItemPlace) → m p ≡ Some q → EachPlace (Stands w kept v) (reached n w kept p)) → (p q : ItemPlace) → m p ≡ Some q → (o : Option ItemPlace) → kept p ≡ o → EachPlace (Stands w kept v) (kept_trail o (row_trail (reached n w kept) (w p) ++ p ∷ []))
+known_at w v kept m a n h p q g (Some x) e = tt
+known_at w v kept m a n h p q g None e =
+    let k = a.known p q g in
+    let s = a.each p q k.0 g e k.1 in
+    let t : EachPlace (Stands w kept v) (row_trail (reached n w kept) (w p)) = subst (λ o. EachPlace (Stands w kept v) (row_trail (reached n w kept) o)) (sym k.1) (known_names w v kept m (reached n w kept) h k.0.names s.0.names s.2.names) in
+    EachPlace-append (Stands w kept v) (row_trail (reached n w kept) (w p)) (p ∷ []) t (stands w v kept m a p q g, tt)
+
+-- all that a copied item reaches stands in the target
+pub known_reached : (w v : World) (kept m : Goes) → AreCopied w v kept m → (n : ℕ) (p q : ItemPlace) → m p ≡ Some q → EachPlace (Stands w kept v) (reached n w kept p)
+unfolding reached
+known_reached w v kept m a zero p q g = tt
+known_reached w v kept m a (suc n) p q g = known_at w v kept m a n (known_reached w v kept m a n) p q g (kept p) refl
+
+-- so copying it again adds nothing
+pub Collects-copied : (w : World) (v : ModuleValue) (kept m : Goes) (spans : ItemPlace → Option Span) → AreCopied w (world v) kept m → (n : ℕ) (p q : ItemPlace) → m p ≡ Some q → Collects w kept spans v (reached n w kept p) v
+Collects-copied w v kept m spans a n p q g = Collects-known w kept spans v (reached n w kept p) (known_reached w (world v) kept m a n p q g)
+
+-- ---- the trail doesn't depend on the depth
+
+abbrev pub Lowers : World → (ItemPlace → ℕ) → Type 0
+Lowers w rank = (p : ItemPlace) (r : Row) → w p ≡ Some r → All (λ o. IfSome o (λ q. rank q < rank p)) r.names
+
+pub same_trails : (rank : ItemPlace → ℕ) (b : ℕ) (f g : ItemPlace → List ItemPlace) → ((p : ItemPlace) → rank p < b → f p ≡ g p) → (ps : List (Option ItemPlace)) → All (λ o. IfSome o (λ q. rank q < b)) ps → names_trail f ps ≡ names_trail g ps
+same_trails rank b f g e [] a = refl
+same_trails rank b f g e (None ∷ ps) a = same_trails rank b f g e ps (All-tail (λ o. IfSome o (λ q. rank q < b)) None ps a)
+same_trails rank b f g e (Some p ∷ ps) a =
+    let h : f p ≡ g p = e p (All-head (λ o. IfSome o (λ q. rank q < b)) (Some p) ps a) in
+    let t : names_trail f ps ≡ names_trail g ps = same_trails rank b f g e ps (All-tail (λ o. IfSome o (λ q. rank q < b)) (Some p) ps a) in
+    cc
+
+same_row_trail : (w : World) (rank : ItemPlace → ℕ) → Lowers w rank → (p : ItemPlace) (f g : ItemPlace → List ItemPlace) → ((q : ItemPlace) → rank q < rank p → f q ≡ g q) → (o : Option Row) → w p ≡ o → row_trail f o ≡ row_trail g o
+same_row_trail w rank l p f g e None at = refl
+same_row_trail w rank l p f g e (Some r) at = same_trails rank (rank p) f g e r.names (l p r at)
+
+pub reached-enough : (w : World) (kept : Kept) (rank : ItemPlace → ℕ) → Lowers w rank → (n m : ℕ) (p : ItemPlace) → rank p < n → rank p < m → reached n w kept p ≡ reached m w kept p
+unfolding reached
+reached-enough w kept rank l zero m p a b = absurd (omega arith)
+reached-enough w kept rank l (suc n) zero p a b = absurd (omega arith)
+reached-enough w kept rank l (suc n) (suc m) p a b = ap (λ t. kept_trail (kept p) (t ++ p ∷ [])) (same_row_trail w rank l p (reached n w kept) (reached m w kept) (λ q h. reached-enough w kept rank l n m q (omega arith) (omega arith)) (w p) refl)
+
+-- ---- one copy more
+
+trees_of : (f g : ItemPlace → Tree) → ((p : ItemPlace) → f p ≡ g p) → (ps : List (Option ItemPlace)) → trees f ps ≡ trees g ps
+trees_of f g e [] = refl
+trees_of f g e (None ∷ ps) = ap (Then Absent) (trees_of f g e ps)
+trees_of f g e (Some p ∷ ps) = let h = e p in let t = trees_of f g e ps in cc
+
+row_trees : (f g : ItemPlace → Tree) → ((p : ItemPlace) → f p ≡ g p) → (o : Option Row) → row_tree f o ≡ row_tree g o
+row_trees f g e None = refl
+row_trees f g e (Some r) = ap (Item r.label) (trees_of f g e r.names)
+
+reading_at : (w v u : World) (kept : Kept) → ((p q : ItemPlace) → kept p ≡ Some q → (k : ℕ) × IsWhole k v q) → ((p : ItemPlace) (r : Row) → v p ≡ Some r → u p ≡ Some r) → (n : ℕ) → ((p : ItemPlace) → reading n w u kept p ≡ reading n w v kept p) → (p : ItemPlace) (o : Option ItemPlace) → kept p ≡ o → kept_tree (tree (suc n) u) o (row_tree (reading n w u kept) (w p)) ≡ kept_tree (tree (suc n) v) o (row_tree (reading n w v kept) (w p))
+reading_at w v u kept h l n ih p None e = row_trees (reading n w u kept) (reading n w v kept) ih (w p)
+reading_at w v u kept h l n ih p (Some q) e = let k = h p q e in tree-later v u l k.0 (suc n) q k.1
+
+-- what reads by kept types reads the same later
+pub reading-later : (w v u : World) (kept : Kept) → ((p q : ItemPlace) → kept p ≡ Some q → (k : ℕ) × IsWhole k v q) → ((p : ItemPlace) (r : Row) → v p ≡ Some r → u p ≡ Some r) → (n : ℕ) (p : ItemPlace) → reading n w u kept p ≡ reading n w v kept p
+unfolding reading
+reading-later w v u kept h l zero p = refl
+reading-later w v u kept h l (suc n) p = reading_at w v u kept h l n (reading-later w v u kept h l n) p (kept p) refl
+
+none_there : (r : Row) (q q2 : ItemPlace) (v : World) → q2 ≡ q → v q ≡ None → v q2 ≡ Some r → ⊥
+none_there r q q2 v e f g = let a : v q ≡ Some r = sym (ap v e) ∙ g in cc
+
+-- a copy that was appended reads as no item that was there
+new_first : (w v u : World) (kept m n : Goes) (p q : ItemPlace) (s : Row) → AreCopied w v kept m → IsSound v → AreCopied w u kept n → IsSound u → n p ≡ Some q → Fetches v u s q → v q ≡ None → Stands w kept v p → ⊥
+new_first w v u kept m n p q s a i b j g f free_place st =
+    let q2 = st.0 in
+    let wv = i.whole q2 st.1.0 st.1.1 in
+    let wu = j.whole q2 st.1.0 (f.stays q2 st.1.0 st.1.1) in
+    let k = wu.0 in
+    let hk = λ (x y : ItemPlace) (e : kept x ≡ Some y). (let t = a.there x y (a.stand x y e) in i.whole y t.0 t.1) in
+    let e : tree k u q2 ≡ tree k u q = tree-later v u f.stays wv.0 k q2 wv.1 ∙ st.2 k ∙ sym (reading-later w v u kept hk f.stays k p) ∙ sym (reads w u kept n b k p q g) in
+    none_there st.1.0 q q2 v (same_place u j.once k q2 q wu.1 e) free_place st.1.1
+
+others_of : (v u : World) (s : Row) (q : ItemPlace) → Fetches v u s q → (x : ItemPlace) (r : Row) → u x ≡ Some r → (v x ≡ Some r) ⊎ (x ≡ q)
+others_of v u s q f x r e = ⊎_elim inl (λ n. inr n.0) (f.only x r e)
+
+-- one copy is one step of the collection, if the source reads as it did
+pub Collects-step : (source t u : Module) (m n : Maps) (p : ItemPlace) (row : Row) (w : World) (kept : Kept) → AreCopied w (world (value_of t)) kept (goes_under m) → IsSound (world (value_of t)) → AreCopied w (world (value_of u)) kept (goes_under n) → IsSound (world (value_of u)) → CopiesOne source t u m n p row → Collects w kept (copied_span source m) (value_of t) (p ∷ []) (value_of u)
+Collects-step source t u m n p row w kept a i b j c =
+    let reads_here = λ (k : ℕ). reads w (world (value_of u)) kept (goes_under n) b k p c.place c.puts.at in
+    ⊎_elim (λ e. subst (λ v. Collects w kept (copied_span source m) v (p ∷ []) (value_of u)) e (Known (c.place, (c.copy, c.fetches.at), reads_here) Done)) (λ l. Fresh (record { at = c.place; free = l.0; extends = c.extends; others = others_of (world (value_of t)) (world (value_of u)) c.copy c.place c.fetches; reads = reads_here; span = l.1; first = new_first w (world (value_of t)) (world (value_of u)) kept (goes_under m) (goes_under n) p c.place c.copy a i b j c.puts.at c.fetches l.0 }) Done) c.last
+
+-- ---- requests
+
+names_trail-append : (f : ItemPlace → List ItemPlace) (xs ys : List (Option ItemPlace)) → names_trail f (xs ++ ys) ≡ names_trail f xs ++ names_trail f ys
+names_trail-append f [] ys = refl
+names_trail-append f (None ∷ xs) ys = names_trail-append f xs ys
+names_trail-append f (Some p ∷ xs) ys = ap (λ t. f p ++ t) (names_trail-append f xs ys) ∙ sym (append_assoc (f p) (names_trail f xs) (names_trail f ys))
+
+more_names : (f : ItemPlace → List ItemPlace) (ns : List (Option ItemPlace)) (i : ℕ) (o : Option ItemPlace) → i < length ns → o ≡ get_or ns i o → names_trail f (take (i + 1) ns) ≡ names_trail f (take i ns) ++ names_trail f (o ∷ [])
+more_names f ns i o l e = ap (names_trail f) (take_more ns i o l) ∙ names_trail-append f (take i ns) (get_or ns i o ∷ []) ∙ ap (λ v. names_trail f (take i ns) ++ names_trail f (v ∷ [])) (sym e)
+
+pub none_more : (source t u : Module) (m : Maps) (ns : List (Option ItemPlace)) (i : ℕ) (o : Option ItemPlace) → i < length ns → o ≡ get_or ns i o → o ≡ None → CollectsNames source m t (take i ns) u → CollectsNames source m t (take (i + 1) ns) u
+none_more source t u m ns i o l e is c =
+    let f = trail_of source t m in
+    let q : names_trail f (take i ns) ≡ names_trail f (take (i + 1) ns) = sym (more_names f ns i o l e ∙ ap (λ v. names_trail f (take i ns) ++ names_trail f (v ∷ [])) is ∙ append-nil (names_trail f (take i ns))) in
+    subst (λ ps. IsCollected source m t ps u) q c
+
+span_same : (source : Module) (m n : Maps) → n.offset ≡ m.offset → copied_span source n ≡ copied_span source m
+unfolding copied_span
+span_same source m n e = ap (λ k. λ p. option_map (shifted k) (span_at (value_of source) p)) e
+
+-- a request from a later state, told from an earlier one
+later_request : (source t u x : Module) (m n : Maps) (p : ItemPlace) → source_world source u n ≡ source_world source t m → u.special_types ≡ t.special_types → n.offset ≡ m.offset → CollectsItem source n u p x → Collects (source_world source t m) (kept_between source t) (copied_span source m) (value_of u) (trail_of source t m p) (value_of x)
+unfolding trail_of
+later_request source t u x m n p world_is special offset c =
+    let d = depth (value_of source) in
+    let a = subst (λ w. Collects w (kept_between source u) (copied_span source n) (value_of u) (reached d w (kept_between source u) p) (value_of x)) world_is c in
+    let b = subst (λ k. Collects (source_world source t m) k (copied_span source n) (value_of u) (reached d (source_world source t m) k p) (value_of x)) (kept_same source t u special) a in
+    subst (λ s. Collects (source_world source t m) (kept_between source t) s (value_of u) (reached d (source_world source t m) (kept_between source t) p) (value_of x)) (span_same source m n offset) b
+
+pub some_more : (source t u x : Module) (m n : Maps) (ns : List (Option ItemPlace)) (i : ℕ) (o : Option ItemPlace) (p : ItemPlace) → i < length ns → o ≡ get_or ns i o → o ≡ Some p → source_world source u n ≡ source_world source t m → u.special_types ≡ t.special_types → n.offset ≡ m.offset → CollectsNames source m t (take i ns) u → CollectsItem source n u p x → CollectsNames source m t (take (i + 1) ns) x
+some_more source t u x m n ns i o p l e is world_is special offset c d =
+    let f = trail_of source t m in
+    let step = later_request source t u x m n p world_is special offset d in
+    let q : names_trail f (take i ns) ++ f p ≡ names_trail f (take (i + 1) ns) = sym (more_names f ns i o l e ∙ ap (λ v. names_trail f (take i ns) ++ names_trail f (v ∷ [])) is ∙ ap (λ v. names_trail f (take i ns) ++ v) (append-nil (f p))) in
+    subst (λ ps. IsCollected source m t ps x) q (Collects-append (f p) c step)
+
+pub all_names : (source t u : Module) (m : Maps) (ns : List (Option ItemPlace)) (i : ℕ) → length ns ≤ i → CollectsNames source m t (take i ns) u → CollectsNames source m t ns u
+all_names source t u m ns i l c = subst (λ v. CollectsNames source m t v u) (take_all i ns l) c
+
+pub known_item : (source t : Module) (m : Maps) (p q : ItemPlace) → IsCopying source t m → goes_under m p ≡ Some q → CollectsItem source m t p t
+unfolding trail_of
+known_item source t m p q i g = Collects-copied (source_world source t m) (value_of t) (kept_between source t) (goes_under m) (copied_span source m) i.copied (depth (value_of source)) p q g
+
+lower_name : (m : Module) (p : ItemPlace) (o : Option ItemPlace) → IsBelowItem m p o → IfSome o (λ q. rank m q < rank m p)
+lower_name m p None h = tt
+lower_name m p (Some q) h = h.1
+
+-- in a source as it reads, items name items of lower rank
+lowers : (source t : Module) (m : Maps) → AreRanked source → Lowers (source_world source t m) (rank source)
+unfolding source_world
+lowers source t m a p r e =
+    let s = named_names (world (value_of source)) (world (value_of t)) (goes_under m) p r e in
+    subst (λ ns. All (λ o. IfSome o (λ q. rank source q < rank source p)) ns) (sym s.2) (All-weaker (IsBelowItem source p) (λ o. IfSome o (λ q. rank source q < rank source p)) (lower_name source p) s.0.names (a.names p s.0 s.1))
+
+step_at : (w : World) (kept : Kept) (rank_of : ItemPlace → ℕ) → Lowers w rank_of → (d e : ℕ) → d ≡ suc e → (p : ItemPlace) (r : Row) → rank_of p < d → w p ≡ Some r → kept p ≡ None → names_trail (reached d w kept) r.names ++ p ∷ [] ≡ reached d w kept p
+unfolding reached
+step_at w kept rank_of l d e is p r bound at no_kept =
+    let same = same_trails rank_of (rank_of p) (reached d w kept) (reached e w kept) (λ q h. reached-enough w kept rank_of l d e q (omega arith) (omega (arith, is))) r.names (l p r at) in
+    ap (λ t. t ++ p ∷ []) (same ∙ sym (ap (row_trail (reached e w kept)) at)) ∙ sym (ap (λ o. kept_trail o (row_trail (reached e w kept) (w p) ++ p ∷ [])) no_kept) ∙ sym (ap (λ n. reached n w kept p) is)
+
+one_less : (m : Module) → depth (value_of m) ≡ suc (2 * length (value_of m).types + 2 * length (value_of m).global_expressions + 1)
+one_less m = omega arith
+
+trail-step : (source t : Module) (m : Maps) → AreRanked source → (p : ItemPlace) (r : Row) → source_world source t m p ≡ Some r → rank source p < depth (value_of source) → kept_between source t p ≡ None → names_trail (trail_of source t m) r.names ++ p ∷ [] ≡ trail_of source t m p
+unfolding trail_of
+trail-step source t m a p r at bound no_kept = step_at (source_world source t m) (kept_between source t) (rank source) (lowers source t m a) (depth (value_of source)) _ (one_less source) p r bound at no_kept
+
+abbrev pub names_at_row : List (Option ItemPlace) → Row → Type 0
+names_at_row ns r = ns ≡ r.names
+
+-- what a request for an item adds, after what its names add and its copy, of the row that it reads as
+pub fresh_item : (source t u x : Module) (m n k : Maps) (p : ItemPlace) (row : Row) → AreRanked source → rank source p < depth (value_of source) → IsCopying source u n → IsCopying source x k → CopiesOne source u x n k p row → goes_under n p ≡ None → (w : World) → w ≡ source_world source x k → u.special_types ≡ t.special_types → n.offset ≡ m.offset → w p ≡ Some row → Lowers w (rank source) → AreCopied w (world (value_of u)) (kept_between source t) (goes_under n) → (ps : List ItemPlace) → ps ≡ names_trail (reached (depth (value_of source)) w (kept_between source t)) row.names → Collects w (kept_between source t) (copied_span source m) (value_of t) ps (value_of u) → Collects w (kept_between source t) (copied_span source m) (value_of t) (reached (depth (value_of source)) w (kept_between source t) p) (value_of x)
+fresh_item source t u x m n k p row a bound i j c fresh w after special offset at l iu ps is d =
+    let kept = kept_between source t in
+    let kx = kept_same source t x (c.special ∙ special) in
+    let ix : AreCopied w (world (value_of x)) kept (goes_under k) = subst (λ v. AreCopied v (world (value_of x)) kept (goes_under k)) (sym after) (subst (λ v. AreCopied (source_world source x k) (world (value_of x)) v (goes_under k)) kx j.copied) in
+    let step = subst (λ s. Collects w kept s (value_of u) (p ∷ []) (value_of x)) (span_same source m n offset) (Collects-step source u x n k p row w kept iu i.sound ix j.sound c) in
+    let nk : kept p ≡ None = free kept (goes_under n) iu.stand p (kept p) refl fresh in
+    let q : ps ++ p ∷ [] ≡ reached (depth (value_of source)) w kept p = ap (λ v. v ++ p ∷ []) is ∙ step_at w kept (rank source) l (depth (value_of source)) _ (one_less source) p row bound at nk in
+    subst (λ v. Collects w kept (copied_span source m) (value_of t) v (value_of x)) q (Collects-append (p ∷ []) d step)
+
+names_are : (o : Option Row) (r : Row) (ns : List (Option ItemPlace)) → AreNames o ns → o ≡ Some r → ns ≡ r.names
+names_are o r ns a e = subst (λ v. AreNames v ns) e a
+
+-- a copy under its own name, after the copies of what it names
+pub item_collects : (s t u x : Module) (m n k : Maps) (p : ItemPlace) (r : Row) (ns : List (Option ItemPlace)) → AreRanked s → IsCopying s t m → IsCopying s u n → Grows m n t u → source_world s u n ≡ source_world s t m → goes_under m p ≡ None → goes_under n p ≡ None → world (value_of s) p ≡ Some r → AreNames (world (value_of s) p) ns → CollectsNames s m t ns u → CopiesOne s u x n k p r → CollectsItem s m t p x
+unfolding trail_of source_world
+item_collects s t u x m n k p r ns a i j g reads_same was fresh is named c one =
+    let w = source_world s t m in
+    let after = reads-step s u x n k p r j fresh one is ∙ reads_same in
+    let nj = IsCopying-step s u x n k p None r r j fresh one is refl in
+    let here : w p ≡ Some r = named_none (world (value_of s)) (world (value_of t)) (goes_under m) p was ∙ is in
+    let jj = subst (λ v. AreCopied v (world (value_of u)) (kept_between s t) (goes_under n)) reads_same (subst (λ v. AreCopied (source_world s u n) (world (value_of u)) v (goes_under n)) (kept_same s t u g.special) j.copied) in
+    fresh_item s t u x m n k p r a (a.within p (r, is)) j nj one fresh w (sym after) g.special g.offset here (lowers s t m a) jj _ (ap (names_trail (trail_of s t m)) (names_are _ r ns named is)) c

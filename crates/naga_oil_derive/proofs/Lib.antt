@@ -1,0 +1,16 @@
+pub mod RenamingLemmas
+pub mod TreeLemmas
+pub mod WorldLemmas
+pub mod FetchLemmas
+pub mod CopyLemmas
+pub mod CollectLemmas
+pub mod CopyOneLemmas
+pub mod WalkLemmas
+pub mod WalkForm
+pub mod WalkNotes
+pub mod FunctionWalk
+pub mod LevelLemmas
+pub mod CountLemmas
+pub mod GoingLemmas
+pub mod LevelLoops
+pub mod OrderLemmas

@@ -1,0 +1,15 @@
+use Rattle.std.proofs.Common.{◌≡◌, take}
+use Rattle.std.specs.List.{flat_map}
+use Rattle.naga_oil_ir.specs.Links.{lists, added, trail}
+use Rattle.naga_oil_ir.specs.WellFormed.{initialisers_of}
+use Rattle.naga_oil_derive.specs.Walk.{IsReady}
+use Rattle.naga_oil_derive.specs.Walks.{IsOver}
+use Rattle.naga_oil_derive.proofs.function_walk.reach_locals.Given as goal
+
+abbrev pub invariant-loop-local : goal.invariant-loop-local
+invariant-loop-local l = record {
+  so_far : l.walk.places.items ≡ added l.fn.walk.places.items (flat_map (trail (lists l.of.links.items)) (initialisers_of (take l.local-index l.locals)));
+  emitted : l.walk.emitted ≡ l.fn.walk.emitted;
+  ready : IsReady (lists l.of.links.items) l.walk.places.items;
+  over : IsOver l.of l.walk;
+}

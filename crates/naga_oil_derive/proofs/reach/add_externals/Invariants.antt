@@ -1,0 +1,14 @@
+use Rattle.std.proofs.Common.{◌≡◌, take, length, ◌-◌}
+use Rattle.std.specs.List.{flat_map}
+use Rattle.naga_oil_ir.specs.Links.{lists, linked, added, trail}
+use Rattle.naga_oil_ir.specs.BodyForm.{run}
+use Rattle.naga_oil_derive.specs.Walk.{IsReady, externals, brief, notes_after}
+use Rattle.naga_oil_derive.specs.Walks.{IsOver}
+use Rattle.naga_oil_derive.proofs.reach.add_externals.Given as goal
+
+abbrev pub invariant-loop-operand : goal.invariant-loop-operand
+invariant-loop-operand l = record {
+  so_far : l.walk.places.items ≡ added l.fn.walk.places.items (externals l.of.kinds.items (take l.operand-index l.operand-items));
+  emitted : l.walk.emitted ≡ l.fn.walk.emitted;
+  over : IsOver l.of l.walk;
+}

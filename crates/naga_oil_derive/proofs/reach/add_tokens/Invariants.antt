@@ -1,0 +1,14 @@
+use Rattle.std.proofs.Common.{◌≡◌, take, length, ◌-◌}
+use Rattle.std.specs.List.{flat_map}
+use Rattle.naga_oil_ir.specs.Links.{lists, linked, added, trail}
+use Rattle.naga_oil_ir.specs.BodyForm.{run}
+use Rattle.naga_oil_derive.specs.Walk.{IsReady, externals, brief, notes_after}
+use Rattle.naga_oil_derive.specs.Walks.{IsOver}
+use Rattle.naga_oil_derive.proofs.reach.add_tokens.Given as goal
+
+abbrev pub invariant-loop-token : goal.invariant-loop-token
+invariant-loop-token l = record {
+  so_far : l.walk.places.items ≡ added l.fn.walk.places.items (flat_map (brief l.of.kinds.items (lists l.of.links.items)) (take l.token-index l.tokens));
+  emitted : l.walk.emitted.items ≡ notes_after l.of.kinds.items (lists l.of.links.items) l.fn.walk.places.items l.fn.walk.emitted.items (take l.token-index l.tokens);
+  over : IsOver l.of l.walk;
+}

@@ -1,0 +1,11 @@
+pub mod Renames
+pub mod Tree
+pub mod World
+pub mod Collected
+pub mod Copying
+pub mod Walk
+pub mod Walks
+pub mod RedirectFault
+pub mod Count
+pub mod Level
+pub mod LevelRows

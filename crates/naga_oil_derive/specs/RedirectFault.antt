@@ -1,0 +1,18 @@
+-- Why calls can't be redirected, or functions can't be put in order, as plain data.
+use Rattle.std.specs.Prelude.{List, ℕ, Option, Some, None, string_bytes}
+use Rattle.naga_oil_derive.specs.declared.redirect_error.RedirectError.{RedirectError}
+use Rattle.naga_oil_derive.specs.declared.redirect_error.RedirectError.TheVariants as code
+
+pub data RedirectFault : Type 0 where
+  not_found : (name : List ℕ) → RedirectFault
+  argument_mismatch : (replacement original : List ℕ) → RedirectFault
+  return_type_mismatch : (replacement original : List ℕ) → RedirectFault
+  circular_reference : (names : List ℕ) → RedirectFault
+
+-- an error without where its texts lie in memory; want of memory is none
+abbrev pub redirect_fault : RedirectError → Option RedirectFault
+redirect_fault (code.FunctionNotFound name) = Some (not_found (string_bytes name))
+redirect_fault (code.ArgumentMismatch replacement original) = Some (argument_mismatch (string_bytes replacement) (string_bytes original))
+redirect_fault (code.ReturnTypeMismatch replacement original) = Some (return_type_mismatch (string_bytes replacement) (string_bytes original))
+redirect_fault (code.CircularReference names) = Some (circular_reference (string_bytes names))
+redirect_fault code.Memory = None

@@ -1,0 +1,30 @@
+-- A walk over a function.
+use Rattle.std.specs.Prelude.{◌≡◌, ◌<◌, ℕ, List, length, All}
+use Rattle.naga_oil_ir.specs.Links.{Links, lists, AreEarlier, started}
+use Rattle.naga_oil_ir.specs.Body.{Tokens, block_tokens}
+use Rattle.naga_oil_ir.specs.BodyForm.{kinds, operand_links}
+use Rattle.naga_oil_ir.specs.WellFormed.{initialisers}
+use Rattle.naga_oil_ir.specs.declared.form.Reading.{Reading}
+use Rattle.naga_oil_ir.specs.declared.module.Function.{Function}
+use Rattle.naga_oil_derive.specs.Walk.{walked, Notes, IsReady, AreNoted, AreWithin}
+use Rattle.naga_oil_derive.specs.declared.walk.Walk.{Walk}
+
+-- the walk has room for the expressions that were read, each of which names earlier ones alone
+pub record IsOver (of : Reading) (w : Walk) : Type 0 where
+  pub earlier : AreEarlier (lists of.links.items)
+  pub named : length of.named.items ≡ length of.links.items
+  pub marks : length w.marks.items ≡ length of.links.items
+
+-- o lists expressions of these kinds and links in the order of first reach, the first n of them reached from initialisers;
+-- es tells where the emitted ranges stand in it
+pub record IsWalkOf (ks : List ℕ) (ls : Links) (is : List ℕ) (ts : Tokens) (o : List ℕ) (n : ℕ) (es : Notes) : Type 0 where
+  pub order : o ≡ walked ks ls is ts
+  pub began : n ≡ length (started ls is)
+  pub within : All (λ k. k < length ls) o
+  pub ready : IsReady ls o
+  pub noted : AreNoted (started ls is) o es ts
+  pub notes : AreWithin (length (started ls is)) o es
+
+-- the walk lists the expressions of a function
+abbrev pub Walks : Function → Walk → Type 0
+Walks f w = IsWalkOf (kinds f.expressions) (operand_links f.expressions) (initialisers f) (block_tokens f.body) w.places.items w.began w.emitted.items

@@ -1,0 +1,151 @@
+//! The levels of functions: 0 without calls, else 1 more than the greatest level of a callee. A function that calls itself,
+//! or leads to one that does, has none.
+ghost use Rattle.std.specs.Prelude.{◌≡◌, ◌+◌, ◌<◌, ◌≤◌, ◌==◌, if◌then◌else◌, [], ℕ, All, IfOk, IfSome, OnOk, length, map, get_or, replicate, nat_lt, ◌&&◌};
+ghost use Rattle.naga_oil_ir.specs.Links.{lists, linked};
+ghost use Rattle.naga_oil_derive.specs.Count.{bit, times};
+ghost use Rattle.naga_oil_derive.specs.Level.{StayWithin, above, known, levels, without_level, by_level};
+
+use std::alloc::{AllocError, Global};
+
+/// So many empty lists.
+fn no_places(count: usize, alloc: Global) -> Result<Vec<Vec<usize>>, AllocError>
+    ensures { IfOk result (λ v. lists v.items ≡ replicate count []) }
+{
+    let mut places = Vec::new(alloc);
+    for _ in 0..count {
+        places.push(Vec::new(alloc))?;
+    }
+    Ok(places)
+}
+
+/// Puts a function into the lists of its callees.
+fn push_caller(
+    callers: &mut Vec<Vec<usize>>,
+    function: usize,
+    callees: &[usize],
+) -> Result<(), AllocError>
+    requires { All (λ c. c < length callers.old.items) callees.now }
+    ensures long { OnOk result (length callers.new.items ≡ length callers.old.items) }
+    ensures callers { OnOk result ((c k : ℕ) → times k (linked (lists callers.new.items) c) ≡ times k (linked (lists callers.old.items) c) + times c (if function == k then callees.now else [])) }
+{
+    for callee in callees {
+        callers[*callee].push(function)?;
+    }
+    Ok(())
+}
+
+/// Of each function the functions that call it, as often as they do.
+fn callers_of(calls: &[Vec<usize>], alloc: Global) -> Result<Vec<Vec<usize>>, AllocError>
+    requires { StayWithin (lists calls.now) }
+    ensures long { IfOk result (λ v. length v.items ≡ length calls.now) }
+    ensures callers { IfOk result (λ v. (c k : ℕ) → times k (linked (lists v.items) c) ≡ times c (linked (lists calls.now) k)) }
+{
+    let mut callers = no_places(calls.len(), alloc)?;
+    for (function, callees) in calls.iter().enumerate() {
+        push_caller(&mut callers, function, callees)?;
+    }
+    Ok(callers)
+}
+
+/// The level of a function, if it is known.
+fn known(levels: &[Option<usize>], function: usize) -> Option<usize>
+    ensures { result ≡ known levels.now function }
+{
+    levels.get(function).copied().flatten()
+}
+
+/// 1 more than the greatest level of some functions, 0 of none; none where one has no level yet.
+fn level_above(callees: &[usize], levels: &[Option<usize>]) -> Option<usize>
+    requires { (k : ℕ) → IfSome (known levels.now k) (λ l. l < length levels.now) }
+    ensures { result ≡ above (map (known levels.now) callees.now) }
+{
+    let mut above = 0;
+    for callee in callees {
+        let level = known(levels, *callee)?;
+        above = (level + 1).max(above);
+    }
+    Some(above)
+}
+
+/// Counts off a call of each of some functions; those with no more are ready.
+fn count_off(
+    callers: &[usize],
+    pending: &mut Vec<usize>,
+    ready: &mut Vec<usize>,
+) -> Result<(), AllocError>
+    requires { (k : ℕ) → times k callers.now ≤ get_or pending.old.items k 0 }
+    ensures long { OnOk result (length pending.new.items ≡ length pending.old.items) }
+    ensures pending { OnOk result ((k : ℕ) → get_or pending.new.items k 0 + times k callers.now ≡ get_or pending.old.items k 0) }
+    ensures ready { OnOk result ((k : ℕ) → times k ready.new.items + bit (get_or pending.old.items k 0 == 0) ≡ times k ready.old.items + bit (get_or pending.new.items k 0 == 0)) }
+{
+    for caller in callers {
+        let left = pending[*caller] - 1;
+        pending[*caller] = left;
+        if left == 0 {
+            ready.push(*caller)?;
+        }
+    }
+    Ok(())
+}
+
+/// Of each function how many calls it has, and the functions that have none.
+fn open_calls(calls: &[Vec<usize>], alloc: Global) -> Result<(Vec<usize>, Vec<usize>), AllocError>
+    ensures pending { IfOk result (λ r. r.0.items ≡ map length (lists calls.now)) }
+    ensures ready { IfOk result (λ r. (k : ℕ) → times k r.1.items ≡ bit (nat_lt k (length calls.now) && (length (linked (lists calls.now) k) == 0))) }
+{
+    let mut pending = Vec::new(alloc);
+    let mut ready = Vec::new(alloc);
+    for (function, callees) in calls.iter().enumerate() {
+        if callees.is_empty() {
+            ready.push(function)?;
+        }
+        pending.push(callees.len())?;
+    }
+    Ok((pending, ready))
+}
+
+/// The levels of functions, of each of which the places of its callees are given, in time in proportion to the calls.
+pub fn levels_of(calls: &[Vec<usize>], alloc: Global) -> Result<Vec<Option<usize>>, AllocError>
+    requires { StayWithin (lists calls.now) }
+    ensures { IfOk result (λ v. v.items ≡ levels (lists calls.now)) }
+{
+    let callers = callers_of(calls, alloc)?;
+    let (mut pending, mut ready) = open_calls(calls, alloc)?;
+    let mut levels = vec![in alloc; None; calls.len()]?;
+    while let Some(function) = ready.pop() {
+        levels[function] = level_above(&calls[function], &levels);
+        count_off(&callers[function], &mut pending, &mut ready)?;
+    }
+    Ok(levels)
+}
+
+/// The functions without a level, by place.
+pub fn without_level(levels: &[Option<usize>], alloc: Global) -> Result<Vec<usize>, AllocError>
+    ensures { IfOk result (λ v. v.items ≡ without_level levels.now) }
+{
+    let places = levels.iter().enumerate();
+    places
+        .filter(|(_, level)| level.is_none())
+        .map(|(place, _)| place)
+        .collect(alloc)
+}
+
+/// The functions that have a level, by level and then by place.
+pub fn by_level(levels: &[Option<usize>], alloc: Global) -> Result<Vec<usize>, AllocError>
+    requires { (k : ℕ) → IfSome (known levels.now k) (λ l. l < length levels.now) }
+    ensures { IfOk result (λ v. v.items ≡ by_level levels.now) }
+{
+    let mut rounds = no_places(levels.len(), alloc)?;
+    for (place, level) in levels.iter().enumerate() {
+        let Some(level) = level else { continue };
+        rounds[*level].push(place)?;
+    }
+    let mut order = Vec::new(alloc);
+    for round in &rounds {
+        order.extend_from_slice(round)?;
+    }
+    Ok(order)
+}
+
+#[cfg(test)]
+mod tests;

@@ -1,0 +1,116 @@
+ghost use Rattle.std.specs.Prelude.{◌≡◌, ℕ, List, replicate, is_some, slice_get, IfOk, None};
+ghost use Rattle.std.specs.Option.{option_flatten};
+ghost use Rattle.naga_oil_derive.specs.World.{moved};
+ghost use Rattle.naga_oil_derive.specs.Copying.{goes_under, renames_under, AreLong};
+
+use super::Renaming;
+use naga_oil_ir::{
+    Constant, Expression, Function, GlobalVariable, Handle, Index, ItemPlace, Module, Override,
+    Range, Span, Type,
+};
+use std::alloc::{AllocError, Global};
+
+/// Where the items of a source went, and how far spans are shifted.
+#[derive(Drop)]
+pub struct Maps {
+    pub types: Vec<Option<Handle<Type>>>,
+    pub constants: Vec<Option<Handle<Constant>>>,
+    pub overrides: Vec<Option<Handle<Override>>>,
+    pub global_variables: Vec<Option<Handle<GlobalVariable>>>,
+    pub global_expressions: Vec<Option<Handle<Expression>>>,
+    pub offset: usize,
+}
+
+fn nowhere<K>(count: usize, alloc: Global) -> Result<Vec<Option<Index<K>>>, AllocError>
+    ensures { IfOk result (λ v. v.items ≡ replicate count None) }
+{
+    Ok(vec![in alloc; None; count]?)
+}
+
+fn place_of<K>(places: &[Option<Index<K>>], handle: Index<K>) -> Option<Index<K>>
+    ensures { result ≡ option_flatten (slice_get places.now handle) }
+{
+    places.get(handle.index()).copied().flatten()
+}
+
+fn moved(place: u32, offset: usize) -> u32
+    ensures { result ≡ moved offset place }
+{
+    (place as usize)
+        .saturating_add(offset)
+        .min(u32::MAX as usize) as u32
+}
+
+impl Maps {
+    /// The maps of a source whose items went nowhere yet.
+    pub fn new(source: &Module, offset: usize, alloc: Global) -> Result<Maps, AllocError>
+        ensures offset { IfOk result (λ m. m.offset ≡ offset) }
+        ensures long { IfOk result (λ m. AreLong m source.now) }
+        ensures nowhere { IfOk result (λ m. (p : ItemPlace) → goes_under m p ≡ None) }
+    {
+        Ok(Maps {
+            types: nowhere(source.types.len(), alloc)?,
+            constants: nowhere(source.constants.len(), alloc)?,
+            overrides: nowhere(source.overrides.len(), alloc)?,
+            global_variables: nowhere(source.global_variables.len(), alloc)?,
+            global_expressions: nowhere(source.global_expressions.len(), alloc)?,
+            offset,
+        })
+    }
+
+    /// Whether an item went somewhere.
+    #[tactic(auto, using(crate::proofs::CopyLemmas::is_some_mapped), unfolding(crate::specs::Copying::goes_under, crate::specs::World::goes))]
+    pub fn has_gone(&self, item: ItemPlace) -> bool
+        ensures { result ≡ is_some (goes_under self.now item) }
+    {
+        match item {
+            ItemPlace::TypeItem(handle) => place_of(&self.types, handle).is_some(),
+            ItemPlace::ConstantItem(handle) => place_of(&self.constants, handle).is_some(),
+            ItemPlace::OverrideItem(handle) => place_of(&self.overrides, handle).is_some(),
+            ItemPlace::GlobalItem(handle) => place_of(&self.global_variables, handle).is_some(),
+            ItemPlace::ExpressionItem(handle) => {
+                place_of(&self.global_expressions, handle).is_some()
+            }
+        }
+    }
+}
+
+/// A handle goes where it was put, and stays if it went nowhere; functions and ranges stay.
+impl Renaming for Maps {
+    ghost renames = { renames_under };
+
+    fn ty(&self, handle: Handle<Type>) -> Handle<Type> {
+        place_of(&self.types, handle).unwrap_or(handle)
+    }
+
+    fn constant(&self, handle: Handle<Constant>) -> Handle<Constant> {
+        place_of(&self.constants, handle).unwrap_or(handle)
+    }
+
+    fn pipeline_override(&self, handle: Handle<Override>) -> Handle<Override> {
+        place_of(&self.overrides, handle).unwrap_or(handle)
+    }
+
+    fn global(&self, handle: Handle<GlobalVariable>) -> Handle<GlobalVariable> {
+        place_of(&self.global_variables, handle).unwrap_or(handle)
+    }
+
+    fn function(&self, handle: Handle<Function>) -> Handle<Function> {
+        handle
+    }
+
+    fn expression(&self, handle: Handle<Expression>) -> Handle<Expression> {
+        place_of(&self.global_expressions, handle).unwrap_or(handle)
+    }
+
+    fn range(&self, range: Range<Expression>) -> Range<Expression> {
+        range
+    }
+
+    fn span(&self, span: Span) -> Span {
+        if span == Span::UNDEFINED {
+            return span;
+        }
+        Span::new(moved(span.start, self.offset), moved(span.end, self.offset))
+    }
+}

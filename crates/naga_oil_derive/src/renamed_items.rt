@@ -1,0 +1,156 @@
+ghost use Rattle.std.specs.Prelude.{◌≡◌, Some, IfOk, map, option_map, string_bytes};
+ghost use Rattle.naga_oil_ir.specs.Rows.{Text, inner_row, type_row, constant_row, override_row, global_row, size_plain, size_name, member_label, member_type};
+ghost use Rattle.naga_oil_derive.specs.Renames.{rename_row, rename_place};
+ghost use Rattle.naga_oil_derive.specs.World.{under_name};
+
+use super::{Renaming, renamed_option};
+use naga_oil_ir::{ArraySize, Constant, GlobalVariable, Override, StructMember, Type, TypeInner};
+use std::alloc::{AllocError, Global};
+
+fn renamed_size<R: Renaming>(names: &R, size: &ArraySize) -> ArraySize
+    ensures plain { size_plain result ≡ size_plain size.now }
+    ensures name { size_name result ≡ option_map (rename_place (R.renames names.now)) (size_name size.now) }
+{
+    match size {
+        ArraySize::Constant(n) => ArraySize::Constant(*n),
+        ArraySize::Pending(handle) => ArraySize::Pending(names.pipeline_override(*handle)),
+        ArraySize::Dynamic => ArraySize::Dynamic,
+    }
+}
+
+/// A copy of a name.
+pub fn copied_name(name: &Option<String>) -> Result<Option<String>, AllocError>
+    ensures { IfOk result (λ n. option_map string_bytes n ≡ option_map string_bytes name.now) }
+{
+    match name {
+        None => Ok(None),
+        Some(text) => Ok(Some(text.clone()?)),
+    }
+}
+
+fn renamed_member<R: Renaming>(names: &R, member: &StructMember) -> Result<StructMember, AllocError>
+    ensures { IfOk result (λ m. (member_label m ≡ member_label member.now) × (member_type m ≡ option_map (rename_place (R.renames names.now)) (member_type member.now))) }
+{
+    let name = copied_name(&member.name)?;
+    Ok(StructMember {
+        name,
+        ty: names.ty(member.ty),
+        binding: member.binding,
+        offset: member.offset,
+    })
+}
+
+fn renamed_members<R: Renaming>(
+    names: &R,
+    members: &[StructMember],
+    alloc: Global,
+) -> Result<Vec<StructMember>, AllocError>
+    ensures labels { IfOk result (λ ms. map member_label ms.items ≡ map member_label members.now) }
+    ensures types { IfOk result (λ ms. map member_type ms.items ≡ map (option_map (rename_place (R.renames names.now))) (map member_type members.now)) }
+{
+    let mut out = Vec::new(alloc);
+    for member in members {
+        let copy = renamed_member(names, member)?;
+        out.push(copy)?;
+    }
+    Ok(out)
+}
+
+fn renamed_inner<R: Renaming>(
+    names: &R,
+    inner: &TypeInner,
+    alloc: Global,
+) -> Result<TypeInner, AllocError>
+    ensures { IfOk result (λ i. (n : Text) → inner_row n i ≡ rename_row (R.renames names.now) (inner_row n inner.now)) }
+{
+    match inner {
+        TypeInner::Scalar(c) => Ok(TypeInner::Scalar(*c)),
+        TypeInner::Vector(c) => Ok(TypeInner::Vector(*c)),
+        TypeInner::Matrix(c) => Ok(TypeInner::Matrix(*c)),
+        TypeInner::ValuePointer(c) => Ok(TypeInner::ValuePointer(*c)),
+        TypeInner::Image(c) => Ok(TypeInner::Image(*c)),
+        TypeInner::Sampler(c) => Ok(TypeInner::Sampler(*c)),
+        TypeInner::Atomic(c) => Ok(TypeInner::Atomic(*c)),
+        TypeInner::AccelerationStructure(c) => Ok(TypeInner::AccelerationStructure(*c)),
+        TypeInner::RayQuery(c) => Ok(TypeInner::RayQuery(*c)),
+        TypeInner::Pointer { base, space } => Ok(TypeInner::Pointer {
+            base: names.ty(*base),
+            space: *space,
+        }),
+        TypeInner::Struct { members, span } => {
+            let members = renamed_members(names, members, alloc)?;
+            Ok(TypeInner::Struct {
+                members,
+                span: *span,
+            })
+        }
+        TypeInner::Array { base, size, stride } => Ok(TypeInner::Array {
+            base: names.ty(*base),
+            size: renamed_size(names, size),
+            stride: *stride,
+        }),
+        TypeInner::BindingArray { base, size } => Ok(TypeInner::BindingArray {
+            base: names.ty(*base),
+            size: renamed_size(names, size),
+        }),
+    }
+}
+
+/// The type with its handles renamed, under a name if one is given.
+pub fn renamed_type<R: Renaming>(
+    names: &R,
+    ty: &Type,
+    name: Option<String>,
+    alloc: Global,
+) -> Result<Type, AllocError>
+    ensures { IfOk result (λ t. type_row t ≡ under_name (option_map (λ n. Some (string_bytes n)) name) (rename_row (R.renames names.now) (type_row ty.now))) }
+{
+    let inner = renamed_inner(names, &ty.inner, alloc)?;
+    let name = match name {
+        Some(name) => Some(name),
+        None => copied_name(&ty.name)?,
+    };
+    Ok(Type { name, inner })
+}
+
+/// The constant with its handles renamed.
+pub fn renamed_constant<R: Renaming>(names: &R, item: &Constant) -> Result<Constant, AllocError>
+    ensures { IfOk result (λ c. constant_row c ≡ rename_row (R.renames names.now) (constant_row item.now)) }
+{
+    let name = copied_name(&item.name)?;
+    Ok(Constant {
+        name,
+        ty: names.ty(item.ty),
+        init: names.expression(item.init),
+    })
+}
+
+/// The override with its handles renamed.
+pub fn renamed_override<R: Renaming>(names: &R, item: &Override) -> Result<Override, AllocError>
+    ensures { IfOk result (λ c. override_row c ≡ rename_row (R.renames names.now) (override_row item.now)) }
+{
+    let name = copied_name(&item.name)?;
+    Ok(Override {
+        name,
+        id: item.id,
+        ty: names.ty(item.ty),
+        init: renamed_option(names, item.init),
+    })
+}
+
+/// The global variable with its handles renamed.
+pub fn renamed_global<R: Renaming>(
+    names: &R,
+    item: &GlobalVariable,
+) -> Result<GlobalVariable, AllocError>
+    ensures { IfOk result (λ c. global_row c ≡ rename_row (R.renames names.now) (global_row item.now)) }
+{
+    let name = copied_name(&item.name)?;
+    Ok(GlobalVariable {
+        name,
+        space: item.space,
+        binding: item.binding,
+        ty: names.ty(item.ty),
+        init: renamed_option(names, item.init),
+    })
+}
