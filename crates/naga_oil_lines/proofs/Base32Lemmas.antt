@@ -1,8 +1,8 @@
 -- Letters of bits that come byte by byte.
-use Rattle.std.proofs.Common.{◌≡◌, ℕ, zero, suc, ◌+◌, ◌-◌, ◌*◌, ◌/◌, ◌%◌, ◌^◌, ◌<◌, List, [], ◌∷◌, ◌++◌, sym, ap, ◌∙◌, arith, add-one}
+use Rattle.std.proofs.Common.{◌≡◌, ℕ, zero, suc, ◌+◌, ◌-◌, ◌*◌, ◌/◌, ◌%◌, ◌^◌, ◌<◌, List, [], ◌∷◌, ◌++◌, refl, sym, ap, ◌∙◌, arith, add-one}
 use Rattle.std.specs.Prelude.{replicate}
 use Rattle.std.proofs.lemmas.Nat.{shr-shr}
-use Rattle.naga_oil_lines.specs.Decorate.{bits, number, letter, letters}
+use Rattle.naga_oil_lines.specs.Decorate.{bits, number, letter, letters, bytes_of}
 
 halved : (n v : ℕ) → v / 2 ^ suc n ≡ v / 2 ^ n / 2
 halved n v = sym (shr-shr v n 1 ∙ ap (λ k. v / 2 ^ k) (add-one n))
@@ -78,3 +78,58 @@ last_letter (suc (suc (suc zero))) p some few =
 last_letter (suc (suc (suc (suc zero)))) p some few =
     let e : number (p / 8 % 2 ∷ p / 4 % 2 ∷ p / 2 % 2 ∷ p / 1 % 2 ∷ replicate 1 0) ≡ p % 16 * 16 / 8 % 32 = omega arith in ap (λ k. letter k ∷ []) e
 last_letter (suc (suc (suc (suc (suc n))))) p some few = absurd (omega arith)
+
+-- ---- bytes of bits that come letter by letter
+eight_bits : (w : ℕ) → number (w / 2 / 2 / 2 / 2 / 2 / 2 / 2 % 2 ∷ w / 2 / 2 / 2 / 2 / 2 / 2 % 2 ∷ w / 2 / 2 / 2 / 2 / 2 % 2 ∷ w / 2 / 2 / 2 / 2 % 2 ∷ w / 2 / 2 / 2 % 2 ∷ w / 2 / 2 % 2 ∷ w / 2 % 2 ∷ w % 2 ∷ []) ≡ w % 256
+eight_bits w = omega arith
+
+-- the first eight of more bits are a byte
+pub bytes_step : (n v : ℕ) (more : List ℕ) → bytes_of (bits (n + 8) v ++ more) ≡ v / 2 ^ n % 256 ∷ bytes_of (bits n v ++ more)
+unfolding bytes_of
+bytes_step n v more =
+    let eight : n + 8 ≡ suc (suc (suc (suc (suc (suc (suc (suc n))))))) = omega arith in
+    let group : number (v / 2 ^ suc (suc (suc (suc (suc (suc (suc n)))))) % 2 ∷ v / 2 ^ suc (suc (suc (suc (suc (suc n))))) % 2 ∷ v / 2 ^ suc (suc (suc (suc (suc n)))) % 2 ∷ v / 2 ^ suc (suc (suc (suc n))) % 2
+    ∷ v / 2 ^ suc (suc (suc n)) % 2 ∷ v / 2 ^ suc (suc n) % 2 ∷ v / 2 ^ suc n % 2 ∷ v / 2 ^ n % 2 ∷ []) ≡ v / 2 ^ n % 256 =
+    simp halved (eight_bits (v / 2 ^ n)) in
+    rw eight (ap (λ k. k ∷ bytes_of (bits n v ++ more)) group)
+
+-- fewer than eight bits are no byte
+pub no_byte : (n v : ℕ) → n < 8 → bytes_of (bits n v ++ []) ≡ []
+unfolding bytes_of
+no_byte zero v few = refl
+no_byte (suc zero) v few = refl
+no_byte (suc (suc zero)) v few = refl
+no_byte (suc (suc (suc zero))) v few = refl
+no_byte (suc (suc (suc (suc zero)))) v few = refl
+no_byte (suc (suc (suc (suc (suc zero))))) v few = refl
+no_byte (suc (suc (suc (suc (suc (suc zero)))))) v few = refl
+no_byte (suc (suc (suc (suc (suc (suc (suc zero))))))) v few = refl
+no_byte (suc (suc (suc (suc (suc (suc (suc (suc n)))))))) v few = absurd (omega arith)
+
+-- a letter put behind a number puts its bits behind
+module _ (p v : ℕ) where
+  letter_bits : bits 5 (p % 256 * 32 + v % 32) ≡ bits 5 v
+  letter_bits =
+      let e4 : (p % 256 * 32 + v % 32) / 16 % 2 ≡ v / 16 % 2 = omega arith in
+      let e3 : (p % 256 * 32 + v % 32) / 8 % 2 ≡ v / 8 % 2 = omega arith in
+      let e2 : (p % 256 * 32 + v % 32) / 4 % 2 ≡ v / 4 % 2 = omega arith in
+      let e1 : (p % 256 * 32 + v % 32) / 2 % 2 ≡ v / 2 % 2 = omega arith in
+      let e0 : (p % 256 * 32 + v % 32) / 1 % 2 ≡ v / 1 % 2 = omega arith in
+      λ i. e4 i ∷ e3 i ∷ e2 i ∷ e1 i ∷ e0 i ∷ []
+
+  high : (k : ℕ) → k < 8 → (p % 256 * 32 + v % 32) / 2 ^ (k + 5) % 2 ≡ p / 2 ^ k % 2
+  high zero few = omega arith
+  high (suc zero) few = omega arith
+  high (suc (suc zero)) few = omega arith
+  high (suc (suc (suc zero))) few = omega arith
+  high (suc (suc (suc (suc zero)))) few = omega arith
+  high (suc (suc (suc (suc (suc zero))))) few = omega arith
+  high (suc (suc (suc (suc (suc (suc zero)))))) few = omega arith
+  high (suc (suc (suc (suc (suc (suc (suc zero))))))) few = omega arith
+  high (suc (suc (suc (suc (suc (suc (suc (suc k)))))))) few = absurd (omega arith)
+
+  pub letter_behind : (n : ℕ) → n < 9 → bits (n + 5) (p % 256 * 32 + v % 32) ≡ bits n p ++ bits 5 v
+  letter_behind zero few = letter_bits
+  letter_behind (suc n) few =
+      let one : suc n + 5 ≡ suc (n + 5) = omega arith in
+      rw one (λ i. high n (omega arith) i ∷ letter_behind n (omega arith) i)

@@ -1,19 +1,22 @@
--- A decorated name tells its item and its module.
-use Rattle.std.proofs.Common.{◌≡◌, ◌≢◌, ℕ, ◌-◌, ◌/◌, ◌%◌, ◌<◌, List, [], ◌∷◌, ◌++◌, length, refl, sym, ap, subst, lit<, ◌∙◌, arith, append_assoc}
-use Rattle.std.specs.Prelude.{All, Some, nat_lt, if◌then◌else◌, codes}
+-- A decorated name tells its item and its module, and a code its text.
+use Rattle.std.proofs.Common.{◌≡◌, ◌≢◌, ℕ, ◌-◌, ◌+◌, ◌/◌, ◌%◌, ◌<◌, ◌&&◌, Bool, true, false, cond, Some, None, List, [], ◌∷◌, ◌++◌, length, refl, sym, ap, subst, lit<, ◌∙◌, arith, append_assoc, ⊎_elim}
+use lib.Utf8.{scalar, scalar_cases, next}
+use Rattle.std.specs.Prelude.{All, nat_lt, if◌then◌else◌, codes, bytes_eq}
+use Rattle.std.specs.Char.{encode_utf8}
 use Rattle.std.specs.List.{flat_map}
+use Rattle.std.specs.Str.{IsUtf8, is_utf8, all_scalars, encode_utf8_all}
+use Rattle.std.proofs.lemmas.Bool.{ltb-true}
 use Rattle.std.proofs.lemmas.Bool.Decides.{nat_tests}
 use Rattle.std.proofs.lemmas.List.{append_cancel_right}
-use Rattle.std.proofs.lemmas.List.Elements.{All-nil, All-cons, All-head, All-tail}
-use Rattle.naga_oil_lines.specs.Decorate.{bits, number, letter, letters, base32, module_mark, decorated_name}
+use Rattle.std.proofs.lemmas.List.Elements.{All-nil, All-cons, All-head, All-tail, All-append}
+use Rattle.std.proofs.lemmas.Slice.Eq.{bytes_eq-Decides}
+use Rattle.std.proofs.lemmas.Str.{IsUtf8-from_is_utf8, is_utf8-from_IsUtf8}
+use Rattle.naga_oil_lines.specs.Decorate.{bits, number, letter, letters, base32, value_of, bytes_of, decoded, module_mark, decorated_name}
 
 -- ---- the bits of letters
 abbrev AreBits : List ℕ → Type 0
 AreBits [] = Unit {0}
 AreBits (b ∷ bs) = (b < 2) × AreBits bs
-
-abbrev value_of : ℕ → ℕ
-value_of c = if nat_lt c 65 then c - 24 else c - 65
 
 value_of-letter : (n : ℕ) → n < 32 → value_of (letter n) ≡ n
 value_of-letter n few = grind (arith, nat_tests)
@@ -56,10 +59,6 @@ letters_back (a ∷ b ∷ c ∷ d ∷ e ∷ more) (ha, (hb, (hc, (hd, (he, h))))
     (q.0, q.1, λ i. letter_back a b c d e (ha, (hb, (hc, (hd, (he, tt))))) i ++ q.2 i)
 
 -- ---- the bytes of bits
-bytes_of : List ℕ → List ℕ
-bytes_of (a ∷ b ∷ c ∷ d ∷ e ∷ f ∷ g ∷ h ∷ more) = number (a ∷ b ∷ c ∷ d ∷ e ∷ f ∷ g ∷ h ∷ []) ∷ bytes_of more
-bytes_of few = []
-
 byte_back : (x : ℕ) → x < 256 → number (bits 8 x) ≡ x
 byte_back x byte = omega arith
 
@@ -80,14 +79,80 @@ are_bits (x ∷ m) =
     (omega arith, (omega arith, (omega arith, (omega arith, (omega arith, (omega arith, (omega arith, (omega arith, are_bits m))))))))
 
 -- the bytes that a text in base32 stands for
-pub decoded : List ℕ → List ℕ
-decoded code = bytes_of (bits_of code)
+pub bytes_of_code : List ℕ → List ℕ
+bytes_of_code code = bytes_of (bits_of code)
 
-pub decoded-base32 : (m : List ℕ) → All (λ b. b < 256) m → decoded (base32 m) ≡ m
-unfolding decoded
-decoded-base32 m bytes =
+pub bytes_of_code-base32 : (m : List ℕ) → All (λ b. b < 256) m → bytes_of_code (base32 m) ≡ m
+unfolding bytes_of_code
+bytes_of_code-base32 m bytes =
     let q = letters_back (flat_map (bits 8) m) (are_bits m) in
     ap bytes_of q.2 ∙ bytes_back m q.0 bytes q.1
+
+-- ---- the text of a code
+one_byte : (b : ℕ) (bs : List ℕ) → b < 256 → All (λ b. b < 256) bs → All (λ b. b < 256) (b ∷ bs)
+one_byte b bs h hs = All-cons (λ b. b < 256) b bs h hs
+
+encode_fits : (c : ℕ) → c < 1114112 → All (λ b. b < 256) (encode_utf8 c)
+unfolding encode_utf8
+encode_fits c fits = go (nat_lt c 128) (nat_lt c 2048) (nat_lt c 65536) refl refl refl
+  where
+    none : All (λ b. b < 256) []
+    none = All-nil (λ b. b < 256)
+
+    go : (x y z : Bool) → nat_lt c 128 ≡ x → nat_lt c 2048 ≡ y → nat_lt c 65536 ≡ z
+        → All (λ b. b < 256) (cond x (c ∷ []) (cond y ((192 + c / 64) ∷ next c ∷ []) (cond z ((224 + c / 4096) ∷ next (c / 64) ∷ next c ∷ []) ((240 + c / 262144) ∷ next (c / 4096) ∷ next (c / 64) ∷ next c ∷ []))))
+    go true y z hx hy hz = let small = ltb-true c 128 hx in one_byte c [] (omega arith) none
+    go false true z hx hy hz = let small = ltb-true c 2048 hy in one_byte (192 + c / 64) (next c ∷ []) (omega arith) (one_byte (next c) [] (omega arith) none)
+    go false false true hx hy hz =
+        let small = ltb-true c 65536 hz in
+        one_byte (224 + c / 4096) (next (c / 64) ∷ next c ∷ []) (omega arith) (one_byte (next (c / 64)) (next c ∷ []) (omega arith) (one_byte (next c) [] (omega arith) none))
+    go false false false hx hy hz =
+        one_byte (240 + c / 262144) (next (c / 4096) ∷ next (c / 64) ∷ next c ∷ []) (omega arith)
+        (one_byte (next (c / 4096)) (next (c / 64) ∷ next c ∷ []) (omega arith) (one_byte (next (c / 64)) (next c ∷ []) (omega arith) (one_byte (next c) [] (omega arith) none)))
+
+encodes_fit : (cs : List ℕ) → all_scalars cs ≡ true → All (λ b. b < 256) (encode_utf8_all cs)
+encodes_fit [] h = All-nil (λ b. b < 256)
+encodes_fit (c ∷ cs) h =
+    All-append (λ b. b < 256) (encode_utf8 c) (encode_utf8_all cs) (encode_fits c (below c (first (scalar c) (all_scalars cs) h))) (encodes_fit cs (second (scalar c) (all_scalars cs) h))
+  where
+    first : (x y : Bool) → (x && y) ≡ true → x ≡ true
+    first true y h = refl
+    first false y h = h
+
+    second : (x y : Bool) → (x && y) ≡ true → y ≡ true
+    second true y h = h
+    second false y h = cc
+
+    below : (c : ℕ) → scalar c ≡ true → c < 1114112
+    below c e = ⊎_elim (λ h. omega (arith, h)) (λ h. h.1) (scalar_cases c e)
+
+pub text_fits : (text : List ℕ) → IsUtf8 text → All (λ b. b < 256) text
+text_fits text (cs, (scalars, is)) = subst (All (λ b. b < 256)) is (encodes_fit cs scalars)
+
+-- the base32 of a text stands for the text
+pub decoded-base32 : (m : List ℕ) → IsUtf8 m → decoded (base32 m) ≡ Some m
+unfolding decoded bytes_of_code bits_of
+decoded-base32 m u =
+    rw (bytes_of_code-base32 m (text_fits m u), (bytes_eq-Decides (base32 m) (base32 m)).1 refl, is_utf8-from_IsUtf8 m u) refl
+
+-- and a code that stands for a text is its base32
+pub coded_text : (code m : List ℕ) → decoded code ≡ Some m → (base32 m ≡ code) × IsUtf8 m
+unfolding decoded
+coded_text code m e =
+    let bytes = bytes_of (flat_map (λ c. bits 5 (value_of c)) code) in
+    go bytes (bytes_eq (base32 bytes) code) (is_utf8 bytes) refl refl e
+  where
+    go : (bytes : List ℕ) (x y : Bool) → bytes_eq (base32 bytes) code ≡ x → is_utf8 bytes ≡ y → cond (x && y) (Some bytes) None ≡ Some m → (base32 m ≡ code) × IsUtf8 m
+    go bytes true true hx hy e =
+        let same : bytes ≡ m = cc in
+        subst (λ bs. (base32 bs ≡ code) × IsUtf8 bs) same ((bytes_eq-Decides (base32 bytes) code).0 hx, IsUtf8-from_is_utf8 bytes hy)
+    go bytes true false hx hy e = cc
+    go bytes false y hx hy e = cc
+
+-- what a reader finds of a code: its bytes, and the base32 of these
+pub read_code : (code bytes again : List ℕ) → bytes ≡ bytes_of (flat_map (λ c. bits 5 (value_of c)) code) → again ≡ base32 bytes → cond (bytes_eq again code && is_utf8 bytes) (Some bytes) None ≡ decoded code
+unfolding decoded
+read_code code bytes again e f = rw (f, e) refl
 
 -- ---- the last underscore ends the mark
 HasNoUnderscore : List ℕ → Type 0
@@ -148,4 +213,4 @@ one_item_and_module f g m n hm hn e =
     (sym (split_name m f) ∙ e ∙ split_name n g) in
     let ends : base32 m ++ 88 ∷ [] ≡ base32 n ++ 88 ∷ [] = cc (q.1) in
     let code : base32 m ≡ base32 n = append_cancel_right (base32 m) (base32 n) (88 ∷ []) ends in
-    (append_cancel_right f g (codes "X_naga_oil_mod") q.0, sym (decoded-base32 m hm) ∙ ap decoded code ∙ decoded-base32 n hn)
+    (append_cancel_right f g (codes "X_naga_oil_mod") q.0, sym (bytes_of_code-base32 m hm) ∙ ap bytes_of_code code ∙ bytes_of_code-base32 n hn)

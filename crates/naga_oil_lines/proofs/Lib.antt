@@ -23,3 +23,4 @@ pub mod PassLemmas
 pub mod WritingLemmas
 pub mod WordLemmas
 pub mod PlainLemmas
+pub mod UndecorateLemmas

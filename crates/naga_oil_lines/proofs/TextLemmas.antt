@@ -1,11 +1,15 @@
 -- Characters of a text from its front.
-use Rattle.std.proofs.Common.{◌≡◌, ℕ, suc, ◌+◌, ◌-◌, Bool, true, false, cond, List, [], ◌∷◌, ◌++◌, length, take, drop, refl, sym, ap, subst, ◌∙◌, arith, length-append, ◌≤◌, get_or, replicate, append_assoc}
+use Rattle.std.proofs.Common.{◌≡◌, ℕ, suc, ◌+◌, ◌-◌, Bool, true, false, cond, eqb, eq-eqb, Option, Some, None, MatchOption, List, [], ◌∷◌, ◌++◌, length, take, drop, refl, sym, ap, subst, ◌∙◌, arith, length-append, ◌≤◌, get_or, replicate, append_assoc}
+use borrow.Author.Tests.{eqb-true}
+use denote.Ref.{Bor}
 use Rattle.std.specs.Char.{is_whitespace, encode_utf8}
 use Rattle.std.specs.List.{prefix_len}
-use Rattle.std.specs.Str.{IsUtf8, IsCharBoundary, chars, skip_leading_whitespace, trim_start}
-use Rattle.std.proofs.lemmas.Str.{IsUtf8-past_char, chars_from_encodes, chars_past_char, chars-append, length-encode, len_utf8_bounds, IsCharBoundary-at_seam}
+use Rattle.std.specs.Option.{option_map}
+use Rattle.std.specs.Str.Pattern.{FindsTextPrefix, StripsPrefix}
+use Rattle.std.specs.Str.{IsUtf8, IsCharBoundary, chars, encode_utf8_all, skip_leading_whitespace, trim_start}
+use Rattle.std.proofs.lemmas.Str.{IsUtf8-past_char, chars_from_encodes, chars_past_char, chars-append, encodes-chars, encodes-append, length-encode, len_utf8_bounds, IsCharBoundary-at_seam}
 use Rattle.std.proofs.lemmas.List.{append_cancel_right, take-append-drop, get_or-replicate, length-replicate, replicate-append-replicate, take-replicate}
-use Rattle.naga_oil_lines.specs.Text.{BeginsWithChar}
+use Rattle.naga_oil_lines.specs.Text.{BeginsWithChar, past_word}
 
 pub first_char : (bs rest : List ℕ) (c : ℕ) → IsUtf8 bs → bs ≡ encode_utf8 c ++ rest → BeginsWithChar bs c rest
 first_char bs rest c u e = record {
@@ -32,6 +36,36 @@ pub cut_before_rest : (bs front rest : List ℕ) → bs ≡ front ++ rest → Is
 cut_before_rest bs front rest e u =
     let at : length front ≡ length bs - length rest = omega (arith, ap length e, length-append front rest) in
     subst (IsCharBoundary bs) at (IsCharBoundary-at_seam bs front rest e u)
+
+-- ---- a word at the front
+pub past_word-append : (w rest : List ℕ) → past_word w (w ++ rest) ≡ Some rest
+unfolding past_word
+past_word-append [] rest = refl
+past_word-append (c ∷ w) rest = rw (eq-eqb c c refl) (past_word-append w rest)
+
+pub past_word-some : (w cs rest : List ℕ) → past_word w cs ≡ Some rest → cs ≡ w ++ rest
+unfolding past_word
+past_word-some [] cs rest e = cc
+past_word-some (c ∷ w) [] rest e = cc
+past_word-some (c ∷ w) (d ∷ cs) rest e =
+    elim (eqb d c) as (λ b. eqb d c ≡ b → cond b (past_word w cs) None ≡ Some rest → d ∷ cs ≡ c ∷ (w ++ rest)) [
+      | true ↦ λ q r. (λ i. eqb-true d c q i ∷ past_word-some w cs rest r i)
+      | false ↦ λ q r. cc
+    ] refl e
+
+pub none_unless : (o : Option (List ℕ)) → ((rest : List ℕ) → o ≡ Some rest → ⊥) → None ≡ o
+none_unless None h = refl
+none_unless (Some rest) h = absurd (h rest refl)
+
+-- what `strip_prefix` says of the characters
+pub past_word_text : (word text : List ℕ) (r : Option (Bor (List ℕ))) → IsUtf8 word → IsUtf8 text → MatchOption r (FindsTextPrefix word text None) (λ x. StripsPrefix (FindsTextPrefix word) text x.now)
+    → option_map (λ x. chars x.now) r ≡ past_word (chars word) (chars text)
+past_word_text word text None u v h =
+    none_unless (past_word (chars word) (chars text)) (λ rest e.
+    h (encode_utf8_all rest) (sym (encodes-chars text v) ∙ ap encode_utf8_all (past_word-some (chars word) (chars text) rest e) ∙ encodes-append (chars word) rest ∙ ap (λ l. l ++ encode_utf8_all rest) (encodes-chars word u)))
+past_word_text word text (Some x) u v h =
+    let e : text ≡ word ++ x.now = h.1.1 ∙ ap (λ l. word ++ l) (sym h.2) in
+    rw (e, chars-append word x.now u) (sym (past_word-append (chars word) (chars x.now)))
 
 -- ---- a run of characters that pass
 abbrev pub after_run : (ℕ → Bool) → List ℕ → List ℕ

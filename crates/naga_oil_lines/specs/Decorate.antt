@@ -1,6 +1,7 @@
 -- How the items of a module are named in the one shader. Bits, letters and padding are those of base32 (RFC 4648 section 6).
-use Rattle.std.specs.Prelude.{ℕ, zero, suc, ◌+◌, ◌-◌, ◌*◌, ◌/◌, ◌%◌, ◌^◌, if◌then◌else◌, nat_lt, Option, Some, None, List, [], ◌∷◌, ◌++◌, fold, take, replicate, codes}
+use Rattle.std.specs.Prelude.{ℕ, zero, suc, ◌+◌, ◌-◌, ◌*◌, ◌/◌, ◌%◌, ◌^◌, ◌&&◌, if◌then◌else◌, nat_lt, bytes_eq, Option, Some, None, List, [], ◌∷◌, ◌++◌, fold, take, replicate, codes}
 use Rattle.std.specs.List.{flat_map}
+use Rattle.std.specs.Str.{is_utf8}
 
 -- the lowest bits of a number, the highest of them first
 abbrev pub bits : ℕ → ℕ → List ℕ
@@ -24,6 +25,21 @@ letters few = letter (number (take 5 (few ++ replicate 4 0))) ∷ []
 -- the bytes in base32, without padding
 abbrev pub base32 : List ℕ → List ℕ
 base32 bytes = letters (flat_map (bits 8) bytes)
+
+-- the five bits of a letter
+abbrev pub value_of : ℕ → ℕ
+value_of c = if nat_lt c 65 then c - 24 else c - 65
+
+-- the bytes of bits, eight to a byte; fewer bits at the end are left out
+unfoldable pub bytes_of : List ℕ → List ℕ
+bytes_of (a ∷ b ∷ c ∷ d ∷ e ∷ f ∷ g ∷ h ∷ more) = number (a ∷ b ∷ c ∷ d ∷ e ∷ f ∷ g ∷ h ∷ []) ∷ bytes_of more
+bytes_of few = []
+
+-- the text that has this code in base32, if there is one: others differ from the code of their own bytes
+unfoldable pub decoded : List ℕ → Option (List ℕ)
+decoded code =
+    let bytes = bytes_of (flat_map (λ c. bits 5 (value_of c)) code) in
+    if bytes_eq (base32 bytes) code && is_utf8 bytes then Some bytes else None
 
 -- the marks between an item and its module: of an item, and of a function that overrides it
 abbrev pub module_mark : List ℕ

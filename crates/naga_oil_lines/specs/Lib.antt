@@ -19,3 +19,5 @@ pub mod DecorateRows
 pub mod ImportReader
 pub mod ImportRows
 pub mod Sites
+pub mod Undecorate
+pub mod UndecorateRows

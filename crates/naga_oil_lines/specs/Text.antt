@@ -1,5 +1,5 @@
 -- A text from its front, as bytes and as characters.
-use Rattle.std.specs.Prelude.{◌≡◌, ℕ, ◌<◌, ◌++◌, List, ◌∷◌, length}
+use Rattle.std.specs.Prelude.{◌≡◌, ℕ, ◌<◌, ◌++◌, ◌==◌, if◌then◌else◌, Option, Some, None, option_and_then, List, [], ◌∷◌, length}
 use Rattle.std.specs.Char.{encode_utf8}
 use Rattle.std.specs.Str.{chars, IsUtf8}
 
@@ -9,3 +9,13 @@ pub record BeginsWithChar (text : List ℕ) (c : ℕ) (rest : List ℕ) : Type 0
   pub spelled : chars text ≡ c ∷ chars rest
   pub utf8 : IsUtf8 rest
   pub shorter : length rest < length text
+
+infixl 10 ◌>>=◌
+abbrev pub ◌>>=◌ : {A B : Type 0} → Option A → (A → Option B) → Option B
+o >>= f = option_and_then f o
+
+-- behind a word at the front
+unfoldable pub past_word : List ℕ → List ℕ → Option (List ℕ)
+past_word [] cs = Some cs
+past_word (w ∷ ws) [] = None
+past_word (w ∷ ws) (c ∷ cs) = if c == w then past_word ws cs else None

@@ -1,9 +1,16 @@
-//! Names of the items of modules, as they stand in the one shader.
-ghost use Rattle.std.specs.Prelude.{◌≡◌, ℕ, ◌+◌, ◌<◌, ◌≤◌, ◌++◌, List, All, Some, option_map, IfOk, OnOk};
+//! Names of the items of modules, as they stand in the one shader, and as a reader knows them.
+ghost use Rattle.std.specs.Prelude.{◌≡◌, ℕ, ◌+◌, ◌<◌, ◌≤◌, ◌++◌, List, length, drop, All, Some, option_map, IfSome, IfOk, OnOk};
+ghost use Rattle.std.specs.List.{flat_map, prefix_len};
+ghost use Rattle.std.specs.Str.{chars, IsUtf8};
 ghost use Rattle.std.specs.String.{string_bytes};
-ghost use Rattle.naga_oil_lines.specs.Decorate.{bits, letter, letters, base32, decorated_name};
+ghost use Rattle.ucd_perl.specs.Perl.{is_word_char};
+ghost use Rattle.naga_oil_lines.specs.Decorate.{bits, letter, letters, base32, value_of, bytes_of, decoded, decorated_name};
+ghost use Rattle.naga_oil_lines.specs.Text.{BeginsWithChar};
+ghost use Rattle.naga_oil_lines.specs.Undecorate.{is_code_char, from_last_x, marked, from_last_mark, split_at_mark, run_shown, with_modules, with_overrides, undecorated};
 
+use crate::text::{past_word, split_first_char, text_before};
 use std::alloc::{AllocError, Global};
+use ucd_perl::is_word_code;
 
 /// What stands between an item and the code of its module.
 pub const DECORATION_PRE: &str = "X_naga_oil_mod_X";
@@ -94,6 +101,214 @@ pub fn decorated_name(
     let mut name = String::with_capacity(alloc, decorated_len(module_name, item))?;
     push_decorated(&mut name, module_name, item)?;
     Ok(name)
+}
+
+// The five bits of a letter, and of another byte any number.
+fn value_of(letter: u8) -> u16
+    ensures { result ≡ value_of letter }
+{
+    u16::from(letter.saturating_sub(if letter < b'A' { 24 } else { b'A' }))
+}
+
+// Pushes the eight highest of the lowest bits of a number, if there are as many. Gives how many of the bits are left.
+fn push_byte(bytes: &mut Vec<u8>, number: u16, count: u32) -> Result<u32, AllocError>
+    requires { count < 13 }
+    ensures pushed { IfOk result (λ left. (more : List ℕ) → bytes.new.items ++ bytes_of (bits left number ++ more) ≡ bytes.old.items ++ bytes_of (bits count number ++ more)) }
+    ensures few { IfOk result (λ left. left < 8) }
+{
+    if count < 8 {
+        return Ok(count);
+    }
+    bytes.push(((number >> (count - 8)) % 256) as u8)?;
+    Ok(count - 8)
+}
+
+// The whole bytes that letters of base32 stand for.
+fn base32_bytes(alloc: Global, code: &[u8]) -> Result<Vec<u8>, AllocError>
+    ensures { IfOk result (λ bytes. bytes.items ≡ bytes_of (flat_map (λ c. bits 5 (value_of c)) code.now)) }
+{
+    let mut bytes = Vec::with_capacity(alloc, code.len() / 8 * 5 + 5)?;
+    let mut pending = 0;
+    let mut count = 0;
+    for letter in code {
+        pending = pending % 256 * 32 + value_of(*letter) % 32;
+        count = push_byte(&mut bytes, pending, count + 5)?;
+    }
+    Ok(bytes)
+}
+
+/// The module of a code: the text that has the code in base32 without padding, or none where the code is of no text.
+pub fn decode(alloc: Global, code: &str) -> Result<Option<String>, AllocError>
+    ensures { IfOk result (λ name. option_map string_bytes name ≡ decoded code.now) }
+{
+    let bytes = base32_bytes(alloc, code.as_bytes())?;
+    let mut again = String::with_capacity(alloc, code.len())?;
+    push_base32(&mut again, bytes.as_slice())?;
+    if again.as_str() != code {
+        return Ok(None);
+    }
+    Ok(String::from_utf8(bytes).ok())
+}
+
+/// The code of a module in base32 gives the module, and a code that gives a module is its base32.
+pub fn one_code()
+    ensures coded { (m : List ℕ) → IsUtf8 m → decoded (base32 m) ≡ Some m }
+    ensures decoded { (code m : List ℕ) → decoded code ≡ Some m → (base32 m ≡ code) × IsUtf8 m }
+{}
+
+// Whether the character may stand in a code or between it and its mark's end.
+fn is_code_char(c: char) -> bool
+    ensures { result ≡ is_code_char c }
+{
+    c.is_ascii_uppercase() || c.is_ascii_digit()
+}
+
+// The text from the last `X` of the capital letters and digits that it begins with on.
+fn from_last_x(text: &str) -> Option<&str>
+    ensures chars { option_map (λ r. chars r.now) result ≡ from_last_x (chars text.now) }
+    ensures suffix { IfSome result (λ r. (front : List ℕ) × (text.now ≡ front ++ r.now)) }
+    ensures utf8 { IfSome result (λ r. IsUtf8 r.now) }
+{
+    let mut found = None;
+    let mut rest = text;
+    while let Some((first, more)) = split_first_char(rest) {
+        if !is_code_char(first) {
+            return found;
+        }
+        let start = rest;
+        rest = more;
+        if first == 'X' {
+            found = Some(start);
+        }
+    }
+    found
+}
+
+// The code behind a mark that the text begins with, and what follows its `X`.
+fn marked<'a>(text: &'a str, mark: &str) -> Option<(&'a str, &'a str)>
+    ensures found { option_map (λ r. (r.0.now, chars r.1.now)) result ≡ marked (chars mark.now) (chars text.now) }
+    ensures shorter { IfSome result (λ r. length r.1.now < length text.now) }
+    ensures utf8 { IfSome result (λ r. IsUtf8 r.1.now) }
+{
+    let rest = past_word(text, mark)?;
+    let end = from_last_x(rest)?;
+    let behind = past_word(end, "X")?;
+    Some((text_before(rest, end), behind))
+}
+
+// The run from the last mark of a module on that has a code and stands behind some character.
+fn from_last_mark(run: &str) -> Option<&str>
+    ensures chars { option_map (λ r. chars r.now) result ≡ from_last_mark (chars run.now) }
+    ensures suffix { IfSome result (λ r. (front : List ℕ) × (run.now ≡ front ++ r.now)) }
+    ensures utf8 { IfSome result (λ r. IsUtf8 r.now) }
+{
+    let mut found = None;
+    let mut rest = run;
+    while let Some((_, more)) = split_first_char(rest) {
+        rest = more;
+        if marked(more, DECORATION_PRE).is_some() {
+            found = Some(more);
+        }
+    }
+    found
+}
+
+// What a run of word characters is where it has such a mark: what is before the mark, its code and what follows.
+fn split_at_mark(run: &str) -> Option<(&str, &str, &str)>
+    ensures parts { option_map (λ r. (r.0.now, r.1.now, chars r.2.now)) result ≡ split_at_mark (chars run.now) }
+    ensures utf8 { IfSome result (λ r. IsUtf8 r.2.now) }
+{
+    let at = from_last_mark(run)?;
+    let (code, behind) = marked(at, DECORATION_PRE)?;
+    Some((text_before(run, at), code, behind))
+}
+
+// Writes a run of word characters with its module before it.
+fn push_run(alloc: Global, out: &mut String, run: &str) -> Result<(), AllocError>
+    ensures { OnOk result (string_bytes out.new ≡ string_bytes out.old ++ run_shown (chars run.now)) }
+{
+    let Some((before, code, behind)) = split_at_mark(run) else {
+        return out.push_str(run);
+    };
+    match decode(alloc, code)? {
+        Some(module_name) => write!(out, "{module_name}::{before}{behind}"),
+        None => out.push_str(run),
+    }
+}
+
+// What is left of a text behind the word characters that it begins with.
+fn after_run(text: &str) -> &str
+    ensures chars { chars result.now ≡ drop (prefix_len is_word_char (chars text.now)) (chars text.now) }
+    ensures suffix { (front : List ℕ) × (text.now ≡ front ++ result.now) }
+{
+    let mut rest = text;
+    while let Some((first, more)) = split_first_char(rest) {
+        if !is_word_code(first as u32) {
+            return rest;
+        }
+        rest = more;
+    }
+    rest
+}
+
+// The text with the module of each run of word characters before the run.
+fn with_modules(alloc: Global, text: &str) -> Result<String, AllocError>
+    ensures { IfOk result (λ t. string_bytes t ≡ with_modules 0 (chars text.now)) }
+{
+    let mut out = String::with_capacity(alloc, text.len())?;
+    let mut rest = text;
+    while let Some((first, more)) = split_first_char(rest) {
+        if is_word_code(first as u32) {
+            let behind = after_run(more);
+            push_run(alloc, &mut out, text_before(rest, behind))?;
+            rest = behind;
+        } else {
+            out.push(first)?;
+            rest = more;
+        }
+    }
+    Ok(out)
+}
+
+// Writes what a text begins with: a mark of an override as `override fn` and its module, or else its first character.
+// Gives what is left.
+fn push_front<'a>(
+    alloc: Global,
+    out: &mut String,
+    text: &'a str,
+    first: char,
+    more: &'a str,
+) -> Result<&'a str, AllocError>
+    requires { BeginsWithChar text.now first more.now }
+    ensures value { IfOk result (λ rest. string_bytes out.new ++ with_overrides 0 (chars rest.now) ≡ string_bytes out.old ++ with_overrides 0 (chars text.now)) }
+    ensures shorter { IfOk result (λ rest. length rest.now < length text.now) }
+    ensures utf8 { IfOk result (λ rest. IsUtf8 rest.now) }
+{
+    let Some((code, behind)) = marked(text, DECORATION_OVERRIDE_PRE) else {
+        out.push(first)?;
+        return Ok(more);
+    };
+    let Some(module_name) = decode(alloc, code)? else {
+        out.push(first)?;
+        return Ok(more);
+    };
+    write!(out, "override fn {module_name}::")?;
+    Ok(behind)
+}
+
+/// The text with its decorated names as a reader knows them: the module and `::` before the item, and `override fn`
+/// before the module of an item that is overridden. A code that is of no module leaves its mark as it is.
+/// Takes time and memory linear in the text.
+pub fn undecorate(alloc: Global, text: &str) -> Result<String, AllocError>
+    ensures { IfOk result (λ t. string_bytes t ≡ undecorated text.now) }
+{
+    let named = with_modules(alloc, text)?;
+    let mut out = String::with_capacity(alloc, named.len())?;
+    let mut rest = named.as_str();
+    while let Some((first, more)) = split_first_char(rest) {
+        rest = push_front(alloc, &mut out, rest, first, more)?;
+    }
+    Ok(out)
 }
 
 /// A name that was decorated with a module tells the item and the module.

@@ -1,9 +1,9 @@
-//! Text from its front: the first character, a front before a rest, and what follows white space.
-ghost use Rattle.std.specs.Prelude.{◌≡◌, ℕ, ◌++◌, List, length, drop, MatchOption, OnOk, string_bytes, replicate};
+//! Text from its front: the first character, a front before a rest, and what follows a word or white space.
+ghost use Rattle.std.specs.Prelude.{◌≡◌, ℕ, ◌++◌, List, length, drop, option_map, IfSome, MatchOption, OnOk, string_bytes, replicate};
 ghost use Rattle.std.specs.Char.{is_whitespace};
-ghost use Rattle.std.specs.Str.{chars};
+ghost use Rattle.std.specs.Str.{chars, IsUtf8};
 ghost use Rattle.std.specs.List.{prefix_len};
-ghost use Rattle.naga_oil_lines.specs.Text.{BeginsWithChar};
+ghost use Rattle.naga_oil_lines.specs.Text.{BeginsWithChar, past_word};
 
 use std::alloc::AllocError;
 
@@ -14,6 +14,15 @@ pub fn split_first_char(text: &str) -> Option<(char, &str)>
     let mut chars = text.chars();
     let first = chars.next()?;
     Some((first, chars.as_str()))
+}
+
+/// What follows a word that the text begins with.
+pub fn past_word<'a>(text: &'a str, word: &str) -> Option<&'a str>
+    ensures chars { option_map (λ r. chars r.now) result ≡ past_word (chars word.now) (chars text.now) }
+    ensures suffix { IfSome result (λ r. text.now ≡ word.now ++ r.now) }
+    ensures utf8 { IfSome result (λ r. IsUtf8 r.now) }
+{
+    text.strip_prefix(word)
 }
 
 /// The text before a rest that it ends in.

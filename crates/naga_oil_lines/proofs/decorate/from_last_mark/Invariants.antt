@@ -1,0 +1,19 @@
+use Rattle.std.proofs.Common.{◌≡◌, ℕ, List, ◌++◌, length}
+use denote.Text.{Utf8}
+use denote.Shadow.{shadow}
+use Rattle.std.specs.Option.{option_map, option_or, IfSome}
+use Rattle.std.specs.Str.{IsUtf8, chars}
+use Rattle.naga_oil_lines.specs.Undecorate.{from_last_mark}
+use Rattle.naga_oil_lines.proofs.decorate.from_last_mark.Given as goal
+
+abbrev pub invariant-loop-more : goal.invariant-loop-more
+invariant-loop-more l = record {
+  text : shadow (Utf8 l.rest);
+  same : option_or (from_last_mark (chars l.rest)) (option_map (λ r. chars r.now) l.found) ≡ from_last_mark (chars l.run);
+  left : (front : List ℕ) × (l.run ≡ front ++ l.rest);
+  suffix : IfSome l.found (λ r. (front : List ℕ) × (l.run ≡ front ++ r.now));
+  utf8 : IfSome l.found (λ r. IsUtf8 r.now);
+}
+
+abbrev pub decreases-loop-more : goal.decreases-loop-more
+decreases-loop-more l = length l.rest
