@@ -31,6 +31,20 @@ impl<T: Item> Arena<T> {
         Arena(Vec::new(alloc))
     }
 
+    /// The arena of some items with their spans.
+    pub fn from_items(items: Vec<(T, Span)>) -> Self
+        ensures { result ≡ items.items }
+    {
+        Arena(items)
+    }
+
+    /// The items with their spans, in order.
+    pub fn into_items(self) -> Vec<(T, Span)>
+        ensures { result.items ≡ self }
+    {
+        self.0
+    }
+
     /// How many items there are.
     pub fn len(&self) -> usize
         ensures { result ≡ length self.now }

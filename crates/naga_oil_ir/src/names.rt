@@ -97,7 +97,7 @@ impl Names for GlobalVariable {
 }
 
 /// The item that an expression names, if it names one.
-fn named_item(named: Named) -> Option<ItemPlace>
+pub fn named_item(named: Named) -> Option<ItemPlace>
     ensures { result ≡ named_place named }
 {
     match named {

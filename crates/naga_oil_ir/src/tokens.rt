@@ -1,4 +1,4 @@
-ghost use Rattle.std.specs.Prelude.{◌≡◌, ◌++◌, OnOk, map};
+ghost use Rattle.std.specs.Prelude.{◌≡◌, ◌++◌, MatchResult, length, map, take};
 ghost use Rattle.naga_oil_ir.specs.Body.{block_tokens, statement_tokens, case_tokens, ray_query_tokens, inside, used, given, given_by};
 
 use super::{
@@ -59,7 +59,7 @@ macro_rules! push {
 
 #[rattlefmt::skip]
 fn push_ray_query(fun: &RayQueryFunction, out: &mut Vec<Token>) -> Result<(), AllocError>
-    ensures { OnOk result (out.new.items ≡ out.old.items ++ ray_query_tokens fun.now) }
+    ensures { MatchResult result (λ _. out.new.items ≡ out.old.items ++ ray_query_tokens fun.now) (λ _. take (length out.old.items) out.new.items ≡ out.old.items) }
 {
     match fun {
         RayQueryFunction::Initialize { acceleration_structure, descriptor } =>
@@ -72,7 +72,7 @@ fn push_ray_query(fun: &RayQueryFunction, out: &mut Vec<Token>) -> Result<(), Al
 }
 
 fn push_uses(handles: &[Operand], out: &mut Vec<Token>) -> Result<(), AllocError>
-    ensures { OnOk result (out.new.items ≡ out.old.items ++ map Token.Use handles.now) }
+    ensures { MatchResult result (λ _. out.new.items ≡ out.old.items ++ map Token.Use handles.now) (λ _. take (length out.old.items) out.new.items ≡ out.old.items) }
 {
     for h in handles {
         out.push(Token::Use(*h))?;
@@ -83,7 +83,7 @@ fn push_uses(handles: &[Operand], out: &mut Vec<Token>) -> Result<(), AllocError
 /// Pushes a block that stands in a statement.
 #[cycle(tokens)]
 fn push_inside(block: &Block, out: &mut Vec<Token>) -> Result<(), AllocError>
-    ensures { OnOk result (out.new.items ≡ out.old.items ++ inside (block_tokens block.now)) }
+    ensures { MatchResult result (λ _. out.new.items ≡ out.old.items ++ inside (block_tokens block.now)) (λ _. take (length out.old.items) out.new.items ≡ out.old.items) }
 {
     out.push(Token::Open)?;
     push_block(block, out)?;
@@ -91,10 +91,10 @@ fn push_inside(block: &Block, out: &mut Vec<Token>) -> Result<(), AllocError>
     Ok(())
 }
 
-/// Pushes the tokens of a body.
+/// Pushes the tokens of a body. After an error what stood in `out` stays in front.
 #[cycle(tokens)]
 pub fn push_block(block: &Block, out: &mut Vec<Token>) -> Result<(), AllocError>
-    ensures { OnOk result (out.new.items ≡ out.old.items ++ block_tokens block.now) }
+    ensures { MatchResult result (λ _. out.new.items ≡ out.old.items ++ block_tokens block.now) (λ _. take (length out.old.items) out.new.items ≡ out.old.items) }
 {
     for entry in &block.body {
         out.push(Token::At(entry.1))?;
@@ -108,7 +108,7 @@ pub fn push_block(block: &Block, out: &mut Vec<Token>) -> Result<(), AllocError>
 #[cycle(tokens)]
 #[rattlefmt::skip]
 fn push_statement(statement: &Statement, out: &mut Vec<Token>) -> Result<(), AllocError>
-    ensures { OnOk result (out.new.items ≡ out.old.items ++ statement_tokens statement.now) }
+    ensures { MatchResult result (λ _. out.new.items ≡ out.old.items ++ statement_tokens statement.now) (λ _. take (length out.old.items) out.new.items ≡ out.old.items) }
 {
     match statement {
         Statement::Emit(range) => push!(out; Head(0), Emitted(*range)),

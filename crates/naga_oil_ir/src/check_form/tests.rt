@@ -209,17 +209,29 @@ fn given_of(given: Option<usize>) -> Option<FunctionResult> {
     }
 }
 
-fn function_of(shape: Shape, alloc: Global) -> Result<Function, AllocError> {
+/// A function of a shape, with other expressions and another body.
+fn function_with(
+    shape: Shape,
+    expressions: Arena<Expression>,
+    body: Block,
+    alloc: Global,
+) -> Result<Function, AllocError> {
     Ok(Function {
         name: text_of(shape.name, alloc)?,
         arguments: arguments_of(shape.argument, alloc)?,
         result: given_of(shape.given),
         local_variables: locals_of(shape.local, alloc)?,
-        expressions: expressions_of(shape.parts, alloc)?,
+        expressions,
         named_expressions: names_of(shape.named, alloc)?,
-        body: block_of(shape.steps, alloc)?,
+        body,
         diagnostic_filter_leaf: None,
     })
+}
+
+fn function_of(shape: Shape, alloc: Global) -> Result<Function, AllocError> {
+    let expressions = expressions_of(shape.parts, alloc)?;
+    let body = block_of(shape.steps, alloc)?;
+    function_with(shape, expressions, body, alloc)
 }
 
 fn mesh_of(output: Option<usize>) -> Option<MeshInfo> {
@@ -400,11 +412,25 @@ fn is_taken(module: &Module, decoration: &str, alloc: Global) -> Result<bool, Al
     }
 }
 
+/// Whether a module is taken that is filled with items, and maybe with a second function of a decorated name.
+fn is_filled_taken(
+    module: &mut Module,
+    items: &[Added],
+    function: Option<(Shape, Span)>,
+    decoration: &str,
+    alloc: Global,
+) -> Result<bool, AllocError> {
+    fill(module, items, alloc)?;
+    if let Some((shape, span)) = function {
+        add_function(module, shape, span, alloc)?;
+    }
+    is_taken(module, decoration, alloc)
+}
+
 /// Whether the small module is taken with items.
 fn are_items_taken(items: &[Added], alloc: Global) -> Result<bool, AllocError> {
     let mut module = Module::new(alloc);
-    fill(&mut module, items, alloc)?;
-    is_taken(&module, "", alloc)
+    is_filled_taken(&mut module, items, None, "", alloc)
 }
 
 /// Whether the small module is taken with a second function.
@@ -415,9 +441,7 @@ fn is_function_taken(
     alloc: Global,
 ) -> Result<bool, AllocError> {
     let mut module = Module::new(alloc);
-    fill(&mut module, &[], alloc)?;
-    add_function(&mut module, shape, span, alloc)?;
-    is_taken(&module, decoration, alloc)
+    is_filled_taken(&mut module, &[], Some((shape, span)), decoration, alloc)
 }
 
 /// Whether the small module is taken with a function of these expressions and statements.
@@ -425,19 +449,28 @@ fn is_body_taken(parts: [Part; 4], steps: [Step; 3], alloc: Global) -> Result<bo
     is_function_taken(Shape { parts, steps, ..G }, NONE, "", alloc)
 }
 
-/// Whether the small module is taken with two entry points, the second of no name.
+/// Whether a module is taken that is filled, with two entry points, the second of no name.
+fn is_entered_taken(
+    module: &mut Module,
+    shape: Shape,
+    places: [Option<usize>; 3],
+    alloc: Global,
+) -> Result<bool, AllocError> {
+    let [size, output, payload] = places;
+    fill(module, &[Added::Global], alloc)?;
+    add_entry(module, shape, size, output, payload, alloc)?;
+    add_entry(module, Shape { name: 0, ..G }, None, None, None, alloc)?;
+    is_taken(module, "", alloc)
+}
+
+/// Whether the small module is taken with two entry points, the first of which names a size, a mesh output and a payload.
 fn are_entries_taken(
     shape: Shape,
-    size: Option<usize>,
-    output: Option<usize>,
-    payload: Option<usize>,
+    places: [Option<usize>; 3],
     alloc: Global,
 ) -> Result<bool, AllocError> {
     let mut module = Module::new(alloc);
-    fill(&mut module, &[Added::Global], alloc)?;
-    add_entry(&mut module, shape, size, output, payload, alloc)?;
-    add_entry(&mut module, Shape { name: 0, ..G }, None, None, None, alloc)?;
-    is_taken(&module, "", alloc)
+    is_entered_taken(&mut module, shape, places, alloc)
 }
 
 #[test]
@@ -476,10 +509,7 @@ fn names_are_decorated(rt: HostRuntime) -> Result<(), Fail> {
 fn entry_points_are_apart(rt: HostRuntime) -> Result<(), Fail> {
     for (name, taken) in [(1, true), (3, false), (0, false)] {
         let shape = Shape { name, ..G };
-        assert_eq!(rt;
-            are_entries_taken(shape, None, None, None, rt.alloc())?,
-            taken
-        );
+        assert_eq!(rt; are_entries_taken(shape, [None; 3], rt.alloc())?, taken);
     }
     Ok(())
 }
@@ -492,7 +522,8 @@ fn what_entry_points_name_is_there(rt: HostRuntime) -> Result<(), Fail> {
         (0, 1, 0, false),
         (0, 0, 1, false),
     ] {
-        let answer = are_entries_taken(G, Some(size), Some(output), Some(payload), rt.alloc())?;
+        let places = [Some(size), Some(output), Some(payload)];
+        let answer = are_entries_taken(G, places, rt.alloc())?;
         assert_eq!(rt; answer, taken);
     }
     Ok(())

@@ -1,8 +1,7 @@
 //! Each kind of expression and of statement, by its place in the list of the kinds.
-use super::{Added, NONE, arguments_of, fill, is_taken, locals_of, names_of, text_of};
+use super::{Added, G, NONE, Shape, fill, function_with, is_taken};
 use crate::*;
 use std::alloc::{AllocError, Global};
-use std::test::Fail;
 
 pub const EXPRESSIONS: u64 = 32;
 
@@ -163,38 +162,44 @@ pub fn expression_of(kind: u64, alloc: Global) -> Result<Expression, AllocError>
     }
 }
 
-fn block(alloc: Global) -> Result<Block, AllocError> {
+/// The block of one statement.
+pub fn block(statement: Statement, alloc: Global) -> Result<Block, AllocError> {
     let mut body = Vec::new(alloc);
-    body.push((Statement::Break, NONE))?;
+    body.push((statement, NONE))?;
     Ok(Block { body })
 }
 
-fn switch(alloc: Global) -> Result<Statement, AllocError> {
-    let mut cases = Vec::new(alloc);
-    cases.push(SwitchCase {
-        value: 0,
-        body: block(alloc)?,
-        fall_through: true,
-    })?;
-    Ok(Statement::Switch {
-        selector: first(),
-        cases,
-    })
+/// The block of no statement.
+fn nothing(alloc: Global) -> Block {
+    let body = Vec::new(alloc);
+    Block { body }
 }
 
-/// Statements with blocks in them.
-fn nested_of(kind: u64, alloc: Global) -> Result<Statement, AllocError> {
+fn switch(body: Block, alloc: Global) -> Result<Statement, AllocError> {
+    let mut cases = Vec::new(alloc);
+    let (value, fall_through) = (0, true);
+    cases.push(SwitchCase {
+        value,
+        body,
+        fall_through,
+    })?;
+    let selector = first();
+    Ok(Statement::Switch { selector, cases })
+}
+
+/// Statements with a block in them.
+fn nested_of(kind: u64, block: Block, alloc: Global) -> Result<Statement, AllocError> {
     match kind {
-        1 => Ok(Statement::Block(block(alloc)?)),
+        1 => Ok(Statement::Block(block)),
         2 => Ok(Statement::If {
             condition: first(),
-            accept: block(alloc)?,
-            reject: block(alloc)?,
+            accept: block,
+            reject: nothing(alloc),
         }),
-        3 => switch(alloc),
+        3 => switch(block, alloc),
         _ => Ok(Statement::Loop {
-            body: block(alloc)?,
-            continuing: block(alloc)?,
+            body: nothing(alloc),
+            continuing: block,
             break_if: Some(first()),
         }),
     }
@@ -288,7 +293,7 @@ fn giving_of(kind: u64) -> Statement {
 
 pub fn statement_of(kind: u64, alloc: Global) -> Result<Statement, AllocError> {
     match kind {
-        1..=4 => nested_of(kind, alloc),
+        1..=4 => nested_of(kind, block(Statement::Break, alloc)?, alloc),
         0 | 5..=10 => Ok(plain_of(kind)),
         11..=14 => Ok(write_of(kind)),
         16 => call(alloc),
@@ -315,52 +320,31 @@ fn body(alloc: Global) -> Result<Block, AllocError> {
     Ok(Block { body })
 }
 
-fn function(alloc: Global) -> Result<Function, AllocError> {
-    Ok(Function {
-        name: text_of(2, alloc)?,
-        arguments: arguments_of(Some(0), alloc)?,
-        result: None,
-        local_variables: locals_of(Some((0, 0)), alloc)?,
-        expressions: expressions(alloc)?,
-        named_expressions: names_of(Some(31), alloc)?,
-        body: body(alloc)?,
-        diagnostic_filter_leaf: None,
-    })
-}
+/// What stands in that function beside its expressions and statements.
+const EVERY: Shape = Shape {
+    argument: Some(0),
+    local: Some((0, 0)),
+    named: Some(31),
+    ..G
+};
 
-/// A module with a function of every kind of expression and of statement.
-pub fn module(alloc: Global) -> Result<Module, AllocError> {
-    let mut module = Module::new(alloc);
-    fill(&mut module, &[Added::Override, Added::Global], alloc)?;
-    module.functions.append(function(alloc)?, NONE)?;
-    Ok(module)
-}
-
-#[test]
-fn each_expression_is_of_its_kind(rt: HostRuntime) -> Result<(), Fail> {
-    for kind in 0..EXPRESSIONS {
-        let parts = expression_of(kind, rt.alloc())?.parts(rt.alloc())?;
-        assert_eq!(rt; parts.kind, kind);
-    }
+/// Adds a function of every kind of expression and of statement, and what it names.
+pub fn add_every_kind(module: &mut Module, alloc: Global) -> Result<(), AllocError> {
+    fill(module, &[Added::Override, Added::Global], alloc)?;
+    let function = function_with(EVERY, expressions(alloc)?, body(alloc)?, alloc)?;
+    module.functions.append(function, NONE)?;
     Ok(())
 }
 
-#[test]
-fn each_statement_is_of_its_kind(rt: HostRuntime) -> Result<(), Fail> {
-    for kind in 0..STATEMENTS {
-        let mut body = Vec::new(rt.alloc());
-        body.push((statement_of(kind, rt.alloc())?, NONE))?;
-        let mut tokens = Vec::new(rt.alloc());
-        push_block(&Block { body }, &mut tokens)?;
-        let head = tokens.get(1).copied();
-        assert!(rt; matches!(head, Some(Token::Head(told)) if told == kind));
-    }
-    Ok(())
+/// Whether a module is taken that a function of every kind is added to.
+fn is_every_kind_taken(module: &mut Module, alloc: Global) -> Result<bool, AllocError> {
+    add_every_kind(module, alloc)?;
+    is_taken(module, "", alloc)
 }
 
 #[test]
-fn every_kind_is_taken(rt: HostRuntime) -> Result<(), Fail> {
-    let module = module(rt.alloc())?;
-    assert!(rt; is_taken(&module, "", rt.alloc())?);
-    Ok(())
+fn every_kind_is_taken(rt: HostRuntime) {
+    let mut module = Module::new(rt.alloc());
+    let taken = is_every_kind_taken(&mut module, rt.alloc());
+    assert!(rt; taken.is_ok_and(|taken| taken));
 }
