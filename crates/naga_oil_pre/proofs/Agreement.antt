@@ -7,7 +7,7 @@ use Rattle.std.proofs.lemmas.Slice.Eq.{bytes_eq-Decides}
 use Rattle.std.proofs.lemmas.List.Folds.{list_any-append}
 use Rattle.naga_oil_pre.specs.declared.scope.ScopeLevel.{ScopeLevel}
 use Rattle.naga_oil_pre.specs.Line.{Line, source_lines, end_place}
-use Rattle.naga_oil_pre.specs.LineKinds.{◌>>=◌}
+use Rattle.naga_oil_lines.specs.Text.{◌>>=◌}
 use Rattle.naga_oil_pre.specs.LineKinds as grammar
 use Rattle.naga_oil_pre.specs.Kind.{LineKind, version, condition, endif, imports, import_path, define, other, kind_of, unversioned_kind_of, read_as, ◌or_else◌, Condition, defined, undefined, compares, otherwise}
 use Rattle.naga_oil_pre.specs.Fault.{Fault, invalid_version, invalid_import, Definitions, evaluated, comparison, is_met}

@@ -14,37 +14,7 @@ use Rattle.std.proofs.lemmas.Str.{IsUtf8-drop, IsCharBoundary-from_take, chars_p
 use Rattle.std.proofs.lemmas.List.{nil_from_length}
 use Rattle.std.proofs.lemmas.List.Folds.{length-prefix_len}
 use Rattle.naga_oil_lines.proofs.TextLemmas.{chars_before}
-use Rattle.naga_oil_pre.specs.LineKinds.{past_word, run, behind_run, text_at, after_white, is_operator_char, is_value_char, is_name_char, is_name, compared, cut}
-
--- ---- a word
-pub past_word-append : (w rest : List ℕ) → past_word w (w ++ rest) ≡ Some rest
-unfolding past_word
-past_word-append [] rest = refl
-past_word-append (c ∷ w) rest = rw (eq-eqb c c refl) (past_word-append w rest)
-
-pub past_word-some : (w cs rest : List ℕ) → past_word w cs ≡ Some rest → cs ≡ w ++ rest
-unfolding past_word
-past_word-some [] cs rest e = cc
-past_word-some (c ∷ w) [] rest e = cc
-past_word-some (c ∷ w) (d ∷ cs) rest e =
-    elim (eqb d c) as (λ b. eqb d c ≡ b → cond b (past_word w cs) None ≡ Some rest → d ∷ cs ≡ c ∷ (w ++ rest)) [
-      | true ↦ λ q r. (λ i. eqb-true d c q i ∷ past_word-some w cs rest r i)
-      | false ↦ λ q r. cc
-    ] refl e
-
-pub none_unless : (o : Option (List ℕ)) → ((rest : List ℕ) → o ≡ Some rest → ⊥) → None ≡ o
-none_unless None h = refl
-none_unless (Some rest) h = absurd (h rest refl)
-
--- what `strip_prefix` says of the characters
-pub past_word_text : (word text : List ℕ) (r : Option (Bor (List ℕ))) → IsUtf8 word → IsUtf8 text → MatchOption r (FindsTextPrefix word text None) (λ x. StripsPrefix (FindsTextPrefix word) text x.now)
-    → option_map (λ x. chars x.now) r ≡ past_word (chars word) (chars text)
-past_word_text word text None u v h =
-    none_unless (past_word (chars word) (chars text)) (λ rest e.
-    h (encode_utf8_all rest) (sym (encodes-chars text v) ∙ ap encode_utf8_all (past_word-some (chars word) (chars text) rest e) ∙ encodes-append (chars word) rest ∙ ap (λ l. l ++ encode_utf8_all rest) (encodes-chars word u)))
-past_word_text word text (Some x) u v h =
-    let e : text ≡ word ++ x.now = h.1.1 ∙ ap (λ l. word ++ l) (sym h.2) in
-    rw (e, chars-append word x.now u) (sym (past_word-append (chars word) (chars x.now)))
+use Rattle.naga_oil_pre.specs.LineKinds.{run, behind_run, text_at, after_white, is_operator_char, is_value_char, is_name_char, is_name, compared, cut}
 
 -- ---- a run
 pub chars-none : (bs : List ℕ) → IsUtf8 bs → chars bs ≡ [] → length bs ≡ 0

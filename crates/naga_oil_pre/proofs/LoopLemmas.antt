@@ -188,6 +188,14 @@ import_fails defs k end levels next l left (Import m) n error e o is h =
     piece_fails defs k (imported l (taken m left)) (scanned defs end next m left) (scanned defs end levels 0 (l ∷ left)) error (scanned_first defs end levels next l left (Import m) e o)
     (subst (λ v. Fails error (piece defs k (imported l (taken v left)))) same h)
 
+-- a shown line that fails is the first line that does
+pub shown_fails : (defs : Definitions) (k : Known) (end : ℕ) (levels next : List ScopeLevel) (l : Line) (left : List Line) (t : Treatment) (error : ComposerErrorInner)
+    → ((ls : List Line) → (let s : Step = (status_of t l ls, next) in step defs levels l (kind_of l.covered) ls ≡ s)) → opened levels l (kind_of l.covered) ≡ open_after t → t ≡ Show
+    → Fails error (piece defs k (shown l)) → Fails error (written defs k (scanned defs end levels 0 (l ∷ left)))
+shown_fails defs k end levels next l left t error e o is h =
+    piece_fails defs k (shown l) (scanned defs end next (open_after t) left) (scanned defs end levels 0 (l ∷ left)) error
+    (scanned_first defs end levels next l left t e o ∙ ap (λ v. status_of v l left ∷ scanned defs end next (open_after t) left) is) h
+
 -- ---- what follows from a result
 pub on_ok : {X Y : Type 0} (r : Result X Y) (P Q : Type 0) → OnOk r P → (P → Q) → OnOk r Q
 on_ok (Ok x) P Q h go = go h

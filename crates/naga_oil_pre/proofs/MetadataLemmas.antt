@@ -1,6 +1,6 @@
 -- What is found in a text, line by line.
 use Rattle.std.proofs.Common.{◌≡◌, ℕ, zero, suc, ◌+◌, ◌<◌, length, get_or, take, Bool, true, false, ◌||◌, ◌∷◌, [], ◌++◌, List, Option, Some, None, MatchOption, Result, Ok, Err, refl, sym, ap, ◌∙◌}
-use Rattle.std.specs.Prelude.{OnOk, map, option_map, String, string_bytes}
+use Rattle.std.specs.Prelude.{OnOk, is_none, map, option_map, String, string_bytes}
 use Rattle.std.specs.BTreeSet.{BTreeSet, contains_text}
 use Rattle.std.specs.List.{flat_map}
 use Rattle.std.proofs.lemmas.Grind.{flat_map-append}
@@ -179,3 +179,9 @@ places_dropped (used ∷ more) = ap (λ ds. import_at used ∷ ds) (places_dropp
 pub data_made : (m : PreprocessorMetaData) (r : Result Metadata Fault) (definitions : List Import) → r ≡ Ok (metadata_of m) → definitions ≡ map import_at m.imports.items
     → data_of r ≡ (option_map string_bytes m.name, definitions, get_by_text m.defines)
 data_made m r definitions e same = ap data_of e ∙ ap (λ (ds : List Import). (option_map string_bytes m.name, ds, get_by_text m.defines)) (places_dropped m.imports.items ∙ sym same)
+
+-- where metadata is refused for another cause than memory there is nothing
+pub data_refused : (o : Option Fault) (r : Result Metadata Fault) (definitions : List ImportDefinition) (defines : BTreeMap (String Global) ShaderDefValue) → MatchOption o (Unit {0}) (λ f. r ≡ Err f) → false ≡ is_none o
+    → definitions ≡ [] → defines.entries ≡ [] → data_of r ≡ (None, map import_of definitions, get_by_text defines)
+data_refused None r definitions defines h e none empty = cc
+data_refused (Some f) r definitions defines h e none empty = ap data_of h ∙ rw (none, empty) refl

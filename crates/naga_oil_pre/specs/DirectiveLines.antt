@@ -3,7 +3,7 @@ use Rattle.std.specs.Prelude.{ℕ, Bool, false, ◌||◌, ◌&&◌, ◌==◌, no
 use Rattle.std.specs.List.{filter, list_any, slice_split, position_or_len, before_first, after_first}
 use Rattle.std.specs.Char.{is_whitespace}
 use Rattle.std.specs.Str.{byte, chars, trim, trim_start}
-use Rattle.naga_oil_pre.specs.LineKinds.{◌>>=◌, past_word}
+use Rattle.naga_oil_lines.specs.Text.{◌>>=◌, past_word}
 
 pub data Directive : Type 0 where
   -- extensions that are enabled, and that are required

@@ -4,12 +4,34 @@ use Rattle.naga_oil_pre.specs.declared.shader_def.ShaderDefValue.{ShaderDefValue
 use Rattle.naga_oil_pre.specs.declared.shader_def.ShaderDefValue.TheVariants as def
 use Rattle.std.specs.declared.cmp.Ordering.{Ordering}
 use Rattle.std.specs.Ordering.{nat_cmp, int_cmp, bool_cmp}
+use Rattle.naga_oil_ir.specs.declared.span.Span.{Span}
+use Rattle.naga_oil_ir.specs.Backend.{FaultValue}
+use Rattle.naga_oil_derive.specs.RedirectFault.{RedirectFault}
 use Rattle.naga_oil_pre.specs.Values.{read_bool, read_i32, read_u32, operator_holds}
 use Rattle.naga_oil_pre.specs.Line.{Line}
 use Rattle.naga_oil_pre.specs.Kind.{LineKind, condition, kind_of, Condition, defined, undefined, compares, otherwise}
 
--- what is wrong with a text, and the place of its line
+-- what is wrong with a text or with what is made of it, and the place of its line
 pub data Fault : Type 0 where
+  import_not_found : (name : List ℕ) (at : ℕ) → Fault
+  wgsl_parse : FaultValue → Fault
+  glsl_parse : FaultValue → Fault
+  wgsl_back : FaultValue → Fault
+  glsl_back : FaultValue → Fault
+  header_validation : FaultValue → Fault
+  shader_validation : FaultValue → Fault
+  inconsistent_def : (name : List ℕ) → Fault
+  no_module_name : Fault
+  decoration_in_source : (start end : ℕ) → Fault
+  redirection : RedirectFault → Fault
+  -- want of memory told as a redirection's fault; no call tells it so
+  redirection_memory : Fault
+  not_virtual : (name : List ℕ) (at : ℕ) → Fault
+  invalid_identifier : (original : List ℕ) (at : Span) → Fault
+  too_many_modules : Fault
+  bindings_exhausted : Fault
+  text_too_large : Fault
+  wrong_form : Fault
   unknown_def : (at : ℕ) (name : List ℕ) → Fault
   invalid_value : (at : ℕ) (name value expected : List ℕ) → Fault
   unknown_operator : (at : ℕ) (operator : List ℕ) → Fault

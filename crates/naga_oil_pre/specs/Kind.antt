@@ -1,7 +1,7 @@
 -- What a line is, by its text alone.
 use Rattle.std.specs.Prelude.{ℕ, Bool, true, if◌then◌else◌, List, codes, Option, Some, None}
 use Rattle.std.specs.Str.{chars}
-use Rattle.naga_oil_pre.specs.LineKinds.{◌>>=◌}
+use Rattle.naga_oil_lines.specs.Text.{◌>>=◌}
 use Rattle.naga_oil_pre.specs.LineKinds as grammar
 
 pub data Condition : Type 0 where

@@ -1,14 +1,11 @@
 -- The kinds of lines, on a line's characters: each run is as long as it can be, and what follows is ignored.
-use Rattle.std.specs.Prelude.{ℕ, Bool, true, false, ◌||◌, ◌&&◌, ◌==◌, not, nat_lt, ◌-◌, bytes_eq, if◌then◌else◌, Option, Some, None, option_and_then, is_some, List, [], ◌∷◌, length, take, drop, codes, encode_utf8_all}
+use Rattle.std.specs.Prelude.{ℕ, Bool, true, false, ◌||◌, ◌&&◌, ◌==◌, not, nat_lt, ◌-◌, bytes_eq, if◌then◌else◌, Option, Some, None, is_some, List, [], ◌∷◌, length, take, drop, codes, encode_utf8_all}
 use Rattle.std.specs.List.{prefix_len, list_all}
 use Rattle.std.specs.Char.{is_whitespace, is_not_whitespace, is_ascii_digit}
 use Rattle.std.specs.Option.{option_map}
 use Rattle.std.specs.Str.{chars}
 use Rattle.ucd_perl.specs.Perl.{is_word_char}
-
-infixl 10 ◌>>=◌
-abbrev pub ◌>>=◌ : {A B : Type 0} → Option A → (A → Option B) → Option B
-o >>= f = option_and_then f o
+use Rattle.naga_oil_lines.specs.Text.{◌>>=◌, past_word}
 
 -- a character of a name: a word character or `|`
 abbrev pub is_name_char : ℕ → Bool
@@ -42,12 +39,6 @@ after_white cs = behind_run is_whitespace cs
 unfoldable pub past_white : List ℕ → Option (List ℕ)
 past_white [] = None
 past_white (c ∷ cs) = if is_whitespace c then Some (after_white cs) else None
-
--- behind a word at the front
-unfoldable pub past_word : List ℕ → List ℕ → Option (List ℕ)
-past_word [] cs = Some cs
-past_word (w ∷ ws) [] = None
-past_word (w ∷ ws) (c ∷ cs) = if c == w then past_word ws cs else None
 
 -- the name at the front
 abbrev pub name_at : List ℕ → Option (List ℕ)

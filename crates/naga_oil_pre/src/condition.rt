@@ -13,23 +13,6 @@ use std::alloc::{AllocError, Global};
 use std::cmp::Ordering;
 use std::collections::BTreeMap;
 
-fn invalid(
-    alloc: Global,
-    name: &str,
-    value: &str,
-    expected: &str,
-    offset: usize,
-) -> Result<ComposerErrorInner, AllocError>
-    ensures { IfOk result (λ e. fault_of e ≡ Some (invalid_value offset name.now value.now expected.now)) }
-{
-    Ok(ComposerErrorInner::InvalidShaderDefComparisonValue {
-        pos: offset,
-        shader_def_name: String::from_str(alloc, name)?,
-        expected: String::from_str(alloc, expected)?,
-        value: String::from_str(alloc, value)?,
-    })
-}
-
 // Whether the operator holds of two values that compare so.
 fn is_ordered(operator: &str, ordering: Ordering) -> Option<bool>
     ensures { result ≡ operator_holds operator.now ordering }
@@ -92,7 +75,12 @@ fn compare(
         });
     };
     let Some(ordering) = order_of(*definition, value) else {
-        return Err(invalid(alloc, name, value, expected_by(*definition), offset)?);
+        return Err(ComposerErrorInner::InvalidShaderDefComparisonValue {
+            pos: offset,
+            shader_def_name: String::from_str(alloc, name)?,
+            expected: String::from_str(alloc, expected_by(*definition))?,
+            value: String::from_str(alloc, value)?,
+        });
     };
     let Some(holds) = is_ordered(operator, ordering) else {
         return Err(ComposerErrorInner::UnknownShaderDefOperator {

@@ -6,7 +6,7 @@ ghost use Rattle.std.specs.Str.{chars, trim};
 ghost use Rattle.std.specs.Str.Lines.{lines};
 ghost use Rattle.std.specs.Str.Iter.{lines_rest};
 ghost use Rattle.naga_oil_lines.specs.Directives.{directives_of};
-ghost use Rattle.naga_oil_pre.specs.LineKinds.{past_word};
+ghost use Rattle.naga_oil_lines.specs.Text.{past_word};
 ghost use Rattle.naga_oil_pre.specs.DirectiveLines as grammar;
 ghost use Rattle.naga_oil_pre.specs.DirectiveLines.{directive_of, unknown_severity};
 ghost use Rattle.naga_oil_pre.specs.DirectiveView.{line_directive_of};
@@ -145,13 +145,6 @@ fn read_directive(alloc: Global, line: &str) -> Result<Directive<'_>, AllocError
     }
 }
 
-// The text for a severity that there isn't.
-fn unknown_severity(alloc: Global, severity: &str) -> Result<String, AllocError>
-    ensures { IfOk result (λ s. string_bytes s ≡ unknown_severity severity.now) }
-{
-    format!(in alloc; "Invalid severity '{severity}'. Must be one of: off, info, warn, error")
-}
-
 // Takes the directive of a line, or else writes the line. Gives whether more directives may follow.
 fn take_line(
     alloc: Global,
@@ -197,7 +190,11 @@ fn take_line(
             return Ok(false);
         }
         Directive::NoExtensions => String::from_str(alloc, "No extensions specified")?,
-        Directive::UnknownSeverity(severity) => unknown_severity(alloc, severity)?,
+        Directive::UnknownSeverity(severity) => {
+            format!(in alloc;
+                "Invalid severity '{severity}'. Must be one of: off, info, warn, error"
+            )?
+        }
     };
     Err(ComposerErrorInner::InvalidWgslDirective {
         directive: String::from_str(alloc, trimmed)?,

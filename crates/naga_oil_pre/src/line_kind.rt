@@ -6,7 +6,7 @@ ghost use Rattle.naga_oil_pre.specs.LineKinds as grammar;
 ghost use Rattle.naga_oil_pre.specs.Kind.{kind_of, unversioned_kind_of, kind_behind_hash};
 ghost use Rattle.naga_oil_pre.specs.KindView.{line_kind_of, class_of};
 
-use naga_oil_lines::text::{after_whitespace, split_first_char, text_before};
+use naga_oil_lines::text::{after_whitespace, past_word, split_first_char, text_before};
 use ucd_perl::is_word_code;
 
 #[derive(Clone, Copy, Debug, PartialEq, Eq)]
@@ -42,7 +42,7 @@ pub enum LineKind<'a> {
 
 // A class of characters that lines have runs of.
 #[derive(Clone, Copy, Debug, PartialEq, Eq)]
-enum CharClass {
+pub(crate) enum CharClass {
     Digit,
     Visible,
     Name,
@@ -82,7 +82,7 @@ pub fn is_name(text: &str) -> bool
 }
 
 // What follows the characters of the class that the text begins with.
-fn behind_run(text: &str, class: CharClass) -> &str
+pub(crate) fn behind_run(text: &str, class: CharClass) -> &str
     ensures chars { chars result.now ≡ grammar.behind_run (class_of class) (chars text.now) }
     ensures suffix { (front : List ℕ) × (text.now ≡ front ++ result.now) }
 {
@@ -121,13 +121,6 @@ fn past_white(text: &str) -> Option<&str>
     } else {
         None
     }
-}
-
-// What follows the word at the front.
-fn past_word<'a>(text: &'a str, word: &str) -> Option<&'a str>
-    ensures { option_map (λ r. chars r.now) result ≡ grammar.past_word (chars word.now) (chars text.now) }
-{
-    text.strip_prefix(word)
 }
 
 // What follows the `#` that the line begins with, white space apart.
@@ -175,18 +168,6 @@ fn named_arm<'a>(text: &'a str, word: &str) -> Option<(bool, &'a str)>
     let (is_else, rest) = arm(text, word)?;
     let name = text_at(rest, CharClass::Name)?;
     Some((is_else, name))
-}
-
-fn ifdef(text: &str) -> Option<(bool, &str)>
-    ensures { option_map (λ r. (r.0, r.1.now)) result ≡ grammar.ifdef (chars text.now) }
-{
-    named_arm(text, "ifdef")
-}
-
-fn ifndef(text: &str) -> Option<(bool, &str)>
-    ensures { option_map (λ r. (r.0, r.1.now)) result ≡ grammar.ifndef (chars text.now) }
-{
-    named_arm(text, "ifndef")
 }
 
 // An operator, which may be empty, and a value.
@@ -271,12 +252,12 @@ fn define(text: &str) -> Option<(&str, Option<&str>)>
 fn kind_behind_hash(text: &str) -> LineKind<'_>
     ensures { line_kind_of result ≡ kind_behind_hash (chars text.now) }
 {
-    if let Some((is_else, name)) = ifdef(text) {
+    if let Some((is_else, name)) = named_arm(text, "ifdef") {
         LineKind::Condition {
             is_else,
             condition: Condition::Defined(name),
         }
-    } else if let Some((is_else, name)) = ifndef(text) {
+    } else if let Some((is_else, name)) = named_arm(text, "ifndef") {
         LineKind::Condition {
             is_else,
             condition: Condition::Undefined(name),

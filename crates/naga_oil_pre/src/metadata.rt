@@ -1,11 +1,11 @@
 // What a text tells before any build.
-ghost use Rattle.std.specs.Prelude.{◌≡◌, ℕ, ◌+◌, ◌^◌, ◌<◌, ◌≤◌, ◌++◌, ◌∷◌, [], List, length, string_bytes, option_copied, option_map, is_some, map, true, unwrap_or, Some, Ok, OnOk, IfOk, IfErr};
+ghost use Rattle.std.specs.Prelude.{◌≡◌, ℕ, ◌+◌, ◌^◌, ◌<◌, ◌≤◌, ◌++◌, ◌∷◌, [], List, length, string_bytes, option_copied, option_map, map, true, unwrap_or, Some, Ok, OnOk, IfOk, IfErr};
 ghost use Rattle.std.specs.BTreeMap.{get_by_text};
 ghost use Rattle.std.specs.BTreeSet.{contains_text};
 ghost use Rattle.naga_oil_lines.specs.Declarations.{declared_of};
 ghost use Rattle.naga_oil_lines.specs.Directives.{directives_of};
 ghost use Rattle.naga_oil_lines.specs.Leaves.{import_leaves};
-ghost use Rattle.naga_oil_lines.specs.Substituted.{used_by, cut_at_first};
+ghost use Rattle.naga_oil_lines.specs.Substituted.{used_by};
 ghost use Rattle.naga_oil_lines.specs.Uses.{uses_of, use_of, import_of};
 ghost use Rattle.naga_oil_pre.specs.Line.{Line, source_lines};
 ghost use Rattle.naga_oil_pre.specs.KindView.{line_kind_of};
@@ -60,22 +60,6 @@ struct Findings {
     names: BTreeSet<String>,
 }
 
-// What is wrong with a define's value.
-fn invalid_value(
-    alloc: Global,
-    name: &str,
-    value: Option<&str>,
-    offset: usize,
-) -> Result<ComposerErrorInner, AllocError>
-    ensures { IfOk result (λ e. fault_of e ≡ Some (invalid_definition offset name.now (unwrap_or (option_copied value.entry) []))) }
-{
-    Ok(ComposerErrorInner::InvalidShaderDefDefinitionValue {
-        name: String::from_str(alloc, name)?,
-        value: String::from_str(alloc, value.unwrap_or(""))?,
-        pos: offset,
-    })
-}
-
 // Defines a name, in place of what it was, if defines are allowed.
 fn define(
     alloc: Global,
@@ -92,32 +76,25 @@ fn define(
         return Err(ComposerErrorInner::DefineInModule(offset));
     }
     let Some(defined) = defined_value(value) else {
-        return Err(invalid_value(alloc, name, value, offset)?);
+        return Err(ComposerErrorInner::InvalidShaderDefDefinitionValue {
+            name: String::from_str(alloc, name)?,
+            value: String::from_str(alloc, value.unwrap_or(""))?,
+            pos: offset,
+        });
     };
     defines.insert(String::from_str(alloc, name)?, defined)?;
     Ok(())
 }
 
-// Whether a text holds `::`.
-fn has_colons(text: &str) -> bool
-    ensures { result ≡ is_some (cut_at_first text.now) }
-{
-    text.split_once("::").is_some()
-}
-
-// Records what a line uses by its covered line, as it stands. Where nothing is declared, a line without `::` uses nothing.
+// Records what a line uses by its covered line, as it stands.
 fn read_uses(alloc: Global, line: &SourceLine<'_>, imports: &mut Imports) -> Result<(), AllocError>
     requires { line.now.offset ≤ 2 ^ 63 }
     ensures used { OnOk result (uses_of imports.new.used ≡ used_by (declared_of imports.old.declared) line.now.offset (tokens_of (line_of line.now).covered) (uses_of imports.old.used)) }
     ensures declared { OnOk result (declared_of imports.new.declared ≡ declared_of imports.old.declared) }
 {
-    let covered = line.covered.as_str();
-    if imports.declared.is_empty() && !has_colons(covered) {
-        return Ok(());
-    }
     match substitute_identifiers(
         alloc,
-        covered,
+        line.covered.as_str(),
         line.offset,
         &imports.declared,
         &mut imports.used,
@@ -379,7 +356,7 @@ pub fn get_preprocessor_data(
             let definitions = definitions_of(alloc, metadata.imports.as_slice())?;
             Ok((metadata.name, definitions, metadata.defines))
         }
-        Err(ComposerErrorInner::Memory) => Err(AllocError),
+        Err(error) if error.is_memory() => Err(AllocError),
         Err(_) => Ok((None, Vec::new(alloc), BTreeMap::new(alloc))),
     }
 }

@@ -9,7 +9,7 @@ ghost use Rattle.naga_oil_pre.specs.Kind.{kind_of};
 ghost use Rattle.naga_oil_pre.specs.Step.{step, opened, scanned};
 ghost use Rattle.naga_oil_pre.specs.Fault.{Definitions};
 ghost use Rattle.naga_oil_pre.specs.View.{Notes, Fails, Gives};
-ghost use Rattle.naga_oil_pre.specs.Preprocessed.{Status, shown, imported, behind, piece, written, preprocessed};
+ghost use Rattle.naga_oil_pre.specs.Preprocessed.{imported, behind, piece, written, preprocessed};
 ghost use Rattle.naga_oil_pre.specs.LineEnds.{line_ends, declared_paths};
 ghost use Rattle.naga_oil_pre.specs.KnownView.{known_of, output_of};
 ghost use Rattle.naga_oil_pre.specs.Reading.{taken};
@@ -125,24 +125,6 @@ fn write_import(
     declare(alloc, import.as_str(), line.offset, &mut imports.declared)
 }
 
-// Writes a line with what stands for its names and identifiers, and records what it uses.
-fn write_shown(
-    alloc: Global,
-    line: &SourceLine<'_>,
-    definitions: &BTreeMap<String, ShaderDefValue>,
-    imports: &mut Imports,
-    out: &mut String,
-) -> Result<(), ComposerErrorInner>
-    requires { line.now.offset ≤ 2 ^ 63 }
-    ensures ok { OnOk result ((more : List Status) →
-        behind (string_bytes out.new) (written (get_by_text definitions.now) (known_of imports.new) more)
-        ≡ behind (string_bytes out.old) (written (get_by_text definitions.now) (known_of imports.old) (shown (line_of line.now) ∷ more))) }
-    ensures err { IfErr result (λ e. Fails e (piece (get_by_text definitions.now) (known_of imports.old) (shown (line_of line.now)))) }
-{
-    show_line(alloc, line, definitions, imports, out)?;
-    Ok(())
-}
-
 // Reads a line and writes what it becomes, with the lines that it takes.
 fn write_line(
     alloc: Global,
@@ -168,7 +150,10 @@ fn write_line(
             blank_line(out, line.text)?;
             Ok(())
         }
-        Treatment::Show => write_shown(alloc, &line, definitions, imports, out),
+        Treatment::Show => {
+            show_line(alloc, &line, definitions, imports, out)?;
+            Ok(())
+        }
         Treatment::Import(braces) => write_import(alloc, line, braces, source, imports, out),
     }
 }

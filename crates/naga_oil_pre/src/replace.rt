@@ -9,27 +9,12 @@ ghost use Rattle.naga_oil_pre.specs.LineKinds.{is_name_char};
 ghost use Rattle.naga_oil_pre.specs.Replaced as spec;
 ghost use Rattle.naga_oil_pre.specs.Splits.{SplitsName, SplitsHashName, SplitsAtHash};
 
-use crate::line_kind::is_name_char;
+use crate::line_kind::{CharClass, behind_run};
 use crate::shader_def::ShaderDefValue;
 use naga_oil_lines::text::{after_whitespace, split_first_char, text_before};
 use std::alloc::{AllocError, Global};
 use std::borrow::CowStr;
 use std::collections::BTreeMap;
-
-// What is left of a text behind the characters of names that it begins with.
-fn after_name(text: &str) -> &str
-    ensures chars { chars result.now ≡ drop (prefix_len is_name_char (chars text.now)) (chars text.now) }
-    ensures suffix { (front : List ℕ) × (text.now ≡ front ++ result.now) }
-{
-    let mut rest = text;
-    while let Some((first, more)) = split_first_char(rest) {
-        if !is_name_char(first) {
-            return rest;
-        }
-        rest = more;
-    }
-    rest
-}
 
 // What follows this character, if the text begins with it.
 fn past_char(text: &str, wanted: char) -> Option<&str>
@@ -43,7 +28,7 @@ fn past_char(text: &str, wanted: char) -> Option<&str>
 fn split_name(text: &str) -> Option<(&str, &str)>
     ensures { MatchOption result (prefix_len is_name_char (chars text.now) ≡ 0) (λ r. SplitsName text.now r.0.now r.1.now) }
 {
-    let rest = after_name(text);
+    let rest = behind_run(text, CharClass::Name);
     let name = text_before(text, rest);
     if name.is_empty() {
         return None;

@@ -7,9 +7,9 @@ pub returns-in-Some : goal.returns-in-Some
 unfolding kind_behind_hash chars
 returns-in-Some c = search rules
 
-pub returns-in-Some-ifndef : goal.returns-in-Some-ifndef
+pub returns-in-Some-named_arm : goal.returns-in-Some-named_arm
 unfolding kind_behind_hash chars
-returns-in-Some-ifndef c = search rules
+returns-in-Some-named_arm c = search rules
 
 pub returns-in-Some-if_condition : goal.returns-in-Some-if_condition
 unfolding kind_behind_hash chars
