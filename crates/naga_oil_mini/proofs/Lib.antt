@@ -1,2 +1,11 @@
 pub mod WordLemmas
 pub mod OverwriteLemmas
+pub mod NameLemmas
+pub mod SymbolLemmas
+pub mod ReaderLemmas
+pub mod BodyReaderLemmas
+pub mod OrderLemmas
+pub mod WriterLemmas
+pub mod ValidLemmas
+pub mod RefusedLemmas
+pub mod SliceLemmas

@@ -5,12 +5,24 @@ ghost use Rattle.naga_oil_mini.specs.declared.mini.refusal.Refusal.{Refusal};
 ghost use Rattle.naga_oil_mini.specs.Words.{texts, asked_file};
 ghost use Rattle.naga_oil_mini.specs.Told.{Refuses, Tells, status_of};
 
+mod body_reader;
 mod definitions;
+mod front;
+#[cfg(test)]
+mod front_tests;
+mod making;
+mod names;
+mod not_written;
+mod order;
 mod pre;
+mod reader;
 mod refusal;
+mod symbol;
 #[cfg(test)]
 mod tests;
+mod valid;
 mod words;
+mod writer;
 
 use refusal::Refusal;
 use std::alloc::{AllocError, Global};

@@ -1,0 +1,34 @@
+-- Types and bodies that are seen as values.
+use Rattle.std.proofs.Common.{◌≡◌, ℕ, suc, Bool, false, eqb, List, [], ◌∷◌, length, map, refl, sym, ap, ◌∙◌, arith}
+use Rattle.std.specs.List.{flat_map}
+use Rattle.std.proofs.lemmas.Bool.Decides.{nat_tests}
+use Rattle.naga_oil_ir.specs.Body.{block_tokens, spanned_tokens}
+use Rattle.naga_oil_ir.specs.Rows.{Row, type_row}
+use Rattle.naga_oil_ir.specs.declared.span.Span.{Span}
+use Rattle.naga_oil_ir.specs.declared.statement.Block.{Block, out-Block}
+use Rattle.naga_oil_ir.specs.declared.statement.Statement.{Statement}
+use Rattle.naga_oil_ir.specs.declared.types.Type.{«Type» as TypeItself}
+use Rattle.naga_oil_ir.proofs.BodyLemmas.{block_tokens-out}
+use Rattle.naga_oil_mini.specs.Writer.{fits_types, is_scalar}
+
+-- types alone
+abbrev pub fits : Bool → List TypeItself → Bool
+fits b [] = b
+fits b (t ∷ []) = is_scalar (type_row t)
+fits b (t ∷ u ∷ ts) = false
+
+pub fits_types_value : (b : Bool) (ts : List (TypeItself × Span)) → fits_types b (map {A = TypeItself × Span} {B = Row × Span} (λ e. (type_row e.0, e.1)) ts) ≡ fits b (map {A = TypeItself × Span} {B = TypeItself} (λ e. e.0) ts)
+fits_types_value b [] = refl
+fits_types_value b (t ∷ []) = refl
+fits_types_value b (t ∷ u ∷ ts) = refl
+
+above_none : (n : ℕ) → eqb (suc n) 0 ≡ false
+above_none n = grind (arith, nat_tests)
+
+no_statements : (ss : List (Statement × Span)) → eqb (length (flat_map spanned_tokens ss)) 0 ≡ eqb (length ss) 0
+no_statements [] = refl
+no_statements (s ∷ ss) = above_none _ ∙ sym (above_none (length ss))
+
+-- a body has no tokens where it has no statements
+pub block_is_empty : (b : Block) → eqb (length (block_tokens b)) 0 ≡ eqb (length (out-Block b).body.items) 0
+block_is_empty b = ap (λ ts. eqb (length ts) 0) (block_tokens-out b) ∙ no_statements (out-Block b).body.items

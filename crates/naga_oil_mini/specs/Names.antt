@@ -1,0 +1,20 @@
+-- Names in the order in which they were given.
+use Rattle.std.specs.Prelude.{ℕ, suc, List, [], ◌∷◌, map, Option, Some, None, option_map, bytes_eq, if◌then◌else◌}
+use Rattle.std.specs.Option.{option_or}
+use Rattle.std.specs.BTreeMap.{BTreeMap, get_by}
+use Rattle.std.specs.Borrow.{Bor}
+use Rattle.std.specs.Cmp.Lexicographic.{slice_cmp}
+use Rattle.std.specs.Ordering.{nat_cmp}
+
+-- the place of a name, the last one where it was given again
+abbrev pub last_place : List ℕ → List (List ℕ) → Option ℕ
+last_place q [] = None
+last_place q (n ∷ ns) = option_or (option_map suc (last_place q ns)) (if bytes_eq n q then Some 0 else None)
+
+-- names as the code has them
+abbrev pub texts_of : List (Bor (List ℕ)) → List (List ℕ)
+texts_of ts = map (λ t. t.now) ts
+
+-- what a map has at a name
+abbrev pub place_in : BTreeMap (Bor (List ℕ)) ℕ → List ℕ → Option ℕ
+place_in m q = get_by (λ k. slice_cmp nat_cmp q k.now) m

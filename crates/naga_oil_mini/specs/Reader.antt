@@ -1,0 +1,157 @@
+-- What a text of Mini says, line by line.
+use Rattle.std.specs.Prelude.{◌≡◌, ℕ, ◌+◌, min, Bool, ◌||◌, ◌==◌, if◌then◌else◌, List, [], ◌∷◌, ◌++◌, length, map, Option, Some, None, unwrap_or, Result, Ok, Err, codes, bytes_eq, nat_eq}
+use Rattle.std.specs.List.{starts_with, list_any}
+use Rattle.std.specs.Str.{trim_start}
+use Rattle.std.specs.Str.Lines.{lines}
+use Rattle.naga_oil_ir.specs.Parts.{Parts}
+use Rattle.naga_oil_ir.specs.Rows.{Row, row, TypeKind, ConstantKind}
+use Rattle.naga_oil_ir.specs.Body.{Tokens}
+use Rattle.naga_oil_ir.specs.ModuleValue.{ModuleValue, FunctionValue, ArgumentValue, argument_value, EntryValue, no_items, module_value}
+use Rattle.naga_oil_ir.specs.Backend.{FaultValue}
+use Rattle.naga_oil_ir.specs.Spans.{undefined}
+use Rattle.naga_oil_ir.specs.declared.module.FunctionArgument.{FunctionArgument}
+use Rattle.naga_oil_ir.specs.declared.module.FunctionResult.{FunctionResult}
+use Rattle.naga_oil_ir.specs.declared.names.ItemPlace.TheVariants.{TypeItem, ExpressionItem}
+use Rattle.naga_oil_ir.specs.declared.span.Span.{Span}
+use Rattle.naga_oil_mini.specs.Refused.{LineFault, not_understood, message, understood, ◌>>◌}
+use Rattle.naga_oil_mini.specs.Symbols.{Symbol, name, opens, number, equals, comma, closes, symbols}
+use Rattle.naga_oil_mini.specs.Making.{Scope, body, literal}
+use Rattle.naga_oil_mini.specs.declared.mini.reader.Reader.{Reader}
+
+-- ---- items
+-- the one type
+abbrev pub scalar : Row
+scalar = row (TypeKind 0) None (Some 1 ∷ []) [] []
+
+-- the module of no lines
+abbrev pub start : ModuleValue
+start = record no_items { types = (scalar, undefined) ∷ [] }
+
+abbrev pub name_of : Option (List ℕ) → List ℕ
+name_of n = unwrap_or n []
+
+-- the names of a module's constants and functions
+abbrev pub constant_names : ModuleValue → List (List ℕ)
+constant_names m = map (λ e. name_of e.0.label.name) m.constants
+
+abbrev pub function_names : ModuleValue → List (List ℕ)
+function_names m = map (λ e. name_of e.0.name) m.functions
+
+abbrev pub scope : ModuleValue → List (List ℕ) → Scope
+scope m ps = record { parameters = ps; constants = constant_names m; functions = function_names m }
+
+abbrev pub with_constant : List ℕ → ℕ → Span → ModuleValue → ModuleValue
+with_constant n v at m = record m {
+  global_expressions = m.global_expressions ++ (literal v, at) ∷ [];
+  constants = m.constants ++ (row ConstantKind (Some n) [] [] (Some (TypeItem 0) ∷ Some (ExpressionItem (length m.global_expressions)) ∷ []), at) ∷ [];
+}
+
+abbrev pub argument : List ℕ → ArgumentValue
+argument p = record { name = Some p; ty = 0; binding = None }
+
+abbrev pub arguments : List (List ℕ) → List ArgumentValue
+arguments ps = map argument ps
+
+abbrev pub outcome : Option FunctionResult
+outcome = Some (record { ty = 0; binding = None })
+
+-- a function of a name, with parameters, expressions and a body
+abbrev pub function_of : List ℕ → List (List ℕ) → List (Parts × Span) × Tokens → FunctionValue
+function_of n ps b = record { name = Some n; arguments = arguments ps; result = outcome; local_variables = []; expressions = b.0; named_expressions = []; body = b.1; diagnostic_filter_leaf = None }
+
+-- the function of a name, with parameters and what the end of a line makes
+abbrev pub function : List ℕ → List (List ℕ) → List Symbol → Span → ModuleValue → Result FunctionValue LineFault
+function n ps xs at m = body (scope m ps) at xs >> λ b. Ok (function_of n ps b)
+
+abbrev pub with_function : FunctionValue → Span → ModuleValue → ModuleValue
+with_function f at m = record m { functions = m.functions ++ (f, at) ∷ [] }
+
+-- an entry point of a name and a function
+abbrev pub entry_of : List ℕ → FunctionValue → EntryValue
+entry_of n f = record { name = n; stage = 2; early_depth_test = None; workgroup_size = 1 ∷ 1 ∷ 1 ∷ []; workgroup_size_overrides = None; function = f; mesh_info = None; task_payload = None }
+
+abbrev pub with_entry_point : EntryValue → ModuleValue → ModuleValue
+with_entry_point e m = record m { entry_points = m.entry_points ++ e ∷ [] }
+
+-- ---- lines, each behind its keyword
+-- parameters joined by `,` and the `)` behind them, and what follows
+abbrev pub parameters_from : List Symbol → Result (List (List ℕ) × List Symbol) LineFault
+parameters_from (name p ∷ closes ∷ ss) = Ok (p ∷ [], ss)
+parameters_from (name p ∷ comma ∷ ss) = parameters_from ss >> λ r. Ok (p ∷ r.0, r.1)
+parameters_from ss = Err not_understood
+
+-- the same, or the `)` alone
+abbrev pub parameters : List Symbol → Result (List (List ℕ) × List Symbol) LineFault
+parameters (closes ∷ ss) = Ok ([], ss)
+parameters ss = parameters_from ss
+
+-- `NAME = INT`
+abbrev pub constant_line : List Symbol → Span → ModuleValue → Result ModuleValue LineFault
+constant_line (name n ∷ equals ∷ number v ∷ []) at m = Ok (with_constant n v at m)
+constant_line xs at m = Err not_understood
+
+-- `NAME(P, ..) = EXPR` and `NAME(P, ..)`
+abbrev pub function_line : List Symbol → Span → ModuleValue → Result ModuleValue LineFault
+function_line (opens n ∷ xs) at m = parameters xs >> λ p. function n p.0 p.1 at m >> λ f. Ok (with_function f at m)
+function_line xs at m = Err not_understood
+
+-- `NAME = EXPR`
+abbrev pub entry_line : List Symbol → Span → ModuleValue → Result ModuleValue LineFault
+entry_line (name n ∷ x ∷ xs) at m = function n [] (x ∷ xs) at m >> λ f. Ok (with_entry_point (entry_of n f) m)
+entry_line xs at m = Err not_understood
+
+-- a module with the item of a line's symbols more
+abbrev pub with_item : List ℕ → List Symbol → Span → ModuleValue → Result ModuleValue LineFault
+with_item k xs at m =
+    if bytes_eq k (codes "const") then constant_line xs at m
+    else (if bytes_eq k (codes "fn") then function_line xs at m
+    else (if bytes_eq k (codes "entry") then entry_line xs at m else Err not_understood))
+
+abbrev pub with_symbols : Span → ModuleValue → List Symbol → Result ModuleValue LineFault
+with_symbols at m (name k ∷ xs) = with_item k xs at m
+with_symbols at m xs = Err not_understood
+
+-- what lines that are skipped begin with
+abbrev pub marks : List (List ℕ)
+marks = codes "#" ∷ codes "//" ∷ codes "enable " ∷ codes "requires " ∷ codes "diagnostic(" ∷ []
+
+-- a line is skipped: it is blank, or its first text that isn't white space is one of the marks
+abbrev pub is_skipped : List ℕ → Bool
+is_skipped line = (length (trim_start line) == 0) || list_any (λ mark. starts_with nat_eq (trim_start line) mark) marks
+
+-- a module with the item of a line more
+unfoldable pub with_line : List ℕ → Span → ModuleValue → Result ModuleValue LineFault
+with_line line at m = if is_skipped line then Ok m else understood (symbols line) >> with_symbols at m
+
+-- ---- texts
+-- a place in a text, which ends at the greatest u32
+abbrev pub capped : ℕ → ℕ
+capped k = min k 4294967295
+
+-- the span of a line that begins at a place, and where the next one begins
+abbrev pub span_at : ℕ → List ℕ → Span
+span_at at line = record { start = at; end = capped (at + length line) }
+
+abbrev pub next_start : ℕ → List ℕ → ℕ
+next_start at line = capped (at + length line + 1)
+
+-- a fault of a line: its span, with an empty text, and no notes
+abbrev pub fault_at : Span → LineFault → FaultValue
+fault_at at f = record { message = message f; spans = (at, []) ∷ []; notes = [] }
+
+-- a module with the lines from a place on; the first line with a fault is answered
+abbrev pub with_lines : ℕ → List (List ℕ) → ModuleValue → Result ModuleValue FaultValue
+with_lines at [] m = Ok m
+with_lines at (l ∷ ls) m = elim (with_line l (span_at at l) m) [ Ok n ↦ with_lines (next_start at l) ls n | Err f ↦ Err (fault_at (span_at at l) f) ]
+
+-- what a text says
+unfoldable pub parsed : List ℕ → Result ModuleValue FaultValue
+parsed text = with_lines 0 (lines text) start
+
+-- ---- as the code has them
+abbrev pub arguments_of : List FunctionArgument → List ArgumentValue
+arguments_of xs = map argument_value xs
+
+-- the maps of names are those of the module
+abbrev pub Knows : Reader → Type 0
+Knows r = (r.constants ≡ constant_names (module_value r.module_)) × (r.functions ≡ function_names (module_value r.module_))
