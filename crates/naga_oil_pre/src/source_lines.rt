@@ -43,6 +43,14 @@ impl<'b, 'a> Model for SourceLines<'b, 'a> {
     ghost view = { λ s. record { place = s.offset; left = placed s.offset (lines (lines_rest s.texts)) (covered_lines_left s.covers) } };
 }
 
+// Where the line behind one begins, or would begin.
+fn next_place(offset: usize, text: &str) -> usize
+    requires { offset + (length text.now + 1) < 2 ^ 64 }
+    ensures { result ≡ next_place offset text.now }
+{
+    offset + text.len() + 1
+}
+
 impl<'b, 'a> SourceLines<'b, 'a> {
     pub fn new(text: &'a str, covers: CommentReplaceIter<'b, 'a>) -> SourceLines<'b, 'a>
         requires { covered_lines_left covers ≡ covered_lines Code (lines text.now) }
@@ -77,7 +85,7 @@ impl<'b, 'a> SourceLines<'b, 'a> {
         };
         let covered = covered?;
         let offset = self.offset;
-        self.offset += text.len() + 1;
+        self.offset = next_place(offset, text);
         Ok(Some(SourceLine {
             offset,
             text,

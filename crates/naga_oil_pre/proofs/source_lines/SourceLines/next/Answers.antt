@@ -20,6 +20,7 @@ pub invariant_of-self-inside-2 : goal.invariant_of-self-inside-2
 invariant_of-self-inside-2 c =
     let first = c.in-Some.ensures.steps.0 in
     let came = MatchResult-at_ok _ _ _ c.in_ok-covered.was c.in-Some-next.ensures.steps.0 in
+    rw c.next_place-self-inside.ensures
     (λ more. room_on _ _ _ _ first.0 first.1 first.2 c.self.inside.room more, (even_on _ _ _ _ _ _ _ first.0 first.2 came c.self.inside.even, tt))
 
 pub returns-in_default-next-clause-steps : goal.returns-in_default-next-clause-steps
@@ -31,7 +32,7 @@ pub returns-clause-steps : goal.returns-clause-steps
 returns-clause-steps c =
     let first = c.in-Some.ensures.steps.0 in
     let came = MatchResult-at_ok _ _ _ c.in_ok-covered.was c.in-Some-next.ensures.steps.0 in
-    sym (ap (λ (v : Left). v.left) c.self.view_is) ∙ placed_first _ _ _ _ _ _ _ first.0 first.2 came
+    rw c.next_place-self-inside.ensures (sym (ap (λ (v : Left). v.left) c.self.view_is) ∙ placed_first _ _ _ _ _ _ _ first.0 first.2 came)
 
 pub returns-clause-even : goal.returns-clause-even
 returns-clause-even c =
