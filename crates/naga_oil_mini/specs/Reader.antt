@@ -23,9 +23,12 @@ use Rattle.naga_oil_mini.specs.declared.mini.reader.Reader.{Reader}
 abbrev pub scalar : Row
 scalar = row (TypeKind 0) None (Some 1 ∷ []) [] []
 
+abbrev pub types : List (Row × Span)
+types = (scalar, undefined) ∷ []
+
 -- the module of no lines
 abbrev pub start : ModuleValue
-start = record no_items { types = (scalar, undefined) ∷ [] }
+start = record no_items { types = types }
 
 abbrev pub name_of : Option (List ℕ) → List ℕ
 name_of n = unwrap_or n []
@@ -90,9 +93,13 @@ abbrev pub constant_line : List Symbol → Span → ModuleValue → Result Modul
 constant_line (name n ∷ equals ∷ number v ∷ []) at m = Ok (with_constant n v at m)
 constant_line xs at m = Err not_understood
 
+-- the function of a name and the symbols behind its `(`
+abbrev pub declared : List ℕ → List Symbol → Span → ModuleValue → Result FunctionValue LineFault
+declared n xs at m = parameters xs >> λ p. function n p.0 p.1 at m
+
 -- `NAME(P, ..) = EXPR` and `NAME(P, ..)`
 abbrev pub function_line : List Symbol → Span → ModuleValue → Result ModuleValue LineFault
-function_line (opens n ∷ xs) at m = parameters xs >> λ p. function n p.0 p.1 at m >> λ f. Ok (with_function f at m)
+function_line (opens n ∷ xs) at m = declared n xs at m >> λ f. Ok (with_function f at m)
 function_line xs at m = Err not_understood
 
 -- `NAME = EXPR`

@@ -17,11 +17,18 @@ fn words_of(rt: &HostRuntime) -> io::Result<Vec<String>> {
     Ok(words)
 }
 
+// What is told of a file that can't be read.
+fn told(error: io::Error) -> Result<Option<Vec<u8>>, AllocError> {
+    match error.kind() {
+        ErrorKind::OutOfMemory => Err(AllocError),
+        _ => Ok(None),
+    }
+}
+
 fn read_file(rt: &HostRuntime, path: &str) -> Result<Option<Vec<u8>>, AllocError> {
     match fs::read(rt, path) {
         Ok(bytes) => Ok(Some(bytes)),
-        Err(error) if error.kind() == ErrorKind::OutOfMemory => Err(AllocError),
-        Err(_) => Ok(None),
+        Err(error) => told(error),
     }
 }
 

@@ -1,7 +1,8 @@
 // What a text says, line by line.
-ghost use Rattle.std.specs.Prelude.{◌≡◌, OnOk, IfOk};
+ghost use Rattle.std.specs.Prelude.{◌≡◌, OnOk, IfOk, map};
 ghost use Rattle.std.specs.List.{starts_with};
 ghost use Rattle.std.specs.Prelude.{nat_eq};
+ghost use Rattle.naga_oil_ir.specs.Rows.{type_row};
 ghost use Rattle.naga_oil_ir.specs.ModuleValue.{module_value, function_value};
 ghost use Rattle.naga_oil_ir.specs.Backend.{Answers, parse_fault};
 ghost use Rattle.naga_oil_mini.specs.Symbols.{line_of};
@@ -14,7 +15,7 @@ use super::symbol::{Refusal, Symbol, symbols};
 use indexmap::IndexMap;
 use naga_oil_ir::{
     Arena, BackendRefusal, Constant, EntryPoint, Expression, Function, FunctionArgument,
-    FunctionResult, Index, Module, ParseFault, Span, Type, TypeInner,
+    FunctionResult, Index, Module, ParseFault, Span, Type, TypeInner, UniqueArena,
 };
 use std::alloc::{AllocError, Global};
 
@@ -82,15 +83,24 @@ fn arguments(alloc: Global, parameters: &Names<'_>) -> Result<Vec<FunctionArgume
     Ok(arguments)
 }
 
+// The one type.
+fn types(alloc: Global) -> Result<UniqueArena<Type>, AllocError>
+    ensures { IfOk result (λ ts. map (λ e. (type_row e.0, e.1)) ts ≡ spec.types) }
+{
+    let mut types = UniqueArena::new(alloc);
+    let inner = TypeInner::Scalar(1);
+    types.insert(Type { name: None, inner }, Span::UNDEFINED)?;
+    Ok(types)
+}
+
 impl<'a> Reader<'a> {
     fn new(alloc: Global) -> Result<Reader<'a>, AllocError>
         ensures value { IfOk result (λ r. module_value r.module_ ≡ spec.start) }
         ensures known { IfOk result spec.Knows }
     {
+        let types = types(alloc)?;
         let mut module_ = Module::new(alloc);
-        let inner = TypeInner::Scalar(1);
-        let scalar = Type { name: None, inner };
-        module_.types.insert(scalar, Span::UNDEFINED)?;
+        module_.types = types;
         Ok(Reader {
             alloc,
             span: Span::UNDEFINED,
@@ -110,10 +120,13 @@ impl<'a> Reader<'a> {
             return Err(Refusal::NotUnderstood);
         };
         let literal = Expression::Literal { kind: 1, bits };
+        let init = self.module_.global_expressions.append(literal, self.span)?;
+        let ty = Index::new(0);
+        let name_text = Some(String::from_str(self.alloc, name)?);
         let constant = Constant {
-            name: Some(String::from_str(self.alloc, name)?),
-            ty: Index::new(0),
-            init: self.module_.global_expressions.append(literal, self.span)?,
+            name: name_text,
+            ty,
+            init,
         };
         self.module_.constants.append(constant, self.span)?;
         Ok(self.constants.push(name)?)
@@ -134,10 +147,12 @@ impl<'a> Reader<'a> {
             constants: &self.constants,
             functions: &self.functions,
         };
+        let name = Some(String::from_str(self.alloc, name)?);
+        let arguments = arguments(self.alloc, parameters)?;
         let (expressions, body) = made(self.alloc, scope, self.span, body)?;
         Ok(Function {
-            name: Some(String::from_str(self.alloc, name)?),
-            arguments: arguments(self.alloc, parameters)?,
+            name,
+            arguments,
             result: Some(FunctionResult {
                 ty: Index::new(0),
                 binding: None,
@@ -150,6 +165,15 @@ impl<'a> Reader<'a> {
         })
     }
 
+    // The function of a name and the symbols behind its `(`.
+    fn declared(&self, name: &str, symbols: &[Symbol<'a>]) -> Result<Function, Refusal<'a>>
+        requires known { spec.Knows self.now }
+        ensures { Gives function_value result (spec.declared name.now (line_of symbols.now) self.now.span (module_value self.now.module_)) }
+    {
+        let (parameters, body) = parameters(self.alloc, symbols)?;
+        self.function(name, &parameters, body)
+    }
+
     // `NAME(P, ..) = EXPR` or `NAME(P, ..)`
     fn add_function(&mut self, symbols: &[Symbol<'a>]) -> Result<(), Refusal<'a>>
         requires known { spec.Knows self.old }
@@ -159,8 +183,7 @@ impl<'a> Reader<'a> {
         let [Symbol::Opens(name), rest @ ..] = symbols else {
             return Err(Refusal::NotUnderstood);
         };
-        let (parameters, body) = parameters(self.alloc, rest)?;
-        let function = self.function(name, &parameters, body)?;
+        let function = self.declared(name, rest)?;
         self.module_.functions.append(function, self.span)?;
         Ok(self.functions.push(name)?)
     }
@@ -187,6 +210,20 @@ impl<'a> Reader<'a> {
         Ok(self.module_.entry_points.push(entry_point)?)
     }
 
+    // The item that symbols say.
+    fn add(&mut self, symbols: &[Symbol<'a>]) -> Result<(), Refusal<'a>>
+        requires known { spec.Knows self.old }
+        ensures value { Gives (λ _. module_value self.new.module_) result (spec.with_symbols self.old.span (module_value self.old.module_) (line_of symbols.now)) }
+        ensures known { OnOk result (spec.Knows self.new) }
+    {
+        match symbols {
+            [Symbol::Name("const"), rest @ ..] => self.add_constant(rest),
+            [Symbol::Name("fn"), rest @ ..] => self.add_function(rest),
+            [Symbol::Name("entry"), rest @ ..] => self.add_entry_point(rest),
+            _ => Err(Refusal::NotUnderstood),
+        }
+    }
+
     // One line more.
     #[tactic(auto, unfolding(crate::specs::Reader::with_line))]
     fn read(&mut self, line: &'a str) -> Result<(), Refusal<'a>>
@@ -198,12 +235,7 @@ impl<'a> Reader<'a> {
             return Ok(());
         }
         let symbols = symbols(self.alloc, line)?;
-        match symbols.as_slice() {
-            [Symbol::Name("const"), rest @ ..] => self.add_constant(rest),
-            [Symbol::Name("fn"), rest @ ..] => self.add_function(rest),
-            [Symbol::Name("entry"), rest @ ..] => self.add_entry_point(rest),
-            _ => Err(Refusal::NotUnderstood),
-        }
+        self.add(&symbols)
     }
 }
 

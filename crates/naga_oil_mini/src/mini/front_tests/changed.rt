@@ -1,142 +1,210 @@
 // Modules that no parse gives: they are written if another text says them, up to what doesn't count.
-use super::{read, written};
+use super::{is_written, read};
 use naga_oil_ir::{
-    Arena, Block, Constant, EntryPoint, Expression, Function, Index, Module, Places, Span,
-    Statement, UniqueArena,
+    Arena, Constant, EntryPoint, Expression, Function, Index, Module, Places, Span, Statement,
+    UniqueArena,
 };
-use std::alloc::Global;
-use std::test::Fail;
+use std::alloc::{AllocError, Global};
+use std::mem;
+use std::process::Abort;
 
 const AT: Span = Span { start: 0, end: 1 };
 
 const NOT_IN_MINI: &str = "not in Mini";
 
-fn literal(bits: u64) -> (Expression, Span) {
-    (Expression::Literal { kind: 1, bits }, AT)
+// An expression of a sum.
+#[derive(Clone, Copy)]
+enum Term {
+    Number(u64),
+    Sum(usize, usize),
 }
 
-fn sum(left: usize, right: usize) -> (Expression, Span) {
-    let (left, right) = (Index::new(left), Index::new(right));
-    let binary = Expression::Binary { op: 1, left, right };
-    (binary, AT)
-}
-
-fn emit(start: usize, end: usize) -> (Statement, Span) {
-    (Statement::Emit(Places::new(start, end)), AT)
-}
-
-fn returned(place: usize) -> (Statement, Span) {
-    let value = Some(Index::new(place));
-    (Statement::Return { value }, AT)
-}
-
-// What is written of a function `f` of these expressions and this body.
-fn written_of(
-    alloc: Global,
-    expressions: Vec<(Expression, Span)>,
-    body: Vec<(Statement, Span)>,
-) -> Result<String, Fail> {
-    let mut module_ = read(alloc, "")?;
-    let mut like = read(alloc, "fn f() = 1\n")?.functions.into_items();
-    if let Some((mut function, span)) = like.pop() {
-        function.expressions = Arena::from_items(expressions);
-        function.body = Block { body };
-        module_.functions.append(function, span)?;
-    }
-    written(alloc, &module_)
-}
-
-#[test]
-fn writes_each_order_of_expressions(rt: HostRuntime) -> Result<(), Fail> {
-    let alloc = rt.alloc();
-    // One that nothing reaches stands among them.
-    let turned = vec![in alloc; literal(1), literal(9), literal(2), sum(2, 0)]?;
-    let body = vec![in alloc; emit(3, 4), returned(3)]?;
-    assert_eq!(rt;
-        written_of(alloc, turned, body)?.as_str(),
-        "fn f() = 2 + 1\n"
-    );
-    let ends_in_a_sum = vec![in alloc; literal(1), literal(2), sum(0, 1), sum(1, 2)]?;
-    let body = vec![in alloc; emit(2, 3), emit(3, 4), returned(3)]?;
-    assert_eq!(rt;
-        written_of(alloc, ends_in_a_sum, body)?.as_str(),
-        NOT_IN_MINI
-    );
-    Ok(())
-}
-
-#[test]
-fn writes_no_shared_expression(rt: HostRuntime) -> Result<(), Fail> {
-    let alloc = rt.alloc();
-    let twice = vec![in alloc; literal(1), sum(0, 0)]?;
-    let body = vec![in alloc; emit(1, 2), returned(1)]?;
-    assert_eq!(rt; written_of(alloc, twice, body)?.as_str(), NOT_IN_MINI);
-    Ok(())
-}
-
-#[test]
-fn writes_sums_that_are_emitted_alone(rt: HostRuntime) -> Result<(), Fail> {
-    let alloc = rt.alloc();
-    for (first, second) in [((2, 3), (4, 5)), ((2, 3), (3, 5)), ((4, 5), (2, 3))] {
-        let sums = vec![in alloc; literal(1), literal(2), sum(0, 1), literal(3), sum(2, 3)]?;
-        let body = vec![in alloc;
-            emit(first.0, first.1),
-            emit(second.0, second.1),
-            returned(4),
-        ]?;
-        let text = if first == (2, 3) && second == (4, 5) {
-            "fn f() = 1 + 2 + 3\n"
-        } else {
-            NOT_IN_MINI
-        };
-        assert_eq!(rt; written_of(alloc, sums, body)?.as_str(), text);
-    }
-    Ok(())
-}
-
-#[test]
-fn writes_numbers_within_bounds(rt: HostRuntime) -> Result<(), Fail> {
-    let alloc = rt.alloc();
-    for (bits, text) in [
-        (2147483647, "fn f() = 2147483647\n"),
-        (2147483648, NOT_IN_MINI),
-    ] {
-        let number = vec![in alloc; literal(bits)]?;
-        let body = vec![in alloc; returned(0)]?;
-        assert_eq!(rt; written_of(alloc, number, body)?.as_str(), text);
-    }
-    Ok(())
-}
-
-// What is written of a text's constants and functions with the entry points of other texts.
-fn written_with(alloc: Global, items: &str, entries: [&str; 2]) -> Result<String, Fail> {
-    let mut module_ = read(alloc, items)?;
-    for text in entries {
-        for entry_point in read(alloc, text)?.entry_points {
-            module_.entry_points.push(entry_point)?;
+fn expression(term: Term) -> Expression {
+    match term {
+        Term::Number(bits) => Expression::Literal { kind: 1, bits },
+        Term::Sum(left, right) => {
+            let (left, right) = (Index::new(left), Index::new(right));
+            Expression::Binary { op: 1, left, right }
         }
     }
-    written(alloc, &module_)
+}
+
+// Gives a stub these expressions, a body that emits such places, and what it returns.
+fn fill(
+    function: &mut Function,
+    terms: &[Term],
+    emitted: &[(usize, usize)],
+    returned: usize,
+) -> Result<(), AllocError> {
+    for term in terms {
+        function.expressions.append(expression(*term), AT)?;
+    }
+    let body = &mut function.body.body;
+    for (start, end) in emitted {
+        body.push((Statement::Emit(Places::new(*start, *end)), AT))?;
+    }
+    let value = Some(Index::new(returned));
+    body.push((Statement::Return { value }, AT))?;
+    Ok(())
+}
+
+// A change that no text says.
+#[derive(Clone, Copy)]
+enum Change<'a> {
+    NoTypes,
+    /// What a stub's body is: expressions, the places that it emits, and what it returns.
+    Body(&'a [Term], &'a [(usize, usize)], usize),
+    Name(Option<&'a str>),
+    /// A constant more, of the first initialiser.
+    ConstantMore(&'a str),
+    EntryPointsOf(&'a str),
+    Stage,
+    WorkgroupSize,
+    EarlyDepthTest,
+    TaskPayload,
+    NoResult,
+}
+
+fn change_function(
+    alloc: Global,
+    function: &mut Function,
+    change: Change<'_>,
+) -> Result<(), AllocError> {
+    match change {
+        Change::Body(terms, emitted, returned) => fill(function, terms, emitted, returned)?,
+        Change::Name(Some(name)) => function.name = Some(String::from_str(alloc, name)?),
+        Change::Name(None) => function.name = None,
+        _ => {}
+    }
+    Ok(())
+}
+
+fn change_functions(alloc: Global, of: &mut Module, change: Change<'_>) -> Result<(), AllocError> {
+    let functions = mem::replace(&mut of.functions, Arena::new(alloc));
+    for (mut function, span) in functions.into_items() {
+        change_function(alloc, &mut function, change)?;
+        of.functions.append(function, span)?;
+    }
+    Ok(())
+}
+
+fn change_entry_point(entry_point: &mut EntryPoint, change: Change<'_>) {
+    match change {
+        Change::Stage => entry_point.stage = 1,
+        Change::WorkgroupSize => entry_point.workgroup_size = [1, 1, 2],
+        Change::EarlyDepthTest => entry_point.early_depth_test = Some(0),
+        Change::TaskPayload => entry_point.task_payload = Some(Index::new(0)),
+        Change::NoResult => entry_point.function.result = None,
+        _ => {}
+    }
+}
+
+fn add_entry_points(
+    rt: &(impl Abort + AllocGlobal),
+    to: &mut Module,
+    text: &str,
+) -> Result<(), AllocError> {
+    for entry_point in read(rt, text).entry_points {
+        to.entry_points.push(entry_point)?;
+    }
+    Ok(())
+}
+
+fn add_constant(alloc: Global, to: &mut Module, name: &str) -> Result<(), AllocError> {
+    let name = Some(String::from_str(alloc, name)?);
+    let (ty, init) = (Index::new(0), Index::new(0));
+    to.constants.append(Constant { name, ty, init }, AT)?;
+    Ok(())
+}
+
+fn make_change(
+    rt: &(impl Abort + AllocGlobal),
+    of: &mut Module,
+    change: Change<'_>,
+) -> Result<(), AllocError> {
+    let alloc = rt.alloc();
+    match change {
+        Change::NoTypes => of.types = UniqueArena::new(alloc),
+        Change::Body(..) | Change::Name(_) => return change_functions(alloc, of, change),
+        Change::ConstantMore(name) => return add_constant(alloc, of, name),
+        Change::EntryPointsOf(text) => return add_entry_points(rt, of, text),
+        _ => {
+            for entry_point in of.entry_points.iter_mut() {
+                change_entry_point(entry_point, change);
+            }
+        }
+    }
+    Ok(())
+}
+
+// The module of a text with changes is written as this text, or told so.
+fn is_changed(rt: &(impl Abort + AllocGlobal), text: &str, changes: &[Change<'_>], wanted: &str) {
+    let mut changed = read(rt, text);
+    for step in changes {
+        assert_eq!(rt; make_change(rt, &mut changed, *step), Ok(()));
+    }
+    is_written(rt, &changed, wanted);
+}
+
+#[test]
+fn writes_each_order_of_expressions(rt: HostRuntime) {
+    let (one, two, three) = (Term::Number(1), Term::Number(2), Term::Number(3));
+    let sums = [one, two, Term::Sum(0, 1), three, Term::Sum(2, 3)];
+    for (change, wanted) in [
+        // One that nothing reaches stands among them.
+        (
+            Change::Body(&[one, Term::Number(9), two, Term::Sum(2, 0)], &[(3, 4)], 3),
+            "fn f() = 2 + 1\n",
+        ),
+        (
+            Change::Body(
+                &[one, two, Term::Sum(0, 1), Term::Sum(1, 2)],
+                &[(2, 3), (3, 4)],
+                3,
+            ),
+            NOT_IN_MINI,
+        ),
+        // An expression is shared.
+        (
+            Change::Body(&[one, Term::Sum(0, 0)], &[(1, 2)], 1),
+            NOT_IN_MINI,
+        ),
+        // Sums are emitted alone, in their order.
+        (
+            Change::Body(&sums, &[(2, 3), (4, 5)], 4),
+            "fn f() = 1 + 2 + 3\n",
+        ),
+        (Change::Body(&sums, &[(2, 3), (3, 5)], 4), NOT_IN_MINI),
+        (Change::Body(&sums, &[(4, 5), (2, 3)], 4), NOT_IN_MINI),
+        (
+            Change::Body(&[Term::Number(2147483647)], &[], 0),
+            "fn f() = 2147483647\n",
+        ),
+        (
+            Change::Body(&[Term::Number(2147483648)], &[], 0),
+            NOT_IN_MINI,
+        ),
+    ] {
+        is_changed(&rt, "fn f()\n", &[change], wanted);
+    }
 }
 
 // A name has to mean its item where the lines can stand.
 #[test]
-fn writes_names_that_have_an_order(rt: HostRuntime) -> Result<(), Fail> {
+fn writes_names_that_have_an_order(rt: HostRuntime) {
     let constants = "const N = 1\nconst N = 2\nfn f() = N\n";
     let functions = "fn f() = 1\nfn f() = 2\n";
-    let first = "fn f()\nentry a = f()\n";
-    let second = "fn f()\nfn f()\nentry b = f()\n";
-    for (items, entries, text) in [
+    let first = Change::EntryPointsOf("fn f()\nentry a = f()\n");
+    let second = Change::EntryPointsOf("fn f()\nfn f()\nentry b = f()\n");
+    let of_constant = Change::EntryPointsOf("const N = 1\nentry e = N\n");
+    let of_both = Change::EntryPointsOf("const N = 1\nfn f()\nentry e = N + f()\n");
+    for (text, changes, wanted) in [
         (
             constants,
-            ["const N = 1\nentry e = N\n", ""],
+            [of_constant, Change::EntryPointsOf("")],
             "const N = 1\nconst N = 2\nfn f() = N\nentry e = N\n",
         ),
-        (
-            constants,
-            ["const N = 1\nfn f()\nentry e = N + f()\n", ""],
-            NOT_IN_MINI,
-        ),
+        (constants, [of_both, Change::EntryPointsOf("")], NOT_IN_MINI),
         (
             functions,
             [first, second],
@@ -144,93 +212,35 @@ fn writes_names_that_have_an_order(rt: HostRuntime) -> Result<(), Fail> {
         ),
         (functions, [second, first], NOT_IN_MINI),
     ] {
-        let written = written_with(rt.alloc(), items, entries)?;
-        assert_eq!(rt; written.as_str(), text);
-    }
-    Ok(())
-}
-
-#[test]
-fn writes_constants_of_one_initialiser(rt: HostRuntime) -> Result<(), Fail> {
-    let mut module_ = read(rt.alloc(), "const N = 3\n")?;
-    let name = Some(String::from_str(rt.alloc(), "M")?);
-    let (ty, init) = (Index::new(0), Index::new(0));
-    module_.constants.append(Constant { name, ty, init }, AT)?;
-    assert_eq!(rt;
-        written(rt.alloc(), &module_)?.as_str(),
-        "const N = 3\nconst M = 3\n"
-    );
-    Ok(())
-}
-
-#[test]
-fn writes_nothing_without_the_type(rt: HostRuntime) -> Result<(), Fail> {
-    assert_eq!(rt; written(rt.alloc(), &Module::new(rt.alloc()))?.as_str(), "");
-    for text in ["const N = 1\n", "fn f()\n", "entry e = 1\n"] {
-        let mut module_ = read(rt.alloc(), text)?;
-        module_.types = UniqueArena::new(rt.alloc());
-        assert_eq!(rt;
-            written(rt.alloc(), &module_)?.as_str(),
-            NOT_IN_MINI,
-            "of {text}"
-        );
-    }
-    Ok(())
-}
-
-// An entry point that Mini doesn't say.
-fn change_entry_point(entry_point: &mut EntryPoint, change: u64) {
-    match change {
-        0 => entry_point.stage = 1,
-        1 => entry_point.workgroup_size = [1, 1, 2],
-        2 => entry_point.early_depth_test = Some(0),
-        3 => entry_point.task_payload = Some(Index::new(0)),
-        _ => entry_point.function.result = None,
+        is_changed(&rt, text, &changes, wanted);
     }
 }
 
 #[test]
-fn writes_plain_entry_points(rt: HostRuntime) -> Result<(), Fail> {
-    for change in 0..5 {
-        let mut module_ = read(rt.alloc(), "entry e = 1\n")?;
-        for entry_point in module_.entry_points.iter_mut() {
-            change_entry_point(entry_point, change);
-        }
-        assert_eq!(rt;
-            written(rt.alloc(), &module_)?.as_str(),
-            NOT_IN_MINI,
-            "at {change}"
-        );
-    }
-    Ok(())
-}
-
-// The function of a text with another name, or none.
-fn renamed(alloc: Global, name: Option<&str>) -> Result<Module, Fail> {
-    let mut module_ = read(alloc, "")?;
-    let mut like: Vec<(Function, Span)> = read(alloc, "fn f() = 1\n")?.functions.into_items();
-    if let Some((mut function, span)) = like.pop() {
-        function.name = match name {
-            Some(name) => Some(String::from_str(alloc, name)?),
-            None => None,
-        };
-        module_.functions.append(function, span)?;
-    }
-    Ok(module_)
-}
-
-#[test]
-fn writes_names_that_can_be_read(rt: HostRuntime) -> Result<(), Fail> {
-    for (name, text) in [
-        (Some("_1"), "fn _1() = 1\n"),
-        (Some("1"), NOT_IN_MINI),
-        (Some(""), NOT_IN_MINI),
-        (Some("a b"), NOT_IN_MINI),
-        (Some("é"), NOT_IN_MINI),
-        (None, NOT_IN_MINI),
+fn writes_what_a_text_says(rt: HostRuntime) {
+    let (function, entry) = ("fn f() = 1\n", "entry e = 1\n");
+    for (text, change, wanted) in [
+        (
+            "const N = 3\n",
+            Change::ConstantMore("M"),
+            "const N = 3\nconst M = 3\n",
+        ),
+        ("", Change::NoTypes, ""),
+        ("const N = 1\n", Change::NoTypes, NOT_IN_MINI),
+        ("fn f()\n", Change::NoTypes, NOT_IN_MINI),
+        (entry, Change::NoTypes, NOT_IN_MINI),
+        (entry, Change::Stage, NOT_IN_MINI),
+        (entry, Change::WorkgroupSize, NOT_IN_MINI),
+        (entry, Change::EarlyDepthTest, NOT_IN_MINI),
+        (entry, Change::TaskPayload, NOT_IN_MINI),
+        (entry, Change::NoResult, NOT_IN_MINI),
+        (function, Change::Name(Some("_1")), "fn _1() = 1\n"),
+        (function, Change::Name(Some("1")), NOT_IN_MINI),
+        (function, Change::Name(Some("")), NOT_IN_MINI),
+        (function, Change::Name(Some("a b")), NOT_IN_MINI),
+        (function, Change::Name(Some("é")), NOT_IN_MINI),
+        (function, Change::Name(None), NOT_IN_MINI),
     ] {
-        let module_ = renamed(rt.alloc(), name)?;
-        assert_eq!(rt; written(rt.alloc(), &module_)?.as_str(), text);
+        is_changed(&rt, text, &[change], wanted);
     }
-    Ok(())
 }

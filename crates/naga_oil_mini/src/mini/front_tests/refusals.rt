@@ -1,8 +1,7 @@
 // What Mini refuses: the message, and the bytes that it speaks of.
 use super::{Mini, read};
-use naga_oil_ir::{Backend, BackendRefusal, Capabilities, ShaderLanguage, Span};
+use naga_oil_ir::{Backend, BackendRefusal, Capabilities, Module, ShaderLanguage, Span};
 use std::process::Abort;
-use std::test::Fail;
 
 // A text is refused so, at the bytes from `start` to `end`.
 fn refuses(rt: &(impl Abort + AllocGlobal), text: &str, message: &str, start: u32, end: u32) {
@@ -46,15 +45,7 @@ fn refuses_lines(rt: HostRuntime) {
         ("fn f()\nfn g() = f(,1)", 7, 21),
         ("entry main", 0, 10),
         ("entry main() = 1", 0, 16),
-    ] {
-        refuses(&rt, text, "line not understood", start, end);
-    }
-}
-
-// Between tokens a space is U+0020 alone.
-#[test]
-fn refuses_other_white_space(rt: HostRuntime) {
-    for (text, start, end) in [
+        // Between tokens a space is U+0020 alone.
         ("fn f() = 1\n\tfn g() = 2\n", 11, 22),
         ("fn f() =\t1", 0, 10),
         ("fn f() = 1\t\n", 0, 11),
@@ -80,31 +71,22 @@ fn refuses_unknown_names(rt: HostRuntime) {
     }
 }
 
-// A module isn't valid: a call of `callee` has another number of arguments, at the bytes from `start` to `end`.
-fn is_invalid(
-    rt: &(impl Abort + AllocGlobal),
-    text: &str,
-    callee: &str,
-    start: u32,
-    end: u32,
-) -> Result<(), Fail> {
-    let wrong = read(rt.alloc(), text)?;
-    match Mini.validate(rt.alloc(), &wrong, Capabilities(0)) {
-        Err(BackendRefusal::Fault(fault)) => {
-            assert_eq!(rt; fault.message.as_str(), "wrong number of arguments");
-            assert_eq!(rt; fault.notes.len(), 0);
-            assert_eq!(rt; fault.spans.len(), 1);
-            assert_eq!(rt; fault.spans[0].0, Span::new(start, end), "of {text}");
-            assert_eq!(rt; fault.spans[0].1.as_str(), callee, "of {text}");
-        }
-        _ => assert!(rt; false, "{text} is valid"),
-    }
-    Ok(())
+// A text's module isn't valid: a call of `callee` has another number of arguments, at the bytes from `start` to `end`.
+fn is_invalid(rt: &(impl Abort + AllocGlobal), text: &str, callee: &str, start: u32, end: u32) {
+    let answer = Mini.validate(rt.alloc(), &read(rt, text), Capabilities(0));
+    let Err(BackendRefusal::Fault(fault)) = &answer else {
+        panic!(rt; "{text} is valid")
+    };
+    assert_eq!(rt; fault.message.as_str(), "wrong number of arguments");
+    assert_eq!(rt; fault.notes.len(), 0);
+    assert_eq!(rt; fault.spans.len(), 1);
+    assert_eq!(rt; fault.spans[0].0, Span::new(start, end), "of {text}");
+    assert_eq!(rt; fault.spans[0].1.as_str(), callee, "of {text}");
 }
 
 #[test]
-fn validates_calls(rt: HostRuntime) -> Result<(), Fail> {
-    let fine = read(rt.alloc(), "fn f(x) = x\nfn g()\nentry e = f(f(1)) + g()\n")?;
+fn validates_calls(rt: HostRuntime) {
+    let fine = read(&rt, "fn f(x) = x\nfn g()\nentry e = f(f(1)) + g()\n");
     assert!(rt; Mini.validate(rt.alloc(), &fine, Capabilities(0)).is_ok());
     for (text, callee, start, end) in [
         (
@@ -132,23 +114,19 @@ fn validates_calls(rt: HostRuntime) -> Result<(), Fail> {
             35,
         ),
     ] {
-        is_invalid(&rt, text, callee, start, end)?;
+        is_invalid(&rt, text, callee, start, end);
     }
-    Ok(())
 }
 
 #[test]
-fn tells_what_it_does_not_write(rt: HostRuntime) -> Result<(), Fail> {
-    let mut module_ = read(rt.alloc(), "const N = 1\n")?;
-    module_.diagnostic_filter_leaf = Some(0);
-    let answer = Mini.write(rt.alloc(), &module_, ShaderLanguage::Wgsl, Capabilities(0));
-    match &answer {
-        Err(BackendRefusal::Fault(fault)) => {
-            assert_eq!(rt; fault.message.as_str(), "not in Mini");
-            assert_eq!(rt; fault.spans.len(), 0);
-            assert_eq!(rt; fault.notes.len(), 0);
-        }
-        _ => assert!(rt; false),
-    }
-    Ok(())
+fn tells_what_it_does_not_write(rt: HostRuntime) {
+    let mut other = Module::new(rt.alloc());
+    other.diagnostic_filter_leaf = Some(0);
+    let answer = Mini.write(rt.alloc(), &other, ShaderLanguage::Wgsl, Capabilities(0));
+    let Err(BackendRefusal::Fault(fault)) = &answer else {
+        panic!(rt; "written")
+    };
+    assert_eq!(rt; fault.message.as_str(), "not in Mini");
+    assert_eq!(rt; fault.spans.len(), 0);
+    assert_eq!(rt; fault.notes.len(), 0);
 }

@@ -25,22 +25,28 @@ fn is_told_valid(alloc: Global, of: &Module, valid: bool) -> bool {
     }
 }
 
+// Whether a text is read as a module that is written as the text, and is valid or not.
+fn is_read(alloc: Global, text: &str, valid: bool) -> bool {
+    match &Mini.parse(alloc, ShaderLanguage::Wgsl, text) {
+        Ok(read) => is_written(alloc, read, Some(text)) && is_told_valid(alloc, read, valid),
+        Err(BackendRefusal::Fault(_)) => false,
+        Err(BackendRefusal::Memory) => true,
+    }
+}
+
+fn is_faulty(alloc: Global, text: &str, message: &str) -> bool {
+    match &Mini.parse(alloc, ShaderLanguage::Glsl, text) {
+        Ok(_) => false,
+        Err(BackendRefusal::Fault(fault)) => fault.message.as_str() == message,
+        Err(BackendRefusal::Memory) => true,
+    }
+}
+
 #[test]
 fn a_refused_text_says_no_other_module(rt: HostRuntime) {
-    for (text, valid) in [
-        (EXAMPLE, true),
-        ("fn f(x)\nentry main = f(f(1), 2) + f()\n", false),
-    ] {
-        let answer = Mini.parse(rt.alloc(), ShaderLanguage::Wgsl, text);
-        match &answer {
-            Ok(read) => {
-                assert!(rt; is_written(rt.alloc(), read, Some(text)));
-                assert!(rt; is_told_valid(rt.alloc(), read, valid));
-            }
-            Err(BackendRefusal::Memory) => {}
-            Err(BackendRefusal::Fault(_)) => assert!(rt; false),
-        }
-    }
+    assert!(rt; is_read(rt.alloc(), EXAMPLE, true));
+    let wrong = "fn f(x)\nentry main = f(f(1), 2) + f()\n";
+    assert!(rt; is_read(rt.alloc(), wrong, false));
 }
 
 #[test]
@@ -52,18 +58,8 @@ fn a_refused_module_is_not_written(rt: HostRuntime) {
 
 #[test]
 fn a_refused_text_has_no_other_fault(rt: HostRuntime) {
-    for (text, message) in [
-        ("fn f(x) = x\nfn g(x) = f(x + h(1), y)\n", "unknown name h"),
-        (
-            "const N = 1\nfn f(x) = x + 2147483648\n",
-            "line not understood",
-        ),
-    ] {
-        let answer = Mini.parse(rt.alloc(), ShaderLanguage::Glsl, text);
-        match &answer {
-            Ok(_) => assert!(rt; false),
-            Err(BackendRefusal::Memory) => {}
-            Err(BackendRefusal::Fault(fault)) => assert_eq!(rt; fault.message.as_str(), message),
-        }
-    }
+    let text = "fn f(x) = x\nfn g(x) = f(x + h(1), y)\n";
+    assert!(rt; is_faulty(rt.alloc(), text, "unknown name h"));
+    let text = "const N = 1\nfn f(x) = x + 2147483648\n";
+    assert!(rt; is_faulty(rt.alloc(), text, "line not understood"));
 }
