@@ -1,0 +1,11 @@
+pub mod LineLemmas
+pub mod AddedLemmas
+pub mod AddsLemmas
+pub mod EffectiveLemmas
+pub mod MergedLemmas
+pub mod NamesLemmas
+pub mod RegistryLemmas
+pub mod RemovedLemmas
+pub mod SanitizedLemmas
+pub mod NewDefinitionLemmas
+pub mod WritingLemmas

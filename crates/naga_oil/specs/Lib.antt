@@ -1,0 +1,13 @@
+pub mod Report
+pub mod ReportView
+pub mod Added
+pub mod Definition
+pub mod DescribedView
+pub mod Descriptor
+pub mod Merged
+pub mod Refused
+pub mod Registry
+pub mod RegistryRows
+pub mod Sanitized
+pub mod Sources
+pub mod State

@@ -1,0 +1,49 @@
+-- Where a fault lies, and what a refused call tells.
+use Rattle.std.specs.Prelude.{◌≡◌, ℕ, List, [], Option, option_map, Result, Ok, Err, MatchOption, string_bytes}
+use Rattle.naga_oil_pre.specs.Fault.{Fault}
+use Rattle.naga_oil_pre.specs.View.{fault_of}
+use Rattle.naga_oil.specs.Definition.{Defs, defs_of}
+use Rattle.naga_oil.specs.declared.compose.error.ErrSource.{ErrSource}
+use Rattle.naga_oil.specs.declared.compose.error.ErrSource.TheVariants as code
+use Rattle.naga_oil.specs.declared.compose.error.ComposerError.{ComposerError}
+
+-- what offsets count in: a registered module's text, or one that was given
+pub data Place : Type 0 where
+  in_module : (name : List ℕ) (offset : ℕ) (defs : Defs) → Place
+  in_text : (path source : List ℕ) (offset : ℕ) → Place
+
+abbrev pub place_of : ErrSource → Place
+place_of (code.Module name offset defs) = in_module (string_bytes name) offset (defs_of defs)
+place_of (code.Constructing path source offset) = in_text (string_bytes path) (string_bytes source) offset
+
+-- the place of want of memory
+abbrev pub nowhere : Place
+nowhere = in_text [] [] 0
+
+-- what is wrong, and where
+pub record Refused : Type 0 where
+  pub fault : Fault
+  pub place : Place
+
+-- what an error tells; want of memory is none
+abbrev pub refused_of : ComposerError → Option Refused
+refused_of e = option_map (λ f. record { fault = f; place = place_of e.source }) (fault_of e.inner)
+
+-- an error is what the value is refused for, or want of memory, which is nowhere
+abbrev pub Tells : {Y : Type 0} → ComposerError → Result Y Refused → Type 0
+Tells e value = MatchOption (refused_of e) (place_of e.source ≡ nowhere) (λ r. value ≡ Err r)
+
+-- a result, seen by view, is the value, or want of memory
+abbrev pub Answers : {X Y : Type 0} → (X → Y) → Result X ComposerError → Result Y Refused → Type 0
+Answers view (Ok x) value = value ≡ Ok (view x)
+Answers view (Err e) value = Tells e value
+
+-- a fact, unless memory ran out: the error tells nothing
+abbrev pub UnlessMemory : {X E F : Type 0} → (E → Option F) → Result X E → Type 0 → Type 0
+UnlessMemory told (Ok x) P = P
+UnlessMemory told (Err e) P = MatchOption (told e) (Unit {0}) (λ f. P)
+
+-- a value that is refused at a place
+abbrev pub placed : {Y : Type 0} → Place → Result Y Fault → Result Y Refused
+placed place (Ok y) = Ok y
+placed place (Err f) = Err (record { fault = f; place = place })

@@ -1,0 +1,38 @@
+-- What callers see of a composer, and how calls change it.
+use Rattle.std.specs.Prelude.{◌≡◌, ℕ, List, Bool, false, Option, Result, Ok, OnOk, OnErr, ◌⊎◌}
+use Rattle.std.specs.declared.alloc.AllocError.{AllocError}
+use Rattle.naga_oil_ir.specs.declared.backend.Capabilities.{Capabilities}
+use Rattle.naga_oil.specs.declared.compose.error.ComposerError.{ComposerError}
+use Rattle.naga_oil_pre.specs.View.{fault_of}
+use Rattle.naga_oil.specs.Added.{addition, counter_after, shown_by, Enters}
+use Rattle.naga_oil.specs.Definition.{Definition}
+use Rattle.naga_oil.specs.Descriptor.{ModuleSource}
+use Rattle.naga_oil.specs.Refused.{Answers, UnlessMemory}
+use Rattle.naga_oil.specs.Registry.{registered, removed}
+
+-- the front end, the settings, what is registered, and the number of the next binding
+pub record State (B : Type 0) : Type 0 where
+  pub front : B
+  pub validate : Bool
+  pub capabilities : Capabilities
+  pub registry : List Definition
+  pub counter : ℕ
+
+-- The counter is the one behind the source; after want of memory it may be the old one.
+pub record Counts {X E F : Type 0} (told : E → Option F) (result : Result X E) (source : List ℕ) (old new : ℕ) : Type 0 where
+  pub exact : UnlessMemory told result (new ≡ counter_after old source)
+  pub either : (new ≡ old) ⊎ (new ≡ counter_after old source)
+
+-- An addition answers its definition, seen so, and enters it; a refused one changes the counter alone.
+pub record Adds {B X Y : Type 0} (view : X → Y) (shown : Definition → Y) (old : State B) (m : ModuleSource) (result : Result X ComposerError) (new : State B) : Type 0 where
+  pub reply : Answers view result (shown_by shown (addition old.registry old.counter m))
+  pub counter : Counts (λ e. fault_of e.inner) result m.source old.counter new.counter
+  pub registry : OnOk result (Enters old.registry (addition old.registry old.counter m) new.registry)
+  pub refused : OnErr result (new.registry ≡ old.registry)
+  pub rest : new ≡ record old { counter = new.counter; registry = new.registry }
+
+-- A removal takes a module and all that reach it; a refused one changes nothing, and one of an unknown name is never refused.
+pub record Removes {B : Type 0} (old : State B) (name : List ℕ) (result : Result (Unit {0}) AllocError) (new : State B) : Type 0 where
+  pub done : OnOk result (new ≡ record old { registry = removed name old.registry })
+  pub refused : OnErr result (new ≡ old)
+  pub unknown : registered name old.registry ≡ false → result ≡ Ok tt

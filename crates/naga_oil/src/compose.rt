@@ -1,0 +1,41 @@
+//! Modules are added to a composer under their names.
+//!
+//! - `composer`: the composer.
+//! - `descriptor`: what callers ask for.
+//! - `definition`: what is registered of a module.
+//! - `registry`: the list of what is registered, the newest module first.
+//! - `adding`: what is added, from its text to its definition.
+//! - `sanitize`: a source as it is read.
+//! - `merge`: what a module takes over from those that it imports.
+//! - `error`: why a call is refused, and where.
+//! - `report`: what an error is told as.
+mod adding;
+mod composer;
+mod definition;
+mod descriptor;
+pub mod error;
+mod merge;
+mod registry;
+pub mod report;
+mod sanitize;
+
+pub use composer::Composer;
+pub use definition::ComposableModuleDefinition;
+pub use descriptor::{
+    ComposableModuleDescriptor, NagaModuleDescriptor, OwnedShaderDefs, ShaderType,
+};
+pub use error::{ComposerError, ComposerErrorInner, EnsureImportsError, ErrSource};
+pub use naga_oil_ir::{
+    Backend, BackendRefusal, Capabilities, ParseFault, ShaderLanguage, ValidFault, WriteFault,
+    backend,
+};
+pub use naga_oil_lines::decorate::{decode, decorated_name, undecorate};
+pub use naga_oil_lines::wgsl_directives::{
+    DiagnosticDirective, EnableDirective, RequiresDirective, WgslDirectives,
+};
+pub use naga_oil_lines::{
+    ImportDefWithOffset, ImportDefinition, comment_strip_iter, decorate, parse_imports, tokenizer,
+    wgsl_directives,
+};
+pub use naga_oil_pre as preprocess;
+pub use naga_oil_pre::{ShaderDefValue, get_preprocessor_data};

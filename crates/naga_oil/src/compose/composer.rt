@@ -1,0 +1,207 @@
+//! The composer.
+ghost use Rattle.std.specs.Prelude.{◌≡◌, ◌<◌, length, slice_get, Some, [], true, false, option_map, string_bytes, IfOk};
+ghost use Rattle.naga_oil.specs.Definition.{definition_of};
+
+use crate::compose::adding::{describe, register};
+use crate::compose::definition::{ComposableModuleDefinition, Tried};
+use crate::compose::descriptor::ComposableModuleDescriptor;
+use crate::compose::error::{ComposerError, refused};
+use crate::compose::registry::remove;
+use crate::compose::sanitize::read_source;
+use naga_oil_ir::{Backend, Capabilities};
+use naga_oil_lines::decorate::decorated_name;
+use std::alloc::Global;
+use std::marker::Model;
+
+/// Modules, each under its name, over a front end.
+#[derive(Drop)]
+pub struct Composer<B: Backend> {
+    alloc: Global,
+    front: B,
+    validate: bool,
+    capabilities: Capabilities,
+    // The newest first.
+    modules: Vec<ComposableModuleDefinition>,
+    // The number of the next binding.
+    counter: u32,
+}
+
+impl<B: Backend> Model for Composer<B> {
+    ghost use Rattle.std.specs.Prelude.{map};
+    ghost use Rattle.naga_oil.specs.State.{State};
+    ghost use Rattle.naga_oil.specs.Registry.{IsRegistry};
+    ghost use Rattle.naga_oil.specs.Definition.{definition_of};
+
+    ghost Value = { State B };
+
+    ghost view = { λ c. record { front = c.front; validate = c.validate; capabilities = c.capabilities; registry = map definition_of c.modules.items; counter = c.counter } };
+
+    ghost invariant = { λ c. IsRegistry (map definition_of c.modules.items) };
+}
+
+impl<B: Backend> Composer<B> {
+    ghost use Rattle.naga_oil_ir.specs.declared.backend.Capabilities.{Capabilities};
+    ghost use Rattle.naga_oil_lines.specs.Decorate.{decorated_name};
+    ghost use Rattle.naga_oil.specs.Added.{addition};
+    ghost use Rattle.naga_oil.specs.Descriptor.{module_source};
+    ghost use Rattle.naga_oil.specs.Refused.{Answers};
+    ghost use Rattle.naga_oil.specs.Registry.{registered, module_named, module_indexed, IsRegistry, AreReachedNames};
+    ghost use Rattle.naga_oil.specs.State.{Adds, Removes};
+
+    // A composer with nothing registered and the counter at 0.
+    fn empty(alloc: Global, front: B, validate: bool, capabilities: Capabilities) -> Self
+        ensures { result ≡ record { front = front; validate = validate; capabilities = capabilities; registry = []; counter = 0 } }
+    {
+        Composer {
+            alloc,
+            front,
+            validate,
+            capabilities,
+            modules: Vec::new(alloc),
+            counter: 0,
+        }
+    }
+
+    /// A composer with nothing registered, no capabilities and the counter at 0. It validates what it makes.
+    pub fn new(alloc: Global, front: B) -> Self
+        ensures { result ≡ record { front = front; validate = true; capabilities = record { 0 = 0 }; registry = []; counter = 0 } }
+    {
+        Composer::empty(alloc, front, true, Capabilities(0))
+    }
+
+    /// The same, but it doesn't validate.
+    pub fn non_validating(alloc: Global, front: B) -> Self
+        ensures { result ≡ record { front = front; validate = false; capabilities = record { 0 = 0 }; registry = []; counter = 0 } }
+    {
+        Composer::empty(alloc, front, false, Capabilities(0))
+    }
+
+    /// The same front end, and it validates as before, with these capabilities, nothing registered and the counter at 0.
+    pub fn with_capabilities(self, capabilities: Capabilities) -> Self
+        ensures { result ≡ record { front = self.front; validate = self.validate; capabilities = capabilities; registry = []; counter = 0 } }
+    {
+        Composer::empty(self.alloc, self.front, self.validate, capabilities)
+    }
+
+    /// The name of an item of a module, as it stands in what is made. With no module it is the item.
+    pub fn decorated_name(alloc: Global, module_name: Option<&str>, item: &str) -> Tried<String>
+        ensures { IfOk result (λ t. string_bytes t ≡ decorated_name (option_map (λ m. m.now) module_name.entry) item.now) }
+    {
+        decorated_name(alloc, module_name, item)
+    }
+
+    pub(crate) fn alloc(&self) -> Global {
+        self.alloc
+    }
+
+    /// Whether it validates what it makes.
+    pub fn validate(&self) -> bool
+        ensures { result ≡ self.now.validate }
+    {
+        self.validate
+    }
+
+    pub fn capabilities(&self) -> Capabilities
+        ensures { result ≡ self.now.capabilities }
+    {
+        self.capabilities
+    }
+
+    /// The number of the next binding that asks for one.
+    pub fn binding_counter(&self) -> u32
+        ensures { result ≡ self.now.counter }
+    {
+        self.counter
+    }
+
+    /// Whether a module of this name is registered.
+    pub fn contains_module(&self, module_name: &str) -> bool
+        ensures { result ≡ registered module_name.now self.now.registry }
+    {
+        self.module(module_name).is_some()
+    }
+
+    /// The module of this name. What each module imports is registered before it, and no two have one name or one index. The
+    /// names on which its build may depend are those recorded by it and by all that it reaches by imports.
+    pub fn module(&self, module_name: &str) -> Option<&ComposableModuleDefinition>
+        ensures registry { IsRegistry self.now.registry }
+        ensures effective { AreReachedNames self.now.registry }
+        ensures value { option_map (λ d. definition_of d.now) result ≡ module_named module_name.now self.now.registry }
+    {
+        self.modules
+            .iter()
+            .find(|definition| definition.name.as_str() == module_name)
+    }
+
+    /// The module of this index.
+    pub fn module_at(&self, index: usize) -> Option<&ComposableModuleDefinition>
+        ensures { option_map (λ d. definition_of d.now) result ≡ module_indexed index self.now.registry }
+    {
+        self.modules
+            .iter()
+            .find(|definition| definition.module_index == index)
+    }
+
+    /// Removes a module, and with it all that reach it by imports. Where it isn't registered nothing changes, and no memory is
+    /// taken.
+    pub fn remove_composable_module(&mut self, module_name: &str) -> Tried<()>
+        ensures { Removes self.old module_name.now result self.new }
+    {
+        if !self.contains_module(module_name) {
+            return Ok(());
+        }
+        remove(self.alloc, &mut self.modules, module_name)
+    }
+
+    // Adds a module, and answers its index.
+    pub(crate) fn added(
+        &mut self,
+        desc: ComposableModuleDescriptor<'_>,
+    ) -> Result<usize, ComposerError>
+        ensures { Adds (λ i. i) (λ d. d.index) self.old (module_source desc.entry) result self.new }
+    {
+        let alloc = self.alloc;
+        let path = desc.file_path;
+        let source = desc.source;
+        let (text, counter) = match read_source(alloc, source, self.counter) {
+            Ok(read) => read,
+            Err(inner) => return Err(refused(alloc, inner, path, source, 0)),
+        };
+        self.counter = counter;
+        let described = match describe(alloc, desc.as_name.as_ref(), text.as_str()) {
+            Ok(described) => described,
+            Err(inner) => return Err(refused(alloc, inner, path, source, 0)),
+        };
+        match register(alloc, &mut self.modules, desc, described) {
+            Ok(index) => Ok(index),
+            Err(inner) => Err(refused(alloc, inner, path, text.as_str(), 0)),
+        }
+    }
+
+    /// Adds a module under the name that it is given, or else under its import path, in the place of the module of that name
+    /// and of all that reach that. Or the first fault, in this order: a mark of a decoration, no number left for a binding,
+    /// the text's own, no name, an import that would not be registered then, no index left; or `Memory`. A refusal changes
+    /// the counter alone, and that by exactly the bindings that were read.
+    pub fn add_composable_module(
+        &mut self,
+        desc: ComposableModuleDescriptor<'_>,
+    ) -> Result<&ComposableModuleDefinition, ComposerError>
+        ensures reply { Answers (λ d. definition_of d.now) result (addition self.old.registry self.old.counter (module_source desc.entry)) }
+    {
+        if let Err(error) = self.added(desc) {
+            return Err(error);
+        }
+        Ok(self.newest())
+    }
+
+    // The module that was added last.
+    fn newest(&self) -> &ComposableModuleDefinition
+        requires { 0 < length self.now.registry }
+        ensures { slice_get self.now.registry 0 ≡ Some (definition_of result.now) }
+    {
+        &self.modules[0]
+    }
+}
+
+#[cfg(test)]
+pub(crate) mod tests;

@@ -1,0 +1,42 @@
+use naga_oil_ir::ShaderLanguage;
+use naga_oil_lines::wgsl_directives::WgslDirectives;
+use naga_oil_lines::{ImportDefWithOffset, ImportDefinition};
+use naga_oil_pre::{ComposerErrorInner, ShaderDefValue};
+use std::alloc::AllocError;
+use std::collections::{BTreeMap, BTreeSet};
+
+// An answer, or want of memory.
+pub(crate) type Tried<T> = Result<T, AllocError>;
+
+// An answer, or a fault.
+pub(crate) type Checked<T> = Result<T, ComposerErrorInner>;
+
+// Names, each once.
+pub(crate) type Names = BTreeSet<String>;
+
+// What names are defined as.
+pub(crate) type Defs = BTreeMap<String, ShaderDefValue>;
+
+// What is registered of a module.
+pub(crate) type Definition = ComposableModuleDefinition;
+
+/// A registered module.
+#[derive(Drop)]
+pub struct ComposableModuleDefinition {
+    pub name: String,
+    /// The text as it is read, with an empty line in the place of each directive and without its last line end.
+    pub sanitized_source: String,
+    pub language: ShaderLanguage,
+    pub file_path: String,
+    /// The definitions that it is bound to: its own, overwritten by those of each module that it imports.
+    pub shader_defs: Defs,
+    // The names on which its build may depend: those that its text records, and those of all that it imports.
+    pub(crate) effective_defs: Names,
+    // What it may import: what its text uses under some definitions, then what it imports besides.
+    pub(crate) all_imports: Vec<ImportDefWithOffset>,
+    // What it imports besides what its text uses.
+    pub(crate) additional_imports: Vec<ImportDefinition>,
+    // From 1 to 2047, and of no other module.
+    pub(crate) module_index: usize,
+    pub(crate) wgsl_directives: WgslDirectives,
+}
