@@ -1,4 +1,4 @@
-use Rattle.std.proofs.Common.{◌⊎◌, inl, inr, ⊎_elim, ◌≡◌, ℕ, zero, suc, ◌<◌, ◌≤◌, ◌+◌, ◌*◌, List, [], ◌∷◌, ◌++◌, Option, Some, None, option_map, refl, ap, sym, ◌∙◌, subst, arith, All, IfSome, append-nil, append_assoc, take, get_or, length, take_all}
+use Rattle.std.proofs.Common.{Bool, true, false, ◌==◌, if◌then◌else◌, ◌⊎◌, inl, inr, ⊎_elim, ◌≡◌, ℕ, zero, suc, ◌<◌, ◌≤◌, ◌+◌, ◌*◌, List, [], ◌∷◌, ◌++◌, Option, Some, None, option_map, refl, ap, sym, ◌∙◌, subst, arith, All, IfSome, append-nil, append_assoc, take, get_or, length, take_all}
 use Rattle.std.specs.List.{AllZip}
 use Rattle.std.proofs.lemmas.List.{take_more}
 use Rattle.std.proofs.lemmas.List.Elements.{All-head, All-tail, All-weaker}
@@ -10,11 +10,15 @@ use Rattle.naga_oil_ir.specs.declared.names.ItemPlace.{ItemPlace}
 use Rattle.naga_oil_derive.specs.declared.maps.Maps.{Maps}
 use Rattle.naga_oil_derive.specs.Tree.{World, Kept, Tree, Then, Absent, Item, tree, trees, row_tree, kept_tree, reading}
 use Rattle.naga_oil_derive.specs.World.{value_of, world, span_at, shifted}
-use Rattle.naga_oil_derive.specs.Collected.{names_trail, row_trail, kept_trail, reached, depth, Stands, Collects, Done, Known, Fresh}
-use Rattle.naga_oil_derive.specs.Copying.{IsWhole, Goes, NameGoesTo, AreCopied, IsSound, Fetches, goes_under, source_world, kept_between, copied_span, rank, AreRanked, IsBelowItem, IsCopying, AreNames, Grows, CopiesOne, IsCollected, trail_of, CollectsItem, CollectsNames}
-use Rattle.naga_oil_derive.proofs.TreeLemmas.{reads, same_place, tree-later}
+use Rattle.naga_oil_derive.specs.Collected.{names_trail, row_trail, kept_trail, reached, depth, Stands, Collects, Done, Known, Fresh, Comes}
+use Rattle.naga_oil_derive.specs.Copying.{IsWhole, Goes, NameGoesTo, AreCopied, IsSound, Fetches, goes_under, source_world, kept_between, copied_span, rank, AreRanked, IsBelowItem, IsCopying, AreNames, Grows, CopiesOne, IsCollected, trail_of, CollectsItem, CollectsNames, CollectsNamed}
+use Rattle.naga_oil_derive.proofs.TreeLemmas.{reads, same_place, same_or_not, tree-later, trees_same, AreCopied-named}
+use Rattle.naga_oil_ir.proofs.LinkLemmas.{eqb_eq, eq_eqb}
+use Rattle.naga_oil_ir.specs.declared.names.ItemPlace.TheVariants.{TypeItem, ConstantItem, OverrideItem, GlobalItem, ExpressionItem}
+use Rattle.naga_oil_ir.specs.Rows.{Text}
+use Rattle.naga_oil_derive.specs.World.{renamed_at, under_name}
 use Rattle.naga_oil_derive.proofs.WorldLemmas.{named_none, named_names}
-use Rattle.naga_oil_derive.proofs.CopyLemmas.{free, kept_same, IsCopying-step, reads-step}
+use Rattle.naga_oil_derive.proofs.CopyLemmas.{free, none_some, kept_same, source_here, source_there, IsCopying-step, reads-step}
 
 pub Collects-append : {w : World} {kept : Kept} {spans : ItemPlace → Option Span} {v t u : ModuleValue} {xs : List ItemPlace} (ys : List ItemPlace) → Collects w kept spans v xs t → Collects w kept spans t ys u → Collects w kept spans v (xs ++ ys) u
 Collects-append ys Done c = c
@@ -147,7 +151,7 @@ none_more source t u m ns i o l e is c =
     let q : names_trail f (take i ns) ≡ names_trail f (take (i + 1) ns) = sym (more_names f ns i o l e ∙ ap (λ v. names_trail f (take i ns) ++ names_trail f (v ∷ [])) is ∙ append-nil (names_trail f (take i ns))) in
     subst (λ ps. IsCollected source m t ps u) q c
 
-span_same : (source : Module) (m n : Maps) → n.offset ≡ m.offset → copied_span source n ≡ copied_span source m
+pub span_same : (source : Module) (m n : Maps) → n.offset ≡ m.offset → copied_span source n ≡ copied_span source m
 unfolding copied_span
 span_same source m n e = ap (λ k. λ p. option_map (shifted k) (span_at (value_of source) p)) e
 
@@ -225,3 +229,114 @@ item_collects s t u x m n k p r ns a i j g reads_same was fresh is named c one =
     let here : w p ≡ Some r = named_none (world (value_of s)) (world (value_of t)) (goes_under m) p was ∙ is in
     let jj = subst (λ v. AreCopied v (world (value_of u)) (kept_between s t) (goes_under n)) reads_same (subst (λ v. AreCopied (source_world s u n) (world (value_of u)) v (goes_under n)) (kept_same s t u g.special) j.copied) in
     fresh_item s t u x m n k p r a (a.within p (r, is)) j nj one fresh w (sym after) g.special g.offset here (lowers s t m a) jj _ (ap (names_trail (trail_of s t m)) (names_are _ r ns named is)) c
+
+-- ---- a source that reads otherwise, but not below a rank
+
+row_agrees : (w : World) (rank_of : ItemPlace → ℕ) → Lowers w rank_of → (b : ℕ) (f g : ItemPlace → Tree) → ((q : ItemPlace) → rank_of q < b → f q ≡ g q) → (q : ItemPlace) → rank_of q < b → (o : Option Row) → w q ≡ o → row_tree f o ≡ row_tree g o
+row_agrees w rank_of l b f g e q h None at = refl
+row_agrees w rank_of l b f g e q h (Some r) at = ap (Item r.label) (trees_same (λ y. rank_of y < rank_of q) f g (λ y i. e y (omega (arith, h, i))) r.names (l q r at))
+
+reading_agrees : (w x v : World) (kept : Kept) (rank_of : ItemPlace → ℕ) → Lowers w rank_of → (b : ℕ) → ((q : ItemPlace) → rank_of q < b → x q ≡ w q) → (n : ℕ) (q : ItemPlace) → rank_of q < b → reading n x v kept q ≡ reading n w v kept q
+unfolding reading
+reading_agrees w x v kept rank_of l b e zero q h = refl
+reading_agrees w x v kept rank_of l b e (suc n) q h =
+    ap (λ o. kept_tree (tree (suc n) v) (kept q) (row_tree (reading n x v kept) o)) (e q h) ∙ ap (kept_tree (tree (suc n) v) (kept q)) (row_agrees w rank_of l b (reading n x v kept) (reading n w v kept) (λ y i. reading_agrees w x v kept rank_of l b e n y i) q h (w q) refl)
+
+reached_agrees : (w x : World) (kept : Kept) (rank_of : ItemPlace → ℕ) → Lowers w rank_of → (b : ℕ) → ((q : ItemPlace) → rank_of q < b → x q ≡ w q) → (n : ℕ) (q : ItemPlace) → rank_of q < b → reached n x kept q ≡ reached n w kept q
+unfolding reached
+reached_agrees w x kept rank_of l b e zero q h = refl
+reached_agrees w x kept rank_of l b e (suc n) q h =
+    ap (λ o. kept_trail (kept q) (row_trail (reached n x kept) o ++ q ∷ [])) (e q h) ∙ ap (λ t. kept_trail (kept q) (t ++ q ∷ [])) (same_row_trail w rank_of l q (reached n x kept) (reached n w kept) (λ y i. reached_agrees w x kept rank_of l b e n y (omega (arith, h, i))) (w q) refl)
+
+-- what an item of some rank reaches has no higher rank
+below_names : (rank_of : ItemPlace → ℕ) (b c : ℕ) (f : ItemPlace → List ItemPlace) → c ≤ b → ((q : ItemPlace) → rank_of q < b → EachPlace (λ y. rank_of y < b) (f q)) → (ps : List (Option ItemPlace)) → All (λ o. IfSome o (λ q. rank_of q < c)) ps → EachPlace (λ y. rank_of y < b) (names_trail f ps)
+below_names rank_of b c f l h [] a = tt
+below_names rank_of b c f l h (None ∷ ps) a = below_names rank_of b c f l h ps (All-tail (λ o. IfSome o (λ q. rank_of q < c)) None ps a)
+below_names rank_of b c f l h (Some p ∷ ps) a =
+    let i : rank_of p < c = All-head (λ o. IfSome o (λ q. rank_of q < c)) (Some p) ps a in
+    EachPlace-append (λ y. rank_of y < b) (f p) (names_trail f ps) (h p (omega (arith, i, l))) (below_names rank_of b c f l h ps (All-tail (λ o. IfSome o (λ q. rank_of q < c)) (Some p) ps a))
+
+below_row : (w : World) (rank_of : ItemPlace → ℕ) → Lowers w rank_of → (b : ℕ) (f : ItemPlace → List ItemPlace) → ((q : ItemPlace) → rank_of q < b → EachPlace (λ y. rank_of y < b) (f q)) → (q : ItemPlace) → rank_of q < b → (o : Option Row) → w q ≡ o → EachPlace (λ y. rank_of y < b) (row_trail f o)
+below_row w rank_of l b f h q i None at = tt
+below_row w rank_of l b f h q i (Some r) at = below_names rank_of b (rank_of q) f (omega (arith, i)) h r.names (l q r at)
+
+below_kept : (rank_of : ItemPlace → ℕ) (b : ℕ) (o : Option ItemPlace) (ps : List ItemPlace) → EachPlace (λ y. rank_of y < b) ps → EachPlace (λ y. rank_of y < b) (kept_trail o ps)
+below_kept rank_of b None ps h = h
+below_kept rank_of b (Some q) ps h = tt
+
+reached_below : (w : World) (kept : Kept) (rank_of : ItemPlace → ℕ) → Lowers w rank_of → (b n : ℕ) (q : ItemPlace) → rank_of q < b → EachPlace (λ y. rank_of y < b) (reached n w kept q)
+unfolding reached
+reached_below w kept rank_of l b zero q h = tt
+reached_below w kept rank_of l b (suc n) q h = below_kept rank_of b (kept q) (row_trail (reached n w kept) (w q) ++ q ∷ []) (EachPlace-append (λ y. rank_of y < b) (row_trail (reached n w kept) (w q)) (q ∷ []) (below_row w rank_of l b (reached n w kept) (reached_below w kept rank_of l b n) q h (w q) refl) (h, tt))
+
+stands_agrees : (w x v : World) (kept : Kept) (p : ItemPlace) → ((n : ℕ) → reading n x v kept p ≡ reading n w v kept p) → Stands w kept v p → Stands x kept v p
+stands_agrees w x v kept p e s = (s.0, s.1, λ n. s.2 n ∙ sym (e n))
+
+comes_agrees : (w x : World) (kept : Kept) (spans : ItemPlace → Option Span) (m n : ModuleValue) (p : ItemPlace) → ((v : World) (k : ℕ) → reading k x v kept p ≡ reading k w v kept p) → Comes w kept spans m n p → Comes x kept spans m n p
+comes_agrees w x kept spans m n p e c = record {
+  at = c.at;
+  free = c.free;
+  extends = c.extends;
+  others = c.others;
+  reads = λ k. c.reads k ∙ sym (e (world n) k);
+  span = c.span;
+  first = λ s. c.first (stands_agrees x w (world m) kept p (λ k. sym (e (world m) k)) s);
+}
+
+Collects-agrees : (w x : World) (kept : Kept) (spans : ItemPlace → Option Span) (P : ItemPlace → Type 0) → ((p : ItemPlace) → P p → (v : World) (k : ℕ) → reading k x v kept p ≡ reading k w v kept p) → {m n : ModuleValue} {ps : List ItemPlace} → EachPlace P ps → Collects w kept spans m ps n → Collects x kept spans m ps n
+Collects-agrees w x kept spans P e h Done = Done
+Collects-agrees w x kept spans P e {m} h (Known {p} s c) = Known (stands_agrees w x (world m) kept p (e p h.0 (world m)) s) (Collects-agrees w x kept spans P e h.1 c)
+Collects-agrees w x kept spans P e {m} h (Fresh {l} {p} s c) = Fresh (comes_agrees w x kept spans m l p (e p h.0) s) (Collects-agrees w x kept spans P e h.1 c)
+
+under_names : (o : Option Text) (r : Row) → (under_name o r).names ≡ r.names
+under_names None r = refl
+under_names (Some n) r = refl
+
+-- a copy under a name, after the copies of what it names
+pub named_collects : (s t u x : Module) (m n k : Maps) (p : ItemPlace) (o : Option Text) (r row : Row) (ns : List (Option ItemPlace)) → AreRanked s → IsCopying s t m → IsCopying s u n → Grows m n t u → source_world s u n ≡ source_world s t m → goes_under m p ≡ None → goes_under n p ≡ None → world (value_of s) p ≡ Some r → row ≡ under_name o r → AreNames (world (value_of s) p) ns → CollectsNames s m t ns u → CopiesOne s u x n k p row → CollectsNamed s m t p (source_world s x k) x
+unfolding trail_of
+named_collects s t u x m n k p o r row ns a i j g reads_same was fresh is named names_named c one =
+    let d = depth (value_of s) in
+    let kept = kept_between s t in
+    let old = source_world s t m in
+    let new = source_world s x k in
+    let l = lowers s t m a in
+    let nj = IsCopying-step s u x n k p o r row j fresh one is named in
+    let elsewhere : (y : ItemPlace) → (y ≡ p → ⊥) → new y ≡ source_world s u n y = source_there s u x n k p row j one in
+    let agrees : (y : ItemPlace) → rank s y < rank s p → new y ≡ old y = λ y h. elsewhere y (λ e. let q = ap (rank s) e in absurd (omega (arith, h, q))) ∙ ap (λ w. w y) reads_same in
+    let lower : All (λ q. IfSome q (λ y. rank s y < rank s p)) r.names = All-weaker (IsBelowItem s p) (λ q. IfSome q (λ y. rank s y < rank s p)) (lower_name s p) r.names (a.names p r is) in
+    let ns_are : ns ≡ r.names = names_are _ r ns names_named is in
+    let lower_ns = subst (All (λ q. IfSome q (λ y. rank s y < rank s p))) (sym ns_are) lower in
+    let under = below_names (rank s) (rank s p) (rank s p) (reached d old kept) (omega arith) (reached_below old kept (rank s) l (rank s p) d) ns lower_ns in
+    let before = Collects-agrees old new kept (copied_span s m) (λ y. rank s y < rank s p) (λ y h v e. reading_agrees old new v kept (rank s) l (rank s p) agrees e y h) under c in
+    let row_names : row.names ≡ r.names = ap (λ (v : Row). v.names) named ∙ under_names o r in
+    let trails : names_trail (reached d old kept) ns ≡ names_trail (reached d new kept) row.names = same_trails (rank s) (rank s p) (reached d old kept) (reached d new kept) (λ y h. sym (reached_agrees old new kept (rank s) l (rank s p) agrees d y h)) ns lower_ns ∙ ap (names_trail (reached d new kept)) (ns_are ∙ sym row_names) in
+    let copied_before = AreCopied-named (source_world s u n) new (world (value_of u)) (kept_between s u) (goes_under n) j.copied (λ y z h. elsewhere y (λ e. absurd (none_some z (sym fresh ∙ ap (goes_under n) (sym e) ∙ h)))) in
+    fresh_item s t u x m n k p row a (a.within p (r, is)) j nj one fresh new refl g.special g.offset (source_here s u x n k p o r row one is named) (lowers s x k a) (subst (λ v. AreCopied new (world (value_of u)) v (goes_under n)) (kept_same s t u g.special) copied_before) _ trails before
+
+-- ---- a name that is given
+
+pub renamed_here : (w : World) (k : ℕ) (n : Option Text) → renamed_at w k n (TypeItem k) ≡ option_map (under_name n) (w (TypeItem k))
+unfolding renamed_at
+renamed_here w k n = ap (λ b. if b then option_map (under_name n) (w (TypeItem k)) else w (TypeItem k)) (eq_eqb k k refl)
+
+not_same : (b : Bool) (A : Type 0) → (b ≡ true → A) → (b ≡ false) ⊎ A
+not_same true A f = inr (f refl)
+not_same false A f = inl refl
+
+pub renamed_there : (w : World) (k : ℕ) (n : Option Text) (p : ItemPlace) → (p ≡ TypeItem k → ⊥) → renamed_at w k n p ≡ w p
+unfolding renamed_at
+renamed_there w k n (TypeItem j) d = ⊎_elim (λ e. ap (λ b. if b then option_map (under_name n) (w (TypeItem j)) else w (TypeItem j)) e) (λ e. absurd (d (ap TypeItem e))) (not_same (j == k) (j ≡ k) (eqb_eq j k))
+renamed_there w k n (ConstantItem j) d = refl
+renamed_there w k n (OverrideItem j) d = refl
+renamed_there w k n (GlobalItem j) d = refl
+renamed_there w k n (ExpressionItem j) d = refl
+
+-- how a source reads after a copy of a type under a name
+pub named_reads : (s t u x : Module) (m n k : Maps) (h : ℕ) (o : Option Text) (r row : Row) → IsCopying s u n → source_world s u n ≡ source_world s t m → goes_under m (TypeItem h) ≡ None → world (value_of s) (TypeItem h) ≡ Some r → row ≡ under_name o r → CopiesOne s u x n k (TypeItem h) row → source_world s x k ≡ renamed_at (source_world s t m) h o
+unfolding source_world
+named_reads s t u x m n k h o r row j reads_same was is named one =
+    let p = TypeItem h in
+    let here : source_world s x k p ≡ renamed_at (source_world s t m) h o p = source_here s u x n k p o r row one is named ∙ ap Some named ∙ sym (ap (option_map (under_name o)) (named_none (world (value_of s)) (world (value_of t)) (goes_under m) p was ∙ is)) ∙ sym (renamed_here (source_world s t m) h o) in
+    let same : (y : ItemPlace) → source_world s x k y ≡ renamed_at (source_world s t m) h o y = λ y. ⊎_elim (λ e. subst (λ z. source_world s x k z ≡ renamed_at (source_world s t m) h o z) (sym e) here) (λ d. source_there s u x n k p row j one y d ∙ ap (λ w. w y) reads_same ∙ sym (renamed_there (source_world s t m) h o y d)) (same_or_not y p) in
+    λ i y. same y i

@@ -112,7 +112,7 @@ pub free : (kept m : Goes) → ((p q : ItemPlace) → kept p ≡ Some q → m p 
 free kept m s p None e f = e
 free kept m s p (Some q) e f = let h = s p q e in cc
 
-none_some : (q : ItemPlace) → None ≡ Some q → ⊥
+pub none_some : (q : ItemPlace) → None ≡ Some q → ⊥
 none_some q e = cc
 
 -- one copy, of an item under a name: where the item goes, its row is read

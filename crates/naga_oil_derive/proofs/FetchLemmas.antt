@@ -43,7 +43,7 @@ no_less : (a b : ℕ) → nat_lt a b ≡ false → b ≤ a
 no_less a b h = search (rules, tests)
 
 -- where no element passes, each fails
-fails : {X : Type 0} (p : X → Bool) (xs : List X) → position p xs ≡ None → (j : ℕ) (e : X) → slice_get xs j ≡ Some e → p e ≡ false
+pub fails : {X : Type 0} (p : X → Bool) (xs : List X) → position p xs ≡ None → (j : ℕ) (e : X) → slice_get xs j ≡ Some e → p e ≡ false
 fails p xs h j e g =
     let l : nat_lt (position_or_len p xs) (length xs) ≡ false = not_before _ _ h in
     let m = no_less _ _ l in

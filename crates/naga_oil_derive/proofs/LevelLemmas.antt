@@ -194,7 +194,7 @@ missing_one f (c ∷ cs) h = missing_front f c cs (f c) (above (map f cs)) refl 
 -- ---- cycles
 
 -- a function leads to functions on lower levels alone
-lower : (calls : Links) → StayWithin calls → (k c l : ℕ) → k < length calls → level calls k ≡ Some l → has (linked calls k) c ≡ true → (m : ℕ) × (level calls c ≡ Some m) × (m < l)
+pub lower : (calls : Links) → StayWithin calls → (k c l : ℕ) → k < length calls → level calls k ≡ Some l → has (linked calls k) c ≡ true → (m : ℕ) × (level calls c ≡ Some m) × (m < l)
 lower calls w k c l i h e = above_each (level calls) (linked calls k) l c (sym (level_is calls w k i) ∙ h) e
 
 leads_lower : (calls : Links) → StayWithin calls → (k c : ℕ) → Leads calls k c → (l : ℕ) → k < length calls → level calls k ≡ Some l → (m : ℕ) × (level calls c ≡ Some m) × (m < l)
@@ -205,7 +205,7 @@ leads_lower calls w k c (Through {b = b} e p) l i h =
     (r.0, r.1, omega (arith, r.2, d.2))
 
 -- no function on a cycle has a level
-on_cycle : (calls : Links) → StayWithin calls → (k : ℕ) (o : Option ℕ) → k < length calls → Leads calls k k → level calls k ≡ o → o ≡ None
+pub on_cycle : (calls : Links) → StayWithin calls → (k : ℕ) (o : Option ℕ) → k < length calls → Leads calls k k → level calls k ≡ o → o ≡ None
 on_cycle calls w k None i p h = refl
 on_cycle calls w k (Some l) i p h =
     let r = leads_lower calls w k k p l i h in

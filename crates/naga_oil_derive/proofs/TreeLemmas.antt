@@ -82,7 +82,7 @@ IsWhole-more v zero m p l h = absurd h
 IsWhole-more v (suc n) zero p l h = absurd (omega arith)
 IsWhole-more v (suc n) (suc m) p l h = (h.0, h.1, names_weaker (IsWhole n v) (IsWhole m v) (λ q. IsWhole-more v n m q (omega arith)) h.0.names h.2)
 
-trees_same : (P : ItemPlace → Type 0) (f g : ItemPlace → Tree) → ((p : ItemPlace) → P p → f p ≡ g p) → (ps : List (Option ItemPlace)) → All (λ o. IfSome o P) ps → trees f ps ≡ trees g ps
+pub trees_same : (P : ItemPlace → Type 0) (f g : ItemPlace → Tree) → ((p : ItemPlace) → P p → f p ≡ g p) → (ps : List (Option ItemPlace)) → All (λ o. IfSome o P) ps → trees f ps ≡ trees g ps
 trees_same P f g e [] a = refl
 trees_same P f g e (None ∷ ps) a = ap (Then Absent) (trees_same P f g e ps (All-tail (λ o. IfSome o P) None ps a))
 trees_same P f g e (Some p ∷ ps) a =
@@ -155,7 +155,7 @@ once_step v u s q i f x y r e g (inr a) (inl b) =
     absurd (a.1 y (b ∙ ap Some rs))
 once_step v u s q i f x y r e g (inr a) (inr b) = a.0 ∙ sym b.0
 
-same_number : (a b : ℕ) → (a ≡ b) ⊎ (a ≡ b → ⊥)
+pub same_number : (a b : ℕ) → (a ≡ b) ⊎ (a ≡ b → ⊥)
 same_number a b = ⊎_elim inl (λ o. inr (λ e. ⊎_elim (λ l. omega arith) (λ l. omega arith) o)) (cases_order a b)
 
 pub same_or_not : (x p : ItemPlace) → (x ≡ p) ⊎ (x ≡ p → ⊥)

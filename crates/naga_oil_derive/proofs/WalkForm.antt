@@ -42,7 +42,7 @@ known_done ks s d x h = or_right (is_external ks x) (has s x || has d x) (or_rig
 known_more : (ks s d e : List ℕ) (x : ℕ) → Holds e d → is_known ks s d x ≡ true → is_known ks s e x ≡ true
 known_more ks s d e x f h = ⊎_elim (λ l. known_external ks s e x l) (λ r. ⊎_elim (λ l. known_began ks s e x l) (λ q. known_done ks s e x (f x q)) r) (known_cases ks s d x h)
 
-has_last : (d : List ℕ) (k x : ℕ) → has (d ++ k ∷ []) x ≡ true → (has d x ≡ true) ⊎ (k ≡ x)
+pub has_last : (d : List ℕ) (k x : ℕ) → has (d ++ k ∷ []) x ≡ true → (has d x ≡ true) ⊎ (k ≡ x)
 has_last d k x h = ⊎_elim (λ l. inl l) (λ r. inr (only k x r)) (or_cases (has d x) (has (k ∷ []) x) (sym (has-append d (k ∷ []) x) ∙ h))
 
 known_last : (ks s d : List ℕ) (k x : ℕ) → is_known ks s (d ++ k ∷ []) x ≡ true → (is_known ks s d x ≡ true) ⊎ (k ≡ x)

@@ -11,7 +11,7 @@ use Rattle.naga_oil_ir.specs.Body.{Tokens}
 use Rattle.naga_oil_ir.specs.declared.tokens.Token.{Token}
 use Rattle.naga_oil_ir.specs.BodyForm.{run, places, is_external}
 use Rattle.naga_oil_ir.specs.Links.{Links, linked, AreEarlier, reached, trail, has, added, started, AreMarks}
-use Rattle.naga_oil_ir.proofs.LinkLemmas.{has-append, has-added, marked-set, or_false, only, itself, in_one, in_all, slice_get-append_within, slice_get-append_at, trail-step}
+use Rattle.naga_oil_ir.proofs.LinkLemmas.{has-append, has-added, marked-set, or_false, only, itself, in_one, in_all, slice_get-append_within, slice_get-append_at, trail-step, eq_eqb}
 use Rattle.naga_oil_derive.specs.Walk.{IsReady, Holds, externals, Notes, noted, notes_of, notes_after, brief}
 
 -- ---- lists
@@ -70,7 +70,7 @@ take_last : (o : List ℕ) (k i : ℕ) → i ≡ length o → take i (o ++ k ∷
 take_last o k i h = take_at o (k ∷ []) i (sym h)
 
 -- a fact of each place with what stands before it, for one place more
-push_each : (P : List ℕ → ℕ → Type 0) (o : List ℕ) (k : ℕ) → ((i j : ℕ) → slice_get o i ≡ Some j → P (take i o) j) → P o k → (i j : ℕ) → slice_get (o ++ k ∷ []) i ≡ Some j → P (take i (o ++ k ∷ [])) j
+pub push_each : (P : List ℕ → ℕ → Type 0) (o : List ℕ) (k : ℕ) → ((i j : ℕ) → slice_get o i ≡ Some j → P (take i o) j) → P o k → (i j : ℕ) → slice_get (o ++ k ∷ []) i ≡ Some j → P (take i (o ++ k ∷ [])) j
 push_each P o k f p i j e =
     ⊎_elim (λ q. subst (λ t. P t j) (sym (take_last o k i q)) (subst (P o) (at_last o k i j q e) p)) (⊎_elim (λ q. subst (λ t. P t j) (sym (take-append-le i o (k ∷ []) (omega arith))) (f i j (sym (slice_get-append_within o (k ∷ []) i q) ∙ e))) (λ q. let l : i < length (o ++ k ∷ []) = slice_get_within (o ++ k ∷ []) i j e in absurd (omega (arith, length_push {X = ℕ})))) (cases_order i (length o))
 
@@ -92,6 +92,12 @@ pub place_at : (o : List ℕ) (k : ℕ) → has o k ≡ true → (i : ℕ) × (s
 place_at [] k h = absurd (false≢true h)
 place_at (x ∷ o) k h =
     ⊎_elim (λ e. (zero, ap Some (only x k (or_left (x == k) false e)))) (λ e. let r = place_at o k e in (suc r.0, r.1)) (or_cases (x == k) (has o k) h)
+
+-- what stands somewhere in it an order has
+pub has_at : (o : List ℕ) (i k : ℕ) → slice_get o i ≡ Some k → has o k ≡ true
+has_at [] i k e = absurd (none-some k e)
+has_at (x ∷ o) zero k e = or_left (x == k) (has o k) (eq_eqb x k (same_Some x k e))
+has_at (x ∷ o) (suc i) k e = or_right (x == k) (has o k) (has_at o i k e)
 
 pub has_take : (i : ℕ) (o : List ℕ) (x : ℕ) → has (take i o) x ≡ true → has o x ≡ true
 has_take zero o x h = absurd (false≢true h)
@@ -136,7 +142,7 @@ marks_more fs o p k m h e = λ j. marked-set fs k j h ∙ ap (λ b. b || (k == j
 
 -- ---- ranges
 
-run-last : (a n k : ℕ) → a + n ≡ k → run a (suc n) ≡ run a n ++ k ∷ []
+pub run-last : (a n k : ℕ) → a + n ≡ k → run a (suc n) ≡ run a n ++ k ∷ []
 run-last a zero k h = let e : a ≡ k = omega arith in ap (λ x. x ∷ []) e
 run-last a (suc n) k h = ap (λ t. a ∷ t) (run-last (suc a) n k (omega arith))
 

@@ -1,5 +1,5 @@
 -- What holds between the calls that copy items, and what each of them does.
-use Rattle.std.specs.Prelude.{◌⊎◌, ℕ, zero, suc, ◌≡◌, ◌+◌, ◌*◌, ◌<◌, ◌≤◌, List, length, Option, Some, None, option_map, slice_get, unwrap_or, All, IfSome, if◌then◌else◌}
+use Rattle.std.specs.Prelude.{◌⊎◌, ℕ, zero, suc, ◌≡◌, ◌+◌, ◌*◌, ◌<◌, ◌≤◌, List, [], ◌∷◌, length, map, Option, Some, None, option_map, slice_get, slice_set, unwrap_or, All, IfSome, if◌then◌else◌}
 use Rattle.std.specs.List.{AllZip}
 use Rattle.std.specs.Option.{option_flatten}
 use Rattle.naga_oil_ir.specs.Rows.{Row}
@@ -10,6 +10,7 @@ use Rattle.naga_oil_ir.specs.declared.span.Span.{Span}
 use Rattle.naga_oil_ir.specs.declared.names.ItemPlace.{ItemPlace}
 use Rattle.naga_oil_ir.specs.declared.names.ItemPlace.TheVariants.{TypeItem, ConstantItem, OverrideItem, GlobalItem, ExpressionItem}
 use Rattle.naga_oil_derive.specs.declared.maps.Maps.{Maps}
+use Rattle.naga_oil_derive.specs.declared.special.SpecialKey.{SpecialKey}
 use Rattle.naga_oil_derive.specs.Renames.{Renames}
 use Rattle.naga_oil_derive.specs.Tree.{World, Kept, ReadsAs}
 use Rattle.naga_oil_derive.specs.World.{Places, goes, value_of, world, span_at, shifted, Extends, named_world, kept_of}
@@ -125,6 +126,19 @@ pub record AreLong (m : Maps) (source : Module) : Type 0 where
   pub globals : length m.global_variables.items ≡ length source.global_variables
   pub expressions : length m.global_expressions.items ≡ length source.global_expressions
 
+abbrev pub put_kept : List (Option ℕ) → ℕ → Option ℕ → List (Option ℕ)
+put_kept ts k None = ts
+put_kept ts k (Some q) = slice_set ts k (Some q)
+
+-- the places of types, with those of special types that are kept: of two of one type the last
+abbrev pub kept_over : (SpecialKey → Option ℕ) → List (SpecialKey × ℕ) → List (Option ℕ) → List (Option ℕ)
+kept_over f [] ts = ts
+kept_over f (e ∷ es) ts = kept_over f es (put_kept ts e.1 (f e.0))
+
+-- the special types as names
+abbrev pub special_names : List (SpecialKey × ℕ) → List (Option ItemPlace)
+special_names es = map (λ e. Some (TypeItem e.1)) es
+
 -- ---- the state between calls
 
 -- the source as it reads
@@ -195,6 +209,10 @@ CollectsItem source m t p u = IsCollected source m t (trail_of source t m p) u
 
 abbrev pub CollectsNames : Module → Maps → Module → List (Option ItemPlace) → Module → Type 0
 CollectsNames source m t ps u = IsCollected source m t (names_trail (trail_of source t m) ps) u
+
+-- what a request for the item at a place adds, where the source reads as w
+abbrev pub CollectsNamed : Module → Maps → Module → ItemPlace → World → Module → Type 0
+CollectsNamed source m t p w u = Collects w (kept_between source t) (copied_span source m) (value_of t) (reached (depth (value_of source)) w (kept_between source t) p) (value_of u)
 
 -- the item at a place has a copy, which reads as it
 abbrev pub HasCopy : Module → Module → Maps → ItemPlace → Type 0

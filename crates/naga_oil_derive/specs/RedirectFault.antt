@@ -1,5 +1,5 @@
 -- Why calls can't be redirected, or functions can't be put in order, as plain data.
-use Rattle.std.specs.Prelude.{List, ℕ, Option, Some, None, string_bytes}
+use Rattle.std.specs.Prelude.{◌≡◌, List, ℕ, Option, Some, None, Result, Ok, Err, MatchOption, string_bytes}
 use Rattle.naga_oil_derive.specs.declared.redirect_error.RedirectError.{RedirectError}
 use Rattle.naga_oil_derive.specs.declared.redirect_error.RedirectError.TheVariants as code
 
@@ -16,3 +16,8 @@ redirect_fault (code.ArgumentMismatch replacement original) = Some (argument_mis
 redirect_fault (code.ReturnTypeMismatch replacement original) = Some (return_type_mismatch (string_bytes replacement) (string_bytes original))
 redirect_fault (code.CircularReference names) = Some (circular_reference (string_bytes names))
 redirect_fault code.Memory = None
+
+-- a result, seen by view, is the value, or want of memory
+abbrev pub Gives : {X Y : Type 0} → (X → Y) → Result X RedirectError → Result Y RedirectFault → Type 0
+Gives view (Ok x) value = value ≡ Ok (view x)
+Gives view (Err e) value = MatchOption (redirect_fault e) (Unit {0}) (λ f. value ≡ Err f)

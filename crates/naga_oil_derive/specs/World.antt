@@ -1,5 +1,6 @@
-use Rattle.std.specs.Prelude.{ℕ, ◌+◌, ◌≡◌, ◌==◌, ◌&&◌, List, [], ◌∷◌, ◌++◌, map, min, Option, Some, None, option_map, slice_get, if◌then◌else◌}
+use Rattle.std.specs.Prelude.{ℕ, ◌+◌, ◌≡◌, ◌==◌, ◌&&◌, List, [], ◌∷◌, ◌++◌, map, min, nat_eq, Option, Some, None, option_map, slice_get, is_some, if◌then◌else◌}
 use Rattle.std.specs.Option.{option_flatten}
+use Rattle.std.specs.Map.{lookup}
 use Rattle.naga_oil_ir.specs.Rows.{Row, Text, parts_row}
 use Rattle.naga_oil_ir.specs.ModuleValue.{ModuleValue, SpecialValue, module_value}
 use Rattle.naga_oil_ir.specs.declared.module.Module.{Module}
@@ -82,6 +83,14 @@ name_at v (Some q) = option_map (λ r. r.label.name) (v q)
 unfoldable pub named_world : World → World → (ItemPlace → Option ItemPlace) → World
 named_world w v m p = option_map (under_name (name_at v (m p))) (w p)
 
+-- a source in which a type has another name, if one is given
+unfoldable pub renamed_at : World → ℕ → Option Text → World
+renamed_at w k n (TypeItem j) = if j == k then option_map (under_name n) (w (TypeItem j)) else w (TypeItem j)
+renamed_at w k n (ConstantItem j) = w (ConstantItem j)
+renamed_at w k n (OverrideItem j) = w (OverrideItem j)
+renamed_at w k n (GlobalItem j) = w (GlobalItem j)
+renamed_at w k n (ExpressionItem j) = w (ExpressionItem j)
+
 -- ---- special types
 
 abbrev pub special_entry : SpecialKey → Option ℕ → List (SpecialKey × ℕ)
@@ -92,17 +101,12 @@ special_entry key (Some h) = (key, h) ∷ []
 abbrev pub special_entries : SpecialValue → List (SpecialKey × ℕ)
 special_entries s = special_entry RayDesc s.ray_desc ++ special_entry RayIntersection s.ray_intersection ++ special_entry RayVertexReturn s.ray_vertex_return ++ map (λ e. (Predeclared e.0, e.1)) s.predeclared_types
 
--- the type of a code
-abbrev pub predeclared_at : List (ℕ × ℕ) → ℕ → Option ℕ
-predeclared_at [] c = None
-predeclared_at (e ∷ es) c = if c == e.0 then Some e.1 else predeclared_at es c
-
 -- the special type of a key
 abbrev pub special_at : SpecialValue → SpecialKey → Option ℕ
 special_at s RayDesc = s.ray_desc
 special_at s RayIntersection = s.ray_intersection
 special_at s RayVertexReturn = s.ray_vertex_return
-special_at s (Predeclared c) = predeclared_at s.predeclared_types c
+special_at s (Predeclared c) = lookup (nat_eq c) s.predeclared_types
 
 abbrev pub or_option : Option ℕ → Option ℕ → Option ℕ
 or_option None b = b
@@ -120,3 +124,25 @@ kept_of s t (ConstantItem k) = None
 kept_of s t (OverrideItem k) = None
 kept_of s t (GlobalItem k) = None
 kept_of s t (ExpressionItem k) = None
+
+-- no entry has the key
+abbrev pub LacksKey : SpecialKey → List (SpecialKey × ℕ) → Type 0
+LacksKey key [] = Unit {0}
+LacksKey key (e ∷ es) = (e.0 ≡ key → ⊥) × LacksKey key es
+
+-- no two entries have one key
+abbrev pub HaveDistinctKeys : List (SpecialKey × ℕ) → Type 0
+HaveDistinctKeys [] = Unit {0}
+HaveDistinctKeys (e ∷ es) = LacksKey e.0 es × HaveDistinctKeys es
+
+-- special types, with one more
+abbrev pub with_special : SpecialValue → SpecialKey → ℕ → SpecialValue
+with_special s RayDesc h = record { ray_desc = Some h; ray_intersection = s.ray_intersection; ray_vertex_return = s.ray_vertex_return; predeclared_types = s.predeclared_types }
+with_special s RayIntersection h = record { ray_desc = s.ray_desc; ray_intersection = Some h; ray_vertex_return = s.ray_vertex_return; predeclared_types = s.predeclared_types }
+with_special s RayVertexReturn h = record { ray_desc = s.ray_desc; ray_intersection = s.ray_intersection; ray_vertex_return = Some h; predeclared_types = s.predeclared_types }
+with_special s (Predeclared c) h = record { ray_desc = s.ray_desc; ray_intersection = s.ray_intersection; ray_vertex_return = s.ray_vertex_return; predeclared_types = s.predeclared_types ++ (c, h) ∷ [] }
+
+-- special types, with those of a source whose keys they lack, each where the source's went
+abbrev pub with_specials : SpecialValue → (ℕ → ℕ) → List (SpecialKey × ℕ) → SpecialValue
+with_specials s f [] = s
+with_specials s f (e ∷ es) = with_specials (if is_some (special_at s e.0) then s else with_special s e.0 (f e.1)) f es

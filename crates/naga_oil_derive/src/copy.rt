@@ -1,16 +1,16 @@
-ghost use Rattle.std.specs.Prelude.{◌≡◌, ◌<◌, ◌≤◌, ◌+◌, All, Some, IfOk, OnOk, OnErr, option_map, option_copied, string_bytes};
+ghost use Rattle.std.specs.Prelude.{◌≡◌, ◌≤◌, ◌+◌, All, Some, None, IfOk, OnOk, OnErr, option_map, option_copied, string_bytes};
 ghost use Rattle.naga_oil_ir.specs.Rows.{Row};
-ghost use Rattle.naga_oil_derive.specs.World.{value_of, world, under_name};
-ghost use Rattle.naga_oil_derive.specs.Copying.{IsThere, AreRanked, IsBelowItem, AreLong, IsCopying, Grows, IsSameFrom, WentSomewhere, AreNames, IsReady, CopiesOne, CollectsItem, CollectsNames, goes_under, source_world, rank};
+ghost use Rattle.naga_oil_derive.specs.World.{value_of, world, under_name, renamed_at};
+ghost use Rattle.naga_oil_derive.specs.Copying.{IsThere, AreRanked, IsBelowItem, AreLong, IsCopying, Grows, IsSameFrom, WentSomewhere, AreNames, IsReady, CopiesOne, CollectsItem, CollectsNames, CollectsNamed, goes_under, source_world, rank};
 
 use super::{
-    Maps, Renaming, renamed_constant, renamed_expression, renamed_global, renamed_override,
+    Maps, Renaming, Tried, renamed_constant, renamed_expression, renamed_global, renamed_override,
     renamed_type,
 };
 use naga_oil_ir::{Handle, ItemPlace, Module, NameList, Names, Type};
-use std::alloc::{AllocError, Global};
+use std::alloc::Global;
 
-fn names_of<T: Names>(item: Option<&T>, alloc: Global) -> Result<NameList, AllocError>
+fn names_of<T: Names>(item: Option<&T>, alloc: Global) -> Tried<NameList>
     ensures { IfOk result (λ v. AreNames (option_map T.row_of (option_copied item.entry)) v.items) }
 {
     match item {
@@ -20,7 +20,7 @@ fn names_of<T: Names>(item: Option<&T>, alloc: Global) -> Result<NameList, Alloc
 }
 
 /// What the item at a place names, in the order of copying.
-fn names_at(source: &Module, item: ItemPlace, alloc: Global) -> Result<NameList, AllocError>
+fn names_at(source: &Module, item: ItemPlace, alloc: Global) -> Tried<NameList>
     ensures { IfOk result (λ v. AreNames (world (value_of source.now) item) v.items) }
 {
     match item {
@@ -35,14 +35,14 @@ fn names_at(source: &Module, item: ItemPlace, alloc: Global) -> Result<NameList,
 }
 
 /// Copies a type, under a name if one is given, when what it names was copied.
-pub fn copy_type(
+fn copy_type(
     source: &Module,
     handle: Handle<Type>,
     name: Option<String>,
     maps: &mut Maps,
     target: &mut Module,
     alloc: Global,
-) -> Result<(), AllocError>
+) -> Tried
     requires there { IsThere source.now (ItemPlace.TypeItem handle) }
     requires long { AreLong maps.old source.now }
     requires ready { IsReady source.now maps.old (ItemPlace.TypeItem handle) }
@@ -80,7 +80,7 @@ fn copy_alone(
     maps: &mut Maps,
     target: &mut Module,
     alloc: Global,
-) -> Result<(), AllocError>
+) -> Tried
     requires there { IsThere source.now item }
     requires long { AreLong maps.old source.now }
     requires ready { IsReady source.now maps.old item }
@@ -113,7 +113,7 @@ fn copy_names(
     maps: &mut Maps,
     target: &mut Module,
     alloc: Global,
-) -> Result<(), AllocError>
+) -> Tried
     requires ranked { AreRanked source.now }
     requires below { All (IsBelowItem source.now item.now) names.now }
     requires copying { IsCopying source.now target.old maps.old }
@@ -139,7 +139,7 @@ pub fn copy_item(
     maps: &mut Maps,
     target: &mut Module,
     alloc: Global,
-) -> Result<(), AllocError>
+) -> Tried
     requires there { IsThere source.now item.now }
     requires ranked { AreRanked source.now }
     requires copying { IsCopying source.now target.old maps.old }
@@ -156,5 +156,34 @@ pub fn copy_item(
     let names = names_at(source, *item, alloc)?;
     copy_names(source, item, &names, maps, target, alloc)?;
     copy_alone(source, *item, maps, target, alloc)?;
+    Ok(())
+}
+
+/// Copies a type, under a name if one is given, and first what it names; what went somewhere before stays there.
+pub fn copy_named_type(
+    source: &Module,
+    handle: Handle<Type>,
+    name: Option<String>,
+    maps: &mut Maps,
+    target: &mut Module,
+    alloc: Global,
+) -> Tried
+    requires there { IsThere source.now (ItemPlace.TypeItem handle) }
+    requires ranked { AreRanked source.now }
+    requires copying { IsCopying source.now target.old maps.old }
+    ensures copying { IsCopying source.now target.new maps.new }
+    ensures grows { Grows maps.old maps.new target.old target.new }
+    ensures known { (q : ItemPlace) → goes_under maps.old (ItemPlace.TypeItem handle) ≡ Some q → (target.new ≡ target.old) × (maps.new ≡ maps.old) }
+    ensures went { OnOk result (WentSomewhere (goes_under maps.new) (Some (ItemPlace.TypeItem handle))) }
+    ensures reads { OnOk result (goes_under maps.old (ItemPlace.TypeItem handle) ≡ None → source_world source.now target.new maps.new ≡ renamed_at (source_world source.now target.old maps.old) handle (option_map (λ n. Some (string_bytes n)) name)) }
+    ensures collects { OnOk result (goes_under maps.old (ItemPlace.TypeItem handle) ≡ None → CollectsNamed source.now maps.old target.old (ItemPlace.TypeItem handle) (source_world source.now target.new maps.new) target.new) }
+{
+    let item = ItemPlace::TypeItem(handle);
+    if maps.has_gone(item) {
+        return Ok(());
+    }
+    let names = names_at(source, item, alloc)?;
+    copy_names(source, &item, &names, maps, target, alloc)?;
+    copy_type(source, handle, name, maps, target, alloc)?;
     Ok(())
 }

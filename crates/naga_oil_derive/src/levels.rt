@@ -5,10 +5,11 @@ ghost use Rattle.naga_oil_ir.specs.Links.{lists, linked};
 ghost use Rattle.naga_oil_derive.specs.Count.{bit, times};
 ghost use Rattle.naga_oil_derive.specs.Level.{StayWithin, above, known, levels, without_level, by_level};
 
-use std::alloc::{AllocError, Global};
+use super::Tried;
+use std::alloc::Global;
 
 /// So many empty lists.
-fn no_places(count: usize, alloc: Global) -> Result<Vec<Vec<usize>>, AllocError>
+fn no_places(count: usize, alloc: Global) -> Tried<Vec<Vec<usize>>>
     ensures { IfOk result (λ v. lists v.items ≡ replicate count []) }
 {
     let mut places = Vec::new(alloc);
@@ -19,11 +20,7 @@ fn no_places(count: usize, alloc: Global) -> Result<Vec<Vec<usize>>, AllocError>
 }
 
 /// Puts a function into the lists of its callees.
-fn push_caller(
-    callers: &mut Vec<Vec<usize>>,
-    function: usize,
-    callees: &[usize],
-) -> Result<(), AllocError>
+fn push_caller(callers: &mut Vec<Vec<usize>>, function: usize, callees: &[usize]) -> Tried
     requires { All (λ c. c < length callers.old.items) callees.now }
     ensures long { OnOk result (length callers.new.items ≡ length callers.old.items) }
     ensures callers { OnOk result ((c k : ℕ) → times k (linked (lists callers.new.items) c) ≡ times k (linked (lists callers.old.items) c) + times c (if function == k then callees.now else [])) }
@@ -35,7 +32,7 @@ fn push_caller(
 }
 
 /// Of each function the functions that call it, as often as they do.
-fn callers_of(calls: &[Vec<usize>], alloc: Global) -> Result<Vec<Vec<usize>>, AllocError>
+fn callers_of(calls: &[Vec<usize>], alloc: Global) -> Tried<Vec<Vec<usize>>>
     requires { StayWithin (lists calls.now) }
     ensures long { IfOk result (λ v. length v.items ≡ length calls.now) }
     ensures callers { IfOk result (λ v. (c k : ℕ) → times k (linked (lists v.items) c) ≡ times c (linked (lists calls.now) k)) }
@@ -68,11 +65,7 @@ fn level_above(callees: &[usize], levels: &[Option<usize>]) -> Option<usize>
 }
 
 /// Counts off a call of each of some functions; those with no more are ready.
-fn count_off(
-    callers: &[usize],
-    pending: &mut Vec<usize>,
-    ready: &mut Vec<usize>,
-) -> Result<(), AllocError>
+fn count_off(callers: &[usize], pending: &mut Vec<usize>, ready: &mut Vec<usize>) -> Tried
     requires { (k : ℕ) → times k callers.now ≤ get_or pending.old.items k 0 }
     ensures long { OnOk result (length pending.new.items ≡ length pending.old.items) }
     ensures pending { OnOk result ((k : ℕ) → get_or pending.new.items k 0 + times k callers.now ≡ get_or pending.old.items k 0) }
@@ -89,7 +82,7 @@ fn count_off(
 }
 
 /// Of each function how many calls it has, and the functions that have none.
-fn open_calls(calls: &[Vec<usize>], alloc: Global) -> Result<(Vec<usize>, Vec<usize>), AllocError>
+fn open_calls(calls: &[Vec<usize>], alloc: Global) -> Tried<(Vec<usize>, Vec<usize>)>
     ensures pending { IfOk result (λ r. r.0.items ≡ map length (lists calls.now)) }
     ensures ready { IfOk result (λ r. (k : ℕ) → times k r.1.items ≡ bit (nat_lt k (length calls.now) && (length (linked (lists calls.now) k) == 0))) }
 {
@@ -105,7 +98,7 @@ fn open_calls(calls: &[Vec<usize>], alloc: Global) -> Result<(Vec<usize>, Vec<us
 }
 
 /// The levels of functions, of each of which the places of its callees are given, in time in proportion to the calls.
-pub fn levels_of(calls: &[Vec<usize>], alloc: Global) -> Result<Vec<Option<usize>>, AllocError>
+pub fn levels_of(calls: &[Vec<usize>], alloc: Global) -> Tried<Vec<Option<usize>>>
     requires { StayWithin (lists calls.now) }
     ensures { IfOk result (λ v. v.items ≡ levels (lists calls.now)) }
 {
@@ -120,18 +113,16 @@ pub fn levels_of(calls: &[Vec<usize>], alloc: Global) -> Result<Vec<Option<usize
 }
 
 /// The functions without a level, by place.
-pub fn without_level(levels: &[Option<usize>], alloc: Global) -> Result<Vec<usize>, AllocError>
+pub fn without_level(levels: &[Option<usize>], alloc: Global) -> Tried<Vec<usize>>
     ensures { IfOk result (λ v. v.items ≡ without_level levels.now) }
 {
-    let places = levels.iter().enumerate();
-    places
-        .filter(|(_, level)| level.is_none())
-        .map(|(place, _)| place)
-        .collect(alloc)
+    let levels = levels.iter().enumerate();
+    let open = levels.filter(|(_, level)| level.is_none());
+    open.map(|(place, _)| place).collect(alloc)
 }
 
 /// The functions that have a level, by level and then by place.
-pub fn by_level(levels: &[Option<usize>], alloc: Global) -> Result<Vec<usize>, AllocError>
+pub fn by_level(levels: &[Option<usize>], alloc: Global) -> Tried<Vec<usize>>
     requires { (k : ℕ) → IfSome (known levels.now k) (λ l. l < length levels.now) }
     ensures { IfOk result (λ v. v.items ≡ by_level levels.now) }
 {

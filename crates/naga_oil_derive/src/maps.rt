@@ -3,12 +3,12 @@ ghost use Rattle.std.specs.Option.{option_flatten};
 ghost use Rattle.naga_oil_derive.specs.World.{moved};
 ghost use Rattle.naga_oil_derive.specs.Copying.{goes_under, renames_under, AreLong};
 
-use super::Renaming;
+use super::{Renaming, Tried};
 use naga_oil_ir::{
     Constant, Expression, Function, GlobalVariable, Handle, Index, ItemPlace, Module, Override,
     Range, Span, Type,
 };
-use std::alloc::{AllocError, Global};
+use std::alloc::Global;
 
 /// Where the items of a source went, and how far spans are shifted.
 #[derive(Drop)]
@@ -21,13 +21,13 @@ pub struct Maps {
     pub offset: usize,
 }
 
-fn nowhere<K>(count: usize, alloc: Global) -> Result<Vec<Option<Index<K>>>, AllocError>
+pub(crate) fn nowhere<K>(count: usize, alloc: Global) -> Tried<Vec<Option<Index<K>>>>
     ensures { IfOk result (λ v. v.items ≡ replicate count None) }
 {
     Ok(vec![in alloc; None; count]?)
 }
 
-fn place_of<K>(places: &[Option<Index<K>>], handle: Index<K>) -> Option<Index<K>>
+pub(crate) fn place_of<K>(places: &[Option<Index<K>>], handle: Index<K>) -> Option<Index<K>>
     ensures { result ≡ option_flatten (slice_get places.now handle) }
 {
     places.get(handle.index()).copied().flatten()
@@ -36,14 +36,25 @@ fn place_of<K>(places: &[Option<Index<K>>], handle: Index<K>) -> Option<Index<K>
 fn moved(place: u32, offset: usize) -> u32
     ensures { result ≡ moved offset place }
 {
-    (place as usize)
-        .saturating_add(offset)
-        .min(u32::MAX as usize) as u32
+    let moved = (place as usize).saturating_add(offset);
+    moved.min(u32::MAX as usize) as u32
 }
 
 impl Maps {
+    /// The maps of no source.
+    pub fn empty(alloc: Global) -> Maps {
+        Maps {
+            types: Vec::new(alloc),
+            constants: Vec::new(alloc),
+            overrides: Vec::new(alloc),
+            global_variables: Vec::new(alloc),
+            global_expressions: Vec::new(alloc),
+            offset: 0,
+        }
+    }
+
     /// The maps of a source whose items went nowhere yet.
-    pub fn new(source: &Module, offset: usize, alloc: Global) -> Result<Maps, AllocError>
+    pub fn new(source: &Module, offset: usize, alloc: Global) -> Tried<Maps>
         ensures offset { IfOk result (λ m. m.offset ≡ offset) }
         ensures long { IfOk result (λ m. AreLong m source.now) }
         ensures nowhere { IfOk result (λ m. (p : ItemPlace) → goes_under m p ≡ None) }
@@ -68,45 +79,25 @@ impl Maps {
             ItemPlace::ConstantItem(handle) => place_of(&self.constants, handle).is_some(),
             ItemPlace::OverrideItem(handle) => place_of(&self.overrides, handle).is_some(),
             ItemPlace::GlobalItem(handle) => place_of(&self.global_variables, handle).is_some(),
-            ItemPlace::ExpressionItem(handle) => {
-                place_of(&self.global_expressions, handle).is_some()
-            }
+            ItemPlace::ExpressionItem(place) => place_of(&self.global_expressions, place).is_some(),
         }
     }
 }
 
 /// A handle goes where it was put, and stays if it went nowhere; functions and ranges stay.
+#[rattlefmt::skip]
 impl Renaming for Maps {
     ghost renames = { renames_under };
 
-    fn ty(&self, handle: Handle<Type>) -> Handle<Type> {
-        place_of(&self.types, handle).unwrap_or(handle)
-    }
+    fn ty(&self, handle: Handle<Type>) -> Handle<Type> { place_of(&self.types, handle).unwrap_or(handle) }
+    fn constant(&self, handle: Handle<Constant>) -> Handle<Constant> { place_of(&self.constants, handle).unwrap_or(handle) }
+    fn pipeline_override(&self, handle: Handle<Override>) -> Handle<Override> { place_of(&self.overrides, handle).unwrap_or(handle) }
+    fn global(&self, handle: Handle<GlobalVariable>) -> Handle<GlobalVariable> { place_of(&self.global_variables, handle).unwrap_or(handle) }
+    fn function(&self, handle: Handle<Function>) -> Handle<Function> { handle }
+    fn expression(&self, handle: Handle<Expression>) -> Handle<Expression> { place_of(&self.global_expressions, handle).unwrap_or(handle) }
+    fn range(&self, range: Range<Expression>) -> Range<Expression> { range }
 
-    fn constant(&self, handle: Handle<Constant>) -> Handle<Constant> {
-        place_of(&self.constants, handle).unwrap_or(handle)
-    }
-
-    fn pipeline_override(&self, handle: Handle<Override>) -> Handle<Override> {
-        place_of(&self.overrides, handle).unwrap_or(handle)
-    }
-
-    fn global(&self, handle: Handle<GlobalVariable>) -> Handle<GlobalVariable> {
-        place_of(&self.global_variables, handle).unwrap_or(handle)
-    }
-
-    fn function(&self, handle: Handle<Function>) -> Handle<Function> {
-        handle
-    }
-
-    fn expression(&self, handle: Handle<Expression>) -> Handle<Expression> {
-        place_of(&self.global_expressions, handle).unwrap_or(handle)
-    }
-
-    fn range(&self, range: Range<Expression>) -> Range<Expression> {
-        range
-    }
-
+    /// A span that is known, so far behind, at most at the last place that a span can name.
     fn span(&self, span: Span) -> Span {
         if span == Span::UNDEFINED {
             return span;

@@ -1,5 +1,5 @@
 // Why calls can't be redirected, or functions can't be put in order.
-use std::alloc::{AllocError, AllocFailed};
+use std::alloc::AllocError;
 use thiserror::Error;
 
 /// Why calls can't be redirected, or functions can't be put in order.
@@ -28,17 +28,6 @@ impl From<AllocError> for RedirectError {
     ghost from_gives = { λ _ e. e ≡ Memory };
 
     fn from(_error: AllocError) -> RedirectError {
-        RedirectError::Memory
-    }
-}
-
-impl<T: Drop> From<AllocFailed<T>> for RedirectError {
-    ghost use Rattle.std.specs.Prelude.{◌≡◌};
-    ghost use Rattle.naga_oil_derive.specs.declared.redirect_error.RedirectError.TheVariants.{Memory};
-
-    ghost from_gives = { λ _ e. e ≡ Memory };
-
-    fn from(_error: AllocFailed<T>) -> RedirectError {
         RedirectError::Memory
     }
 }

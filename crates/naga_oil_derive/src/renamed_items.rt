@@ -3,9 +3,9 @@ ghost use Rattle.naga_oil_ir.specs.Rows.{Text, inner_row, type_row, constant_row
 ghost use Rattle.naga_oil_derive.specs.Renames.{rename_row, rename_place};
 ghost use Rattle.naga_oil_derive.specs.World.{under_name};
 
-use super::{Renaming, renamed_option};
+use super::{Renaming, Tried, renamed_option};
 use naga_oil_ir::{ArraySize, Constant, GlobalVariable, Override, StructMember, Type, TypeInner};
-use std::alloc::{AllocError, Global};
+use std::alloc::Global;
 
 fn renamed_size<R: Renaming>(names: &R, size: &ArraySize) -> ArraySize
     ensures plain { size_plain result ≡ size_plain size.now }
@@ -18,8 +18,11 @@ fn renamed_size<R: Renaming>(names: &R, size: &ArraySize) -> ArraySize
     }
 }
 
+/// The name of an item, if it has one.
+pub type Name = Option<String>;
+
 /// A copy of a name.
-pub fn copied_name(name: &Option<String>) -> Result<Option<String>, AllocError>
+pub fn copied_name(name: &Name) -> Tried<Name>
     ensures { IfOk result (λ n. option_map string_bytes n ≡ option_map string_bytes name.now) }
 {
     match name {
@@ -28,12 +31,11 @@ pub fn copied_name(name: &Option<String>) -> Result<Option<String>, AllocError>
     }
 }
 
-fn renamed_member<R: Renaming>(names: &R, member: &StructMember) -> Result<StructMember, AllocError>
+fn renamed_member<R: Renaming>(names: &R, member: &StructMember) -> Tried<StructMember>
     ensures { IfOk result (λ m. (member_label m ≡ member_label member.now) × (member_type m ≡ option_map (rename_place (R.renames names.now)) (member_type member.now))) }
 {
-    let name = copied_name(&member.name)?;
     Ok(StructMember {
-        name,
+        name: copied_name(&member.name)?,
         ty: names.ty(member.ty),
         binding: member.binding,
         offset: member.offset,
@@ -44,7 +46,7 @@ fn renamed_members<R: Renaming>(
     names: &R,
     members: &[StructMember],
     alloc: Global,
-) -> Result<Vec<StructMember>, AllocError>
+) -> Tried<Vec<StructMember>>
     ensures labels { IfOk result (λ ms. map member_label ms.items ≡ map member_label members.now) }
     ensures types { IfOk result (λ ms. map member_type ms.items ≡ map (option_map (rename_place (R.renames names.now))) (map member_type members.now)) }
 {
@@ -56,11 +58,9 @@ fn renamed_members<R: Renaming>(
     Ok(out)
 }
 
-fn renamed_inner<R: Renaming>(
-    names: &R,
-    inner: &TypeInner,
-    alloc: Global,
-) -> Result<TypeInner, AllocError>
+/// What a type is, with its handles renamed.
+#[rattlefmt::skip]
+fn renamed_inner<R: Renaming>(names: &R, inner: &TypeInner, alloc: Global) -> Tried<TypeInner>
     ensures { IfOk result (λ i. (n : Text) → inner_row n i ≡ rename_row (R.renames names.now) (inner_row n inner.now)) }
 {
     match inner {
@@ -73,36 +73,20 @@ fn renamed_inner<R: Renaming>(
         TypeInner::Atomic(c) => Ok(TypeInner::Atomic(*c)),
         TypeInner::AccelerationStructure(c) => Ok(TypeInner::AccelerationStructure(*c)),
         TypeInner::RayQuery(c) => Ok(TypeInner::RayQuery(*c)),
-        TypeInner::Pointer { base, space } => Ok(TypeInner::Pointer {
-            base: names.ty(*base),
-            space: *space,
-        }),
+        TypeInner::Pointer { base, space } => Ok(TypeInner::Pointer { base: names.ty(*base), space: *space }),
         TypeInner::Struct { members, span } => {
             let members = renamed_members(names, members, alloc)?;
-            Ok(TypeInner::Struct {
-                members,
-                span: *span,
-            })
+            Ok(TypeInner::Struct { members, span: *span })
         }
-        TypeInner::Array { base, size, stride } => Ok(TypeInner::Array {
-            base: names.ty(*base),
-            size: renamed_size(names, size),
-            stride: *stride,
-        }),
-        TypeInner::BindingArray { base, size } => Ok(TypeInner::BindingArray {
-            base: names.ty(*base),
-            size: renamed_size(names, size),
-        }),
+        TypeInner::Array { base, size, stride } =>
+            Ok(TypeInner::Array { base: names.ty(*base), size: renamed_size(names, size), stride: *stride }),
+        TypeInner::BindingArray { base, size } =>
+            Ok(TypeInner::BindingArray { base: names.ty(*base), size: renamed_size(names, size) }),
     }
 }
 
 /// The type with its handles renamed, under a name if one is given.
-pub fn renamed_type<R: Renaming>(
-    names: &R,
-    ty: &Type,
-    name: Option<String>,
-    alloc: Global,
-) -> Result<Type, AllocError>
+pub fn renamed_type<R: Renaming>(names: &R, ty: &Type, name: Name, alloc: Global) -> Tried<Type>
     ensures { IfOk result (λ t. type_row t ≡ under_name (option_map (λ n. Some (string_bytes n)) name) (rename_row (R.renames names.now) (type_row ty.now))) }
 {
     let inner = renamed_inner(names, &ty.inner, alloc)?;
@@ -114,24 +98,22 @@ pub fn renamed_type<R: Renaming>(
 }
 
 /// The constant with its handles renamed.
-pub fn renamed_constant<R: Renaming>(names: &R, item: &Constant) -> Result<Constant, AllocError>
+pub fn renamed_constant<R: Renaming>(names: &R, item: &Constant) -> Tried<Constant>
     ensures { IfOk result (λ c. constant_row c ≡ rename_row (R.renames names.now) (constant_row item.now)) }
 {
-    let name = copied_name(&item.name)?;
     Ok(Constant {
-        name,
+        name: copied_name(&item.name)?,
         ty: names.ty(item.ty),
         init: names.expression(item.init),
     })
 }
 
 /// The override with its handles renamed.
-pub fn renamed_override<R: Renaming>(names: &R, item: &Override) -> Result<Override, AllocError>
+pub fn renamed_override<R: Renaming>(names: &R, item: &Override) -> Tried<Override>
     ensures { IfOk result (λ c. override_row c ≡ rename_row (R.renames names.now) (override_row item.now)) }
 {
-    let name = copied_name(&item.name)?;
     Ok(Override {
-        name,
+        name: copied_name(&item.name)?,
         id: item.id,
         ty: names.ty(item.ty),
         init: renamed_option(names, item.init),
@@ -139,15 +121,11 @@ pub fn renamed_override<R: Renaming>(names: &R, item: &Override) -> Result<Overr
 }
 
 /// The global variable with its handles renamed.
-pub fn renamed_global<R: Renaming>(
-    names: &R,
-    item: &GlobalVariable,
-) -> Result<GlobalVariable, AllocError>
+pub fn renamed_global<R: Renaming>(names: &R, item: &GlobalVariable) -> Tried<GlobalVariable>
     ensures { IfOk result (λ c. global_row c ≡ rename_row (R.renames names.now) (global_row item.now)) }
 {
-    let name = copied_name(&item.name)?;
     Ok(GlobalVariable {
-        name,
+        name: copied_name(&item.name)?,
         space: item.space,
         binding: item.binding,
         ty: names.ty(item.ty),

@@ -4,11 +4,12 @@ ghost use Rattle.naga_oil_ir.specs.Body.{used, given, given_by};
 ghost use Rattle.naga_oil_ir.specs.declared.names.ItemPlace.{ItemPlace};
 ghost use Rattle.naga_oil_derive.specs.Renames.{Renames, rename, rename_place, rename_token};
 
+use super::Tried;
 use naga_oil_ir::{
     Constant, Expression, Function, GlobalVariable, Handle, ImageQuery, Operand, Override, Range,
     SampleLevel, Span, Type,
 };
-use std::alloc::{AllocError, Global};
+use std::alloc::Global;
 
 /// Says where handles, ranges and spans go.
 pub trait Renaming {
@@ -54,14 +55,10 @@ pub fn renamed_option<R: Renaming>(names: &R, handle: Option<Operand>) -> Option
 }
 
 /// Operands, renamed.
-pub fn renamed_list<R: Renaming>(
-    names: &R,
-    handles: &[Operand],
-    alloc: Global,
-) -> Result<Vec<Operand>, AllocError>
-    ensures { IfOk result (λ v. v.items ≡ map (R.renames names.now).expression handles.now) }
+pub fn renamed_list<R: Renaming>(names: &R, list: &[Operand], alloc: Global) -> Tried<Vec<Operand>>
+    ensures { IfOk result (λ v. v.items ≡ map (R.renames names.now).expression list.now) }
 {
-    handles.iter().map(|h| names.expression(*h)).collect(alloc)
+    list.iter().map(|h| names.expression(*h)).collect(alloc)
 }
 
 /// A level with its operands renamed.
@@ -115,7 +112,7 @@ macro_rules! rename_kind {
 
 /// The expression with its handles renamed.
 #[rattlefmt::skip]
-pub fn renamed_expression<R: Renaming>(names: &R, expression: &Expression, alloc: Global) -> Result<Expression, AllocError>
+pub fn renamed_expression<R: Renaming>(names: &R, expression: &Expression, alloc: Global) -> Tried<Expression>
     ensures { IfOk result (λ e. parts e ≡ rename (R.renames names.now) (parts expression.now)) }
 {
     rename_kind! { expression, names;
@@ -136,18 +133,13 @@ pub fn renamed_expression<R: Renaming>(names: &R, expression: &Expression, alloc
             Expression::SubgroupOperationResult { ty: names.ty(*ty) };
         Expression::Compose { ty, components } =>
             Expression::Compose { ty: names.ty(*ty), components: renamed_list(names, components, alloc)? };
-        Expression::ImageSample {
-            image, sampler, gather, coordinate, array_index, offset, level, depth_ref
-        } => Expression::ImageSample {
-            image: names.expression(*image),
-            sampler: names.expression(*sampler),
-            gather: *gather,
-            coordinate: names.expression(*coordinate),
-            array_index: renamed_option(names, *array_index),
-            offset: renamed_option(names, *offset),
-            level: renamed_level(names, level),
-            depth_ref: renamed_option(names, *depth_ref),
-        };
+        Expression::ImageSample { image, sampler, gather, coordinate, array_index, offset, level, depth_ref } =>
+            Expression::ImageSample {
+                image: names.expression(*image), sampler: names.expression(*sampler), gather: *gather,
+                coordinate: names.expression(*coordinate), array_index: renamed_option(names, *array_index),
+                offset: renamed_option(names, *offset), level: renamed_level(names, level),
+                depth_ref: renamed_option(names, *depth_ref),
+            };
         Expression::ImageQuery { image, query } =>
             Expression::ImageQuery { image: names.expression(*image), query: renamed_query(names, query) };
         Expression::ArrayLength(x) => Expression::ArrayLength(names.expression(*x));

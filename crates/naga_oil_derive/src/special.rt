@@ -1,3 +1,13 @@
+ghost use Rattle.std.specs.Prelude.{◌≡◌, ◌<◌, ◌++◌, ℕ, length, take, All, Option, Some, None, OnOk, OnErr, IfOk};
+ghost use Rattle.naga_oil_ir.specs.ModuleValue.{special_value};
+ghost use Rattle.naga_oil_ir.specs.declared.names.ItemPlace.{ItemPlace};
+ghost use Rattle.naga_oil_derive.specs.World.{special_entry, special_entries, special_at as special_at_key, with_special, with_specials, HaveDistinctKeys};
+ghost use Rattle.naga_oil_derive.specs.Copying.{IsThere, AreRanked, IsCopying, Grows, WentSomewhere, CollectsNames, goes_under, handle_under, source_world, kept_over, special_names};
+
+use super::{Maps, Renaming, Tried, copy_item};
+use naga_oil_ir::{Handle, ItemPlace, Module, SpecialTypes, Type};
+use std::alloc::Global;
+
 /// What a special type is for.
 #[derive(Clone, Copy)]
 pub enum SpecialKey {
@@ -6,4 +16,112 @@ pub enum SpecialKey {
     RayVertexReturn,
     /// The code of a predeclared type.
     Predeclared(u64),
+}
+
+/// A special type with what it is for.
+pub type SpecialEntry = (SpecialKey, Handle<Type>);
+
+/// A special type, if there is one.
+pub type SpecialType = Option<Handle<Type>>;
+
+fn push_special(key: SpecialKey, handle: SpecialType, entries: &mut Vec<SpecialEntry>) -> Tried
+    ensures { OnOk result (entries.new.items ≡ entries.old.items ++ special_entry key handle) }
+{
+    if let Some(handle) = handle {
+        entries.push((key, handle))?;
+    }
+    Ok(())
+}
+
+/// The special types in order, no two of them for the same.
+pub fn special_entries(special: &SpecialTypes, alloc: Global) -> Tried<Vec<SpecialEntry>>
+    ensures entries { IfOk result (λ v. v.items ≡ special_entries (special_value special.now)) }
+    ensures distinct { IfOk result (λ v. HaveDistinctKeys v.items) }
+{
+    let mut entries = Vec::new(alloc);
+    push_special(SpecialKey::RayDesc, special.ray_desc, &mut entries)?;
+    let (intersection, vertex) = (special.ray_intersection, special.ray_vertex_return);
+    push_special(SpecialKey::RayIntersection, intersection, &mut entries)?;
+    push_special(SpecialKey::RayVertexReturn, vertex, &mut entries)?;
+    for (code, handle) in &special.predeclared_types {
+        entries.push((SpecialKey::Predeclared(*code), *handle))?;
+    }
+    Ok(entries)
+}
+
+/// The special type for something.
+pub fn special_at(special: &SpecialTypes, key: SpecialKey) -> SpecialType
+    ensures { result ≡ special_at_key (special_value special.now) key }
+{
+    match key {
+        SpecialKey::RayDesc => special.ray_desc,
+        SpecialKey::RayIntersection => special.ray_intersection,
+        SpecialKey::RayVertexReturn => special.ray_vertex_return,
+        SpecialKey::Predeclared(code) => special.predeclared_types.get(&code).copied(),
+    }
+}
+
+/// Sets the special type for something that has none.
+fn set_special(special: &mut SpecialTypes, key: SpecialKey, handle: Handle<Type>) -> Tried
+    requires { special_at_key (special_value special.old) key ≡ None }
+    ensures set { OnOk result (special_value special.new ≡ with_special (special_value special.old) key handle) }
+    ensures err { OnErr result (special_value special.new ≡ special_value special.old) }
+{
+    match key {
+        SpecialKey::RayDesc => special.ray_desc = Some(handle),
+        SpecialKey::RayIntersection => special.ray_intersection = Some(handle),
+        SpecialKey::RayVertexReturn => special.ray_vertex_return = Some(handle),
+        SpecialKey::Predeclared(code) => {
+            special.predeclared_types.insert(code, handle)?;
+        }
+    }
+    Ok(())
+}
+
+/// Lets the special types that a target has stand for those of a source: of two for one type the last.
+pub fn keep_special(entries: &[SpecialEntry], target: &SpecialTypes, types: &mut [SpecialType])
+    requires { All (λ e. e.1 < length types.old) entries.now }
+    ensures { types.new ≡ kept_over (special_at_key (special_value target.now)) entries.now types.old }
+{
+    for (key, handle) in entries {
+        if let Some(place) = special_at(target, *key) {
+            types[handle.index()] = Some(place);
+        }
+    }
+}
+
+/// Copies the special types of a source into a target.
+pub fn copy_special(
+    source: &Module,
+    entries: &[SpecialEntry],
+    maps: &mut Maps,
+    target: &mut Module,
+    alloc: Global,
+) -> Tried
+    requires ranked { AreRanked source.now }
+    requires there { All (λ e. IsThere source.now (ItemPlace.TypeItem e.1)) entries.now }
+    requires copying { IsCopying source.now target.old maps.old }
+    ensures copying { IsCopying source.now target.new maps.new }
+    ensures grows { Grows maps.old maps.new target.old target.new }
+    ensures reads { source_world source.now target.new maps.new ≡ source_world source.now target.old maps.old }
+    ensures went { OnOk result (All (WentSomewhere (goes_under maps.new)) (special_names entries.now)) }
+    ensures collects { OnOk result (CollectsNames source.now maps.old target.old (special_names entries.now) target.new) }
+{
+    for (_, handle) in entries {
+        copy_item(source, &ItemPlace::TypeItem(*handle), maps, target, alloc)?;
+    }
+    Ok(())
+}
+
+/// Sets the special types that a target lacks to the copies of a source's.
+pub fn set_specials(entries: &[SpecialEntry], maps: &Maps, special: &mut SpecialTypes) -> Tried
+    ensures some { (n : ℕ) × (special_value special.new ≡ with_specials (special_value special.old) (handle_under maps.now.types.items) (take n entries.now)) }
+    ensures all { OnOk result (special_value special.new ≡ with_specials (special_value special.old) (handle_under maps.now.types.items) entries.now) }
+{
+    for (key, handle) in entries {
+        if special_at(special, *key).is_none() {
+            set_special(special, *key, maps.ty(*handle))?;
+        }
+    }
+    Ok(())
 }

@@ -2,9 +2,21 @@ ghost use Rattle.std.specs.Prelude.{◌≡◌, ◌<◌, ◌∷◌, ℕ, [], leng
 ghost use Rattle.naga_oil_ir.specs.Links.{added, has, AreMarks};
 ghost use Rattle.naga_oil_derive.specs.Walk.{noted};
 
+use super::Tried;
 use naga_oil_ir::links::{is_marked, no_marks};
-use naga_oil_ir::{Expression, Named, Range};
-use std::alloc::{AllocError, Global};
+use naga_oil_ir::{Expression, Function, Handle, ItemPlace, Range};
+use std::alloc::Global;
+
+/// What a function names.
+#[derive(Clone, Copy)]
+pub enum Request {
+    Item(ItemPlace),
+    /// A function that it calls.
+    Call(Handle<Function>),
+}
+
+/// Where an emitted range begins and ends in the order of copying.
+pub type Bounds = Option<(usize, usize)>;
 
 /// What a walk over a function lists.
 #[derive(Drop)]
@@ -14,28 +26,26 @@ pub struct Walk {
     marks: Vec<bool>,
     /// How many of them the initialisers of local variables reach.
     pub began: usize,
-    /// The items and functions that are named, in the order of copying.
-    pub named: Vec<Named>,
+    /// What the function names, in the order of copying.
+    pub requests: Vec<Request>,
     /// Where the emitted ranges begin and end in the order, by their first places.
-    pub emitted: Vec<Option<(usize, usize)>>,
+    pub emitted: Vec<Bounds>,
     ghost marked: { AreMarks marks.items places.items },
 }
 
 impl Walk {
     /// The walk that has listed none of so many places.
-    pub fn new(count: usize, alloc: Global) -> Result<Walk, AllocError>
-        ensures empty { IfOk result (λ w. w.places.items ≡ []) }
+    pub fn new(count: usize, alloc: Global) -> Tried<Walk>
+        ensures empty { IfOk result (λ w. (w.places.items ≡ []) × (w.requests.items ≡ [])) }
         ensures marks { IfOk result (λ w. length w.marks.items ≡ count) }
         ensures emitted { IfOk result (λ w. w.emitted.items ≡ replicate count None) }
     {
-        let marks = no_marks(count, alloc)?;
-        let emitted = vec![in alloc; None; count]?;
         Ok(Walk {
             places: Vec::new(alloc),
-            marks,
+            marks: no_marks(count, alloc)?,
             began: 0,
-            named: Vec::new(alloc),
-            emitted,
+            requests: Vec::new(alloc),
+            emitted: vec![in alloc; None; count]?,
         })
     }
 
@@ -47,11 +57,12 @@ impl Walk {
     }
 
     /// Lists a place, unless it is there.
-    pub fn list(&mut self, place: usize) -> Result<(), AllocError>
+    pub fn list(&mut self, place: usize) -> Tried
         requires { place < length self.old.marks.items }
         ensures order { OnOk result (self.new.places.items ≡ added self.old.places.items (place ∷ [])) }
         ensures marks { length self.new.marks.items ≡ length self.old.marks.items }
         ensures emitted { self.new.emitted ≡ self.old.emitted }
+        ensures requests { self.new.requests ≡ self.old.requests }
     {
         if self.has(place) {
             return Ok(());
@@ -63,12 +74,7 @@ impl Walk {
 }
 
 /// Notes where an emitted range begins and ends in the order.
-pub fn note(
-    emitted: &mut Vec<Option<(usize, usize)>>,
-    range: Range<Expression>,
-    begin: usize,
-    end: usize,
-)
+pub fn note(emitted: &mut Vec<Bounds>, range: Range<Expression>, begin: usize, end: usize)
     ensures { emitted.new.items ≡ noted emitted.old.items range (begin, end) }
 {
     let start = range.start();

@@ -9,6 +9,7 @@ use Rattle.naga_oil_ir.specs.declared.types.LocalVariable.{LocalVariable}
 use Rattle.naga_oil_ir.specs.declared.span.Span.{Span}
 use Rattle.naga_oil_derive.specs.Walk.{IsWithin, brief, notes_after, Notes}
 use Rattle.naga_oil_derive.proofs.FunctionWalk.{ReadOf, read_of, may_read, plain_read, walk_read, tokens_within, walk_of}
+use Rattle.naga_oil_derive.proofs.ReachSteps.{walk_requests}
 use Rattle.naga_oil_derive.proofs.function_walk.walk_function.Goals as goal
 
 pub add_tokens-requires-clause-within : goal.add_tokens-requires-clause-within
@@ -35,10 +36,13 @@ returns c =
     let began = c.reach_locals.new.walk.places.items in
     let none = c.reach_locals.new.walk.emitted.items in
     let n : length ls ≡ length rd.links.items = length-map rd.links.items (λ v. v.items) in
-    let start : began ≡ started ls (initialisers f) = c.in_ok-reach_locals.ensures.order ∙ ap (λ o. added o (flat_map (trail ls) (initialisers_of c.as_slice-2.result.now))) c.in_ok-walk.ensures.empty ∙ ap (λ (vs : List (LocalVariable × Span)). added [] (flat_map (trail ls) (initialisers_of vs))) c.as_slice-2.ensures in
+    let start : began ≡ started ls (initialisers f) = c.in_ok-reach_locals.ensures.order ∙ ap (λ o. added o (flat_map (trail ls) (initialisers_of c.as_slice-2.result.now))) c.in_ok-walk.ensures.empty.0 ∙ ap (λ (vs : List (LocalVariable × Span)). added [] (flat_map (trail ls) (initialisers_of vs))) c.as_slice-2.ensures in
     let count : c.len-began.result ≡ length began = c.len-began.ensures ∙ c.reach_locals.new.walk.places.ok.0 in
     let long : c.len.result ≡ length ls = c.len.ensures ∙ sym (n ∙ r.long) in
     let empty : none ≡ replicate c.len.result None = ap (λ (v : Vec (Option (ℕ × ℕ)) Global). v.items) c.reach_locals.ensures.emitted ∙ c.in_ok-walk.ensures.emitted in
     let order : w.places.items ≡ added began (flat_map (brief ks ls) ts) = c.in_ok-add_tokens.ensures.order ∙ ap (λ (us : Tokens). added began (flat_map (brief ks ls) us)) e in
     let emitted : w.emitted.items ≡ notes_after ks ls began none ts = c.in_ok-add_tokens.ensures.emitted ∙ ap (λ (us : Tokens). notes_after ks ls began none us) e in
-    walk_read f.expressions rd (initialisers f) ts w.places.items c.len-began.result w.emitted.items r (walk_of ks (callees f.expressions) ls (initialisers f) ts (plain_read f.expressions rd r) m began w.places.items c.len-began.result c.len.result none w.emitted.items w.marks.items start c.in_ok-reach_locals.ensures.ready count long empty order emitted w.marked (c.add_tokens.ensures.over.marks ∙ sym n))
+    record {
+      listed = walk_read f.expressions rd (initialisers f) ts w.places.items c.len-began.result w.emitted.items r (walk_of ks (callees f.expressions) ls (initialisers f) ts (plain_read f.expressions rd r) m began w.places.items c.len-began.result c.len.result none w.emitted.items w.marks.items start c.in_ok-reach_locals.ensures.ready count long empty order emitted w.marked (c.in_ok-add_tokens.ensures.over.marks ∙ sym n));
+      requests = walk_requests f rd c.as_slice.result.now c.as_slice-2.result.now c.deref.result.now c.as_slice.ensures c.in_ok-read.ensures c.as_slice-2.ensures e c.in_ok-walk.walk.requests.items c.request_types.new.requests.items c.reach_locals.new.walk.requests.items w.requests.items c.in_ok-walk.ensures.empty.1 c.in_ok-request_types.ensures c.in_ok-reach_locals.ensures.requests c.in_ok-add_tokens.ensures.requests;
+    }

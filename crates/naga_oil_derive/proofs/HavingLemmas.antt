@@ -1,0 +1,72 @@
+-- Modules with other functions.
+use Rattle.std.proofs.Common.{◌≡◌, ⊎_elim, ℕ, ◌+◌, ◌<◌, ◌++◌, List, [], ◌∷◌, length, map, slice_get, Option, Some, None, IsSome, is_some, option_map, option_to_list, unwrap_or, refl, ap, sym, ◌∙◌, subst, cond, IfSome, Result, Ok, Err, IfOk, String, string_bytes, bytes_eq, Global}
+use Rattle.std.specs.Borrow.{Bor}
+use Rattle.std.specs.Map.{lookup}
+use Rattle.std.proofs.lemmas.Bool.{cases_Bool, cond-true, cond-false, false≢true}
+use Rattle.std.proofs.lemmas.List.{map-append, length-map}
+use Rattle.std.proofs.lemmas.Option.{none-some, same_Some}
+use Rattle.std.proofs.lemmas.Slice.Eq.{bytes_eq-Decides}
+use Rattle.indexmap.specs.IndexMap.{IndexMap}
+use Rattle.naga_oil_ir.specs.ModuleValue.{ModuleValue, FunctionValue, function_value}
+use Rattle.naga_oil_ir.specs.declared.module.Module.{Module}
+use Rattle.naga_oil_ir.specs.declared.module.Function.{Function}
+use Rattle.naga_oil_ir.specs.declared.names.ItemPlace.{ItemPlace}
+use Rattle.naga_oil_ir.specs.declared.names.ItemPlace.TheVariants.{TypeItem, ConstantItem, OverrideItem, GlobalItem, ExpressionItem}
+use Rattle.naga_oil_ir.specs.declared.span.Span.{Span}
+use Rattle.naga_oil_ir.specs.Rows.{Text}
+use Rattle.naga_oil_derive.specs.Tree.{World}
+use Rattle.naga_oil_derive.specs.World.{Begins, Extends, value_of, world, named_world, shifted}
+use Rattle.naga_oil_derive.specs.Renames.{Renames}
+use Rattle.naga_oil_derive.specs.Copying.{IsSound, AreCopied, IsCopying, Grows, AreRanked, goes_under, source_world, kept_between, places_of}
+use Rattle.naga_oil_derive.specs.Callees.{known_as, callee_at}
+use Rattle.naga_oil_derive.specs.Functions.{Copies}
+use Rattle.naga_oil_derive.specs.Went.{went_by}
+use Rattle.naga_oil_derive.specs.Imported.{State, state, meanings, with_meaning, IsAnswerable, IsImportable, FunctionImported, FunctionsGrow}
+use Rattle.naga_oil_derive.specs.DerivedView.{source_of, derived_of, IsSpecialThere, IsDerived}
+use Rattle.naga_oil_derive.specs.Derived.{Source, Derived, KeepsSource}
+use Rattle.naga_oil_derive.specs.DerivedFunctions.{Meanings, meant, meant_at, going, having, with_functions, meaning, MayAsk, MayCopy, MayCall, MayReach, CanCopy, CanCall, KeepsFunctions, IsLocalized, FunctionStands, IsFunctionImported, MeansAt}
+use Rattle.naga_oil_derive.specs.declared.maps.Maps.{Maps}
+use Rattle.naga_oil_derive.specs.declared.special.SpecialKey.{SpecialKey}
+use Rattle.naga_oil_derive.specs.declared.import.Functions.{Functions}
+use Rattle.naga_oil_derive.specs.declared.walk.Request.TheVariants.{Call}
+use Rattle.naga_oil_derive.proofs.CopyLemmas.{kept_same}
+use Rattle.naga_oil_derive.proofs.DeriveLemmas.{source_at, derived_at, later_source}
+use Rattle.naga_oil_derive.proofs.FunctionValues.{known_same, callee_same, callee_means, may_copy_all, may_call}
+
+-- ---- the items of a module don't depend on its functions
+
+world_at : (t : Module) (fs : List (Function × Span)) (p : ItemPlace) → world (value_of (having t fs)) p ≡ world (value_of t) p
+unfolding world value_of
+world_at t fs (TypeItem k) = refl
+world_at t fs (ConstantItem k) = refl
+world_at t fs (OverrideItem k) = refl
+world_at t fs (GlobalItem k) = refl
+world_at t fs (ExpressionItem k) = refl
+
+pub world_having : (t : Module) (fs : List (Function × Span)) → world (value_of (having t fs)) ≡ world (value_of t)
+world_having t fs = λ i p. world_at t fs p i
+
+pub source_having : (source t : Module) (m : Maps) (fs : List (Function × Span)) → source_world source (having t fs) m ≡ source_world source t m
+unfolding source_world
+source_having source t m fs = ap (λ (v : World). named_world (world (value_of source)) v (goes_under m)) (world_having t fs)
+
+-- so the state between calls stays one
+pub copying_having : (source t : Module) (m : Maps) (fs : List (Function × Span)) → IsCopying source t m → IsCopying source (having t fs) m
+copying_having source t m fs i =
+    let w = world_having t fs in
+    let a : AreCopied (source_world source t m) (world (value_of (having t fs))) (kept_between source t) (goes_under m) = subst (λ (v : World). AreCopied (source_world source t m) v (kept_between source t) (goes_under m)) (sym w) i.copied in
+    let b = subst (λ (v : World). AreCopied v (world (value_of (having t fs))) (kept_between source t) (goes_under m)) (sym (source_having source t m fs)) a in
+    record {
+      long = i.long;
+      sound = subst IsSound (sym w) i.sound;
+      copied = subst (λ k. AreCopied (source_world source (having t fs) m) (world (value_of (having t fs))) k (goes_under m)) (sym (kept_same source t (having t fs) refl)) b;
+    }
+
+-- ---- where things go
+
+function_goes : (source : Module) (m : Maps) (fs : Functions) → (h : ℕ) → unwrap_or (meant_at (meanings fs.names.entries) (slice_get (value_of source).functions h)) h ≡ (went_by m source fs.names).function h
+unfolding value_of
+function_goes source m fs h = ap (λ (o : Option ℕ). unwrap_or o h) (sym (callee_same fs.names source.functions h))
+
+pub going_same : (source : Module) (m : Maps) (fs : Functions) → went_by m source fs.names ≡ going (source_at source m) (meanings fs.names.entries)
+going_same source m fs = ap (λ (f : ℕ → ℕ). record (went_by m source fs.names) { function = f }) (λ i h. sym (function_goes source m fs h) i)

@@ -1,0 +1,42 @@
+use Rattle.std.proofs.Common.{◌≡◌, [], List, map, take, take_all, ap, sym, subst}
+use Rattle.naga_oil_ir.specs.ModuleValue.{EntryValue, entry_value}
+use Rattle.naga_oil_ir.specs.declared.module.EntryPoint.{EntryPoint}
+use Rattle.naga_oil_derive.specs.DerivedEntries.{CanCopyEntry, EntriesCopied, NoEntries}
+use Rattle.naga_oil_derive.proofs.EntrySteps.{functions_same, functions_trans, entry_later, entries_step}
+use Rattle.naga_oil_derive.proofs.derive.DerivedModule.copied_entries.Goals as goal
+
+pub copied_entry-requires : goal.copied_entry-requires
+copied_entry-requires c =
+    let x = c.entry-item.result in
+    let d = c.args.self.now in
+    let own : CanCopyEntry d (entry_value x) = subst (λ (y : EntryPoint). CanCopyEntry d (entry_value y)) (sym c.entry-item.is) (c.requires c.loop-entry.entry-index x c.loop-entry-test.true) in
+    entry_later d c.loop-entry.self (entry_value x) c.loop-entry.invariant.keeps own
+
+pub loop-entry-preserved : goal.loop-entry-preserved
+loop-entry-preserved c =
+    let d = c.args.self.now in
+    let e = c.loop-entry.self in
+    let f = c.copied_entry.new.self in
+    record {
+      copied = entries_step d e f c.args.entries.now c.loop-entry.entry-index c.entry-item.result c.loop-entry.copies.items c.in_ok-copy.copy c.push.new.self.items c.loop-entry-test.true c.entry-item.is c.loop-entry.invariant.copied c.in_ok-copy.ensures.copied c.in_ok-push.ensures.items;
+      keeps = functions_trans d e f c.loop-entry.invariant.keeps c.copied_entry.ensures.keeps;
+    }
+
+pub returns-clause-copied : goal.returns-clause-copied
+returns-clause-copied c =
+    let xs = c.args.entries.now in
+    subst (λ (ys : List EntryPoint). EntriesCopied c.args.self.now (map entry_value ys) (map entry_value c.loop-entry.copies.items) c.loop-entry.self) (take_all c.loop-entry.entry-index xs c.loop-entry-test.false) c.loop-entry.invariant.copied
+
+pub returns-in_err-copy-clause-keeps : goal.returns-in_err-copy-clause-keeps
+returns-in_err-copy-clause-keeps c = functions_trans c.args.self.now c.loop-entry.self c.copied_entry.new.self c.loop-entry.invariant.keeps c.copied_entry.ensures.keeps
+
+pub returns-in_err-push-clause-keeps : goal.returns-in_err-push-clause-keeps
+returns-in_err-push-clause-keeps c = functions_trans c.args.self.now c.loop-entry.self c.copied_entry.new.self c.loop-entry.invariant.keeps c.copied_entry.ensures.keeps
+
+pub loop-entry-init : goal.loop-entry-init
+loop-entry-init c =
+    let d = c.args.self.now in
+    record {
+      copied = subst (λ (ws : List EntryPoint). EntriesCopied d [] (map entry_value ws) d) (sym c.new-copies.ensures.items) NoEntries;
+      keeps = functions_same d;
+    }

@@ -1,0 +1,17 @@
+use Rattle.std.proofs.Common.{◌≡◌, ℕ, Option, Some, option_map, sym, subst}
+use Rattle.naga_oil_ir.specs.declared.names.ItemPlace.TheVariants.{ExpressionItem}
+use Rattle.naga_oil_derive.specs.DerivedFunctions.{AreAnswered}
+use Rattle.naga_oil_derive.specs.DerivedEntries.{named_request}
+use Rattle.naga_oil_derive.proofs.EntryAnswers.{answered_none, answered_item}
+use Rattle.naga_oil_derive.proofs.derive.DerivedModule.copied_expression.Goals as goal
+
+pub returns-in-None-clause-answered : goal.returns-in-None-clause-answered
+returns-in-None-clause-answered c =
+    let d = c.args.self.now in
+    subst (λ (o : Option ℕ). AreAnswered d (named_request (option_map ExpressionItem o)) d) (sym c.in-None.is) (answered_none d)
+
+pub returns-in_ok-copy-in-Some-clause-answered : goal.returns-in_ok-copy-in-Some-clause-answered
+returns-in_ok-copy-in-Some-clause-answered c =
+    let d = c.args.self.now in
+    let e = c.import_global_expression.new.self in
+    subst (λ (o : Option ℕ). AreAnswered d (named_request (option_map ExpressionItem o)) e) (sym c.in-Some.is) (answered_item d e (ExpressionItem c.in-Some.handle) (ExpressionItem c.in_ok-copy-in-Some.copy) c.in_ok-copy-in-Some.ensures.imported c.import_global_expression.ensures.reads c.import_global_expression.ensures.keeps)

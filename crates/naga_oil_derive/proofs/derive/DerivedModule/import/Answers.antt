@@ -1,0 +1,23 @@
+use Rattle.naga_oil_derive.proofs.DeriveCalls.{derived_later, imports_ok, reads_one, keeps_one}
+use Rattle.naga_oil_derive.proofs.derive.DerivedModule.import.Goals as goal
+
+pub invariant_of-self : goal.invariant_of-self
+invariant_of-self c =
+    let s = c.self.inside in
+    derived_later s.shader c.in-Some.shader s.target c.copy_item.new.target s.maps c.copy_item.new.maps c.in-Some.is c.self.invariant c.copy_item.ensures.copying c.copy_item.ensures.grows
+
+pub returns-clause-imported : goal.returns-clause-imported
+returns-clause-imported c =
+    let s = c.self.inside in
+    let e = c.copy_item.ensures in
+    imports_ok c.copy_item.result s.shader c.in-Some.shader s.target c.copy_item.new.target s.maps c.copy_item.new.maps s.function_names.entries c.args.self.now c.args.item c.in-Some.is c.self.view_is e.copying e.grows e.reads e.went e.collects
+
+pub returns-clause-reads : goal.returns-clause-reads
+returns-clause-reads c =
+    let s = c.self.inside in
+    reads_one s.shader c.in-Some.shader s.target c.copy_item.new.target s.maps c.copy_item.new.maps s.function_names.entries c.args.self.now c.in-Some.is c.self.view_is c.copy_item.ensures.reads
+
+pub returns-clause-keeps : goal.returns-clause-keeps
+returns-clause-keeps c =
+    let s = c.self.inside in
+    keeps_one s.shader s.target c.copy_item.new.target s.maps c.copy_item.new.maps s.function_names.entries c.args.self.now c.self.view_is c.copy_item.ensures.grows

@@ -1,0 +1,39 @@
+use Rattle.std.proofs.Common.{◌≡◌, ℕ, List, [], map, ap, sym, ◌∙◌, subst, refl}
+use Rattle.naga_oil_ir.specs.Body.{block_tokens}
+use Rattle.naga_oil_ir.specs.ModuleValue.{argument_value, function_value}
+use Rattle.naga_oil_ir.specs.declared.module.FunctionArgument.{FunctionArgument}
+use Rattle.naga_oil_ir.specs.declared.types.LocalVariable.{LocalVariable}
+use Rattle.naga_oil_ir.specs.declared.span.Span.{Span}
+use Rattle.naga_oil_derive.specs.Went.{went}
+use Rattle.naga_oil_derive.specs.Walk.{Notes}
+use Rattle.naga_oil_derive.specs.Copies.{Table, under_table, range_under}
+use Rattle.naga_oil_derive.specs.Functions.{argument_under, local_under, local_values, names_under, named_values, AreCovered, begun}
+use Rattle.naga_oil_derive.specs.Localized.{ExpressionsCopied}
+use Rattle.naga_oil_derive.proofs.LocalSteps.{local_copies, local_emits}
+use Rattle.naga_oil_derive.proofs.localized.localized.Goals as goal
+
+pub returns : goal.returns
+returns c =
+    let f = c.args.function.now in
+    let w = c.args.walk.now in
+    let r = went c.args.names in
+    let t = c.deref.result.now in
+    let es = c.deref-2.result.now in
+    let m = c.in_ok-copies.merged in
+    let target = c.in_ok-copies.copies.target in
+    let at : t ≡ c.in_ok-copies.copies.table.items = c.deref.ensures.value in
+    let copied : ExpressionsCopied r f w t target m = subst (λ (u : Table). ExpressionsCopied r f w u target m) (sym at) c.in_ok-copies.ensures in
+    let range = range_under es w.began m c.len.result in
+    record {
+      table = t;
+      range = range;
+      name = c.in_ok-copied_name.ensures;
+      arguments = c.in_ok-renamed_arguments.ensures ∙ ap (λ (xs : List FunctionArgument). map (argument_under r) (map argument_value xs)) c.deref-3.ensures.value;
+      outcome = c.renamed_result.ensures;
+      expressions = local_copies r f w t target m c.requires copied;
+      locals = c.in_ok-renamed_locals.ensures ∙ ap (λ (ls : List (LocalVariable × Span)). map (local_under (under_table r t range)) (local_values ls)) c.as_slice.ensures;
+      named_expressions = c.in_ok-renamed_names.ensures ∙ ap (λ (u : Table). names_under u [] (named_values f.named_expressions.entries)) (c.deref-4.ensures.value ∙ sym at);
+      body = c.in_ok-renamed_block.ensures;
+      emits = subst (λ (ns : Notes). AreCovered t (range_under ns w.began m c.len.result) (begun (function_value f)) (block_tokens f.body)) (sym c.deref-2.ensures.value) (local_emits r f w t target m c.len.result c.requires copied);
+      leaf = refl;
+    }

@@ -1,0 +1,14 @@
+-- Modules whose calls can be sent to other functions.
+use Rattle.std.specs.Prelude.{[], length, All}
+use Rattle.naga_oil_ir.specs.NameForm.{NameForm}
+use Rattle.naga_oil_ir.specs.WellFormed.{FunctionForm, EntryForm}
+use Rattle.naga_oil_ir.specs.declared.module.Module.{Module}
+use Rattle.naga_oil_derive.specs.Copyable.{CopyableItems}
+
+-- the items of a module can be copied, its functions have names of their own, and each passes the test of form, but that calls
+-- may go to any function; spans end at the last place that one can name
+pub record Redirectable (m : Module) : Type 0 where
+  pub items : CopyableItems m
+  pub names : NameForm m []
+  pub functions : All (λ e. FunctionForm m (length m.functions) 4294967295 e.0) m.functions
+  pub entry_points : All (EntryForm m 4294967295) m.entry_points.items

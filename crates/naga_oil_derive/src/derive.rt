@@ -1,0 +1,201 @@
+ghost use Rattle.std.specs.Prelude.{◌≡◌, ◌<◌, ◌↔◌, Some, IsTrue, IfOk, OnOk, OnErr, length, option_map, string_bytes};
+ghost use Rattle.naga_oil_ir.specs.declared.names.ItemPlace.{ItemPlace};
+ghost use Rattle.naga_oil_derive.specs.World.{value_of, special_entries};
+ghost use Rattle.naga_oil_derive.specs.Copyable.{CopyableItems};
+ghost use Rattle.naga_oil_derive.specs.Derived.{Derived, nothing, cleared, mapped_span, HasItem, IsImported, IsKnown, IsRenamed, Keeps, KeepsItems, ReadsAsBefore, IsSet};
+
+use super::special::{copy_special, keep_special, set_specials, special_entries};
+use super::{Maps, Renaming, Tried, copy_item, copy_named_type};
+use indexmap::IndexMap;
+use naga_oil_ir::{
+    Constant, Expression, Function, GlobalVariable, Handle, ItemPlace, Module, Override, Span, Type,
+};
+use std::alloc::Global;
+use std::marker::Model;
+
+/// Where an item went, or want of memory.
+pub type Placed<T> = Tried<Handle<T>>;
+
+mod entries;
+mod functions;
+#[cfg(test)]
+mod tests;
+
+/// A module that is put together from items and functions of others, its sources. Equal items merge, and one that was
+/// there keeps its handle and its span.
+#[derive(Drop)]
+pub struct DerivedModule<'a> {
+    pub(crate) shader: Option<&'a Module>,
+    pub(crate) maps: Maps,
+    pub(crate) target: Module,
+    pub(crate) function_names: IndexMap<String, Handle<Function>>,
+    pub(crate) alloc: Global,
+}
+
+impl<'a> Model for DerivedModule<'a> {
+    ghost use Rattle.naga_oil_derive.specs.Derived.{Derived};
+    ghost use Rattle.naga_oil_derive.specs.DerivedView.{derived_of, IsDerived};
+
+    ghost Value = { Derived };
+
+    ghost view = { λ a. derived_of a.shader a.maps a.target a.function_names.entries };
+
+    ghost invariant = { λ a. IsDerived a.shader a.maps a.target };
+}
+
+impl<'a> DerivedModule<'a> {
+    /// A module of nothing, with no source.
+    pub fn new(alloc: Global) -> Self
+        ensures { result ≡ nothing }
+    {
+        DerivedModule {
+            shader: None,
+            maps: Maps::empty(alloc),
+            target: Module::new(alloc),
+            function_names: IndexMap::new(alloc),
+            alloc,
+        }
+    }
+
+    /// Sets the module that items are copied from, of which spans are shifted by so many bytes. Its special types are
+    /// copied at once; those of earlier sources stand for those for the same.
+    ///
+    /// # Errors
+    /// Where there is no memory; then no source is set.
+    pub fn set_shader_source(&mut self, shader: &'a Module, span_offset: usize) -> Tried
+        requires { CopyableItems shader.now }
+        ensures set { OnOk result (IsSet (value_of shader.now) span_offset self.old self.new) }
+        ensures err { OnErr result (self.new.source ≡ (cleared self.old).source) }
+        ensures keeps { KeepsItems self.old self.new }
+    {
+        self.clear_shader_source();
+        let entries = special_entries(&shader.special_types, self.alloc)?;
+        let mut maps = Maps::new(shader, span_offset, self.alloc)?;
+        keep_special(&entries, &self.target.special_types, &mut maps.types);
+        copy_special(shader, &entries, &mut maps, &mut self.target, self.alloc)?;
+        set_specials(&entries, &maps, &mut self.target.special_types)?;
+        self.maps = maps;
+        self.shader = Some(shader);
+        Ok(())
+    }
+
+    /// Leaves the source.
+    pub fn clear_shader_source(&mut self)
+        ensures { self.new ≡ cleared self.old }
+    {
+        self.shader = None;
+    }
+
+    /// A span of the source, in the texts of all sources one behind another; the undefined one stays.
+    pub fn map_span(&self, span: Span) -> Span
+        ensures { result ≡ mapped_span self.now.source span }
+    {
+        if self.shader.is_none() {
+            return span;
+        }
+        self.maps.span(span)
+    }
+
+    fn import(&mut self, item: ItemPlace) -> Tried
+        requires { HasItem self.old item }
+        ensures imported { OnOk result ((q : ItemPlace) × IsImported self.old self.new item q) }
+        ensures reads { ReadsAsBefore self.old self.new }
+        ensures keeps { Keeps self.old self.new }
+    {
+        let Some(shader) = self.shader else {
+            return Ok(());
+        };
+        copy_item(shader, &item, &mut self.maps, &mut self.target, self.alloc)
+    }
+
+    /// Copies a type of the source, and what it names first, and gives the copy.
+    pub fn import_type(&mut self, h_type: &Handle<Type>) -> Placed<Type>
+        requires { HasItem self.old (ItemPlace.TypeItem h_type.now) }
+        ensures imported { IfOk result (λ h. IsImported self.old self.new (ItemPlace.TypeItem h_type.now) (ItemPlace.TypeItem h)) }
+        ensures reads { ReadsAsBefore self.old self.new }
+        ensures keeps { Keeps self.old self.new }
+    {
+        self.import(ItemPlace::TypeItem(*h_type))?;
+        Ok(self.maps.ty(*h_type))
+    }
+
+    /// Copies a type of the source under a name, or under its own if none is given; of a type that was copied before,
+    /// gives that copy.
+    pub fn rename_type(&mut self, h_type: &Handle<Type>, name: Option<String>) -> Placed<Type>
+        requires { HasItem self.old (ItemPlace.TypeItem h_type.now) }
+        ensures known { IfOk result (λ h. IsKnown self.old self.new h_type.now h) }
+        ensures renamed { IfOk result (λ h. IsRenamed self.old self.new h_type.now (option_map (λ n. Some (string_bytes n)) name) h) }
+        ensures keeps { Keeps self.old self.new }
+    {
+        let Some(shader) = self.shader else {
+            return Ok(*h_type);
+        };
+        let (maps, target) = (&mut self.maps, &mut self.target);
+        copy_named_type(shader, *h_type, name, maps, target, self.alloc)?;
+        Ok(self.maps.ty(*h_type))
+    }
+
+    /// Copies a constant of the source, and what it names first, and gives the copy.
+    pub fn import_const(&mut self, h_const: &Handle<Constant>) -> Placed<Constant>
+        requires { HasItem self.old (ItemPlace.ConstantItem h_const.now) }
+        ensures imported { IfOk result (λ h. IsImported self.old self.new (ItemPlace.ConstantItem h_const.now) (ItemPlace.ConstantItem h)) }
+        ensures reads { ReadsAsBefore self.old self.new }
+        ensures keeps { Keeps self.old self.new }
+    {
+        self.import(ItemPlace::ConstantItem(*h_const))?;
+        Ok(self.maps.constant(*h_const))
+    }
+
+    /// Copies a global variable of the source, and what it names first, and gives the copy.
+    pub fn import_global(&mut self, h_global: &Handle<GlobalVariable>) -> Placed<GlobalVariable>
+        requires { HasItem self.old (ItemPlace.GlobalItem h_global.now) }
+        ensures imported { IfOk result (λ h. IsImported self.old self.new (ItemPlace.GlobalItem h_global.now) (ItemPlace.GlobalItem h)) }
+        ensures reads { ReadsAsBefore self.old self.new }
+        ensures keeps { Keeps self.old self.new }
+    {
+        self.import(ItemPlace::GlobalItem(*h_global))?;
+        Ok(self.maps.global(*h_global))
+    }
+
+    /// Copies a global expression of the source, and what it names first, and gives the copy.
+    pub fn import_global_expression(&mut self, h_expr: Handle<Expression>) -> Placed<Expression>
+        requires { HasItem self.old (ItemPlace.ExpressionItem h_expr) }
+        ensures imported { IfOk result (λ h. IsImported self.old self.new (ItemPlace.ExpressionItem h_expr) (ItemPlace.ExpressionItem h)) }
+        ensures reads { ReadsAsBefore self.old self.new }
+        ensures keeps { Keeps self.old self.new }
+    {
+        self.import(ItemPlace::ExpressionItem(h_expr))?;
+        Ok(self.maps.expression(h_expr))
+    }
+
+    /// Copies an override of the source, and what it names first, and gives the copy.
+    pub fn import_pipeline_override(&mut self, h_override: &Handle<Override>) -> Placed<Override>
+        requires { HasItem self.old (ItemPlace.OverrideItem h_override.now) }
+        ensures imported { IfOk result (λ h. IsImported self.old self.new (ItemPlace.OverrideItem h_override.now) (ItemPlace.OverrideItem h)) }
+        ensures reads { ReadsAsBefore self.old self.new }
+        ensures keeps { Keeps self.old self.new }
+    {
+        self.import(ItemPlace::OverrideItem(*h_override))?;
+        Ok(self.maps.pipeline_override(*h_override))
+    }
+
+    /// Whether there is a special type.
+    pub fn has_required_special_types(&self) -> bool
+        ensures { IsTrue result ↔ (0 < length (special_entries self.now.target.special_types)) }
+    {
+        let special = &self.target.special_types;
+        !special.predeclared_types.is_empty()
+            | special.ray_desc.is_some()
+            | special.ray_intersection.is_some()
+            | special.ray_vertex_return.is_some()
+    }
+}
+
+/// The arenas and special types, with no entry points.
+impl From<DerivedModule<'_>> for Module {
+    ghost from_gives = { λ d m. value_of m ≡ d.target };
+
+    fn from(derived: DerivedModule<'_>) -> Self {
+        derived.target
+    }
+}

@@ -1,0 +1,118 @@
+ghost use Rattle.naga_oil_derive.specs.declared.walk.Request.{Request};
+ghost use Rattle.std.specs.Prelude.{◌≡◌, ◌∷◌, ℕ, [], Ok, Some, None, IfOk, OnOk};
+ghost use Rattle.naga_oil_ir.specs.ModuleValue.{function_value};
+ghost use Rattle.naga_oil_derive.specs.DerivedFunctions.{having, meant, CanCopy, CanImport, CanCall, KeepsFunctions, KeepsMeanings, IsLocalized, IsFunctionImported, MeansAt, requests_of, AreAnswered};
+
+use super::DerivedModule;
+use crate::callees::known_as;
+use crate::import::{self, Functions};
+use indexmap::IndexMap;
+use naga_oil_ir::{Arena, Function, Handle, Module, Span};
+use std::alloc::{AllocError, Global};
+use std::mem;
+
+#[cfg(test)]
+mod tests;
+
+/// Takes the functions out of a module.
+fn take(
+    target: &mut Module,
+    names: &mut IndexMap<String, Handle<Function>>,
+    alloc: Global,
+) -> Functions
+    ensures taken { (result.copies ≡ target.old.functions) × (result.names ≡ names.old) }
+    ensures left { target.new ≡ having target.old [] }
+{
+    Functions {
+        copies: mem::replace(&mut target.functions, Arena::new(alloc)),
+        names: mem::replace(names, IndexMap::new(alloc)),
+    }
+}
+
+/// Puts functions into a module.
+fn put(functions: Functions, target: &mut Module, names: &mut IndexMap<String, Handle<Function>>)
+    ensures target { target.new ≡ having target.old functions.copies }
+    ensures names { names.new ≡ functions.names }
+{
+    target.functions = functions.copies;
+    *names = functions.names;
+}
+
+impl<'a> DerivedModule<'a> {
+    /// A copy of a function over the handles of the source; what it names is copied first, and of the functions that it
+    /// calls those whose names aren't known.
+    pub fn localize_function(&mut self, func: &Function) -> Result<Function, AllocError>
+        requires { CanCopy self.old (function_value func.now) }
+        ensures meanings { OnOk result (KeepsMeanings self.old self.new) }
+        ensures answered { OnOk result (AreAnswered self.old (requests_of (function_value func.now)) self.new) }
+        ensures copies { IfOk result (λ f. IsLocalized self.new (function_value func.now) (function_value f)) }
+        ensures keeps { KeepsFunctions self.old self.new }
+    {
+        let source = self.shader.unwrap();
+        let depth = source.functions.len();
+        let mut taken = take(&mut self.target, &mut self.function_names, self.alloc);
+        let (maps, target) = (&mut self.maps, &mut self.target);
+        let copy = import::localize(source, func, depth, maps, target, &mut taken, self.alloc);
+        put(taken, &mut self.target, &mut self.function_names);
+        copy
+    }
+
+    /// Puts a copy of a function last, also if its name is known, which then means the copy; and first what it names.
+    pub fn import_function(
+        &mut self,
+        func: &Function,
+        span: Span,
+    ) -> Result<Handle<Function>, AllocError>
+        requires { CanImport self.old (function_value func.now) }
+        ensures imported { IfOk result (IsFunctionImported self.old self.new (function_value func.now) span) }
+        ensures keeps { KeepsFunctions self.old self.new }
+    {
+        let alloc = self.alloc;
+        let source = self.shader.unwrap();
+        let depth = source.functions.len();
+        let mut taken = take(&mut self.target, &mut self.function_names, alloc);
+        let (maps, target) = (&mut self.maps, &mut self.target);
+        let handle = import::import(source, func, span, depth, maps, target, &mut taken, alloc);
+        put(taken, &mut self.target, &mut self.function_names);
+        handle
+    }
+
+    /// The function that the name of one means, copied if the name isn't known.
+    pub fn import_function_if_new(
+        &mut self,
+        func: &Function,
+        span: Span,
+    ) -> Result<Handle<Function>, AllocError>
+        requires { CanImport self.old (function_value func.now) }
+        ensures known { (h : ℕ) → meant self.old.function_names (function_value func.now).name ≡ Some h → (result ≡ Ok h) × (self.new ≡ self.old) }
+        ensures imported { meant self.old.function_names (function_value func.now).name ≡ None → IfOk result (IsFunctionImported self.old self.new (function_value func.now) span) }
+        ensures keeps { KeepsFunctions self.old self.new }
+    {
+        match known_as(&self.function_names, &func.name) {
+            Some(known) => Ok(known),
+            None => self.import_function(func, span),
+        }
+    }
+
+    /// Where a function of the source went, by its name; it is copied if the name isn't known.
+    pub fn map_function_handle(
+        &mut self,
+        h_func: &Handle<Function>,
+    ) -> Result<Handle<Function>, AllocError>
+        requires { CanCall self.old h_func.now }
+        ensures meanings { OnOk result (KeepsMeanings self.old self.new) }
+        ensures answered { OnOk result (AreAnswered self.old (Request.Call h_func.now ∷ []) self.new) }
+        ensures means { IfOk result (MeansAt self.new h_func.now) }
+        ensures keeps { KeepsFunctions self.old self.new }
+    {
+        let source = self.shader.unwrap();
+        let depth = source.functions.len();
+        let mut taken = take(&mut self.target, &mut self.function_names, self.alloc);
+        let (maps, target) = (&mut self.maps, &mut self.target);
+        let handle = import::import_callee(
+            source, *h_func, depth, maps, target, &mut taken, self.alloc,
+        );
+        put(taken, &mut self.target, &mut self.function_names);
+        handle
+    }
+}
