@@ -213,10 +213,42 @@ let a = größe(丈) * #größe; /* 🦶 */
 END
 refuse_each 'a text beyond ASCII' 0 pre "$text" größe=7
 
+# The files of the next shaders.
+top=$folder/top.txt
+lamp=$folder/lamp.txt
+dim=$folder/dim.txt
+
+printf '#define_import_path lamp\nconst GLOW = 1\nvirtual fn light(x) = x + GLOW\n' > "$lamp"
+printf '#define_import_path dim\n#import lamp\noverride fn lamp::light(x) = lamp::light(x) + #DIM\n' > "$dim"
+printf '#import lamp\nentry main = lamp::light(5)\n' > "$top"
+refuse_each 'a shader of files' 0 make "$top" "$lamp"
+refuse_each 'a missing module' 1 make "$top" "$dim"
+refuse_each 'a module that is not there' 2 make "$top" "$folder/nothing.txt"
+
 : > "$text"
 refuse_each 'an empty text' 0 pre "$text"
 refuse_each 'no words' 2
 refuse_each 'a file that is not there' 2 pre "$folder/nothing.wgsl"
+
+# Shaders of several files.
+cd "$root/examples/lighting" || exit 1
+refuse_each 'a shader of seven files' 0 make top.txt palette.txt units.txt sphere.txt lighting.txt fog.txt night.txt \
+    +fog +night SKY=5
+refuse_each 'an import that is not registered' 1 make top.txt palette.txt lighting.txt SKY=5
+refuse_each 'a definition that is missing' 1 make top.txt palette.txt units.txt sphere.txt lighting.txt
+
+cd "$folder" || exit 1
+printf '#define_import_path a\nvirtual fn f(x) = x + 1\n' > a.txt
+printf '#define_import_path b\n#import a\noverride fn a::f(x) = a::f(x) + 10\n' > b.txt
+printf '#define_import_path b\n#import a\nfn h(x) = a::f(x)\noverride fn a::f(x) = h(x)\n' > turning.txt
+printf '#define_import_path a\nfn f(x) = x + 1\n' > plain.txt
+printf '#import a\nentry main = a::f(5)\n' > top.txt
+printf '#import a\nentry main = a::f(5, 6)\n' > wrong.txt
+refuse_each 'an override' 0 make top.txt a.txt b.txt +b
+refuse_each 'a function that is not virtual' 1 make top.txt plain.txt b.txt +b
+refuse_each 'overrides in a circle' 1 make top.txt a.txt turning.txt +b
+refuse_each 'a shader that is not valid' 1 make wrong.txt a.txt
+refuse_each 'a module that is not read' 1 make top.txt a.txt b.txt wrong.txt
 
 echo "$refused allocations refused, $wrong wrong"
 [ "$wrong" -eq 0 ]

@@ -9,3 +9,11 @@ pub mod RemovedLemmas
 pub mod SanitizedLemmas
 pub mod NewDefinitionLemmas
 pub mod WritingLemmas
+pub mod MakesLemmas
+pub mod FormedLemmas
+pub mod SourceLemmas
+pub mod RefusedLemmas
+pub mod KeywordsLemmas
+pub mod BuiltLemmas
+pub mod AnswerLemmas
+pub mod HandedLemmas

@@ -1,6 +1,7 @@
 pub mod Report
 pub mod ReportView
 pub mod Added
+pub mod Built
 pub mod Definition
 pub mod DescribedView
 pub mod Descriptor
@@ -11,3 +12,8 @@ pub mod RegistryRows
 pub mod Sanitized
 pub mod Sources
 pub mod State
+pub mod CopySources
+pub mod Makes
+pub mod Ran
+pub mod Keywords
+pub mod Writeback

@@ -1,11 +1,13 @@
 -- Where a fault lies, and what a refused call tells.
-use Rattle.std.specs.Prelude.{◌≡◌, ℕ, List, [], Option, option_map, Result, Ok, Err, MatchOption, string_bytes}
+use Rattle.std.specs.Prelude.{◌≡◌, ℕ, List, [], Option, None, option_map, Result, Ok, Err, MatchOption, string_bytes}
 use Rattle.naga_oil_pre.specs.Fault.{Fault}
 use Rattle.naga_oil_pre.specs.View.{fault_of}
 use Rattle.naga_oil.specs.Definition.{Defs, defs_of}
 use Rattle.naga_oil.specs.declared.compose.error.ErrSource.{ErrSource}
 use Rattle.naga_oil.specs.declared.compose.error.ErrSource.TheVariants as code
 use Rattle.naga_oil.specs.declared.compose.error.ComposerError.{ComposerError}
+use Rattle.naga_oil.specs.declared.compose.error.EnsureImportsError.{EnsureImportsError}
+use Rattle.naga_oil.specs.declared.compose.error.EnsureImportsError.TheVariants as missing
 
 -- what offsets count in: a registered module's text, or one that was given
 pub data Place : Type 0 where
@@ -47,3 +49,8 @@ UnlessMemory told (Err e) P = MatchOption (told e) (Unit {0}) (λ f. P)
 abbrev pub placed : {Y : Type 0} → Place → Result Y Fault → Result Y Refused
 placed place (Ok y) = Ok y
 placed place (Err f) = Err (record { fault = f; place = place })
+
+-- a module of this name may not be imported there, or there is no memory to tell it
+abbrev pub TellsMissing : EnsureImportsError → List ℕ → Type 0
+TellsMissing (missing.MissingImport told) name = string_bytes told ≡ name
+TellsMissing (missing.ComposerError e) name = (refused_of e ≡ None) × (place_of e.source ≡ nowhere)

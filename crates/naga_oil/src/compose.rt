@@ -7,24 +7,41 @@
 //! - `adding`: what is added, from its text to its definition.
 //! - `sanitize`: a source as it is read.
 //! - `merge`: what a module takes over from those that it imports.
+//! - `build`: a module as it is built of its text, over the builds of what it imports.
+//! - `virtuals`, `keywords`: functions that may be overridden, and the keywords that say so.
+//! - `writeback`: whether the names of a header come back when it is written and read again.
 //! - `error`: why a call is refused, and where.
 //! - `report`: what an error is told as.
 mod adding;
+mod build;
+mod command;
 mod composer;
+mod copied;
 mod definition;
 mod descriptor;
 pub mod error;
+mod filled;
+mod formed;
+mod items;
+mod keywords;
+mod link;
+mod make;
 mod merge;
+mod module;
 mod registry;
 pub mod report;
 mod sanitize;
+mod virtuals;
+mod writeback;
 
+pub use command::{Command, Reply, run};
 pub use composer::Composer;
 pub use definition::ComposableModuleDefinition;
 pub use descriptor::{
     ComposableModuleDescriptor, NagaModuleDescriptor, OwnedShaderDefs, ShaderType,
 };
 pub use error::{ComposerError, ComposerErrorInner, EnsureImportsError, ErrSource};
+pub use module::ComposableModule;
 pub use naga_oil_ir::{
     Backend, BackendRefusal, Capabilities, ParseFault, ShaderLanguage, ValidFault, WriteFault,
     backend,

@@ -4,3 +4,13 @@
 pub mod compose;
 
 pub use naga_oil_ir as ir;
+
+/// Copies of items and functions from one module into another.
+pub mod derive {
+    pub use naga_oil_derive::DerivedModule;
+}
+
+/// Calls sent to other functions.
+pub mod redirect {
+    pub use naga_oil_derive::{RedirectError, Redirector};
+}

@@ -1,5 +1,5 @@
-pub mod WordLemmas
 pub mod OverwriteLemmas
+pub mod WordLemmas
 pub mod NameLemmas
 pub mod SymbolLemmas
 pub mod ReaderLemmas

@@ -1,6 +1,6 @@
 -- Types and bodies that are seen as values.
-use Rattle.std.proofs.Common.{◌≡◌, ℕ, suc, Bool, false, eqb, List, [], ◌∷◌, length, map, refl, sym, ap, ◌∙◌, arith}
-use Rattle.std.specs.List.{flat_map}
+use Rattle.std.proofs.Common.{◌≡◌, ℕ, suc, Bool, false, eqb, List, [], ◌∷◌, ◌++◌, length, map, refl, sym, ap, ◌∙◌, arith, Bor}
+use Rattle.std.specs.List.{flat_map, join_by}
 use Rattle.std.proofs.lemmas.Bool.Decides.{nat_tests}
 use Rattle.naga_oil_ir.specs.Body.{block_tokens, spanned_tokens}
 use Rattle.naga_oil_ir.specs.Rows.{Row, type_row}
@@ -9,6 +9,7 @@ use Rattle.naga_oil_ir.specs.declared.statement.Block.{Block, out-Block}
 use Rattle.naga_oil_ir.specs.declared.statement.Statement.{Statement}
 use Rattle.naga_oil_ir.specs.declared.types.Type.{«Type» as TypeItself}
 use Rattle.naga_oil_ir.proofs.BodyLemmas.{block_tokens-out}
+use Rattle.naga_oil_mini.specs.Names.{texts_of}
 use Rattle.naga_oil_mini.specs.Writer.{fits_types, is_scalar}
 
 -- types alone
@@ -32,3 +33,13 @@ no_statements (s ∷ ss) = above_none _ ∙ sym (above_none (length ss))
 -- a body has no tokens where it has no statements
 pub block_is_empty : (b : Block) → eqb (length (block_tokens b)) 0 ≡ eqb (length (out-Block b).body.items) 0
 block_is_empty b = ap (λ ts. eqb (length ts) 0) (block_tokens-out b) ∙ no_statements (out-Block b).body.items
+
+-- ---- names
+joined_behind : (sep : List ℕ) (ts : List (Bor (List ℕ))) → flat_map (λ t. sep ++ t.now) ts ≡ flat_map (λ n. sep ++ n) (texts_of ts)
+joined_behind sep [] = refl
+joined_behind sep (t ∷ ts) = ap (λ l. (sep ++ t.now) ++ l) (joined_behind sep ts)
+
+-- names that are joined as the code has them
+pub join_names : (sep : List ℕ) (ts : List (Bor (List ℕ))) → join_by (λ t. t.now) sep ts ≡ join_by (λ n. n) sep (texts_of ts)
+join_names sep [] = refl
+join_names sep (t ∷ ts) = ap (λ l. t.now ++ l) (joined_behind sep ts)

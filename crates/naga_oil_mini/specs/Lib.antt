@@ -15,3 +15,4 @@ pub mod Order
 pub mod Writer
 pub mod Valid
 pub mod Front
+pub mod MiniRows

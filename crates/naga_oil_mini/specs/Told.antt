@@ -1,56 +1,94 @@
 -- What is told where nothing is written.
-use Rattle.std.specs.Prelude.{◌≡◌, ℕ, List, ◌++◌, ◌∷◌, [], codes, drop, Err, Option, Some, None, IsSome, IfSome, ⊤}
+use Rattle.std.specs.Prelude.{◌≡◌, ℕ, List, ◌++◌, ◌∷◌, [], codes, drop, Result, Ok, Err, Option, Some, None, IsSome, IfSome, IsOk, Contains, ⊤, string_bytes}
 use Rattle.std.specs.Io.KnownBytes.{Appends}
-use Rattle.naga_oil_mini.specs.Words.{asked_file}
+use Rattle.naga_oil.specs.Report as written
+use Rattle.naga_oil_ir.specs.ModuleValue.{ModuleValue}
+use Rattle.naga_oil_pre.specs.Fault.{Fault as FaultOfText}
 use Rattle.naga_oil_pre.specs.Metadata.{none_defined}
 use Rattle.naga_oil_mini.specs.Defined.{defined_by}
+use Rattle.naga_oil_mini.specs.Words.{Asked, asked}
+use Rattle.naga_oil_mini.specs.Writer.{module_text}
 use Rattle.naga_oil_mini.specs.declared.mini.refusal.Refusal.{Refusal}
-use Rattle.naga_oil_mini.specs.declared.mini.refusal.Refusal.TheVariants.{Usage, BadDefinition, CannotRead, Fault, Write}
+use Rattle.naga_oil_mini.specs.declared.mini.refusal.Refusal.TheVariants.{Usage, BadDefinition, CannotRead, Fault, Memory, NotInMini, Write}
 
--- the status: 2 for the words and the file, 1 for the text and the streams
+-- the status: 2 for the words and the files, 1 for the texts and the streams
 abbrev pub status_of : Refusal → ℕ
 status_of Usage = 2
 status_of (BadDefinition word) = 2
 status_of (CannotRead file) = 2
-status_of (Fault fault) = 1
+status_of (Fault report) = 1
+status_of Memory = 1
+status_of NotInMini = 1
 status_of Write = 1
-
--- it is a fault, also want of memory
-abbrev pub IsFault : Refusal → Type 0
-IsFault Usage = ⊥
-IsFault (BadDefinition word) = ⊥
-IsFault (CannotRead file) = ⊥
-IsFault (Fault fault) = ⊤
-IsFault Write = ⊥
 
 -- the line that shows how `oil` is used
 abbrev pub usage : List ℕ
-usage = codes "usage: oil pre FILE [NAME=VALUE..] | oil make TOP [MODULE..] [+NAME..] [NAME=VALUE..]"
+usage = codes "usage: oil pre FILE [NAME=VALUE..] | oil make TOP [MODULE..] [+NAME..] [NAME=VALUE..]" ++ 10 ∷ []
 
--- the message, where it isn't that of a fault
-abbrev pub message_of : Refusal → Option (List ℕ)
-message_of Usage = Some usage
-message_of (BadDefinition word) = Some (codes "bad definition " ++ word.now)
-message_of (CannotRead file) = Some (codes "cannot read " ++ file.now)
-message_of (Fault fault) = None
-message_of Write = Some (codes "error: cannot write")
+-- what is told: the report of a fault, or a line; of a write that fails nothing
+abbrev pub message_of : Refusal → List ℕ
+message_of Usage = usage
+message_of (BadDefinition word) = codes "bad definition " ++ word.now ++ 10 ∷ []
+message_of (CannotRead file) = codes "cannot read " ++ file.now ++ 10 ∷ []
+message_of (Fault report) = string_bytes report
+message_of Memory = codes "error: out of memory" ++ 10 ∷ []
+message_of NotInMini = codes "error: not in Mini" ++ 10 ∷ []
+message_of Write = []
+
+-- that is written
+abbrev pub Tells : Refusal → (old new : Option (List ℕ)) → Type 0
+Tells refusal old new = Appends old new (message_of refusal)
+
+-- what is told of a text that has no value: the report of its fault, or that there is no memory
+abbrev pub Reports : (path text : List ℕ) → Result (List ℕ) FaultOfText → Refusal → Type 0
+Reports path text value (Fault report) = (f : FaultOfText) × (value ≡ Err f) × (string_bytes report ≡ written.report path text 0 (Some f))
+Reports path text value Memory = ⊤
+Reports path text value e = ⊥
+
+-- a shader isn't made: a fault of its texts, one that Mini doesn't write, or no memory
+abbrev pub IsOfMaking : Refusal → Type 0
+IsOfMaking (Fault report) = ⊤
+IsOfMaking Memory = ⊤
+IsOfMaking NotInMini = ⊤
+IsOfMaking e = ⊥
+
+-- a text is that of a module
+abbrev pub IsWritten : List ℕ → Type 0
+IsWritten text = (m : ModuleValue) × (module_text m ≡ Some text)
+
+-- why words are refused: they ask for nothing
+abbrev pub RefusesWords : List (List ℕ) → Refusal → Type 0
+RefusesWords words Usage = asked words ≡ None
+RefusesWords words Memory = ⊤
+RefusesWords words e = ⊥
 
 -- why the definitions among the words are refused
 abbrev pub RefusesDefinitions : List (List ℕ) → Refusal → Type 0
-RefusesDefinitions words Usage = ⊥
 RefusesDefinitions words (BadDefinition word) = defined_by none_defined words ≡ Err word.now
-RefusesDefinitions words (CannotRead file) = ⊥
-RefusesDefinitions words (Fault fault) = ⊤
-RefusesDefinitions words Write = ⊥
+RefusesDefinitions words Memory = ⊤
+RefusesDefinitions words e = ⊥
 
--- the message and a line end are written
-abbrev pub Tells : Refusal → (old new : Option (List ℕ)) → Type 0
-Tells refusal old new = IfSome (message_of refusal) (λ message. Appends old new (message ++ 10 ∷ []))
+-- why files aren't read: one of them can't be
+abbrev pub RefusesFiles : List (List ℕ) → Refusal → Type 0
+RefusesFiles files (CannotRead file) = Contains files file.now
+RefusesFiles files Memory = ⊤
+RefusesFiles files e = ⊥
 
--- why the words are refused: no file is asked for, or else a definition or the file is named
+-- words ask for something under good definitions
+abbrev pub IsAsked : List (List ℕ) → Type 0
+IsAsked words = IsSome (asked words) × IsOk (defined_by none_defined (drop 1 words))
+
+-- why the words are refused: they ask for nothing; or else a definition is named; or else a file; or else what is asked for isn't had
 abbrev pub Refuses : List (List ℕ) → Refusal → Type 0
-Refuses words Usage = asked_file words ≡ None
-Refuses words (BadDefinition word) = IsSome (asked_file words) × (defined_by none_defined (drop 1 words) ≡ Err word.now)
-Refuses words (CannotRead file) = asked_file words ≡ Some file.now
-Refuses words (Fault fault) = IsSome (asked_file words)
-Refuses words Write = IsSome (asked_file words)
+Refuses words Usage = asked words ≡ None
+Refuses words (BadDefinition word) = IsSome (asked words) × (defined_by none_defined (drop 1 words) ≡ Err word.now)
+Refuses words (CannotRead file) = IsAsked words × IfSome (asked words) (λ a. Contains a.files file.now)
+Refuses words (Fault report) = IsAsked words
+Refuses words Memory = ⊤
+Refuses words NotInMini = IsAsked words
+Refuses words Write = IsAsked words
+
+-- only a write that fails may leave a part of the text
+abbrev pub LeavesOut : {A : Type 0} → Refusal → (old new : A) → Type 0
+LeavesOut Write old new = ⊤
+LeavesOut e old new = new ≡ old

@@ -1,35 +1,66 @@
 -- What the words behind the program's name ask for.
-use Rattle.std.specs.Prelude.{ℕ, Bool, not, ◌==◌, if◌then◌else◌, Option, Some, None, List, [], ◌∷◌, bytes_eq, codes, filter, slice_index, string_bytes, map, String}
-use Rattle.std.specs.List.{list_any}
+use Rattle.std.specs.Prelude.{ℕ, Bool, not, ◌==◌, ◌&&◌, if◌then◌else◌, Option, Some, None, is_none, List, [], ◌∷◌, bytes_eq, codes, filter, length, map, string_bytes, String}
+use Rattle.std.specs.List.{list_any, filter_map}
 use Rattle.std.specs.declared.alloc.Global.{Global}
+use Rattle.naga_oil_mini.specs.Items.{◌>>=◌}
+use Rattle.naga_oil_mini.specs.Names.{texts_of}
+use Rattle.naga_oil_mini.specs.declared.mini.words.Task.{Task}
+use Rattle.naga_oil_mini.specs.declared.mini.words.Task.TheVariants.{Preprocess, Make}
+use Rattle.naga_oil_mini.specs.declared.mini.words.Request.{Request}
 
 -- a word with `=` is a definition
 abbrev pub is_definition : List ℕ → Bool
 is_definition word = list_any (λ b. b == 61) word
 
--- a word that begins with `+` adds an import
-abbrev pub adds_import : List ℕ → Bool
-adds_import word = slice_index word 0 == 43
+-- the name behind `+`
+abbrev pub import_of : List ℕ → Option (List ℕ)
+import_of [] = None
+import_of (b ∷ name) = if b == 43 then Some name else None
 
--- the words that are no definitions
-abbrev pub others : List (List ℕ) → List (List ℕ)
-others words = filter (λ word. not (is_definition word)) words
+-- the import that a word adds, unless it is a definition
+abbrev pub added_import : List ℕ → Option (List ℕ)
+added_import word = if is_definition word then None else import_of word
 
--- the one file among words that are no definitions
-abbrev pub only_file : List (List ℕ) → Option (List ℕ)
-only_file [] = None
-only_file (word ∷ []) = if adds_import word then None else Some word
-only_file (word ∷ other ∷ more) = None
+-- any other word that is no definition is a file
+abbrev pub is_file : List ℕ → Bool
+is_file word = not (is_definition word) && is_none (import_of word)
 
--- the file that the words ask to preprocess: behind the command `pre` it is the only word that is no definition
-abbrev pub asked_file : List (List ℕ) → Option (List ℕ)
-asked_file [] = None
-asked_file (command ∷ words) = if bytes_eq command (codes "pre") then only_file (others words) else None
+-- the files among words
+abbrev pub files : List (List ℕ) → List (List ℕ)
+files words = filter is_file words
 
--- the words as texts
+-- the imports among words
+abbrev pub imports : List (List ℕ) → List (List ℕ)
+imports words = filter_map added_import words
+
+-- the task of a command
+abbrev pub task_of : List ℕ → Option Task
+task_of command = if bytes_eq command (codes "pre") then Some Preprocess else (if bytes_eq command (codes "make") then Some Make else None)
+
+-- `pre` takes one file, and `make` one or more and imports
+abbrev pub takes : Task → (files imports : List (List ℕ)) → Bool
+takes Preprocess files imports = (length files == 1) && (length imports == 0)
+takes Make files imports = not (length files == 0)
+
+-- what is asked for: a task, files, of which the first is the shader's, and imports
+pub record Asked : Type 0 where
+  pub task : Task
+  pub files : List (List ℕ)
+  pub imports : List (List ℕ)
+
+-- what a task asks for with the words behind its command
+abbrev pub task_asked : List (List ℕ) → Task → Option Asked
+task_asked words task = if takes task (files words) (imports words) then Some (record { task = task; files = files words; imports = imports words }) else None
+
+-- what the words ask for
+abbrev pub asked : List (List ℕ) → Option Asked
+asked [] = None
+asked (command ∷ words) = task_of command >>= task_asked words
+
+-- ---- as the code has them
+-- words as texts
 abbrev pub texts : List (String Global) → List (List ℕ)
 texts words = map string_bytes words
 
--- the file among the words behind the command
-abbrev pub file_of : List (List ℕ) → Option (List ℕ)
-file_of words = only_file (others words)
+abbrev pub asked_of : Request → Asked
+asked_of a = record { task = a.task; files = texts_of a.files.items; imports = texts_of a.imports.items }

@@ -1,7 +1,7 @@
 -- The text of a module: constants, functions, entry points, a line each.
 use Rattle.std.specs.Prelude.{◌≡◌, ℕ, ◌+◌, Bool, true, false, ◌==◌, ◌&&◌, not, if◌then◌else◌, List, [], ◌∷◌, ◌++◌, length, map, reverse, Option, Some, None, option_map, is_none, bytes_eq, codes, string_bytes, Vec}
 use Rattle.std.specs.Fmt.{decimal}
-use Rattle.std.specs.List.{flat_map}
+use Rattle.std.specs.List.{flat_map, join_by}
 use Rattle.naga_oil_ir.specs.Parts.{Parts}
 use Rattle.naga_oil_ir.specs.Rows.{Row, constant_row, Kind, TypeKind, ConstantKind, OverrideKind, GlobalKind, ExpressionKind}
 use Rattle.naga_oil_ir.specs.Body.{Tokens}
@@ -119,14 +119,12 @@ body_text i ps f (t ∷ ts) = do
 unfoldable pub body_line : Items → List (List ℕ) → FunctionValue → Option (List ℕ × Room)
 body_line i ps f = if is_plain_function f then body_text i ps f f.body else None
 
--- parameters, each but the first behind a `,`; the test says whether one stands before them
-abbrev pub parameters_text : Bool → List (List ℕ) → List ℕ
-parameters_text b [] = []
-parameters_text false (p ∷ ps) = p ++ parameters_text true ps
-parameters_text true (p ∷ ps) = codes ", " ++ p ++ parameters_text true ps
+-- parameters joined by `, `
+abbrev pub parameters_text : List (List ℕ) → List ℕ
+parameters_text ps = join_by (λ p. p) (codes ", ") ps
 
 abbrev pub header_text : List ℕ → List (List ℕ) → List ℕ
-header_text n ps = codes "fn " ++ n ++ codes "(" ++ parameters_text false ps ++ codes ")"
+header_text n ps = codes "fn " ++ n ++ codes "(" ++ parameters_text ps ++ codes ")"
 
 -- a function's line and its room
 unfoldable pub function_text : Items → FunctionValue → Option (List ℕ × Room)
@@ -142,8 +140,7 @@ functions_text i (f ∷ fs) = before (function_text i f.0) (functions_text i fs)
 
 -- ---- entry points
 abbrev pub is_ones : List ℕ → Bool
-is_ones (a ∷ b ∷ c ∷ []) = ((a == 1) && (b == 1)) && (c == 1)
-is_ones ns = false
+is_ones ns = bytes_eq ns (1 ∷ 1 ∷ 1 ∷ [])
 
 -- an entry point has no more than Mini gives it, and a body
 abbrev pub is_plain_entry : EntryValue → Bool

@@ -1,4 +1,4 @@
-//! The program `oil`: prints a shader's text as it stands behind preprocessing.
+//! The program `oil`: prints a shader's text as it stands behind preprocessing, or a shader made of files.
 #![tactic(auto)]
 
 mod mini;
@@ -8,41 +8,21 @@ use std::io::{BufWriter, ErrorKind};
 use std::process::ExitCode;
 use std::{env, fs, io};
 
-// The words behind the program's name.
-fn words_of(rt: &HostRuntime) -> io::Result<Vec<String>> {
-    let mut words = Vec::new(rt.alloc());
-    for word in env::args(rt)?.skip(1) {
-        words.push(word)?;
-    }
-    Ok(words)
-}
-
-// What is told of a file that can't be read.
-fn told(error: io::Error) -> Result<Option<Vec<u8>>, AllocError> {
-    match error.kind() {
-        ErrorKind::OutOfMemory => Err(AllocError),
-        _ => Ok(None),
-    }
-}
-
+// The bytes of a file, if it can be read.
 fn read_file(rt: &HostRuntime, path: &str) -> Result<Option<Vec<u8>>, AllocError> {
     match fs::read(rt, path) {
         Ok(bytes) => Ok(Some(bytes)),
-        Err(error) => told(error),
+        Err(error) if error.kind() == ErrorKind::OutOfMemory => Err(AllocError),
+        Err(_) => Ok(None),
     }
 }
 
 fn run(rt: &HostRuntime) -> io::Result<u8> {
-    let words = words_of(rt)?;
+    let words: Vec<String> = env::args(rt)?.skip(1).collect(rt.alloc())?;
     let mut out = BufWriter::new(rt.alloc(), rt.stdout())?;
     let mut err = rt.stderr();
-    Ok(mini::oil(
-        rt.alloc(),
-        words.as_slice(),
-        |path: &str| read_file(rt, path),
-        &mut out,
-        &mut err,
-    ))
+    let read = |path: &str| read_file(rt, path);
+    Ok(mini::oil(rt.alloc(), &words, read, &mut out, &mut err))
 }
 
 fn main(rt: HostRuntime) -> ExitCode {

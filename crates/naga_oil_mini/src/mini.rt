@@ -1,15 +1,15 @@
 // What `oil` does with its words, its files and its streams.
-ghost use Rattle.std.specs.Prelude.{◌≡◌, ◌+◌, ◌≤◌, None, Err, IsSome, OnOk, IfErr, OnErr};
+ghost use Rattle.std.specs.Prelude.{◌≡◌, ◌≤◌, None, map, OnOk, IfOk, IfErr};
 ghost use Rattle.std.specs.Io.KnownBytes.{Appends};
 ghost use Rattle.naga_oil_mini.specs.declared.mini.refusal.Refusal.{Refusal};
-ghost use Rattle.naga_oil_mini.specs.Words.{texts, asked_file};
-ghost use Rattle.naga_oil_mini.specs.Told.{Refuses, Tells, status_of};
+ghost use Rattle.naga_oil_mini.specs.Names.{texts_of};
+ghost use Rattle.naga_oil_mini.specs.Words.{texts, asked};
+ghost use Rattle.naga_oil_mini.specs.Told.{IsAsked, Refuses, RefusesFiles, LeavesOut, Tells, status_of};
 
 mod body_reader;
 mod definitions;
 mod front;
-#[cfg(test)]
-mod front_tests;
+mod make;
 mod making;
 mod names;
 mod not_written;
@@ -27,31 +27,49 @@ mod writer;
 use refusal::Refusal;
 use std::alloc::{AllocError, Global};
 use std::io::{self, Write};
+use words::Task;
 
 // Writes what the words ask for.
 fn answer<'a, F: FnMut(&str) -> Result<Option<Vec<u8>>, AllocError> + Drop, O: Write>(
     alloc: Global,
     words: &'a [String],
-    mut read: F,
+    read: F,
     out: &mut O,
 ) -> Result<(), Refusal<'a>>
     requires { F.IsAlwaysCallable read }
-    ensures ok { OnOk result (IsSome (asked_file (texts words.now))) }
+    ensures ok { OnOk result (IsAsked (texts words.now)) }
     ensures err { IfErr result (Refuses (texts words.now)) }
-    ensures untouched { asked_file (texts words.now) ≡ None → out.new ≡ out.old }
+    ensures untouched { IfErr result (λ e. LeavesOut e out.old out.new) }
 {
-    let Some((file, given)) = words::asked(words) else {
-        return Err(Refusal::Usage);
+    let asked = words::asked(alloc, words)?;
+    let definitions = definitions::given(alloc, asked.words)?;
+    let texts = read_files(alloc, &asked.files, read)?;
+    let (top, modules) = texts.split_first().ok_or(Refusal::Usage)?;
+    let source = match asked.task {
+        Task::Preprocess => pre::shown_file(alloc, top.0, top.1.as_str(), definitions)?,
+        Task::Make => make::made(alloc, top, modules, &asked.imports, definitions)?,
     };
-    let definitions = definitions::given(alloc, given)?;
-    let Some(bytes) = read(file)? else {
-        return Err(Refusal::CannotRead(file));
-    };
-    let Ok(text) = str::from_utf8(bytes.as_slice()) else {
-        return Err(Refusal::CannotRead(file));
-    };
-    let source = pre::preprocessed(alloc, text, definitions)?;
-    write_to(out, source.as_bytes()).map_err(|_| Refusal::Write)
+    write_to(out, source.as_bytes()).ok().ok_or(Refusal::Write)
+}
+
+// The texts of files, each with its file.
+fn read_files<'a, F: FnMut(&str) -> Result<Option<Vec<u8>>, AllocError> + Drop>(
+    alloc: Global,
+    files: &[&'a str],
+    mut read: F,
+) -> Result<Vec<(&'a str, String)>, Refusal<'a>>
+    requires { F.IsAlwaysCallable read }
+    ensures ok { IfOk result (λ read. map (λ f. f.0.now) read.items ≡ texts_of files.now) }
+    ensures err { IfErr result (RefusesFiles (texts_of files.now)) }
+{
+    let mut texts = Vec::with_capacity(alloc, files.len())?;
+    for file in files {
+        let bytes = read(*file)?.ok_or(Refusal::CannotRead(*file))?;
+        let text = String::from_utf8(bytes).ok();
+        let text = text.ok_or(Refusal::CannotRead(*file))?;
+        texts.push((*file, text)).map_err(AllocError::from)?;
+    }
+    Ok(texts)
 }
 
 fn write_to<O: Write>(out: &mut O, bytes: &[u8]) -> io::Result<()>
@@ -61,11 +79,11 @@ fn write_to<O: Write>(out: &mut O, bytes: &[u8]) -> io::Result<()>
     out.flush()
 }
 
-// Tells why nothing is written, by a line.
+// Tells why nothing is written.
 fn report<E: Write>(refusal: Refusal<'_>, err: &mut E) -> io::Result<()>
     ensures { OnOk result (Tells refusal.entry (E.contents err.old) (E.contents err.new)) }
 {
-    err.writeln(refusal)?;
+    err.write_fmt(refusal)?;
     err.flush()
 }
 
@@ -83,18 +101,16 @@ pub fn oil<F: FnMut(&str) -> Result<Option<Vec<u8>>, AllocError> + Drop, O: Writ
 ) -> u8
     requires { F.IsAlwaysCallable read }
     ensures statuses { result ≤ 2 }
-    ensures asked { result ≡ 0 → IsSome (asked_file (texts words.now)) }
-    // The words and the file are refused by a line.
-    ensures refused { result ≡ 2 → (e : Refusal) × Refuses (texts words.now) e × (status_of e ≡ 2) × Tells e (E.contents err.old) (E.contents err.new) }
-    ensures usage { asked_file (texts words.now) ≡ None → 1 ≤ result }
-    ensures untouched { asked_file (texts words.now) ≡ None → out.new ≡ out.old }
+    ensures asked { result ≡ 0 → IsAsked (texts words.now) }
+    // Nothing stands on `out` but what a write that failed left there.
+    ensures refused { 1 ≤ result → (e : Refusal) × Refuses (texts words.now) e × LeavesOut e out.old out.new }
+    // The words and the files are refused by a line.
+    ensures told { result ≡ 2 → (e : Refusal) × Refuses (texts words.now) e × (status_of e ≡ 2) × Tells e (E.contents err.old) (E.contents err.new) × LeavesOut e out.old out.new }
+    ensures usage { asked (texts words.now) ≡ None → 1 ≤ result }
 {
     let Err(refusal) = answer(alloc, words, read, out) else {
         return 0;
     };
-    if let Refusal::Write = refusal {
-        return 1;
-    }
     let status = refusal.status();
     match report(refusal, err) {
         Ok(()) => status,

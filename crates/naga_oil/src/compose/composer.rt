@@ -1,14 +1,18 @@
 //! The composer.
-ghost use Rattle.std.specs.Prelude.{◌≡◌, ◌<◌, length, slice_get, Some, [], true, false, option_map, string_bytes, IfOk};
+ghost use Rattle.std.specs.Prelude.{◌≡◌, ◌<◌, length, slice_get, Some, [], true, false, option_map, string_bytes, IfOk, IsOk, OnOk, MatchResult};
+ghost use Rattle.std.specs.Borrow.{sem};
+ghost use Rattle.std.specs.Io.BufRead.{Rests};
 ghost use Rattle.naga_oil.specs.Definition.{definition_of};
 
 use crate::compose::adding::{describe, register};
-use crate::compose::definition::{ComposableModuleDefinition, Tried};
-use crate::compose::descriptor::ComposableModuleDescriptor;
+use crate::compose::build::Maker;
+use crate::compose::definition::{ComposableModuleDefinition, Defs, Tried};
+use crate::compose::descriptor::{ComposableModuleDescriptor, NagaModuleDescriptor};
 use crate::compose::error::{ComposerError, refused};
+use crate::compose::link::Builds;
 use crate::compose::registry::remove;
 use crate::compose::sanitize::read_source;
-use naga_oil_ir::{Backend, Capabilities};
+use naga_oil_ir::{Backend, Capabilities, Module};
 use naga_oil_lines::decorate::decorated_name;
 use std::alloc::Global;
 use std::marker::Model;
@@ -40,10 +44,12 @@ impl<B: Backend> Model for Composer<B> {
 }
 
 impl<B: Backend> Composer<B> {
+    ghost use Rattle.naga_oil.specs.contracts.compose.composer.Composer.{the_row};
     ghost use Rattle.naga_oil_ir.specs.declared.backend.Capabilities.{Capabilities};
     ghost use Rattle.naga_oil_lines.specs.Decorate.{decorated_name};
     ghost use Rattle.naga_oil.specs.Added.{addition};
-    ghost use Rattle.naga_oil.specs.Descriptor.{module_source};
+    ghost use Rattle.naga_oil.specs.Descriptor.{module_source, shader_source};
+    ghost use Rattle.naga_oil.specs.Makes.{Makes};
     ghost use Rattle.naga_oil.specs.Refused.{Answers};
     ghost use Rattle.naga_oil.specs.Registry.{registered, module_named, module_indexed, IsRegistry, AreReachedNames};
     ghost use Rattle.naga_oil.specs.State.{Adds, Removes};
@@ -186,20 +192,54 @@ impl<B: Backend> Composer<B> {
         &mut self,
         desc: ComposableModuleDescriptor<'_>,
     ) -> Result<&ComposableModuleDefinition, ComposerError>
+        ensures* state { sem 𝓛 (Rests (the_row B.row B.Backend) self.entry (Adds (λ d. definition_of d.now) (λ d. d) self.old (module_source desc.entry) result)) }
         ensures reply { Answers (λ d. definition_of d.now) result (addition self.old.registry self.old.counter (module_source desc.entry)) }
     {
-        if let Err(error) = self.added(desc) {
-            return Err(error);
-        }
-        Ok(self.newest())
+        let added = self.added(desc);
+        self.newest(added)
     }
 
-    // The module that was added last.
-    fn newest(&self) -> &ComposableModuleDefinition
-        requires { 0 < length self.now.registry }
-        ensures { slice_get self.now.registry 0 ≡ Some (definition_of result.now) }
+    /// Makes one shader out of a text and the registered modules that it imports.
+    ///
+    /// # Errors
+    /// The first fault, in this order: a mark of a decoration, no number left for a binding, the text's own, an import that
+    /// isn't registered, definitions that differ, what is wrong with a module that is imported, with the text, with what
+    /// overrides functions, and with the whole; or `Memory`. Whether refused or not, it changes the counter alone.
+    pub fn make_naga_module(
+        &mut self,
+        desc: NagaModuleDescriptor<'_>,
+    ) -> Result<Module, ComposerError>
+        ensures { Makes self.old (shader_source desc.entry) result self.new }
     {
-        &self.modules[0]
+        let alloc = self.alloc;
+        let (text, next) = match read_source(alloc, desc.source, self.counter) {
+            Ok(found) => found,
+            Err(inner) => return Err(refused(alloc, inner, desc.file_path, desc.source, 0)),
+        };
+        self.counter = next;
+        let mut maker = Maker {
+            alloc,
+            front: &self.front,
+            validate: self.validate,
+            capabilities: self.capabilities,
+            defs: Defs::new(alloc),
+            builds: Builds::new(alloc),
+        };
+        maker.made(desc, text.as_str(), &self.modules)
+    }
+
+    // The module that was added last, or why none was.
+    fn newest(
+        &self,
+        added: Result<usize, ComposerError>,
+    ) -> Result<&ComposableModuleDefinition, ComposerError>
+        requires { OnOk added (0 < length self.now.registry) }
+        ensures { MatchResult result (λ d. IsOk added × (slice_get self.now.registry 0 ≡ Some (definition_of d.now))) (λ e. added ≡ Err e) }
+    {
+        match added {
+            Ok(_) => Ok(&self.modules[0]),
+            Err(error) => Err(error),
+        }
     }
 }
 

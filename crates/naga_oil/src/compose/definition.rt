@@ -1,3 +1,4 @@
+use indexmap::IndexMap;
 use naga_oil_ir::ShaderLanguage;
 use naga_oil_lines::wgsl_directives::WgslDirectives;
 use naga_oil_lines::{ImportDefWithOffset, ImportDefinition};
@@ -14,10 +15,13 @@ pub(crate) type Checked<T> = Result<T, ComposerErrorInner>;
 // Names, each once.
 pub(crate) type Names = BTreeSet<String>;
 
+// Functions, each with those that override it.
+pub(crate) type Overrides = IndexMap<String, Vec<String>>;
+
 // What names are defined as.
 pub(crate) type Defs = BTreeMap<String, ShaderDefValue>;
 
-// What is registered of a module.
+// A module that is registered, or the shader, whose index is 0.
 pub(crate) type Definition = ComposableModuleDefinition;
 
 /// A registered module.
@@ -39,4 +43,13 @@ pub struct ComposableModuleDefinition {
     // From 1 to 2047, and of no other module.
     pub(crate) module_index: usize,
     pub(crate) wgsl_directives: WgslDirectives,
+}
+
+impl ComposableModuleDefinition {
+    // Whether an import of this module is recorded of the text, or asked for besides.
+    pub(crate) fn may_import(&self, name: &str) -> bool {
+        self.all_imports
+            .iter()
+            .any(|import| import.definition().import.as_str() == name)
+    }
 }

@@ -2,7 +2,8 @@
 ghost use Rattle.std.specs.Prelude.{◌≡◌, MatchOption, Some, None, IfOk, string_bytes};
 ghost use Rattle.std.specs.Cow.{cow_str_bytes};
 ghost use Rattle.naga_oil_pre.specs.View.{fault_of};
-ghost use Rattle.naga_oil.specs.Refused.{refused_of, place_of, nowhere, in_text};
+ghost use Rattle.naga_oil.specs.Definition.{defs_of};
+ghost use Rattle.naga_oil.specs.Refused.{refused_of, place_of, nowhere, in_text, in_module, TellsMissing};
 ghost use Rattle.naga_oil.specs.Report.{report};
 ghost use Rattle.naga_oil.specs.Sources.{path_of, text_of, offset_of};
 
@@ -157,6 +158,48 @@ pub(crate) fn refused(
     match constructing(alloc, path, source, offset) {
         Ok(source) => ComposerError { inner, source },
         Err(_) => memory(alloc),
+    }
+}
+
+/// What is wrong with a registered module under definitions, unless there is no memory to tell it.
+pub(crate) fn refused_in(
+    alloc: Global,
+    inner: ComposerErrorInner,
+    name: &str,
+    offset: usize,
+    defs: &Defs,
+) -> ComposerError
+    ensures { MatchOption (refused_of result) (place_of result.source ≡ nowhere) (λ r. (fault_of inner ≡ Some r.fault) × (r.place ≡ in_module name.now offset (defs_of defs.now))) }
+{
+    if let ComposerErrorInner::Memory = inner {
+        return memory(alloc);
+    }
+    match in_module(alloc, name, offset, defs) {
+        Ok(source) => ComposerError { inner, source },
+        Err(_) => memory(alloc),
+    }
+}
+
+// A place in the text of a registered module.
+fn in_module(alloc: Global, name: &str, offset: usize, defs: &Defs) -> Tried<ErrSource>
+    ensures { IfOk result (λ s. place_of s ≡ in_module name.now offset (defs_of defs.now)) }
+{
+    Ok(ErrSource::Module {
+        name: String::from_str(alloc, name)?,
+        offset,
+        defs: defs.clone()?,
+    })
+}
+
+impl EnsureImportsError {
+    /// A module may not be imported there.
+    pub(crate) fn missing(alloc: Global, name: &str) -> EnsureImportsError
+        ensures { TellsMissing result name.now }
+    {
+        match String::from_str(alloc, name) {
+            Ok(name) => EnsureImportsError::MissingImport(name),
+            Err(_) => EnsureImportsError::ComposerError(memory(alloc)),
+        }
     }
 }
 

@@ -68,3 +68,15 @@ pub(crate) fn clone_imports(
     }
     Ok(copy)
 }
+
+/// What is imported, wherever it is asked for.
+pub(crate) fn imports_of(
+    alloc: Global,
+    uses: &[ImportDefWithOffset],
+) -> Tried<Vec<ImportDefinition>> {
+    let mut imports = Vec::with_capacity(alloc, uses.len())?;
+    for import in uses {
+        imports.push(import.definition().try_clone()?)?;
+    }
+    Ok(imports)
+}

@@ -11,7 +11,7 @@ ghost use Rattle.naga_oil_mini.specs.NotWritten.{Finds, Becomes};
 use super::names::Names;
 use super::not_written::{NotWritten, Written};
 use super::order::{ANYWHERE, Items, Room};
-use super::symbol::Symbol;
+use super::symbol::{GREATEST, Symbol};
 use naga_oil_ir::{Arena, Block, Expression, Index, Token, push_block};
 use std::alloc::{AllocError, Global};
 
@@ -48,9 +48,6 @@ struct BodyReader<'t, 'r, 'm> {
     symbols: Vec<Symbol<'m>>,
     room: Room,
 }
-
-// The greatest number of a text.
-const GREATEST: u64 = 2147483647;
 
 fn shape_of(expression: &Expression) -> Shape
     ensures { result ≡ spec.shape (parts expression.now) }
@@ -175,7 +172,7 @@ impl<'t, 'm> BodyReader<'t, '_, 'm> {
     fn parameter(&self, place: usize) -> Option<Symbol<'m>>
         ensures { option_map symbol_of result ≡ spec.parameter (spec.context_of self.now).parameters place }
     {
-        let name = self.parameters.text(place)?;
+        let name = *self.parameters.texts().get(place)?;
         (self.parameters.place(name) == Some(place)).then_some(Symbol::Name(name))
     }
 

@@ -19,13 +19,11 @@ pub type Definitions = BTreeMap<String, ShaderDefValue>;
 fn value_of(text: &str) -> Option<ShaderDefValue>
     ensures { result ≡ given_value text.now }
 {
-    if text.is_empty() {
-        return Some(ShaderDefValue::default());
+    match text.as_bytes() {
+        [] => Some(ShaderDefValue::default()),
+        [b'+', ..] => None,
+        _ => defined_value(Some(text)),
     }
-    if text.starts_with('+') {
-        return None;
-    }
-    defined_value(Some(text))
 }
 
 // The name and the value of a word `NAME=VALUE`.
@@ -33,10 +31,7 @@ fn definition_word(word: &str) -> Option<(&str, ShaderDefValue)>
     ensures { option_map (λ r. (r.0.now, r.1)) result ≡ definition_word word.now }
 {
     let (name, text) = word.split_once('=')?;
-    if !is_name(name) {
-        return None;
-    }
-    Some((name, value_of(text)?))
+    is_name(name).then_some((name, value_of(text)?))
 }
 
 /// Defines the name, in place of what it was.
@@ -62,9 +57,7 @@ pub fn given(alloc: Global, words: &[String]) -> Result<Definitions, Refusal<'_>
         if !is_definition(word) {
             continue;
         }
-        let Some((name, value)) = definition_word(word) else {
-            return Err(Refusal::BadDefinition(word));
-        };
+        let (name, value) = definition_word(word).ok_or(Refusal::BadDefinition(word))?;
         define(&mut definitions, String::from_str(alloc, name)?, value)?;
     }
     Ok(definitions)

@@ -53,10 +53,7 @@ impl Backend for Mini {
         match module_text(alloc, module_) {
             Ok(text) => Ok(text),
             Err(NotWritten::Memory) => Err(BackendRefusal::Memory),
-            Err(NotWritten::NotInMini) => {
-                let fault = not_in_mini(alloc)?;
-                Err(BackendRefusal::Fault(fault))
-            }
+            Err(NotWritten::NotInMini) => Err(BackendRefusal::Fault(not_in_mini(alloc)?)),
         }
     }
 

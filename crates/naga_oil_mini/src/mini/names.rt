@@ -54,19 +54,6 @@ impl<'a> Names<'a> {
         self.places.get(name).copied()
     }
 
-    /// The name at a place.
-    pub fn text(&self, place: usize) -> Option<&'a str>
-        ensures { option_map (λ t. t.now) result ≡ slice_get self.now place }
-    {
-        self.texts.get(place).copied()
-    }
-
-    pub fn len(&self) -> usize
-        ensures { result ≡ length self.now }
-    {
-        self.texts.len()
-    }
-
     /// The names in order.
     pub fn texts(&self) -> &[&'a str]
         ensures { texts_of result.now ≡ self.now }

@@ -59,7 +59,7 @@ impl<'m> ItemNames<'m> {
         let mut next = Vec::new(alloc);
         for name in names.texts() {
             if let Some(place) = seen.place(*name) {
-                next[place] = seen.len();
+                next[place] = seen.texts().len();
             }
             next.push(usize::MAX)?;
             seen.push(*name)?;
@@ -76,7 +76,7 @@ impl<'m> ItemNames<'m> {
             bounds.least = bounds.least.max(place + 1);
             bounds.most = bounds.most.min(*next);
         }
-        self.names.text(place)
+        self.names.texts().get(place).copied()
     }
 }
 

@@ -1,12 +1,15 @@
 // A text behind preprocessing, under definitions and its own.
-ghost use Rattle.std.specs.Prelude.{◌≡◌, Ok, OnOk, string_bytes};
+ghost use Rattle.std.specs.Prelude.{◌≡◌, Ok, OnOk, IfOk, IfErr, string_bytes};
 ghost use Rattle.std.specs.BTreeMap.{get_by_text};
 ghost use Rattle.naga_oil_pre.specs.View.{Gives};
 ghost use Rattle.naga_oil_pre.specs.MetadataView.{metadata_of};
 ghost use Rattle.naga_oil_pre.specs.Preprocessed.{preprocessed};
 ghost use Rattle.naga_oil_mini.specs.Printed.{overwritten, text_of, shown_text, printed};
+ghost use Rattle.naga_oil_mini.specs.Told.{Reports};
 
 use super::definitions::{Definitions, define};
+use super::refusal::Refusal;
+use naga_oil::compose::report::report;
 use naga_oil_pre::{ComposerErrorInner, Preprocessor, PreprocessorMetaData};
 use std::alloc::{AllocError, Global};
 
@@ -22,19 +25,7 @@ fn overwrite(definitions: &mut Definitions, own: Definitions) -> Result<(), Allo
     Ok(())
 }
 
-// The cleaned source of metadata behind preprocessing, under the definitions.
-fn written(
-    alloc: Global,
-    source: &str,
-    definitions: &Definitions,
-) -> Result<String, ComposerErrorInner>
-    ensures { Gives string_bytes result (text_of (preprocessed (get_by_text definitions.now) source.now)) }
-{
-    let output = Preprocessor::default().preprocess(alloc, source, definitions)?;
-    Ok(output.preprocessed_source)
-}
-
-// The same under the definitions overwritten by those of the metadata.
+// The cleaned source of metadata behind preprocessing, under the definitions overwritten by its own.
 fn shown(
     alloc: Global,
     metadata: PreprocessorMetaData,
@@ -42,13 +33,10 @@ fn shown(
 ) -> Result<String, ComposerErrorInner>
     ensures { Gives string_bytes result (shown_text (get_by_text definitions) (Ok (metadata_of metadata))) }
 {
-    let PreprocessorMetaData {
-        defines,
-        cleaned_source,
-        ..
-    } = metadata;
-    overwrite(&mut definitions, defines)?;
-    written(alloc, cleaned_source.as_str(), &definitions)
+    overwrite(&mut definitions, metadata.defines)?;
+    let source = metadata.cleaned_source.as_str();
+    let output = Preprocessor.preprocess(alloc, source, &definitions)?;
+    Ok(output.preprocessed_source)
 }
 
 /// The cleaned source behind preprocessing, under the definitions overwritten by the text's own.
@@ -60,6 +48,23 @@ pub fn preprocessed(
 ) -> Result<String, ComposerErrorInner>
     ensures { Gives string_bytes result (printed (get_by_text definitions) text.now) }
 {
-    let metadata = Preprocessor::default().get_preprocessor_metadata(alloc, text, true)?;
+    let metadata = Preprocessor.get_preprocessor_metadata(alloc, text, true)?;
     shown(alloc, metadata, definitions)
+}
+
+/// The same; of a fault what is told of the file.
+pub fn shown_file<'a>(
+    alloc: Global,
+    file: &str,
+    text: &str,
+    definitions: Definitions,
+) -> Result<String, Refusal<'a>>
+    ensures ok { IfOk result (λ t. printed (get_by_text definitions) text.now ≡ Ok (string_bytes t)) }
+    ensures err { IfErr result (Reports file.now text.now (printed (get_by_text definitions) text.now)) }
+{
+    match preprocessed(alloc, text, definitions) {
+        Ok(source) => Ok(source),
+        Err(inner) if inner.is_memory() => Err(Refusal::Memory),
+        Err(inner) => Err(Refusal::Fault(report(alloc, file, text, 0, &inner)?)),
+    }
 }

@@ -15,7 +15,7 @@ use super::symbol::{Refusal, Symbol, symbols};
 use indexmap::IndexMap;
 use naga_oil_ir::{
     Arena, BackendRefusal, Constant, EntryPoint, Expression, Function, FunctionArgument,
-    FunctionResult, Index, Module, ParseFault, Span, Type, TypeInner, UniqueArena,
+    FunctionResult, Index, Module, ParseFault, Span, Type, TypeInner,
 };
 use std::alloc::{AllocError, Global};
 
@@ -83,24 +83,15 @@ fn arguments(alloc: Global, parameters: &Names<'_>) -> Result<Vec<FunctionArgume
     Ok(arguments)
 }
 
-// The one type.
-fn types(alloc: Global) -> Result<UniqueArena<Type>, AllocError>
-    ensures { IfOk result (λ ts. map (λ e. (type_row e.0, e.1)) ts ≡ spec.types) }
-{
-    let mut types = UniqueArena::new(alloc);
-    let inner = TypeInner::Scalar(1);
-    types.insert(Type { name: None, inner }, Span::UNDEFINED)?;
-    Ok(types)
-}
-
 impl<'a> Reader<'a> {
     fn new(alloc: Global) -> Result<Reader<'a>, AllocError>
         ensures value { IfOk result (λ r. module_value r.module_ ≡ spec.start) }
         ensures known { IfOk result spec.Knows }
     {
-        let types = types(alloc)?;
         let mut module_ = Module::new(alloc);
-        module_.types = types;
+        let inner = TypeInner::Scalar(1);
+        let ty = Type { name: None, inner };
+        module_.types.insert(ty, Span::UNDEFINED)?;
         Ok(Reader {
             alloc,
             span: Span::UNDEFINED,
@@ -165,15 +156,6 @@ impl<'a> Reader<'a> {
         })
     }
 
-    // The function of a name and the symbols behind its `(`.
-    fn declared(&self, name: &str, symbols: &[Symbol<'a>]) -> Result<Function, Refusal<'a>>
-        requires known { spec.Knows self.now }
-        ensures { Gives function_value result (spec.declared name.now (line_of symbols.now) self.now.span (module_value self.now.module_)) }
-    {
-        let (parameters, body) = parameters(self.alloc, symbols)?;
-        self.function(name, &parameters, body)
-    }
-
     // `NAME(P, ..) = EXPR` or `NAME(P, ..)`
     fn add_function(&mut self, symbols: &[Symbol<'a>]) -> Result<(), Refusal<'a>>
         requires known { spec.Knows self.old }
@@ -183,7 +165,8 @@ impl<'a> Reader<'a> {
         let [Symbol::Opens(name), rest @ ..] = symbols else {
             return Err(Refusal::NotUnderstood);
         };
-        let function = self.declared(name, rest)?;
+        let (parameters, body) = parameters(self.alloc, rest)?;
+        let function = self.function(name, &parameters, body)?;
         self.module_.functions.append(function, self.span)?;
         Ok(self.functions.push(name)?)
     }

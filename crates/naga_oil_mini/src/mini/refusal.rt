@@ -1,5 +1,4 @@
 // Why nothing was written.
-use naga_oil_pre::ComposerErrorInner;
 use std::alloc::AllocError;
 use std::fmt;
 
@@ -10,8 +9,12 @@ pub enum Refusal<'a> {
     BadDefinition(&'a str),
     /// The file can't be read, or isn't text.
     CannotRead(&'a str),
-    Fault(ComposerErrorInner),
-    /// The text can't be written.
+    /// The report of a fault.
+    Fault(String),
+    Memory,
+    /// The shader is none that Mini writes.
+    NotInMini,
+    /// The text can't be written, of which nothing is told.
     Write,
 }
 
@@ -25,47 +28,40 @@ impl Refusal<'_> {
     {
         match self {
             Refusal::Usage | Refusal::BadDefinition(_) | Refusal::CannotRead(_) => 2,
-            Refusal::Fault(_) | Refusal::Write => 1,
+            Refusal::Fault(_) | Refusal::Memory | Refusal::NotInMini | Refusal::Write => 1,
         }
     }
 }
 
 impl fmt::Display for Refusal<'_> {
+    ghost use Rattle.std.specs.Prelude.{Some};
     ghost use Rattle.naga_oil_mini.specs.Told.{message_of};
 
-    ghost output = { message_of };
+    ghost output = { λ e. Some (message_of e) };
 
     fn fmt<W: fmt::Write>(&self, f: &mut fmt::Formatter<W>) -> fmt::Result {
         match self {
             Refusal::Usage => write!(
                 f,
-                "usage: oil pre FILE [NAME=VALUE..] | oil make TOP [MODULE..] [+NAME..] [NAME=VALUE..]"
+                "usage: oil pre FILE [NAME=VALUE..] | oil make TOP [MODULE..] [+NAME..] [NAME=VALUE..]\n"
             ),
-            Refusal::BadDefinition(word) => write!(f, "bad definition {word}"),
-            Refusal::CannotRead(file) => write!(f, "cannot read {file}"),
-            Refusal::Fault(fault) => write!(f, "error: {fault}"),
-            Refusal::Write => write!(f, "error: cannot write"),
+            Refusal::BadDefinition(word) => write!(f, "bad definition {word}\n"),
+            Refusal::CannotRead(file) => write!(f, "cannot read {file}\n"),
+            Refusal::Fault(report) => write!(f, "{report}"),
+            Refusal::Memory => write!(f, "error: out of memory\n"),
+            Refusal::NotInMini => write!(f, "error: not in Mini\n"),
+            Refusal::Write => Ok(()),
         }
     }
 }
 
-impl From<ComposerErrorInner> for Refusal<'_> {
-    ghost use Rattle.std.specs.Prelude.{◌≡◌};
-    ghost use Rattle.naga_oil_mini.specs.declared.mini.refusal.Refusal.TheVariants.{Fault};
-
-    ghost from_gives = { λ fault refusal. refusal ≡ Fault fault };
-
-    fn from(fault: ComposerErrorInner) -> Self {
-        Refusal::Fault(fault)
-    }
-}
-
 impl From<AllocError> for Refusal<'_> {
-    ghost use Rattle.naga_oil_mini.specs.Told.{IsFault};
+    ghost use Rattle.std.specs.Prelude.{◌≡◌};
+    ghost use Rattle.naga_oil_mini.specs.declared.mini.refusal.Refusal.TheVariants.{Memory};
 
-    ghost from_gives = { λ _ refusal. IsFault refusal };
+    ghost from_gives = { λ _ e. e ≡ Memory };
 
-    fn from(error: AllocError) -> Self {
-        Refusal::Fault(ComposerErrorInner::from(error))
+    fn from(_: AllocError) -> Self {
+        Refusal::Memory
     }
 }

@@ -7,8 +7,8 @@ ghost use Rattle.naga_oil_mini.specs.Refused.{understood, Gives};
 use naga_oil_lines::text::{split_first_char, text_before};
 use std::alloc::{AllocError, AllocFailed, Global};
 
-// The greatest number of a text.
-const GREATEST: u32 = 2147483647;
+/// The greatest number of a text.
+pub const GREATEST: u64 = 2147483647;
 
 #[derive(Clone, Copy)]
 pub enum Symbol<'a> {
@@ -86,7 +86,7 @@ fn word(run: &str) -> Option<Symbol<'_>>
         return Some(Symbol::Name(run));
     }
     match run.parse::<u32>() {
-        Ok(value) if value <= GREATEST => Some(Symbol::Number(u64::from(value))),
+        Ok(value) if u64::from(value) <= GREATEST => Some(Symbol::Number(u64::from(value))),
         _ => None,
     }
 }

@@ -1,4 +1,10 @@
 // Each answer of `oil`, at a reader and writers over memory.
+mod composing;
+mod examples;
+mod front;
+mod pointing;
+mod projects;
+
 use super::oil;
 use std::alloc::{AllocError, Global};
 use std::io::{self, Write};
@@ -166,11 +172,11 @@ fn prints_an_empty_line_for_a_directive(rt: HostRuntime) -> Result<(), Fail> {
     for (text, err) in [
         (
             "enable  ;",
-            "error: Invalid WGSL directive 'enable  ;' at line 0: No extensions specified\n",
+            "error: Invalid WGSL directive 'enable  ;' at line 0: No extensions specified\n  at t.txt:1:1\n",
         ),
         (
             "diagnostic(of, x);",
-            "error: Invalid WGSL directive 'diagnostic(of, x);' at line 0: Invalid severity 'of'. Must be one of: off, info, warn, error\n",
+            "error: Invalid WGSL directive 'diagnostic(of, x);' at line 0: Invalid severity 'of'. Must be one of: off, info, warn, error\n  at t.txt:1:1\n",
         ),
     ] {
         answers(&rt, "pre t.txt", text.as_bytes(), (1, "", err))?;
@@ -186,8 +192,8 @@ fn says_what_is_wrong_with_the_words(rt: HostRuntime) -> Result<(), Fail> {
         "pre A=x1",
         "pre t.txt t.txt",
         "pre t.txt +a A=x1",
-        "make x",
         "make",
+        "make +a A=x1",
         "post t.txt",
     ] {
         answers(&rt, line, b"", (2, "", USAGE))?;
@@ -200,6 +206,8 @@ fn says_what_is_wrong_with_the_words(rt: HostRuntime) -> Result<(), Fail> {
         ("pre t.txt A=1=2", "bad definition A=1=2\n"),
         ("pre t.txt A=4294967296", "bad definition A=4294967296\n"),
         ("pre no.txt A=", "cannot read no.txt\n"),
+        ("make t.txt +a no.txt A=x1", "bad definition A=x1\n"),
+        ("make t.txt +a no.txt n.txt", "cannot read no.txt\n"),
     ] {
         answers(&rt, line, b"", (2, "", err))?;
     }
@@ -217,7 +225,7 @@ fn says_what_is_wrong_with_the_text(rt: HostRuntime) -> Result<(), Fail> {
         (
             1,
             "",
-            "error: Invalid value for `#define`d shader def A: x1\n",
+            "error: Invalid value for `#define`d shader def A: x1\n  at t.txt:1:1\n",
         ),
     )?;
     answers(
@@ -227,7 +235,7 @@ fn says_what_is_wrong_with_the_text(rt: HostRuntime) -> Result<(), Fail> {
         (
             1,
             "",
-            "error: Not enough '# endif' lines. Each if statement should be followed by an endif statement.\n",
+            "error: Not enough '# endif' lines. Each if statement should be followed by an endif statement.\n  at t.txt:1:9\n",
         ),
     )?;
     Ok(())

@@ -12,13 +12,8 @@ use std::alloc::{AllocError, Global};
 fn name_of(of: &Module, function: Handle<Function>) -> &str
     ensures { result.now ≡ spec.name_at (module_value of.now) function }
 {
-    match of.functions.try_get(function) {
-        Some(
-            Function {
-                name: Some(name),
-                ..
-            },
-        ) => name.as_str(),
+    match of.functions.try_get(function).map(|f| &f.name) {
+        Some(Some(name)) => name.as_str(),
         _ => "",
     }
 }
@@ -40,10 +35,8 @@ fn wrong_call(of: &Module, tokens: &[Token]) -> Option<(Span, Handle<Function>)>
     for (place, token) in tokens.iter().enumerate() {
         match token {
             Token::At(at) => span = *at,
-            Token::Callee(function) => {
-                if !is_right(of, *function, use_count(&tokens[place + 1..])) {
-                    return Some((span, *function));
-                }
+            Token::Callee(f) if !is_right(of, *f, use_count(&tokens[place + 1..])) => {
+                return Some((span, *f));
             }
             _ => {}
         }
@@ -66,13 +59,11 @@ fn check_body(alloc: Global, of: &Module, body: &Block) -> Result<(), BackendRef
     ensures { Answers nothing valid_fault result (spec.checked (module_value of.now) (block_tokens body.now)) }
 {
     let tokens = tokens_of(alloc, body)?;
-    match wrong_call(of, &tokens) {
-        None => Ok(()),
-        Some((span, function)) => {
-            let fault = call_fault(alloc, span, name_of(of, function))?;
-            Err(BackendRefusal::Fault(fault))
-        }
-    }
+    let Some((span, function)) = wrong_call(of, &tokens) else {
+        return Ok(());
+    };
+    let fault = call_fault(alloc, span, name_of(of, function))?;
+    Err(BackendRefusal::Fault(fault))
 }
 
 /// Whether a module is valid.

@@ -1,7 +1,11 @@
 // What the words behind the program's name ask for.
-ghost use Rattle.std.specs.Prelude.{◌≡◌, option_copied, IfSome, drop};
-ghost use Rattle.std.specs.Option.{option_map};
-ghost use Rattle.naga_oil_mini.specs.Words.{is_definition, adds_import, file_of, asked_file, texts};
+ghost use Rattle.std.specs.Prelude.{◌≡◌, ◌<◌, IfOk, IfErr, Some, option_map, length, drop};
+ghost use Rattle.naga_oil_mini.specs.Names.{texts_of};
+ghost use Rattle.naga_oil_mini.specs.Words.{is_definition, import_of, task_of, files, imports, takes, asked, texts, asked_of};
+ghost use Rattle.naga_oil_mini.specs.Told.{RefusesWords};
+
+use super::refusal::Refusal;
+use std::alloc::{AllocError, Global};
 
 /// Whether the word is a definition, `NAME=VALUE`.
 pub fn is_definition(word: &str) -> bool
@@ -10,39 +14,88 @@ pub fn is_definition(word: &str) -> bool
     word.as_bytes().contains(&b'=')
 }
 
-// Whether the word adds an import.
-fn adds_import(word: &str) -> bool
-    ensures { result ≡ adds_import word.now }
+// The name behind `+`.
+fn import_of(word: &str) -> Option<&str>
+    ensures { option_map (λ r. r.now) result ≡ import_of word.now }
 {
-    word.starts_with('+')
+    word.strip_prefix('+')
 }
 
-// The file among the words, where it is the only one and no word adds an import.
-fn only_file(words: &[String]) -> Option<&str>
-    ensures { option_copied result ≡ file_of (texts words.now) }
+/// What `oil` is asked to do with files.
+#[derive(Clone, Copy)]
+pub enum Task {
+    Preprocess,
+    Make,
+}
+
+/// What the words ask for.
+#[derive(Drop)]
+pub struct Request<'a> {
+    pub task: Task,
+    /// The first one is the shader's.
+    pub files: Vec<&'a str>,
+    /// The modules that the shader imports besides what its text uses.
+    pub imports: Vec<&'a str>,
+    /// The words behind the command, definitions among them.
+    pub words: &'a [String],
+}
+
+fn task_of(command: &str) -> Option<Task>
+    ensures { result ≡ task_of command.now }
 {
-    let mut file = None;
+    match command {
+        "pre" => Some(Task::Preprocess),
+        "make" => Some(Task::Make),
+        _ => None,
+    }
+}
+
+// The files and the imports among words.
+fn sorted(alloc: Global, words: &[String]) -> Result<(Vec<&str>, Vec<&str>), AllocError>
+    ensures files { IfOk result (λ p. texts_of p.0.items ≡ files (texts words.now)) }
+    ensures imports { IfOk result (λ p. texts_of p.1.items ≡ imports (texts words.now)) }
+{
+    let (mut files, mut imports) = (Vec::new(alloc), Vec::new(alloc));
     for word in words {
         let word = word.as_str();
         if is_definition(word) {
             continue;
         }
-        if file.is_some() || adds_import(word) {
-            return None;
+        match import_of(word) {
+            Some(import) => imports.push(import)?,
+            None => files.push(word)?,
         }
-        file = Some(word);
     }
-    file
+    Ok((files, imports))
 }
 
-/// The file to preprocess and the words behind the command, where they ask for that.
-pub fn asked(words: &[String]) -> Option<(&str, &[String])>
-    ensures file { option_map (λ r. r.0.now) result ≡ asked_file (texts words.now) }
-    ensures given { IfSome result (λ r. r.1.now ≡ drop 1 words.now) }
+// `pre` takes one file, `make` one or more and imports.
+fn takes(task: Task, files: &[&str], imports: &[&str]) -> bool
+    ensures { result ≡ takes task (texts_of files.now) (texts_of imports.now) }
 {
-    let (command, given) = words.split_first()?;
-    if command.as_str() != "pre" {
-        return None;
+    match task {
+        Task::Preprocess => files.len() == 1 && imports.is_empty(),
+        Task::Make => !files.is_empty(),
     }
-    Some((only_file(given)?, given))
+}
+
+/// What the words ask for, if they do.
+pub fn asked(alloc: Global, words: &[String]) -> Result<Request<'_>, Refusal<'_>>
+    ensures value { IfOk result (λ a. asked (texts words.now) ≡ Some (asked_of a)) }
+    ensures words { IfOk result (λ a. a.words.now ≡ drop 1 words.now) }
+    ensures some_file { IfOk result (λ a. 0 < length a.files.items) }
+    ensures err { IfErr result (RefusesWords (texts words.now)) }
+{
+    let (command, words) = words.split_first().ok_or(Refusal::Usage)?;
+    let task = task_of(command.as_str()).ok_or(Refusal::Usage)?;
+    let (files, imports) = sorted(alloc, words)?;
+    if !takes(task, &files, &imports) {
+        return Err(Refusal::Usage);
+    }
+    Ok(Request {
+        task,
+        files,
+        imports,
+        words,
+    })
 }

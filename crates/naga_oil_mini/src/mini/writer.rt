@@ -12,7 +12,7 @@ use super::not_written::{NotWritten, Written};
 use super::order::{ANYWHERE, ItemNames, Items, Room, has_order};
 use super::symbol::{Symbol, is_name};
 use naga_oil_ir::{
-    Constant, EntryPoint, Function, FunctionArgument, FunctionResult, Module, Span, Type, TypeInner,
+    Constant, EntryPoint, Function, FunctionArgument, Module, Span, Type, TypeInner,
 };
 use std::alloc::{AllocError, Global};
 
@@ -104,26 +104,14 @@ fn push_constants<'m>(alloc: Global, out: &mut String, of: &'m Module) -> Writte
     Ok(names)
 }
 
-// The result has the one type and no binding.
-fn is_plain_result(outcome: Option<FunctionResult>) -> bool
-    ensures { result ≡ spec.is_plain_result outcome }
-{
-    outcome.is_some_and(|r| r.ty.index() == 0 && r.binding.is_none())
-}
-
 fn is_plain_function(function: &Function) -> bool
     ensures { result ≡ spec.is_plain_function (function_value function.now) }
 {
-    is_plain_result(function.result)
+    let outcome = function.result;
+    outcome.is_some_and(|r| r.ty.index() == 0 && r.binding.is_none())
         && function.local_variables.len() == 0
         && function.named_expressions.len() == 0
         && function.diagnostic_filter_leaf.is_none()
-}
-
-fn are_ones(size: &[u32]) -> bool
-    ensures { result ≡ spec.is_ones size.now }
-{
-    matches!(size, [1, 1, 1])
 }
 
 fn is_plain_entry(entry_point: &EntryPoint) -> bool
@@ -133,25 +121,10 @@ fn is_plain_entry(entry_point: &EntryPoint) -> bool
         && !entry_point.function.body.body.is_empty()
         && entry_point.stage == 2
         && entry_point.early_depth_test.is_none()
-        && are_ones(&entry_point.workgroup_size)
+        && entry_point.workgroup_size == [1, 1, 1]
         && entry_point.workgroup_size_overrides.is_none()
         && entry_point.mesh_info.is_none()
         && entry_point.task_payload.is_none()
-}
-
-fn push_header(out: &mut String, name: &str, parameters: &Names<'_>) -> Result<(), AllocError>
-    ensures { OnOk result (string_bytes out.new ≡ string_bytes out.old ++ spec.header_text name.now parameters.now) }
-{
-    write!(out, "fn {name}(")?;
-    let mut is_behind = false;
-    for parameter in parameters.texts() {
-        if is_behind {
-            out.push_str(", ")?;
-        }
-        out.push_str(*parameter)?;
-        is_behind = true;
-    }
-    out.push(')')
 }
 
 // The lines so far, and the names that they may use.
@@ -193,7 +166,8 @@ impl<'m> Writer<'m> {
     {
         let name = valid_name(&function.name)?;
         let parameters = parameters(self.alloc, function.arguments.as_slice())?;
-        push_header(&mut self.text, name, &parameters)?;
+        let texts = parameters.texts().join(self.alloc, ", ")?;
+        write!(self.text, "fn {name}({texts})")?;
         self.push_body(&parameters, function)
     }
 

@@ -1,0 +1,247 @@
+// Builds of texts: the module that each says beside what it imports.
+ghost use Rattle.std.specs.Prelude.{◌≡◌, ◌≤◌, All, string_bytes};
+ghost use Rattle.std.specs.BTreeMap.{get_by_text};
+ghost use Rattle.naga_oil_ir.specs.ModuleValue.{module_value};
+ghost use Rattle.naga_oil_pre.specs.KnownView.{output_of};
+ghost use Rattle.naga_oil_pre.specs.View.{Gives};
+ghost use Rattle.naga_oil.specs.Built.{answered, build_place, IsToldAt, ToldAt, preprocessed_of, header_text, parsed_text};
+ghost use Rattle.naga_oil.specs.Definition.{definition_of, defs_of};
+
+use crate::compose::definition::{Checked, Definition, Defs, Overrides, Tried};
+use crate::compose::error::{ComposerError, EnsureImportsError as Missing, refused, refused_in};
+use crate::compose::link::{Builds, Linker};
+use crate::compose::merge::{imports_of, push_additional};
+use crate::compose::module::ComposableModule;
+use crate::compose::virtuals::{add_override, read_functions};
+use naga_oil_ir::{Backend, BackendRefusal, Capabilities, Module, ShaderLanguage};
+use naga_oil_lines::ImportDefinition;
+use naga_oil_lines::decorate::decorated_name;
+use naga_oil_pre::{ComposerErrorInner as Inner, PreprocessOutput, Preprocessor};
+use std::alloc::Global;
+
+/// A make: a front end with its settings, the definitions, and what was built under them.
+#[derive(Drop)]
+pub(crate) struct Maker<'c, B: Backend> {
+    pub(crate) alloc: Global,
+    pub(crate) front: &'c B,
+    pub(crate) validate: bool,
+    pub(crate) capabilities: Capabilities,
+    pub(crate) defs: Defs,
+    pub(crate) builds: Builds,
+}
+
+/// What a front end answers, a value or a fault, unless there is no memory.
+pub(crate) fn answered<T, F>(answer: Result<T, BackendRefusal<F>>) -> Checked<Result<T, F>>
+    ensures { result ≡ answered answer }
+{
+    match answer {
+        Ok(value) => Ok(Ok(value)),
+        Err(BackendRefusal::Fault(fault)) => Ok(Err(fault)),
+        Err(BackendRefusal::Memory) => Err(Inner::Memory),
+    }
+}
+
+// Adds the functions that override one.
+fn add_overriding(alloc: Global, all: &mut Overrides, base: &str, names: &[String]) -> Tried<()> {
+    for name in names {
+        add_override(alloc, all, base, name.as_str())?;
+    }
+    Ok(())
+}
+
+// Adds functions that are overridden, each with those that override it.
+fn add_overrides(alloc: Global, all: &mut Overrides, others: &Overrides) -> Tried<()> {
+    for (base, names) in others.iter() {
+        add_overriding(alloc, all, base.as_str(), names)?;
+    }
+    Ok(())
+}
+
+// Enters a build under its name.
+fn enter(alloc: Global, builds: &mut Builds, name: &str, built: ComposableModule) -> Checked<()> {
+    let name = String::from_str(alloc, name)?;
+    builds.entry(name)?.or_insert(built);
+    Ok(())
+}
+
+impl<B: Backend> Maker<'_, B> {
+    /// Why a text isn't built, which begins at an offset in what spans count in.
+    pub(crate) fn refused(
+        &self,
+        of: &Definition,
+        text: &str,
+        inner: Inner,
+        offset: usize,
+    ) -> ComposerError
+        ensures { IsToldAt (build_place (definition_of of.now) text.now offset (defs_of self.now.defs)) inner result }
+    {
+        if of.module_index == 0 {
+            return refused(self.alloc, inner, of.file_path.as_str(), text, offset);
+        }
+        refused_in(self.alloc, inner, of.name.as_str(), offset, &self.defs)
+    }
+
+    /// An answer, or why a text isn't built.
+    pub(crate) fn told<T>(
+        &self,
+        of: &Definition,
+        text: &str,
+        offset: usize,
+        answer: Checked<T>,
+    ) -> Result<T, ComposerError>
+        ensures { ToldAt (build_place (definition_of of.now) text.now offset (defs_of self.now.defs)) answer result }
+    {
+        match answer {
+            Ok(value) => Ok(value),
+            Err(inner) => Err(self.refused(of, text, inner, offset)),
+        }
+    }
+
+    /// What a text becomes, with what it imports: what it uses, then what it imports besides.
+    pub(crate) fn preprocessed(&self, of: &Definition) -> Checked<PreprocessOutput>
+        ensures { Gives output_of result (preprocessed_of (get_by_text self.now.defs) (definition_of of.now)) }
+    {
+        let source = of.sanitized_source.as_str();
+        let mut output = Preprocessor.preprocess(self.alloc, source, &self.defs)?;
+        push_additional(&mut output.imports, &of.additional_imports)?;
+        Ok(output)
+    }
+
+    /// What the front end writes for a header, if it is valid.
+    pub(crate) fn written(&self, header: &Module, language: ShaderLanguage) -> Checked<String>
+        ensures { Gives string_bytes result (header_text (B.front self.now.front.now) self.now.capabilities language (module_value header.now)) }
+    {
+        let valid = self.front.validate(self.alloc, header, self.capabilities);
+        if let Err(fault) = answered(valid)? {
+            return Err(Inner::HeaderValidationError(fault));
+        }
+        let text = self
+            .front
+            .write(self.alloc, header, language, self.capabilities);
+        match (answered(text)?, language) {
+            (Ok(text), _) => Ok(text),
+            (Err(fault), ShaderLanguage::Wgsl) => Err(Inner::WgslBackError(fault)),
+            (Err(fault), ShaderLanguage::Glsl) => Err(Inner::GlslBackError(fault)),
+        }
+    }
+
+    /// The module that a text says.
+    pub(crate) fn parsed(&self, text: &str, language: ShaderLanguage) -> Checked<Module>
+        ensures { Gives module_value result (parsed_text (B.front self.now.front.now) language text.now) }
+    {
+        match (
+            answered(self.front.parse(self.alloc, language, text))?,
+            language,
+        ) {
+            (Ok(parsed), _) => Ok(parsed),
+            (Err(fault), ShaderLanguage::Wgsl) => Err(Inner::WgslParseError(fault)),
+            (Err(fault), ShaderLanguage::Glsl) => Err(Inner::GlslParseError(fault)),
+        }
+    }
+
+    // The functions that are overridden in what is imported.
+    fn imported_overrides(&self, imports: &[ImportDefinition]) -> Tried<Overrides> {
+        let mut all = Overrides::new(self.alloc);
+        for import in imports {
+            if let Some(build) = self.builds.get(import.import.as_str()) {
+                add_overrides(self.alloc, &mut all, &build.override_functions)?;
+            }
+        }
+        Ok(all)
+    }
+
+    // What is imported, without bodies, as the front end writes it.
+    fn header(&self, imports: &[ImportDefinition], language: ShaderLanguage) -> Checked<String> {
+        let mut linker = Linker::new(self.alloc, &self.builds, true);
+        linker.link_imports(imports, self.builds.len())?;
+        self.written(&Module::from(linker.derived), language)
+    }
+
+    // What stands before a text: its directives and a header of what is imported.
+    fn heading(&self, of: &Definition, imports: &[ImportDefinition]) -> Checked<String> {
+        let mut heading = match of.language {
+            ShaderLanguage::Wgsl => of.wgsl_directives.to_wgsl_string(self.alloc)?,
+            ShaderLanguage::Glsl => String::from_str(self.alloc, "#version 450\n")?,
+        };
+        heading.push_str(&self.header(imports, of.language)?)?;
+        Ok(heading)
+    }
+
+    // A build of nothing: its decoration, what it imports, and what is overridden there.
+    fn begun(&self, of: &Definition, output: &PreprocessOutput) -> Checked<ComposableModule>
+        requires { of.now.module_index ≤ 2047 }
+    {
+        let decoration = match of.module_index {
+            0 => String::new(self.alloc),
+            _ => decorated_name(self.alloc, Some(of.name.as_str()), "")?,
+        };
+        let imports = imports_of(self.alloc, &output.imports)?;
+        let overrides = self.imported_overrides(&imports)?;
+        let mut built = ComposableModule::new(self.alloc, decoration, of.module_index);
+        built.imports = imports;
+        built.override_functions = overrides;
+        Ok(built)
+    }
+
+    // The whole text of a build: what stands before it, and the text, of which the functions are read.
+    fn whole_text(
+        &self,
+        of: &Definition,
+        text: &str,
+        built: &mut ComposableModule,
+    ) -> Checked<String> {
+        let text = read_functions(self.alloc, text, &self.builds, built)?;
+        let mut whole = self.heading(of, &built.imports)?;
+        built.start_offset = whole.len();
+        whole.push_str(&text)?;
+        Ok(whole)
+    }
+
+    /// Builds a text over the builds of what it imports.
+    pub(crate) fn built(
+        &self,
+        of: &Definition,
+        output: &PreprocessOutput,
+    ) -> Result<ComposableModule, ComposerError>
+        requires { of.now.module_index ≤ 2047 }
+    {
+        let text = output.preprocessed_source.as_str();
+        let mut built = self.told(of, text, 0, self.begun(of, output))?;
+        let whole = self.told(of, text, 0, self.whole_text(of, text, &mut built))?;
+        let filled = self.fill(of, &whole, &mut built);
+        self.told(of, text, built.start_offset, filled)?;
+        Ok(built)
+    }
+
+    /// Builds a module that is among these, which are the newest first, and before it what it imports, unless it was built. What
+    /// it imports has to be recorded of its text or imported besides.
+    pub(crate) fn ensure(&mut self, name: &str, modules: &[Definition]) -> Result<(), Missing>
+        requires { All (λ d. d.module_index ≤ 2047) modules.now }
+    {
+        if self.builds.contains_key(name) {
+            return Ok(());
+        }
+        let Some(place) = modules.iter().position(|of| of.name.as_str() == name) else {
+            return Err(Missing::missing(self.alloc, name));
+        };
+        let of = &modules[place];
+        let output = self.told(of, "", 0, self.preprocessed(of))?;
+        for import in &output.imports {
+            let import = import.definition().import.as_str();
+            if !of.may_import(import) {
+                return Err(Missing::missing(self.alloc, import));
+            }
+            self.ensure(import, &modules[place + 1..])?;
+        }
+        Ok(self.build(of, &output)?)
+    }
+
+    // Builds a module over the builds of what it imports, and enters it.
+    fn build(&mut self, of: &Definition, output: &PreprocessOutput) -> Result<(), ComposerError>
+        requires { of.now.module_index ≤ 2047 }
+    {
+        let built = self.built(of, output)?;
+        let entered = enter(self.alloc, &mut self.builds, of.name.as_str(), built);
+        self.told(of, "", 0, entered)
+    }
+}

@@ -1,0 +1,53 @@
+//! What is asked of a composer, one command after another.
+ghost use Rattle.std.specs.Prelude.{◌≡◌, IfOk, OnErr};
+ghost use Rattle.naga_oil.specs.Ran.{Answered, Ran};
+
+use crate::compose::composer::Composer;
+use crate::compose::descriptor::{ComposableModuleDescriptor, NagaModuleDescriptor};
+use crate::compose::error::ComposerError;
+use naga_oil_ir::{Backend, Module};
+use std::alloc::AllocError;
+
+/// What is asked of a composer.
+#[derive(Drop)]
+pub enum Command<'a> {
+    Add(ComposableModuleDescriptor<'a>),
+    /// Removes the module of this name.
+    Remove(&'a str),
+    Make(NagaModuleDescriptor<'a>),
+}
+
+/// What a command gives.
+#[derive(Drop)]
+pub enum Reply {
+    /// The index of the module that was added.
+    Added(Result<usize, ComposerError>),
+    Removed(Result<(), AllocError>),
+    Made(Result<Module, ComposerError>),
+}
+
+fn answered<B: Backend>(composer: &mut Composer<B>, command: Command<'_>) -> Reply
+    ensures { Answered composer.old command.entry result composer.new }
+{
+    match command {
+        Command::Add(desc) => Reply::Added(composer.added(desc)),
+        Command::Remove(name) => Reply::Removed(composer.remove_composable_module(name)),
+        Command::Make(desc) => Reply::Made(composer.make_naga_module(desc)),
+    }
+}
+
+/// Does what commands ask for, one after another, and gives a reply to each. It makes room for the replies first: where there
+/// is none, nothing is done.
+pub fn run<B: Backend>(
+    composer: &mut Composer<B>,
+    commands: Vec<Command<'_>>,
+) -> Result<Vec<Reply>, AllocError>
+    ensures ran { IfOk result (λ replies. Ran composer.old commands.entry.items replies.items composer.new) }
+    ensures refused { OnErr result (composer.new ≡ composer.old) }
+{
+    let mut replies = Vec::with_capacity(composer.alloc(), commands.len())?;
+    for command in commands {
+        replies.push(answered(composer, command)).unwrap();
+    }
+    Ok(replies)
+}

@@ -1,0 +1,147 @@
+-- Worked rows: the words of `oil`, lines that are read and lines that are written.
+use lib.Utf8.{encode}
+use Rattle.std.specs.Prelude.{◌≡◌, refl, ℕ, negsuc, true, false, Some, None, Option, List, [], ◌∷◌, ◌++◌, Result, Ok, Err, codes}
+use Rattle.std.specs.Fmt.{digits}
+use Rattle.std.specs.Str.{chars, trim_start}
+use Rattle.ucd_perl.proofs.Computing.{ucd_perl}
+use Rattle.naga_oil_ir.specs.Backend.{FaultValue}
+use Rattle.naga_oil_ir.specs.Spans.{undefined}
+use Rattle.naga_oil_pre.specs.DefineValue.{defined_value}
+use Rattle.naga_oil_pre.specs.LineKinds.{is_name}
+use Rattle.naga_oil_pre.specs.Metadata.{none_defined, with_definition}
+use Rattle.naga_oil_pre.specs.Values.{read_u32, read_i32, read_bool}
+use Rattle.naga_oil_pre.specs.declared.shader_def.ShaderDefValue.TheVariants as def
+use Rattle.naga_oil_mini.specs.BodyReader.{sum_of}
+use Rattle.naga_oil_mini.specs.Defined.{definition_word, defined_by}
+use Rattle.naga_oil_mini.specs.Names.{last_place}
+use Rattle.naga_oil_mini.specs.Order.{has_order}
+use Rattle.naga_oil_mini.specs.Reader.{is_skipped, with_line, start, with_constant, parsed}
+use Rattle.naga_oil_mini.specs.Refused.{not_understood, unknown, message, ◌>>◌}
+use Rattle.naga_oil_mini.specs.Symbols.{symbols, name, opens, number, equals, plus, comma, closes}
+use Rattle.naga_oil_mini.specs.Words.{added_import, asked}
+use Rattle.naga_oil_mini.specs.Writer.{header_text, body_line, function_text, entry_text, items_text, module_text}
+use Rattle.naga_oil_mini.specs.declared.mini.words.Task.TheVariants.{Preprocess, Make}
+
+-- `unfolding texts` lets `refl` compute what texts say and are
+unfoldable texts : Unit {0}
+unfolding is_name defined_value read_u32 read_i32 read_bool with_line parsed sum_of has_order body_line function_text entry_text items_text module_text digits trim_start chars encode ucd_perl
+texts = tt
+
+-- ---- words
+pub pre_of_a_file : asked (codes "pre" ∷ codes "K=2" ∷ codes "t.txt" ∷ []) ≡ Some (record { task = Preprocess; files = codes "t.txt" ∷ []; imports = [] })
+pre_of_a_file = refl
+
+pub pre_of_two_files : asked (codes "pre" ∷ codes "t.txt" ∷ codes "t.txt" ∷ []) ≡ None
+pre_of_two_files = refl
+
+pub pre_with_an_import : asked (codes "pre" ∷ codes "t.txt" ∷ codes "+a" ∷ []) ≡ None
+pre_with_an_import = refl
+
+pub make_of_files : asked (codes "make" ∷ codes "top.txt" ∷ codes "+b" ∷ codes "a.txt" ∷ codes "X=" ∷ codes "+c" ∷ []) ≡ Some (record { task = Make; files = codes "top.txt" ∷ codes "a.txt" ∷ []; imports = codes "b" ∷ codes "c" ∷ [] })
+make_of_files = refl
+
+pub make_of_no_file : asked (codes "make" ∷ codes "+a" ∷ codes "A=" ∷ []) ≡ None
+make_of_no_file = refl
+
+pub other_command : asked (codes "post" ∷ codes "t.txt" ∷ []) ≡ None
+other_command = refl
+
+pub definition_first : added_import (codes "+a=1") ≡ None
+definition_first = refl
+
+-- ---- definitions
+pub number_given : definition_word (codes "K=2") ≡ Some (codes "K", def.UInt 2)
+unfolding texts
+number_given = refl
+
+pub nothing_given : definition_word (codes "K=") ≡ Some (codes "K", def.Bool true)
+unfolding texts
+nothing_given = refl
+
+pub below_zero : definition_word (codes "K=-2") ≡ Some (codes "K", def.Int (negsuc 1))
+unfolding texts
+below_zero = refl
+
+pub sign_plus : definition_word (codes "A=+1") ≡ None
+unfolding texts
+sign_plus = refl
+
+pub no_name : definition_word (codes "=1") ≡ None
+unfolding texts
+no_name = refl
+
+pub later_equals : definition_word (codes "A=1=2") ≡ None
+unfolding texts
+later_equals = refl
+
+pub in_turn : defined_by none_defined (codes "K=2" ∷ codes "t.txt" ∷ codes "K=" ∷ []) ≡ Ok (with_definition (with_definition none_defined (codes "K") (def.UInt 2)) (codes "K") (def.Bool true))
+unfolding texts
+in_turn = refl
+
+pub first_bad : defined_by none_defined (codes "A=" ∷ codes "B=x1" ∷ codes "C=x2" ∷ []) ≡ Err (codes "B=x1")
+unfolding texts
+first_bad = refl
+
+-- ---- lines
+pub symbols_row : symbols (codes "fn  f ( x ,y )=x+ 007") ≡ Some (name (codes "fn") ∷ opens (codes "f") ∷ name (codes "x") ∷ comma ∷ name (codes "y") ∷ closes ∷ equals ∷ name (codes "x") ∷ plus ∷ number 7 ∷ [])
+unfolding texts
+symbols_row = refl
+
+pub greatest_number : symbols (codes "2147483647") ≡ Some (number 2147483647 ∷ [])
+unfolding texts
+greatest_number = refl
+
+pub number_too_great : symbols (codes "2147483648") ≡ None
+unfolding texts
+number_too_great = refl
+
+pub digit_first : symbols (codes "2x") ≡ None
+unfolding texts
+digit_first = refl
+
+pub last_of_equal_names : last_place (codes "x") (codes "x" ∷ codes "y" ∷ codes "x" ∷ codes "z" ∷ []) ≡ Some 2
+last_of_equal_names = refl
+
+pub comment_is_skipped : is_skipped (codes "  // x") ≡ true
+unfolding texts
+comment_is_skipped = refl
+
+pub constant_row : with_line (codes "const N = 3") undefined start ≡ Ok (with_constant (codes "N") 3 undefined start)
+unfolding texts
+constant_row = refl
+
+pub unknown_name : with_line (codes "fn f(x) = x + g(N)") undefined start ≡ Err (unknown (codes "g"))
+unfolding texts
+unknown_name = refl
+
+pub no_sum : with_line (codes "fn f(x) = x +") undefined start ≡ Err not_understood
+unfolding texts
+no_sum = refl
+
+pub no_keyword : with_line (codes "let x = 1") undefined start ≡ Err not_understood
+unfolding texts
+no_keyword = refl
+
+-- ---- what is written
+pub header_row : header_text (codes "f") (codes "x" ∷ codes "y" ∷ []) ≡ codes "fn f(x, y)"
+header_row = refl
+
+-- the text of the module that a text says, if it has one
+abbrev pub rewritten : List ℕ → Result (Option (List ℕ)) FaultValue
+rewritten text = elim (parsed text) [ Ok m ↦ Ok (module_text m) | Err f ↦ Err f ]
+
+pub constant_again : rewritten (codes "const N = 007") ≡ Ok (Some (codes "const N = 7" ++ 10 ∷ []))
+unfolding texts
+constant_again = refl
+
+pub sum_again : rewritten (codes " fn f(x,y)=x+1") ≡ Ok (Some (codes "fn f(x, y) = x + 1" ++ 10 ∷ []))
+unfolding texts
+sum_again = refl
+
+pub stub_and_call_again : rewritten (codes "fn f(x)" ++ 10 ∷ codes "entry main = f(f(1)+2)") ≡ Ok (Some (codes "fn f(x)" ++ 10 ∷ codes "entry main = f(f(1) + 2)" ++ 10 ∷ []))
+unfolding texts
+stub_and_call_again = refl
+
+pub second_line_refused : rewritten (codes "fn f(x)" ++ 10 ∷ codes "fn g() = h(1)") ≡ Err (record { message = codes "unknown name h"; spans = (record { start = 8; end = 21 }, []) ∷ []; notes = [] })
+unfolding texts
+second_line_refused = refl

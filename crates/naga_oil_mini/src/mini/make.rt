@@ -1,0 +1,98 @@
+// Shaders made of files over Mini.
+ghost use Rattle.std.specs.Prelude.{◌≡◌, IfErr, IfOk, Some, string_bytes};
+ghost use Rattle.naga_oil_ir.specs.ModuleValue.{module_value};
+ghost use Rattle.naga_oil_mini.specs.Told.{IsOfMaking, IsWritten};
+ghost use Rattle.naga_oil_mini.specs.Writer.{module_text};
+
+use super::definitions::Definitions;
+use super::front::Mini;
+use super::not_written::NotWritten;
+use super::refusal::Refusal;
+use super::writer::module_text;
+use naga_oil::compose::{
+    ComposableModuleDescriptor, Composer, ComposerError, NagaModuleDescriptor, ShaderType,
+};
+use naga_oil_ir::Module;
+use naga_oil_lines::ImportDefinition;
+use std::alloc::{AllocError, Global};
+
+// What is told of an error.
+fn told<'a>(composer: &Composer<Mini>, error: ComposerError) -> Refusal<'a>
+    ensures { IsOfMaking result }
+{
+    match error.emit_to_string(composer) {
+        Ok(report) if !error.inner.is_memory() => Refusal::Fault(report),
+        _ => Refusal::Memory,
+    }
+}
+
+// Registers the modules of files.
+fn add_modules<'a>(
+    alloc: Global,
+    composer: &mut Composer<Mini>,
+    modules: &[(&'a str, String)],
+) -> Result<(), Refusal<'a>>
+    ensures { IfErr result IsOfMaking }
+{
+    for (file_path, source) in modules {
+        let mut desc = ComposableModuleDescriptor::new(alloc);
+        desc.source = source.as_str();
+        desc.file_path = *file_path;
+        let added = composer.add_composable_module(desc).map(|_| ());
+        if let Err(error) = added {
+            return Err(told(composer, error));
+        }
+    }
+    Ok(())
+}
+
+// Imports of no items.
+fn bare_imports(alloc: Global, names: &[&str]) -> Result<Vec<ImportDefinition>, AllocError> {
+    let mut imports = Vec::with_capacity(alloc, names.len())?;
+    for name in names {
+        imports.push(ImportDefinition {
+            import: String::from_str(alloc, *name)?,
+            items: Vec::new(alloc),
+        })?;
+    }
+    Ok(imports)
+}
+
+// The text of a module.
+fn written<'a>(alloc: Global, of: &Module) -> Result<String, Refusal<'a>>
+    ensures ok { IfOk result (λ t. module_text (module_value of.now) ≡ Some (string_bytes t)) }
+    ensures err { IfErr result IsOfMaking }
+{
+    match module_text(alloc, of) {
+        Ok(text) => Ok(text),
+        Err(NotWritten::Memory) => Err(Refusal::Memory),
+        Err(NotWritten::NotInMini) => Err(Refusal::NotInMini),
+    }
+}
+
+/// The shader of a file with the modules of others, under definitions, as Mini writes it.
+pub fn made<'a>(
+    alloc: Global,
+    top: &(&'a str, String),
+    modules: &[(&'a str, String)],
+    imports: &[&str],
+    definitions: Definitions,
+) -> Result<String, Refusal<'a>>
+    ensures ok { IfOk result (λ t. IsWritten (string_bytes t)) }
+    ensures err { IfErr result IsOfMaking }
+{
+    let mut composer = Composer::new(alloc, Mini);
+    add_modules(alloc, &mut composer, modules)?;
+    let imports = bare_imports(alloc, imports)?;
+    let desc = NagaModuleDescriptor {
+        source: top.1.as_str(),
+        file_path: top.0,
+        shader_type: ShaderType::Wgsl,
+        shader_defs: definitions,
+        additional_imports: imports.as_slice(),
+    };
+    match composer.make_naga_module(desc) {
+        Ok(made) => written(alloc, &made),
+        Err(error) => Err(told(&composer, error)),
+    }
+}

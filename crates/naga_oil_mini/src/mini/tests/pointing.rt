@@ -1,0 +1,128 @@
+// A fault of a validator lies in the module of its last span, if that was built.
+ghost use Rattle.std.specs.Prelude.{◌≡◌, [], ◌∷◌, IfOk, option_map, unwrap_or};
+ghost use Rattle.naga_oil_ir.specs.Backend.{valid_fault};
+
+use crate::mini::front::Mini;
+use naga_oil::compose::{ComposableModuleDescriptor, Composer, NagaModuleDescriptor};
+use naga_oil_ir::{
+    Backend, BackendRefusal, Capabilities, Module, ParseFault, ShaderLanguage, Span, ValidFault,
+    WriteFault,
+};
+use std::alloc::{AllocError, Global};
+use std::process::Abort;
+use std::test::Fail;
+
+// Mini, but a module with entry points isn't valid, for a fault at this span.
+#[derive(Drop)]
+struct Pointing {
+    span: Option<Span>,
+}
+
+fn pointed(alloc: Global, span: Option<Span>) -> Result<ValidFault, AllocError>
+    ensures { IfOk result (λ f. valid_fault f ≡ record { message = []; spans = unwrap_or (option_map (λ s. (s, []) ∷ []) span) []; notes = [] }) }
+{
+    let mut spans = Vec::new(alloc);
+    if let Some(span) = span {
+        spans.push((span, String::new(alloc)))?;
+    }
+    Ok(ValidFault {
+        message: String::new(alloc),
+        spans,
+        notes: Vec::new(alloc),
+    })
+}
+
+impl Backend for Pointing {
+    ghost use Rattle.std.specs.Prelude.{[], ◌∷◌, ◌==◌, if◌then◌else◌, length, Ok, Err, option_map, unwrap_or};
+    ghost use Rattle.naga_oil_mini.specs.Front.{mini};
+
+    ghost front = { λ p. record { parse = mini.parse; write = mini.write; valid = λ m capabilities. if length m.entry_points == 0 then Ok tt else Err (record { message = []; spans = unwrap_or (option_map (λ s. (s, []) ∷ []) p.span) []; notes = [] }) } };
+
+    fn parse(
+        &self,
+        alloc: Global,
+        language: ShaderLanguage,
+        text: &str,
+    ) -> Result<Module, BackendRefusal<ParseFault>> {
+        Mini.parse(alloc, language, text)
+    }
+
+    fn write(
+        &self,
+        alloc: Global,
+        module_: &Module,
+        language: ShaderLanguage,
+        capabilities: Capabilities,
+    ) -> Result<String, BackendRefusal<WriteFault>> {
+        Mini.write(alloc, module_, language, capabilities)
+    }
+
+    fn validate(
+        &self,
+        alloc: Global,
+        module_: &Module,
+        _capabilities: Capabilities,
+    ) -> Result<(), BackendRefusal<ValidFault>> {
+        if module_.entry_points.is_empty() {
+            return Ok(());
+        }
+        let fault = pointed(alloc, self.span)?;
+        Err(BackendRefusal::Fault(fault))
+    }
+}
+
+fn add<'a>(
+    alloc: Global,
+    composer: &mut Composer<Pointing>,
+    name: &'a str,
+    source: &'a str,
+) -> Result<bool, AllocError> {
+    let mut desc = ComposableModuleDescriptor::new(alloc);
+    desc.source = source;
+    desc.file_path = name;
+    desc.as_name = Some(String::from_str(alloc, name)?);
+    Ok(composer.add_composable_module(desc).is_ok())
+}
+
+// What is told of a shader that isn't made.
+fn told(alloc: Global, composer: &mut Composer<Pointing>) -> Result<Option<String>, AllocError> {
+    let mut desc = NagaModuleDescriptor::new(alloc);
+    desc.source = "entry main = b::h()";
+    desc.file_path = "top";
+    match composer.make_naga_module(desc).err() {
+        None => Ok(None),
+        Some(error) => Ok(Some(error.emit_to_string(composer)?)),
+    }
+}
+
+fn is_told(
+    rt: &(impl Abort + AllocGlobal),
+    span: Option<Span>,
+    place: &str,
+) -> Result<(), AllocError> {
+    let alloc = rt.alloc();
+    let mut composer = Composer::new(alloc, Pointing { span });
+    assert!(rt; add(alloc, &mut composer, "a", "fn g() = 1")?);
+    assert!(rt; add(alloc, &mut composer, "b", "fn h() = a::g()")?);
+    let want = format!(in alloc; "error: failed to build a valid final module: \n  {place}\n")?;
+    assert_eq!(rt; told(alloc, &mut composer)?, Some(want));
+    Ok(())
+}
+
+#[test]
+fn lays_faults_to_modules(rt: HostRuntime) -> Result<(), Fail> {
+    for (span, place) in [
+        (None, "in top"),
+        (Some(Span::UNDEFINED), "at top:1:1"),
+        (
+            Some(Span::new(10_485_760 + 58, 10_485_760 + 60)),
+            "at top:1:7",
+        ),
+        (Some(Span::new(52 + 6, 52 + 8)), "at top:1:7"),
+        (Some(Span::new(4_194_304 + 29, 4_194_304 + 30)), "at b:1:4"),
+        (Some(Span::new(2_097_152 + 3, 2_097_152 + 4)), "at a:1:4"),
+    ] {
+        is_told(&rt, span, place)?;
+    }
+    Ok(())
+}

@@ -1,0 +1,242 @@
+// Shaders made of files: each answer of `oil make`.
+use super::{Page, USAGE, words_of};
+use crate::mini::oil;
+use std::alloc::{AllocError, Global};
+use std::process::Abort;
+use std::test::Fail;
+
+// The bytes of a file among these.
+fn found(alloc: Global, files: &[(&str, &str)], name: &str) -> Result<Option<Vec<u8>>, AllocError> {
+    for (file, text) in files {
+        if *file == name {
+            return Ok(Some(Vec::from_slice(alloc, text.as_bytes())?));
+        }
+    }
+    Ok(None)
+}
+
+// `oil` answers so over these files.
+pub(super) fn answers(
+    rt: &(impl Abort + AllocGlobal),
+    line: &str,
+    files: &[(&str, &str)],
+    want: (u8, &str, &str),
+) -> Result<(), AllocError> {
+    let alloc = rt.alloc();
+    let words = words_of(alloc, line)?;
+    let (mut out, mut err) = (Page::new(alloc), Page::new(alloc));
+    let read = |name: &str| found(alloc, files, name);
+    let status = oil(alloc, words.as_slice(), read, &mut out, &mut err);
+    assert_eq!(rt; out.text.as_slice(), want.1.as_bytes(), "out of {line}");
+    assert_eq!(rt; err.text.as_slice(), want.2.as_bytes(), "err of {line}");
+    assert_eq!(rt; status, want.0, "status of {line}");
+    Ok(())
+}
+
+const BASE: &str = "#define_import_path a\nvirtual fn f(x) = x + 1";
+
+const TEN: &str = "#define_import_path b\n#import a\noverride fn a::f(x) = a::f(x) + 10";
+
+const HUNDRED: &str = "#define_import_path c\n#import a\noverride fn a::f(x) = a::f(x) + 100";
+
+const CALLS: &str = "#import a\nentry main = a::f(5)";
+
+#[test]
+fn sends_calls_down_what_overrides(rt: HostRuntime) -> Result<(), Fail> {
+    let files = [
+        ("top.txt", CALLS),
+        ("a.txt", BASE),
+        ("b.txt", TEN),
+        ("c.txt", HUNDRED),
+    ];
+    for (line, made) in [
+        (
+            "make top.txt a.txt b.txt c.txt +b +c",
+            "fn fX_naga_oil_mod_XMEX(x) = x + 1
+fn fX_naga_oil_vrt_XMEXX_naga_oil_mod_XMIX(x) = fX_naga_oil_mod_XMEX(x) + 10
+fn fX_naga_oil_vrt_XMEXX_naga_oil_mod_XMMX(x) = fX_naga_oil_vrt_XMEXX_naga_oil_mod_XMIX(x) + 100
+entry main = fX_naga_oil_vrt_XMEXX_naga_oil_mod_XMMX(5)
+",
+        ),
+        (
+            "make top.txt a.txt b.txt +b",
+            "fn fX_naga_oil_mod_XMEX(x) = x + 1
+fn fX_naga_oil_vrt_XMEXX_naga_oil_mod_XMIX(x) = fX_naga_oil_mod_XMEX(x) + 10
+entry main = fX_naga_oil_vrt_XMEXX_naga_oil_mod_XMIX(5)
+",
+        ),
+        (
+            "make top.txt a.txt b.txt c.txt",
+            "fn fX_naga_oil_mod_XMEX(x) = x + 1
+entry main = fX_naga_oil_mod_XMEX(5)
+",
+        ),
+    ] {
+        answers(&rt, line, &files, (0, made, ""))?;
+    }
+    Ok(())
+}
+
+#[test]
+fn reads_keywords_outside_comments(rt: HostRuntime) -> Result<(), Fail> {
+    let line = "make top.txt a.txt b.txt +b";
+    let hidden = "#define_import_path a\n// virtual fn f(x)\nfn f(x) = x + 1";
+    let files = [("top.txt", CALLS), ("a.txt", hidden), ("b.txt", TEN)];
+    let err =
+        "error: override is invalid as `f` is not virtual (this error can be disabled with feature 'override_any')
+  at b.txt:3:13
+";
+    answers(&rt, line, &files, (1, "", err))?;
+    let behind = "#define_import_path b\n#import a\n/* */ override fn a::f(x) = a::f(x) + 10";
+    let files = [("top.txt", CALLS), ("a.txt", BASE), ("b.txt", behind)];
+    let err = "error: line not understood\n  at b.txt:3:1\n";
+    answers(&rt, line, &files, (1, "", err))?;
+    let plain = "#define_import_path a\nfn f(x) = x + 1";
+    let files = [("top.txt", CALLS), ("a.txt", plain), ("b.txt", behind)];
+    let err =
+        "error: override is invalid as `f` is not virtual (this error can be disabled with feature 'override_any')
+  at b.txt:3:19
+";
+    answers(&rt, line, &files, (1, "", err))?;
+    // A keyword needs no space before it.
+    let joined = "#define_import_path a\nfn f(x) = x + 1\ndiagnostic(xvirtual fn f(";
+    let files = [("top.txt", CALLS), ("a.txt", joined), ("b.txt", TEN)];
+    let out = "fn fX_naga_oil_mod_XMEX(x) = x + 1
+fn fX_naga_oil_vrt_XMEXX_naga_oil_mod_XMIX(x) = fX_naga_oil_mod_XMEX(x) + 10
+entry main = fX_naga_oil_vrt_XMEXX_naga_oil_mod_XMIX(5)
+";
+    answers(&rt, line, &files, (0, out, ""))?;
+    Ok(())
+}
+
+#[test]
+fn tells_faults_of_overrides(rt: HostRuntime) -> Result<(), Fail> {
+    let line = "make top.txt a.txt b.txt +b";
+    let plain = "#define_import_path a\nfn f(x) = x + 1";
+    let files = [("top.txt", CALLS), ("a.txt", plain), ("b.txt", TEN)];
+    let err =
+        "error: override is invalid as `f` is not virtual (this error can be disabled with feature 'override_any')
+  at b.txt:3:13
+";
+    answers(&rt, line, &files, (1, "", err))?;
+    let turning = "#define_import_path b\n#import a\nfn h(x) = a::f(x)\noverride fn a::f(x) = h(x)";
+    let files = [("top.txt", CALLS), ("a.txt", BASE), ("b.txt", turning)];
+    let err =
+        "error: invalid override :circular reference; can't find an order for : b::h, b::foverride fn a::
+  at top.txt:1:1
+  note: override error
+";
+    answers(&rt, line, &files, (1, "", err))?;
+    Ok(())
+}
+
+#[test]
+fn tells_faults_of_texts(rt: HostRuntime) -> Result<(), Fail> {
+    let top = "#import m\nentry main = m::g(2)";
+    let unread = "#define_import_path m\noops";
+    for (module, source, err) in [
+        (
+            "#define_import_path m\nfn g() = 1",
+            top,
+            "error: failed to build a valid final module: wrong number of arguments
+  at top.txt:2:1: call of m::g
+",
+        ),
+        (
+            unread,
+            "entry main = m::g()",
+            "error: line not understood\n  at m.txt:2:1\n",
+        ),
+        (
+            "enable f16;\n#define_import_path m\n#import zz\nfn g() = zz::f()",
+            top,
+            "error: required import 'zz' not found\n  at m.txt:3:10\n  note: missing import 'zz'\n",
+        ),
+        (
+            "fn g() = 1",
+            top,
+            "error: Attempted to add a module with no #define_import_path\n  in m.txt\n",
+        ),
+        (
+            "#define_import_path m",
+            "\tentry main = 1",
+            "error: line not understood\n  at top.txt:1:1\n",
+        ),
+        (
+            "#define_import_path m",
+            "const A = 1\nconst A = 2\nfn f() = A\nconst A = 1\nfn g() = A\nentry main = f() + g()",
+            "error: not in Mini\n",
+        ),
+    ] {
+        let files = [("top.txt", source), ("m.txt", module)];
+        answers(&rt, "make top.txt m.txt", &files, (1, "", err))?;
+    }
+    Ok(())
+}
+
+// An import that the value of a name brings isn't one that its module may have.
+#[test]
+fn tells_an_import_that_is_not_recorded(rt: HostRuntime) -> Result<(), Fail> {
+    let files = [
+        ("top.txt", "#import m\nentry main = m::g()"),
+        ("a.txt", "#define_import_path a\nfn f() = 1"),
+        ("m.txt", "#define_import_path m\nfn g() = a::#X"),
+    ];
+    let err =
+        "error: required import 'a' not found\n  at top.txt:1:1\n  note: missing import 'a'\n";
+    answers(&rt, "make top.txt a.txt m.txt X=5", &files, (1, "", err))?;
+    Ok(())
+}
+
+#[test]
+fn makes_what_mini_says(rt: HostRuntime) -> Result<(), Fail> {
+    for (source, made) in [
+        ("", ""),
+        ("entry main = 007", "entry main = 7\n"),
+        (
+            "\t\nfn fn(with) = with\nentry main = fn(1)",
+            "fn fn(with) = with\nentry main = fn(1)\n",
+        ),
+        (
+            "fn f(x, x) = x\nentry main = f(1, 2)",
+            "fn f(x, x) = x\nentry main = f(1, 2)\n",
+        ),
+        (
+            "const A = 1\nconst A = 2\nentry main = A",
+            "const A = 1\nconst A = 2\nentry main = A\n",
+        ),
+        (
+            "#import m::g\nentry main = g()",
+            "fn gX_naga_oil_mod_XNUX() = 1\nentry main = gX_naga_oil_mod_XNUX()\n",
+        ),
+        ("#if K == 3\nentry main = #K\n#endif", "entry main = 3\n"),
+    ] {
+        let files = [
+            ("top.txt", source),
+            ("m.txt", "#define_import_path m\nfn g() = 1\nfn h() = 2"),
+        ];
+        answers(&rt, "make top.txt m.txt K=3", &files, (0, made, ""))?;
+    }
+    Ok(())
+}
+
+#[test]
+fn says_which_words_and_files_are_wrong(rt: HostRuntime) -> Result<(), Fail> {
+    let files = [("top.txt", "entry main = 1"), ("m.txt", "oops")];
+    for (line, err) in [
+        ("make", USAGE),
+        ("make A=1 +b", USAGE),
+        ("make top.txt A=x1", "bad definition A=x1\n"),
+        ("make top.txt +a=1 no.txt", "bad definition +a=1\n"),
+        ("make top.txt m.txt no.txt", "cannot read no.txt\n"),
+        (
+            "make --override-any top.txt",
+            "cannot read --override-any\n",
+        ),
+    ] {
+        answers(&rt, line, &files, (2, "", err))?;
+    }
+    let err = "error: required import '' not found\n  at top.txt:1:1\n  note: missing import ''\n";
+    answers(&rt, "make top.txt +", &files, (1, "", err))?;
+    Ok(())
+}
