@@ -17,3 +17,5 @@ pub mod Makes
 pub mod Ran
 pub mod Keywords
 pub mod Writeback
+pub mod Steps
+pub mod BuiltModule

@@ -42,7 +42,10 @@ fn moved(place: u32, offset: usize) -> u32
 
 impl Maps {
     /// The maps of no source.
-    pub fn empty(alloc: Global) -> Maps {
+    pub fn empty(alloc: Global) -> Maps
+        ensures offset { result.offset ≡ 0 }
+        ensures nowhere { (p : ItemPlace) → goes_under result p ≡ None }
+    {
         Maps {
             types: Vec::new(alloc),
             constants: Vec::new(alloc),

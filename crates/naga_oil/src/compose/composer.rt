@@ -242,6 +242,3 @@ impl<B: Backend> Composer<B> {
         }
     }
 }
-
-#[cfg(test)]
-pub(crate) mod tests;

@@ -202,6 +202,3 @@ impl EnsureImportsError {
         }
     }
 }
-
-#[cfg(test)]
-mod tests;

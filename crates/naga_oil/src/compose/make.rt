@@ -270,6 +270,41 @@ impl<B: Backend> Maker<'_, B> {
         }
     }
 
+    // Links a shader that was built, and validates it.
+    fn composed(
+        &self,
+        built: &ComposableModule,
+        of: &Definition,
+        text: &str,
+        shader_type: ShaderType,
+    ) -> Result<Module, ComposerError> {
+        let linked = self.linked(built, shader_type);
+        let made = self.told(of, text, built.start_offset, linked)?;
+        self.validated(made, of, text, built.start_offset)
+    }
+
+    // Makes a shader that was preprocessed.
+    fn finished(
+        &self,
+        of: &Definition,
+        output: &PreprocessOutput,
+        shader_type: ShaderType,
+    ) -> Result<Module, ComposerError>
+        requires { of.now.module_index ≤ 2047 }
+    {
+        let built = self.built(of, output)?;
+        let text = output.preprocessed_source.as_str();
+        self.composed(&built, of, text, shader_type)
+    }
+
+    // Why a shader isn't read.
+    fn unread(&self, fault: ReadFault, path: &str, text: &str) -> ComposerError {
+        match fault {
+            ReadFault::Here(inner) => refused(self.alloc, inner, path, text, 0),
+            ReadFault::There(error) => error,
+        }
+    }
+
     /// Makes a shader of a text that was read.
     pub(crate) fn made(
         &mut self,
@@ -280,15 +315,9 @@ impl<B: Backend> Maker<'_, B> {
         requires { All (λ d. d.module_index ≤ 2047) modules.now }
     {
         let (path, shader_type) = (desc.file_path, desc.shader_type);
-        let (shader, output) = match self.read(desc, text, modules) {
-            Ok(read) => read,
-            Err(ReadFault::Here(inner)) => return Err(refused(self.alloc, inner, path, text, 0)),
-            Err(ReadFault::There(error)) => return Err(error),
-        };
-        let text = output.preprocessed_source.as_str();
-        let built = self.built(&shader, &output)?;
-        let linked = self.linked(&built, shader_type);
-        let made = self.told(&shader, text, built.start_offset, linked)?;
-        self.validated(made, &shader, text, built.start_offset)
+        match self.read(desc, text, modules) {
+            Ok((shader, output)) => self.finished(&shader, &output, shader_type),
+            Err(fault) => Err(self.unread(fault, path, text)),
+        }
     }
 }

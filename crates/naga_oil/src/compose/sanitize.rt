@@ -89,6 +89,3 @@ pub(crate) fn read_source(alloc: Global, source: &str, counter: u32) -> Checked<
     };
     Ok(read)
 }
-
-#[cfg(test)]
-mod tests;

@@ -1,9 +1,12 @@
 // Each answer of `oil`, at a reader and writers over memory.
 mod composing;
 mod examples;
+mod faults;
 mod front;
 mod pointing;
 mod projects;
+mod registry;
+mod reports;
 
 use super::oil;
 use std::alloc::{AllocError, Global};
@@ -108,6 +111,8 @@ fn prints_the_text(rt: HostRuntime) -> Result<(), Fail> {
         ("\n", ""),
         ("a\n\n", "a\n"),
         ("a\r\nb", "a\nb\n"),
+        ("a\r\r\nb\r", "a\nb\r\n"),
+        ("#if X", "#if X\n"),
     ] {
         answers(&rt, "pre t.txt", text.as_bytes(), (0, out, ""))?;
     }
@@ -149,12 +154,34 @@ fn prints_items_by_their_modules(rt: HostRuntime) -> Result<(), Fail> {
 }
 
 #[test]
+fn prints_names_without_their_last_colons(rt: HostRuntime) -> Result<(), Fail> {
+    let text = b"#import a::f\nf:: + x::";
+    let out = "            \nfX_naga_oil_mod_XMEX + x\n";
+    answers(&rt, "pre t.txt", text, (0, out, ""))?;
+    Ok(())
+}
+
+// A define among the lines of an import is none.
+#[test]
+fn takes_no_define_of_an_import(rt: HostRuntime) -> Result<(), Fail> {
+    let text = b"#import a::{\"\n#define A\n\"}\n#ifdef A\nx\n#endif";
+    let out = "             \n         \n  \n        \n \n      \n";
+    answers(&rt, "pre t.txt", text, (0, out, ""))?;
+    let out = "             \n         \n  \n        \nx\n      \n";
+    answers(&rt, "pre t.txt A=", text, (0, out, ""))?;
+    Ok(())
+}
+
+#[test]
 fn prints_arms_and_values(rt: HostRuntime) -> Result<(), Fail> {
     let text = b"#ifdef A\na\n#else if X\nb\n#endif";
     let out = "        \n \n          \nb\n      \n";
     answers(&rt, "pre t.txt", text, (0, out, ""))?;
     let out = "#MISSING * 5     \n";
     answers(&rt, "pre t.txt FIRST=5", b"#MISSING * #FIRST", (0, out, ""))?;
+    let text = "#gr\u{f6}\u{df}e";
+    let line = "pre t.txt gr\u{f6}\u{df}e=7";
+    answers(&rt, line, text.as_bytes(), (0, "7       \n", ""))?;
     Ok(())
 }
 
@@ -218,26 +245,31 @@ fn says_what_is_wrong_with_the_words(rt: HostRuntime) -> Result<(), Fail> {
 fn says_what_is_wrong_with_the_text(rt: HostRuntime) -> Result<(), Fail> {
     answers(&rt, "pre t.txt", b"a\xff", (2, "", "cannot read t.txt\n"))?;
     answers(&rt, "pre m.txt", b"", (1, "", "error: out of memory\n"))?;
-    answers(
-        &rt,
-        "pre t.txt",
-        b"#define A x1",
+    for (text, err) in [
         (
-            1,
-            "",
+            "#define A x1",
             "error: Invalid value for `#define`d shader def A: x1\n  at t.txt:1:1\n",
         ),
-    )?;
-    answers(
-        &rt,
-        "pre t.txt",
-        b"#ifdef A",
         (
-            1,
-            "",
+            "#ifdef A",
             "error: Not enough '# endif' lines. Each if statement should be followed by an endif statement.\n  at t.txt:1:9\n",
         ),
-    )?;
+        (
+            "#if FOO",
+            "error: Unknown shader def: 'FO'\n  at t.txt:1:1\n",
+        ),
+        // Places count in the text without directives, and without `\r`.
+        (
+            "enable f16;\n#endif",
+            "error: Too many '# endif' lines. Each endif should be preceded by an if statement.\n  at t.txt:1:2\n",
+        ),
+        (
+            "a\r\n#endif\r\n",
+            "error: Too many '# endif' lines. Each endif should be preceded by an if statement.\n  at t.txt:1:3\n",
+        ),
+    ] {
+        answers(&rt, "pre t.txt", text.as_bytes(), (1, "", err))?;
+    }
     Ok(())
 }
 

@@ -101,6 +101,15 @@ fn adds<'a>(
 }
 
 #[test]
+fn leaves_out_what_nothing_names(rt: HostRuntime) -> Result<(), Fail> {
+    let mut composer = Composer::new(rt.alloc(), Mini);
+    adds(&rt, &mut composer, "m", "fn g() = 1\nfn h() = 2", &[])?;
+    let made = "fn gX_naga_oil_mod_XNUX() = 1\nentry main = gX_naga_oil_mod_XNUX()\n";
+    makes(&rt, &mut composer, "entry main = m::g()", &[], made)?;
+    Ok(())
+}
+
+#[test]
 fn builds_under_the_definitions_of_all_imports(rt: HostRuntime) -> Result<(), Fail> {
     let mut composer = Composer::new(rt.alloc(), Mini);
     one_and_two(&rt, &mut composer)?;

@@ -3,7 +3,9 @@ ghost use Rattle.std.specs.Prelude.{◌≡◌, [], ◌∷◌, IfOk, option_map, 
 ghost use Rattle.naga_oil_ir.specs.Backend.{valid_fault};
 
 use crate::mini::front::Mini;
-use naga_oil::compose::{ComposableModuleDescriptor, Composer, NagaModuleDescriptor};
+use naga_oil::compose::{
+    ComposableModuleDescriptor, Composer, NagaModuleDescriptor, ShaderDefValue,
+};
 use naga_oil_ir::{
     Backend, BackendRefusal, Capabilities, Module, ParseFault, ShaderLanguage, Span, ValidFault,
     WriteFault,
@@ -71,23 +73,35 @@ impl Backend for Pointing {
     }
 }
 
-fn add<'a>(
-    alloc: Global,
+// Adds a module, bound to K if that is asked for.
+fn adds<'a>(
+    rt: &(impl Abort + AllocGlobal),
     composer: &mut Composer<Pointing>,
     name: &'a str,
     source: &'a str,
-) -> Result<bool, AllocError> {
+    is_bound: bool,
+) -> Result<(), AllocError> {
+    let alloc = rt.alloc();
     let mut desc = ComposableModuleDescriptor::new(alloc);
     desc.source = source;
     desc.file_path = name;
     desc.as_name = Some(String::from_str(alloc, name)?);
-    Ok(composer.add_composable_module(desc).is_ok())
+    if is_bound {
+        let k = String::from_str(alloc, "K")?;
+        desc.shader_defs.insert(k, ShaderDefValue::Int(1))?;
+    }
+    assert!(rt; composer.add_composable_module(desc).is_ok());
+    Ok(())
 }
 
 // What is told of a shader that isn't made.
-fn told(alloc: Global, composer: &mut Composer<Pointing>) -> Result<Option<String>, AllocError> {
+fn told(
+    alloc: Global,
+    composer: &mut Composer<Pointing>,
+    source: &str,
+) -> Result<Option<String>, AllocError> {
     let mut desc = NagaModuleDescriptor::new(alloc);
-    desc.source = "entry main = b::h()";
+    desc.source = source;
     desc.file_path = "top";
     match composer.make_naga_module(desc).err() {
         None => Ok(None),
@@ -97,16 +111,26 @@ fn told(alloc: Global, composer: &mut Composer<Pointing>) -> Result<Option<Strin
 
 fn is_told(
     rt: &(impl Abort + AllocGlobal),
-    span: Option<Span>,
+    composer: &mut Composer<Pointing>,
+    source: &str,
     place: &str,
 ) -> Result<(), AllocError> {
     let alloc = rt.alloc();
-    let mut composer = Composer::new(alloc, Pointing { span });
-    assert!(rt; add(alloc, &mut composer, "a", "fn g() = 1")?);
-    assert!(rt; add(alloc, &mut composer, "b", "fn h() = a::g()")?);
     let want = format!(in alloc; "error: failed to build a valid final module: \n  {place}\n")?;
-    assert_eq!(rt; told(alloc, &mut composer)?, Some(want));
+    assert_eq!(rt; told(alloc, composer, source)?, Some(want));
     Ok(())
+}
+
+// A module a, and b that imports it, of which a shader calls a function.
+fn is_told_of_two(
+    rt: &(impl Abort + AllocGlobal),
+    span: Option<Span>,
+    place: &str,
+) -> Result<(), AllocError> {
+    let mut composer = Composer::new(rt.alloc(), Pointing { span });
+    adds(rt, &mut composer, "a", "fn g() = 1", false)?;
+    adds(rt, &mut composer, "b", "fn h() = a::g()", false)?;
+    is_told(rt, &mut composer, "entry main = b::h()", place)
 }
 
 #[test]
@@ -122,7 +146,19 @@ fn lays_faults_to_modules(rt: HostRuntime) -> Result<(), Fail> {
         (Some(Span::new(4_194_304 + 29, 4_194_304 + 30)), "at b:1:4"),
         (Some(Span::new(2_097_152 + 3, 2_097_152 + 4)), "at a:1:4"),
     ] {
-        is_told(&rt, span, place)?;
+        is_told_of_two(&rt, span, place)?;
     }
+    Ok(())
+}
+
+// A module that the first reading alone imports was built too.
+#[test]
+fn lays_faults_to_what_the_first_reading_imports(rt: HostRuntime) -> Result<(), Fail> {
+    let span = Some(Span::new(4_194_304 + 3, 4_194_304 + 4));
+    let mut composer = Composer::new(rt.alloc(), Pointing { span });
+    adds(&rt, &mut composer, "b", "fn h() = 1", true)?;
+    adds(&rt, &mut composer, "c", "fn g() = 1", false)?;
+    let top = "entry main = b::h()\n#ifndef K\nentry two = c::g()\n#endif";
+    is_told(&rt, &mut composer, top, "at c:1:4")?;
     Ok(())
 }

@@ -158,6 +158,11 @@ fn tells_faults_of_texts(rt: HostRuntime) -> Result<(), Fail> {
             "error: Attempted to add a module with no #define_import_path\n  in m.txt\n",
         ),
         (
+            "// x\renable  ;\n",
+            top,
+            "error: Invalid WGSL directive 'enable  ;' at line 1: No extensions specified\n  at m.txt:2:1\n",
+        ),
+        (
             "#define_import_path m",
             "\tentry main = 1",
             "error: line not understood\n  at top.txt:1:1\n",
@@ -170,6 +175,79 @@ fn tells_faults_of_texts(rt: HostRuntime) -> Result<(), Fail> {
     ] {
         let files = [("top.txt", source), ("m.txt", module)];
         answers(&rt, "make top.txt m.txt", &files, (1, "", err))?;
+    }
+    Ok(())
+}
+
+// Two functions of one name, and two entry points of one.
+#[test]
+fn tells_modules_of_wrong_form(rt: HostRuntime) -> Result<(), Fail> {
+    for (module, source, err) in [
+        (
+            "#define_import_path m\nfn g() = 1\nfn g() = 2",
+            "entry main = m::g()",
+            "error: front end gave a module of wrong form\n  in m.txt\n",
+        ),
+        (
+            "#define_import_path m\nfn g() = 1",
+            "entry main = m::g()\nentry main = m::g()",
+            "error: front end gave a module of wrong form\n  in top.txt\n",
+        ),
+    ] {
+        let files = [("top.txt", source), ("m.txt", module)];
+        answers(&rt, "make top.txt m.txt", &files, (1, "", err))?;
+    }
+    Ok(())
+}
+
+#[test]
+fn tells_where_a_chain_is_open(rt: HostRuntime) -> Result<(), Fail> {
+    let files = [("bad.txt", "#ifdef A\nx\n")];
+    let err =
+        "error: Not enough '# endif' lines. Each if statement should be followed by an endif statement.\n  at bad.txt:3:1\n";
+    answers(&rt, "pre bad.txt", &files, (1, "", err))?;
+    Ok(())
+}
+
+// An override of no item, whose name is a mark and a code alone, is a line that Mini doesn't understand.
+#[test]
+fn overrides_no_empty_name(rt: HostRuntime) -> Result<(), Fail> {
+    let nameless = "#define_import_path b\n#import a:: as q\noverride fn q(x) = 1";
+    let files = [("top.txt", CALLS), ("a.txt", BASE), ("b.txt", nameless)];
+    let err = "error: line not understood\n  at b.txt:3:1\n";
+    answers(&rt, "make top.txt a.txt b.txt +b", &files, (1, "", err))?;
+    Ok(())
+}
+
+#[test]
+fn tells_names_undecorated(rt: HostRuntime) -> Result<(), Fail> {
+    let files = [("top.txt", "entry main = 1")];
+    for (name, told) in [
+        ("fX_naga_oil_mod_XMEXYZ", "a::fYZ"),
+        ("fX_naga_oil_mod_X1X", "fX_naga_oil_mod_X1X"),
+        (
+            "fX_naga_oil_vrt_XMEXX_naga_oil_mod_XMIX",
+            "b::foverride fn a::",
+        ),
+        ("fX_naga_oil_vrt_X1X", "fX_naga_oil_vrt_X1X"),
+        // Of the empty name.
+        ("fX_naga_oil_mod_XX", "::f"),
+        // A last mark without a code is passed over, and one whose code is of no text is not.
+        (
+            "fX_naga_oil_mod_XMEXyX_naga_oil_mod_Xz",
+            "a::fyX_naga_oil_mod_Xz",
+        ),
+        (
+            "fX_naga_oil_mod_XMEXyX_naga_oil_mod_X1X",
+            "fX_naga_oil_mod_XMEXyX_naga_oil_mod_X1X",
+        ),
+    ] {
+        let alloc = rt.alloc();
+        let line = format!(in alloc; "make top.txt +{name}")?;
+        let err = format!(in alloc;
+            "error: required import '{told}' not found\n  at top.txt:1:1\n  note: missing import '{told}'\n"
+        )?;
+        answers(&rt, line.as_str(), &files, (1, "", err.as_str()))?;
     }
     Ok(())
 }
@@ -217,6 +295,25 @@ fn makes_what_mini_says(rt: HostRuntime) -> Result<(), Fail> {
         ];
         answers(&rt, "make top.txt m.txt K=3", &files, (0, made, ""))?;
     }
+    Ok(())
+}
+
+// Both are owned, copied and linked.
+#[test]
+fn links_constants_of_one_name(rt: HostRuntime) -> Result<(), Fail> {
+    let files = [
+        ("top.txt", "entry main = m::f() + m::A"),
+        (
+            "m.txt",
+            "#define_import_path m\nconst A = 1\nconst A = 2\nfn f() = A",
+        ),
+    ];
+    let made = "const AX_naga_oil_mod_XNUX = 1
+const AX_naga_oil_mod_XNUX = 2
+fn fX_naga_oil_mod_XNUX() = AX_naga_oil_mod_XNUX
+entry main = fX_naga_oil_mod_XNUX() + AX_naga_oil_mod_XNUX
+";
+    answers(&rt, "make top.txt m.txt", &files, (0, made, ""))?;
     Ok(())
 }
 

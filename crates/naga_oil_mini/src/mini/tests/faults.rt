@@ -1,0 +1,94 @@
+// The faults of whole shaders by their variants, and where their texts begin.
+use crate::mini::front::Mini;
+use naga_oil::compose::{
+    ComposableModuleDescriptor, Composer, ComposerError, ImportDefinition, NagaModuleDescriptor,
+};
+use std::alloc::{AllocError, Global};
+use std::process::Abort;
+use std::test::Fail;
+
+fn adds<'a>(
+    rt: &(impl Abort + AllocGlobal),
+    composer: &mut Composer<Mini>,
+    source: &'a str,
+) -> Result<(), AllocError> {
+    let mut desc = ComposableModuleDescriptor::new(rt.alloc());
+    desc.source = source;
+    assert!(rt; composer.add_composable_module(desc).is_ok());
+    Ok(())
+}
+
+// Why a shader isn't made, and where its text begins.
+fn shown(alloc: Global, refused: Option<ComposerError>) -> Result<String, AllocError> {
+    match refused {
+        None => String::from_str(alloc, "made"),
+        Some(error) => {
+            let (inner, offset) = (&error.inner, error.source.offset());
+            format!(in alloc; "{inner:?} from {offset}")
+        }
+    }
+}
+
+fn is_refused<'a>(
+    rt: &(impl Abort + AllocGlobal),
+    composer: &mut Composer<Mini>,
+    source: &'a str,
+    imports: &'a [ImportDefinition],
+    want: &str,
+) -> Result<(), AllocError> {
+    let alloc = rt.alloc();
+    let mut desc = NagaModuleDescriptor::new(alloc);
+    desc.source = source;
+    desc.additional_imports = imports;
+    let refused = composer.make_naga_module(desc).err();
+    assert_eq!(rt; shown(alloc, refused)?.as_str(), want);
+    Ok(())
+}
+
+fn bare_import(alloc: Global, name: &str) -> Result<ImportDefinition, AllocError> {
+    Ok(ImportDefinition {
+        import: String::from_str(alloc, name)?,
+        items: Vec::new(alloc),
+    })
+}
+
+const CALLS: &str = "#import a\nentry main = a::f(5)";
+
+#[test]
+fn refuses_to_override_what_is_not_virtual(rt: HostRuntime) -> Result<(), Fail> {
+    let mut composer = Composer::new(rt.alloc(), Mini);
+    let plain = "#define_import_path a\nfn f(x) = x + 1";
+    let ten = "#define_import_path b\n#import a\noverride fn a::f(x) = a::f(x) + 10";
+    adds(&rt, &mut composer, plain)?;
+    adds(&rt, &mut composer, ten)?;
+    let imports = [bare_import(rt.alloc(), "b")?];
+    let want = "OverrideNotVirtual { name: \"f\", pos: 44 } from 0";
+    is_refused(&rt, &mut composer, CALLS, &imports, want)?;
+    Ok(())
+}
+
+#[test]
+fn refuses_calls_in_a_circle(rt: HostRuntime) -> Result<(), Fail> {
+    let mut composer = Composer::new(rt.alloc(), Mini);
+    let base = "#define_import_path a\nvirtual fn f(x) = x + 1";
+    let turning = "#define_import_path b\n#import a\nfn h(x) = a::f(x)\noverride fn a::f(x) = h(x)";
+    adds(&rt, &mut composer, base)?;
+    adds(&rt, &mut composer, turning)?;
+    let imports = [bare_import(rt.alloc(), "b")?];
+    // The header has a line for the function of a, and one for that of b, which overrides it.
+    let want =
+        "RedirectError(CircularReference(\"hX_naga_oil_mod_XMIX, fX_naga_oil_vrt_XMEXX_naga_oil_mod_XMIX\")) from 73";
+    is_refused(&rt, &mut composer, CALLS, &imports, want)?;
+    Ok(())
+}
+
+#[test]
+fn refuses_wrong_calls(rt: HostRuntime) -> Result<(), Fail> {
+    let mut composer = Composer::new(rt.alloc(), Mini);
+    adds(&rt, &mut composer, "#define_import_path m\nfn g() = 1")?;
+    let top = "#import m\nentry main = m::g(2)";
+    let want =
+        "ShaderValidationError(ValidFault { message: \"wrong number of arguments\", spans: [(Span { start: 36, end: 72 }, \"call of gX_naga_oil_mod_XNUX\")], notes: [] }) from 26";
+    is_refused(&rt, &mut composer, top, &[], want)?;
+    Ok(())
+}
