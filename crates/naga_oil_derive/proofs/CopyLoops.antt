@@ -122,3 +122,30 @@ place_step r es o b i true t0 m t x v w ready le l within room p step =
 place_step r es o b i false t0 m t x v w ready le l within room p step =
     let q = append_step r es o b i t0 t x v w m ready le l within room p.copies (p.follow refl) (p.count refl) step in
     record { copies = q.copies; apart = λ e. absurd (false≢true e); follow = λ e. q.follow; count = λ e. q.count }
+
+-- ---- the order of a walk
+
+-- the first i places of an order are copied, the first b of them with unique copies, each other one with a copy of its own
+pub record PlacedSoFar (r : Renames) (es : Values) (o : List ℕ) (b i : ℕ) (t : Table) (v : Values) : Type 0 where
+  pub merged : i ≤ b → Placed r es o 0 i true [] 0 t v
+  pub single : b ≤ i → (t0 : Table) × (m : ℕ) × Placed r es o b i false t0 m t v
+
+turned : (r : Renames) (es : Values) (o : List ℕ) (b i : ℕ) (t : Table) (v : Values) → i ≡ b → Placed r es o 0 i true [] 0 t v → (t0 : Table) × (m : ℕ) × Placed r es o b i false t0 m t v
+turned r es o b i t v e p =
+    let q : Placed r es o 0 b true [] 0 t v = subst (λ n. Placed r es o 0 n true [] 0 t v) e p in
+    (t, length v, subst (λ n. Placed r es o b n false t (length v) t v) (sym e) (placed_start r es o b false t v q.copies (q.apart refl)))
+
+pub so_far_start : (r : Renames) (es : Values) (o : List ℕ) (b : ℕ) (t : Table) (v : Values) → AreCopies r es [] [] t v → AreApart v → PlacedSoFar r es o b 0 t v
+so_far_start r es o b t v c a =
+    let p : Placed r es o 0 0 true [] 0 t v = record { copies = c; apart = λ e. a; follow = λ e. absurd (true≢false e); count = λ e. absurd (true≢false e) } in
+    record { merged = λ h. p; single = λ h. turned r es o b 0 t v (omega (arith, h)) p }
+
+pub so_far_step : (r : Renames) (es : List (Expression × Span)) (o : List ℕ) (b i : ℕ) (u : Bool) (t x : Table) (v w : Values) → IsReady (operand_links es) o → i < length o → get_or o i 0 < length es → length t ≡ length es → (u ≡ true → i < b) → (u ≡ false → b ≤ i) → PlacedSoFar r (expression_values es) o b i t v → IsStep r (expression_values es) u (get_or o i 0) t v x w → PlacedSoFar r (expression_values es) o b (i + 1) x w
+so_far_step r es o b i true t x v w ready l within room early late p step =
+    let less = early refl in
+    let q = place_step r es o 0 i true [] 0 t x v w ready (omega arith) l within room (p.merged (omega (arith, less))) step in
+    record { merged = λ h. q; single = λ h. turned r (expression_values es) o b (i + 1) x w (omega (arith, h, less)) q }
+so_far_step r es o b i false t x v w ready l within room early late p step =
+    let more = late refl in
+    let q = p.single more in
+    record { merged = λ h. absurd (omega (arith, h, more)); single = λ h. (q.0, q.1, place_step r es o b i false q.0 q.1 t x v w ready more l within room q.2 step) }

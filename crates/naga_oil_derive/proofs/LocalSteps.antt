@@ -24,7 +24,7 @@ use Rattle.naga_oil_derive.specs.Copies.{Values, Table, place_under, range_under
 use Rattle.naga_oil_derive.specs.Functions.{AreCovered, begun, order_of, named_values, names_under, name_put}
 use Rattle.naga_oil_derive.specs.Localized.{ExpressionsCopied}
 use Rattle.naga_oil_derive.specs.declared.walk.Walk.{Walk}
-use Rattle.naga_oil_derive.proofs.CopyLoops.{links_of_values}
+use Rattle.naga_oil_derive.proofs.CopyLoops.{links_of_values, PlacedSoFar}
 use Rattle.naga_oil_derive.proofs.Localizing.{kinds_of_values, inits_of_values, first_places, covered, names-push}
 use Rattle.naga_oil_derive.proofs.WalkNotes.{added-grows}
 
@@ -122,3 +122,12 @@ names_more t ys x o old new e i p =
     let done = names_under t [] (named_values (map deref_pair ys)) in
     let split : named_values (map deref_pair (ys ++ x ∷ [])) ≡ named_values (map deref_pair ys) ++ (x.0.now, string_bytes x.1.now) ∷ [] = ap named_values (map-append deref_pair ys (x ∷ [])) ∙ map-append (λ (q : ℕ × String Global). (q.0, string_bytes q.1)) (map deref_pair ys) (deref_pair x ∷ []) in
     p ∙ ap (λ (q : Option ℕ). name_put q (string_bytes x.1.now) (named_values old)) e ∙ ap (name_put (option_flatten (slice_get t x.0.now)) (string_bytes x.1.now)) i ∙ sym (ap (names_under t []) split ∙ names-push t (named_values (map deref_pair ys)) (x.0.now, string_bytes x.1.now) [])
+
+-- ---- all expressions of a function
+
+pub all_placed : (r : Renames) (f : Function) (w : Walk) (es : List (Expression × Span)) (i : ℕ) (t : Table) (target : List (Expression × Span)) → Walks f w → es ≡ f.expressions → i ≡ length w.places.items → PlacedSoFar r (expression_values es) w.places.items w.began i t (expression_values target) → ExpressionsCopied r f w t target (length target - (length w.places.items - w.began))
+all_placed r f w es i t target walks same e p =
+    let q = p.single (omega (arith, e, began_within f w walks)) in
+    let own : Placed r (expression_values es) w.places.items w.began (length w.places.items) false q.0 q.1 t (expression_values target) = subst (λ n. Placed r (expression_values es) w.places.items w.began n false q.0 q.1 t (expression_values target)) e q.2 in
+    let count : length target ≡ q.1 + (length w.places.items - w.began) = sym (value_count target) ∙ own.count refl in
+    both_placed r f w es w.places.items q.0 t target q.1 (length target - (length w.places.items - w.began)) (length w.places.items) walks same refl refl (omega (arith, count)) own

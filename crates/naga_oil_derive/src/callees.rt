@@ -4,6 +4,7 @@ ghost use Rattle.naga_oil_derive.specs.Callees.{known_as, callee_at};
 use super::Maps;
 use indexmap::IndexMap;
 use naga_oil_ir::{Function, Handle, Module};
+use std::alloc::Global;
 
 /// The functions that names mean.
 pub type FunctionNames = IndexMap<String, Handle<Function>>;
@@ -14,6 +15,7 @@ pub struct Went<'a> {
     pub maps: &'a Maps,
     pub source: &'a Module,
     pub functions: &'a FunctionNames,
+    pub alloc: Global,
 }
 
 /// The function that a name means.

@@ -1,8 +1,10 @@
 ghost use Rattle.std.specs.Prelude.{◌≡◌, ◌≤◌, ◌+◌, All, Some, None, IfOk, OnOk, OnErr, option_map, option_copied, string_bytes};
 ghost use Rattle.naga_oil_ir.specs.Rows.{Row};
 ghost use Rattle.naga_oil_derive.specs.World.{value_of, world, under_name, renamed_at};
-ghost use Rattle.naga_oil_derive.specs.Copying.{IsThere, AreRanked, IsBelowItem, AreLong, IsCopying, Grows, IsSameFrom, WentSomewhere, AreNames, IsReady, CopiesOne, CollectsItem, CollectsNames, CollectsNamed, goes_under, source_world, rank};
+ghost use Rattle.naga_oil_derive.specs.Copying.{IsThere, AreRanked, IsBelowItem, AreLong, IsCopying, Grows, IsSameFrom, WentSomewhere, AreNames, IsReady, CopiesOne, CollectsItem, CollectsNames, CollectsNamed, special_names, goes_under, source_world, rank};
 
+use super::renamed_items::Name;
+use super::special::SpecialEntry;
 use super::{
     Maps, Renaming, Tried, renamed_constant, renamed_expression, renamed_global, renamed_override,
     renamed_type,
@@ -24,166 +26,164 @@ fn names_at(source: &Module, item: ItemPlace, alloc: Global) -> Tried<NameList>
     ensures { IfOk result (λ v. AreNames (world (value_of source.now) item) v.items) }
 {
     match item {
-        ItemPlace::TypeItem(handle) => names_of(source.types.get_handle(handle), alloc),
-        ItemPlace::ConstantItem(handle) => names_of(source.constants.try_get(handle), alloc),
-        ItemPlace::OverrideItem(handle) => names_of(source.overrides.try_get(handle), alloc),
-        ItemPlace::GlobalItem(handle) => names_of(source.global_variables.try_get(handle), alloc),
-        ItemPlace::ExpressionItem(handle) => {
-            names_of(source.global_expressions.try_get(handle), alloc)
-        }
+        ItemPlace::TypeItem(h) => names_of(source.types.get_handle(h), alloc),
+        ItemPlace::ConstantItem(h) => names_of(source.constants.try_get(h), alloc),
+        ItemPlace::OverrideItem(h) => names_of(source.overrides.try_get(h), alloc),
+        ItemPlace::GlobalItem(h) => names_of(source.global_variables.try_get(h), alloc),
+        ItemPlace::ExpressionItem(h) => names_of(source.global_expressions.try_get(h), alloc),
     }
 }
 
-/// Copies a type, under a name if one is given, when what it names was copied.
-fn copy_type(
-    source: &Module,
-    handle: Handle<Type>,
-    name: Option<String>,
-    maps: &mut Maps,
-    target: &mut Module,
-    alloc: Global,
-) -> Tried
-    requires there { IsThere source.now (ItemPlace.TypeItem handle) }
-    requires long { AreLong maps.old source.now }
-    requires ready { IsReady source.now maps.old (ItemPlace.TypeItem handle) }
-    ensures copies { OnOk result ((r : Row) → world (value_of source.now) (ItemPlace.TypeItem handle) ≡ Some r → CopiesOne source.now target.old target.new maps.old maps.new (ItemPlace.TypeItem handle) (under_name (option_map (λ n. Some (string_bytes n)) name) r)) }
-    ensures err { OnErr result ((target.new ≡ target.old) × (maps.new ≡ maps.old)) }
-{
-    let Some(item) = source.types.get_handle(handle) else {
-        return Ok(());
-    };
-    let copy = renamed_type(maps, item, name, alloc)?;
-    let span = maps.span(source.types.get_span(handle));
-    let place = target.types.insert(copy, span)?;
-    maps.types[handle.index()] = Some(place);
-    Ok(())
+/// What is copied: where the items of a source went, and the module that they went into.
+#[derive(Drop)]
+pub struct Copying {
+    pub maps: Maps,
+    pub target: Module,
+    pub alloc: Global,
 }
 
 /// Copies an item, when what it names was copied.
 macro_rules! copy {
-    ($source:ident, $maps:ident, $target:ident, $handle:ident, $arena:ident, $item:ident => $copy:expr) => {{
-        let Some($item) = $source.$arena.try_get($handle) else {
+    ($copying:expr, $source:ident, $handle:ident, $arena:ident, $renamed:ident $(, $alloc:expr)?) => {{
+        let Some(item) = $source.$arena.try_get($handle) else {
             return Ok(());
         };
-        let copy = $copy;
-        let span = $maps.span($source.$arena.get_span($handle));
-        let place = $target.$arena.fetch_or_append(copy, span)?;
-        $maps.$arena[$handle.index()] = Some(place);
+        let copy = $renamed(&$copying.maps, item $(, $alloc)?)?;
+        let span = $copying.maps.span($source.$arena.get_span($handle));
+        let place = $copying.target.$arena.fetch_or_append(copy, span)?;
+        $copying.maps.$arena[$handle.index()] = Some(place);
         Ok(())
     }};
 }
 
-/// Copies the item at a place, when what it names was copied.
-fn copy_alone(
-    source: &Module,
-    item: ItemPlace,
-    maps: &mut Maps,
-    target: &mut Module,
-    alloc: Global,
-) -> Tried
-    requires there { IsThere source.now item }
-    requires long { AreLong maps.old source.now }
-    requires ready { IsReady source.now maps.old item }
-    ensures copies { OnOk result ((r : Row) → world (value_of source.now) item ≡ Some r → CopiesOne source.now target.old target.new maps.old maps.new item r) }
-    ensures err { OnErr result ((target.new ≡ target.old) × (maps.new ≡ maps.old)) }
-{
-    match item {
-        ItemPlace::TypeItem(h) => copy_type(source, h, None, maps, target, alloc),
-        ItemPlace::ConstantItem(h) => {
-            copy!(source, maps, target, h, constants, item => renamed_constant(maps, item)?)
-        }
-        ItemPlace::OverrideItem(h) => {
-            copy!(source, maps, target, h, overrides, item => renamed_override(maps, item)?)
-        }
-        ItemPlace::GlobalItem(h) => {
-            copy!(source, maps, target, h, global_variables, item => renamed_global(maps, item)?)
-        }
-        ItemPlace::ExpressionItem(h) => {
-            copy!(source, maps, target, h, global_expressions, item => renamed_expression(maps, item, alloc)?)
-        }
+impl Copying {
+    /// Copies a type, under a name if one is given, when what it names was copied.
+    fn copy_type(&mut self, source: &Module, handle: Handle<Type>, name: Name) -> Tried
+        requires there { IsThere source.now (ItemPlace.TypeItem handle) }
+        requires long { AreLong self.old.maps source.now }
+        requires ready { IsReady source.now self.old.maps (ItemPlace.TypeItem handle) }
+        ensures copies { OnOk result ((r : Row) → world (value_of source.now) (ItemPlace.TypeItem handle) ≡ Some r → CopiesOne source.now self.old.target self.new.target self.old.maps self.new.maps (ItemPlace.TypeItem handle) (under_name (option_map (λ n. Some (string_bytes n)) name) r)) }
+        ensures err { OnErr result ((self.new.target ≡ self.old.target) × (self.new.maps ≡ self.old.maps)) }
+    {
+        let Some(item) = source.types.get_handle(handle) else {
+            return Ok(());
+        };
+        let copy = renamed_type(&self.maps, item, name, self.alloc)?;
+        let span = self.maps.span(source.types.get_span(handle));
+        let place = self.target.types.insert(copy, span)?;
+        self.maps.types[handle.index()] = Some(place);
+        Ok(())
     }
-}
 
-/// Copies what an item names.
-#[cycle(copying)]
-fn copy_names(
-    source: &Module,
-    item: &ItemPlace,
-    names: &[Option<ItemPlace>],
-    maps: &mut Maps,
-    target: &mut Module,
-    alloc: Global,
-) -> Tried
-    requires ranked { AreRanked source.now }
-    requires below { All (IsBelowItem source.now item.now) names.now }
-    requires copying { IsCopying source.now target.old maps.old }
-    ensures copying { IsCopying source.now target.new maps.new }
-    ensures grows { Grows maps.old maps.new target.old target.new }
-    ensures reads { source_world source.now target.new maps.new ≡ source_world source.now target.old maps.old }
-    ensures above { IsSameFrom source.now (rank source.now item.now) maps.old maps.new }
-    ensures went { OnOk result (All (WentSomewhere (goes_under maps.new)) names.now) }
-    ensures collects { OnOk result (CollectsNames source.now maps.old target.old names.now target.new) }
-{
-    for name in names {
-        let Some(place) = name else { continue };
-        copy_item(source, place, maps, target, alloc)?;
+    /// Copies the item at a place, when what it names was copied.
+    fn copy_alone(&mut self, source: &Module, item: ItemPlace) -> Tried
+        requires there { IsThere source.now item }
+        requires long { AreLong self.old.maps source.now }
+        requires ready { IsReady source.now self.old.maps item }
+        ensures copies { OnOk result ((r : Row) → world (value_of source.now) item ≡ Some r → CopiesOne source.now self.old.target self.new.target self.old.maps self.new.maps item r) }
+        ensures err { OnErr result ((self.new.target ≡ self.old.target) × (self.new.maps ≡ self.old.maps)) }
+    {
+        match item {
+            ItemPlace::TypeItem(h) => self.copy_type(source, h, None),
+            ItemPlace::ConstantItem(h) => copy!(self, source, h, constants, renamed_constant),
+            ItemPlace::OverrideItem(h) => copy!(self, source, h, overrides, renamed_override),
+            ItemPlace::GlobalItem(h) => copy!(self, source, h, global_variables, renamed_global),
+            ItemPlace::ExpressionItem(h) => {
+                copy!(
+                    self,
+                    source,
+                    h,
+                    global_expressions,
+                    renamed_expression,
+                    self.alloc
+                )
+            }
+        }
     }
-    Ok(())
-}
 
-/// Copies the item at a place into the target, and first what it names; what went somewhere before stays there.
-#[cycle(copying)]
-pub fn copy_item(
-    source: &Module,
-    item: &ItemPlace,
-    maps: &mut Maps,
-    target: &mut Module,
-    alloc: Global,
-) -> Tried
-    requires there { IsThere source.now item.now }
-    requires ranked { AreRanked source.now }
-    requires copying { IsCopying source.now target.old maps.old }
-    ensures copying { IsCopying source.now target.new maps.new }
-    ensures grows { Grows maps.old maps.new target.old target.new }
-    ensures reads { source_world source.now target.new maps.new ≡ source_world source.now target.old maps.old }
-    ensures above { IsSameFrom source.now (rank source.now item.now + 1) maps.old maps.new }
-    ensures went { OnOk result (WentSomewhere (goes_under maps.new) (Some item.now)) }
-    ensures collects { OnOk result (CollectsItem source.now maps.old target.old item.now target.new) }
-{
-    if maps.has_gone(*item) {
-        return Ok(());
+    /// Copies what an item names.
+    #[cycle(copying)]
+    fn copy_names(
+        &mut self,
+        source: &Module,
+        item: &ItemPlace,
+        names: &[Option<ItemPlace>],
+    ) -> Tried
+        requires ranked { AreRanked source.now }
+        requires below { All (IsBelowItem source.now item.now) names.now }
+        requires copying { IsCopying source.now self.old.target self.old.maps }
+        ensures copying { IsCopying source.now self.new.target self.new.maps }
+        ensures grows { Grows self.old.maps self.new.maps self.old.target self.new.target }
+        ensures reads { source_world source.now self.new.target self.new.maps ≡ source_world source.now self.old.target self.old.maps }
+        ensures above { IsSameFrom source.now (rank source.now item.now) self.old.maps self.new.maps }
+        ensures went { OnOk result (All (WentSomewhere (goes_under self.new.maps)) names.now) }
+        ensures collects { OnOk result (CollectsNames source.now self.old.maps self.old.target names.now self.new.target) }
+    {
+        for name in names {
+            let Some(place) = name else { continue };
+            self.copy_item(source, place)?;
+        }
+        Ok(())
     }
-    let names = names_at(source, *item, alloc)?;
-    copy_names(source, item, &names, maps, target, alloc)?;
-    copy_alone(source, *item, maps, target, alloc)?;
-    Ok(())
-}
 
-/// Copies a type, under a name if one is given, and first what it names; what went somewhere before stays there.
-pub fn copy_named_type(
-    source: &Module,
-    handle: Handle<Type>,
-    name: Option<String>,
-    maps: &mut Maps,
-    target: &mut Module,
-    alloc: Global,
-) -> Tried
-    requires there { IsThere source.now (ItemPlace.TypeItem handle) }
-    requires ranked { AreRanked source.now }
-    requires copying { IsCopying source.now target.old maps.old }
-    ensures copying { IsCopying source.now target.new maps.new }
-    ensures grows { Grows maps.old maps.new target.old target.new }
-    ensures known { (q : ItemPlace) → goes_under maps.old (ItemPlace.TypeItem handle) ≡ Some q → (target.new ≡ target.old) × (maps.new ≡ maps.old) }
-    ensures went { OnOk result (WentSomewhere (goes_under maps.new) (Some (ItemPlace.TypeItem handle))) }
-    ensures reads { OnOk result (goes_under maps.old (ItemPlace.TypeItem handle) ≡ None → source_world source.now target.new maps.new ≡ renamed_at (source_world source.now target.old maps.old) handle (option_map (λ n. Some (string_bytes n)) name)) }
-    ensures collects { OnOk result (goes_under maps.old (ItemPlace.TypeItem handle) ≡ None → CollectsNamed source.now maps.old target.old (ItemPlace.TypeItem handle) (source_world source.now target.new maps.new) target.new) }
-{
-    let item = ItemPlace::TypeItem(handle);
-    if maps.has_gone(item) {
-        return Ok(());
+    /// Copies the item at a place into the target, and first what it names; what went somewhere before stays there.
+    #[cycle(copying)]
+    pub fn copy_item(&mut self, source: &Module, item: &ItemPlace) -> Tried
+        requires there { IsThere source.now item.now }
+        requires ranked { AreRanked source.now }
+        requires copying { IsCopying source.now self.old.target self.old.maps }
+        ensures copying { IsCopying source.now self.new.target self.new.maps }
+        ensures grows { Grows self.old.maps self.new.maps self.old.target self.new.target }
+        ensures reads { source_world source.now self.new.target self.new.maps ≡ source_world source.now self.old.target self.old.maps }
+        ensures above { IsSameFrom source.now (rank source.now item.now + 1) self.old.maps self.new.maps }
+        ensures went { OnOk result (WentSomewhere (goes_under self.new.maps) (Some item.now)) }
+        ensures collects { OnOk result (CollectsItem source.now self.old.maps self.old.target item.now self.new.target) }
+    {
+        if self.maps.has_gone(*item) {
+            return Ok(());
+        }
+        let names = names_at(source, *item, self.alloc)?;
+        self.copy_names(source, item, &names)?;
+        self.copy_alone(source, *item)?;
+        Ok(())
     }
-    let names = names_at(source, item, alloc)?;
-    copy_names(source, &item, &names, maps, target, alloc)?;
-    copy_type(source, handle, name, maps, target, alloc)?;
-    Ok(())
+
+    /// Copies a type, under a name if one is given, and first what it names; what went somewhere before stays there.
+    pub fn copy_named_type(&mut self, source: &Module, handle: Handle<Type>, name: Name) -> Tried
+        requires there { IsThere source.now (ItemPlace.TypeItem handle) }
+        requires ranked { AreRanked source.now }
+        requires copying { IsCopying source.now self.old.target self.old.maps }
+        ensures copying { IsCopying source.now self.new.target self.new.maps }
+        ensures grows { Grows self.old.maps self.new.maps self.old.target self.new.target }
+        ensures known { (q : ItemPlace) → goes_under self.old.maps (ItemPlace.TypeItem handle) ≡ Some q → (self.new.target ≡ self.old.target) × (self.new.maps ≡ self.old.maps) }
+        ensures went { OnOk result (WentSomewhere (goes_under self.new.maps) (Some (ItemPlace.TypeItem handle))) }
+        ensures reads { OnOk result (goes_under self.old.maps (ItemPlace.TypeItem handle) ≡ None → source_world source.now self.new.target self.new.maps ≡ renamed_at (source_world source.now self.old.target self.old.maps) handle (option_map (λ n. Some (string_bytes n)) name)) }
+        ensures collects { OnOk result (goes_under self.old.maps (ItemPlace.TypeItem handle) ≡ None → CollectsNamed source.now self.old.maps self.old.target (ItemPlace.TypeItem handle) (source_world source.now self.new.target self.new.maps) self.new.target) }
+    {
+        let item = ItemPlace::TypeItem(handle);
+        if self.maps.has_gone(item) {
+            return Ok(());
+        }
+        let names = names_at(source, item, self.alloc)?;
+        self.copy_names(source, &item, &names)?;
+        self.copy_type(source, handle, name)?;
+        Ok(())
+    }
+
+    /// Copies the special types of a source.
+    pub fn copy_special(&mut self, source: &Module, entries: &[SpecialEntry]) -> Tried
+        requires ranked { AreRanked source.now }
+        requires there { All (λ e. IsThere source.now (ItemPlace.TypeItem e.1)) entries.now }
+        requires copying { IsCopying source.now self.old.target self.old.maps }
+        ensures copying { IsCopying source.now self.new.target self.new.maps }
+        ensures grows { Grows self.old.maps self.new.maps self.old.target self.new.target }
+        ensures reads { source_world source.now self.new.target self.new.maps ≡ source_world source.now self.old.target self.old.maps }
+        ensures went { OnOk result (All (WentSomewhere (goes_under self.new.maps)) (special_names entries.now)) }
+        ensures collects { OnOk result (CollectsNames source.now self.old.maps self.old.target (special_names entries.now) self.new.target) }
+    {
+        for (_, handle) in entries {
+            self.copy_item(source, &ItemPlace::TypeItem(*handle))?;
+        }
+        Ok(())
+    }
 }

@@ -4,8 +4,8 @@ ghost use Rattle.naga_oil_derive.specs.World.{value_of, special_entries};
 ghost use Rattle.naga_oil_derive.specs.Copyable.{CopyableItems};
 ghost use Rattle.naga_oil_derive.specs.Derived.{Derived, nothing, cleared, mapped_span, HasItem, IsImported, IsKnown, IsRenamed, Keeps, KeepsItems, ReadsAsBefore, IsSet};
 
-use super::special::{copy_special, keep_special, set_specials, special_entries};
-use super::{Maps, Renaming, Tried, copy_item, copy_named_type};
+use super::special::{keep_special, set_specials, special_entries};
+use super::{Copying, Maps, Renaming, Tried};
 use indexmap::IndexMap;
 use naga_oil_ir::{
     Constant, Expression, Function, GlobalVariable, Handle, ItemPlace, Module, Override, Span, Type,
@@ -26,10 +26,8 @@ mod tests;
 #[derive(Drop)]
 pub struct DerivedModule<'a> {
     pub(crate) shader: Option<&'a Module>,
-    pub(crate) maps: Maps,
-    pub(crate) target: Module,
+    pub(crate) copying: Copying,
     pub(crate) function_names: IndexMap<String, Handle<Function>>,
-    pub(crate) alloc: Global,
 }
 
 impl<'a> Model for DerivedModule<'a> {
@@ -38,9 +36,9 @@ impl<'a> Model for DerivedModule<'a> {
 
     ghost Value = { Derived };
 
-    ghost view = { λ a. derived_of a.shader a.maps a.target a.function_names.entries };
+    ghost view = { λ a. derived_of a.shader a.copying.maps a.copying.target a.function_names.entries };
 
-    ghost invariant = { λ a. IsDerived a.shader a.maps a.target };
+    ghost invariant = { λ a. IsDerived a.shader a.copying.maps a.copying.target };
 }
 
 impl<'a> DerivedModule<'a> {
@@ -50,10 +48,12 @@ impl<'a> DerivedModule<'a> {
     {
         DerivedModule {
             shader: None,
-            maps: Maps::empty(alloc),
-            target: Module::new(alloc),
+            copying: Copying {
+                maps: Maps::empty(alloc),
+                target: Module::new(alloc),
+                alloc,
+            },
             function_names: IndexMap::new(alloc),
-            alloc,
         }
     }
 
@@ -69,12 +69,16 @@ impl<'a> DerivedModule<'a> {
         ensures keeps { KeepsItems self.old self.new }
     {
         self.clear_shader_source();
-        let entries = special_entries(&shader.special_types, self.alloc)?;
-        let mut maps = Maps::new(shader, span_offset, self.alloc)?;
-        keep_special(&entries, &self.target.special_types, &mut maps.types);
-        copy_special(shader, &entries, &mut maps, &mut self.target, self.alloc)?;
-        set_specials(&entries, &maps, &mut self.target.special_types)?;
-        self.maps = maps;
+        let copying = &mut self.copying;
+        let entries = special_entries(&shader.special_types, copying.alloc)?;
+        copying.maps = Maps::new(shader, span_offset, copying.alloc)?;
+        keep_special(
+            &entries,
+            &copying.target.special_types,
+            &mut copying.maps.types,
+        );
+        copying.copy_special(shader, &entries)?;
+        set_specials(&entries, &copying.maps, &mut copying.target.special_types)?;
         self.shader = Some(shader);
         Ok(())
     }
@@ -93,7 +97,7 @@ impl<'a> DerivedModule<'a> {
         if self.shader.is_none() {
             return span;
         }
-        self.maps.span(span)
+        self.copying.maps.span(span)
     }
 
     fn import(&mut self, item: ItemPlace) -> Tried
@@ -105,7 +109,7 @@ impl<'a> DerivedModule<'a> {
         let Some(shader) = self.shader else {
             return Ok(());
         };
-        copy_item(shader, &item, &mut self.maps, &mut self.target, self.alloc)
+        self.copying.copy_item(shader, &item)
     }
 
     /// Copies a type of the source, and what it names first, and gives the copy.
@@ -116,7 +120,7 @@ impl<'a> DerivedModule<'a> {
         ensures keeps { Keeps self.old self.new }
     {
         self.import(ItemPlace::TypeItem(*h_type))?;
-        Ok(self.maps.ty(*h_type))
+        Ok(self.copying.maps.ty(*h_type))
     }
 
     /// Copies a type of the source under a name, or under its own if none is given; of a type that was copied before,
@@ -130,9 +134,8 @@ impl<'a> DerivedModule<'a> {
         let Some(shader) = self.shader else {
             return Ok(*h_type);
         };
-        let (maps, target) = (&mut self.maps, &mut self.target);
-        copy_named_type(shader, *h_type, name, maps, target, self.alloc)?;
-        Ok(self.maps.ty(*h_type))
+        self.copying.copy_named_type(shader, *h_type, name)?;
+        Ok(self.copying.maps.ty(*h_type))
     }
 
     /// Copies a constant of the source, and what it names first, and gives the copy.
@@ -143,7 +146,7 @@ impl<'a> DerivedModule<'a> {
         ensures keeps { Keeps self.old self.new }
     {
         self.import(ItemPlace::ConstantItem(*h_const))?;
-        Ok(self.maps.constant(*h_const))
+        Ok(self.copying.maps.constant(*h_const))
     }
 
     /// Copies a global variable of the source, and what it names first, and gives the copy.
@@ -154,7 +157,7 @@ impl<'a> DerivedModule<'a> {
         ensures keeps { Keeps self.old self.new }
     {
         self.import(ItemPlace::GlobalItem(*h_global))?;
-        Ok(self.maps.global(*h_global))
+        Ok(self.copying.maps.global(*h_global))
     }
 
     /// Copies a global expression of the source, and what it names first, and gives the copy.
@@ -165,7 +168,7 @@ impl<'a> DerivedModule<'a> {
         ensures keeps { Keeps self.old self.new }
     {
         self.import(ItemPlace::ExpressionItem(h_expr))?;
-        Ok(self.maps.expression(h_expr))
+        Ok(self.copying.maps.expression(h_expr))
     }
 
     /// Copies an override of the source, and what it names first, and gives the copy.
@@ -176,14 +179,14 @@ impl<'a> DerivedModule<'a> {
         ensures keeps { Keeps self.old self.new }
     {
         self.import(ItemPlace::OverrideItem(*h_override))?;
-        Ok(self.maps.pipeline_override(*h_override))
+        Ok(self.copying.maps.pipeline_override(*h_override))
     }
 
     /// Whether there is a special type.
     pub fn has_required_special_types(&self) -> bool
         ensures { IsTrue result ↔ (0 < length (special_entries self.now.target.special_types)) }
     {
-        let special = &self.target.special_types;
+        let special = &self.copying.target.special_types;
         !special.predeclared_types.is_empty()
             | special.ray_desc.is_some()
             | special.ray_intersection.is_some()
@@ -196,6 +199,6 @@ impl From<DerivedModule<'_>> for Module {
     ghost from_gives = { λ d m. value_of m ≡ d.target };
 
     fn from(derived: DerivedModule<'_>) -> Self {
-        derived.target
+        derived.copying.target
     }
 }

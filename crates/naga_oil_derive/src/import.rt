@@ -10,10 +10,10 @@ ghost use Rattle.naga_oil_derive.specs.Went.{went_by};
 use super::callees::{Went, known_as};
 use super::localized::localized;
 use super::walk::Request;
-use super::{Maps, Renaming, copied_name, copy_item, walk_function};
+use super::{Copying, Renaming, copied_name, walk_function};
 use indexmap::IndexMap;
 use naga_oil_ir::{Arena, Function, Handle, Module, Span};
-use std::alloc::{AllocError, Global};
+use std::alloc::AllocError;
 
 /// Copies of functions, and those that names mean.
 #[derive(Drop)]
@@ -30,23 +30,21 @@ pub fn import(
     function: &Function,
     span: Span,
     depth: usize,
-    maps: &mut Maps,
-    target: &mut Module,
+    copying: &mut Copying,
     functions: &mut Functions,
-    alloc: Global,
 ) -> Result<Handle<Function>, AllocError>
     requires ranked { AreRanked source.now }
-    requires copying { IsCopying source.now target.old maps.old }
+    requires copying { IsCopying source.now copying.old.target copying.old.maps }
     requires named { IsSome function.now.name }
     requires form { IsImportable source.now functions.old depth function.now }
-    ensures copying { IsCopying source.now target.new maps.new }
-    ensures grows { Grows maps.old maps.new target.old target.new }
+    ensures copying { IsCopying source.now copying.new.target copying.new.maps }
+    ensures grows { Grows copying.old.maps copying.new.maps copying.old.target copying.new.target }
     ensures functions { FunctionsGrow functions.old functions.new }
-    ensures imported { IfOk result (FunctionImported source.now function.now span (state maps.old target.old functions.old) (state maps.new target.new functions.new)) }
+    ensures imported { IfOk result (FunctionImported source.now function.now span (state copying.old.maps copying.old.target functions.old) (state copying.new.maps copying.new.target functions.new)) }
 {
-    let copy = localize(source, function, depth, maps, target, functions, alloc)?;
+    let copy = localize(source, function, depth, copying, functions)?;
     let name = copied_name(&function.name)?;
-    let handle = functions.copies.append(copy, maps.span(span))?;
+    let handle = functions.copies.append(copy, copying.maps.span(span))?;
     if let Some(name) = name {
         functions.names.insert(name, handle)?;
     }
@@ -59,59 +57,35 @@ pub fn localize(
     source: &Module,
     function: &Function,
     depth: usize,
-    maps: &mut Maps,
-    target: &mut Module,
+    copying: &mut Copying,
     functions: &mut Functions,
-    alloc: Global,
 ) -> Result<Function, AllocError>
     requires ranked { AreRanked source.now }
-    requires copying { IsCopying source.now target.old maps.old }
+    requires copying { IsCopying source.now copying.old.target copying.old.maps }
     requires form { IsImportable source.now functions.old depth function.now }
-    ensures copying { IsCopying source.now target.new maps.new }
-    ensures grows { Grows maps.old maps.new target.old target.new }
+    ensures copying { IsCopying source.now copying.new.target copying.new.maps }
+    ensures grows { Grows copying.old.maps copying.new.maps copying.old.target copying.new.target }
     ensures functions { FunctionsGrow functions.old functions.new }
-    ensures imported { OnOk result (Imported source.now (state maps.old target.old functions.old) (function_names function.now) (state maps.new target.new functions.new)) }
-    ensures answered { OnOk result (All (IsAnswered source.now (state maps.new target.new functions.new)) (function_names function.now)) }
-    ensures copies { IfOk result (λ f. Copies (went_by maps.new source.now functions.new.names) (function_value function.now) (function_value f)) }
+    ensures imported { OnOk result (Imported source.now (state copying.old.maps copying.old.target functions.old) (function_names function.now) (state copying.new.maps copying.new.target functions.new)) }
+    ensures answered { OnOk result (All (IsAnswered source.now (state copying.new.maps copying.new.target functions.new)) (function_names function.now)) }
+    ensures copies { IfOk result (λ f. Copies (went_by copying.new.maps source.now functions.new.names) (function_value function.now) (function_value f)) }
 {
-    let walk = walk_function(function, alloc)?;
+    let walk = walk_function(function, copying.alloc)?;
     for request in &walk.requests {
-        answer(source, request, depth, maps, target, functions, alloc)?;
-    }
-    let names = Went {
-        maps,
-        source,
-        functions: &functions.names,
-    };
-    localized(names, function, &walk, alloc)
-}
-
-/// Copies an item that is requested, or a function if its name isn't known.
-#[cycle(importing)]
-fn answer(
-    source: &Module,
-    request: &Request,
-    depth: usize,
-    maps: &mut Maps,
-    target: &mut Module,
-    functions: &mut Functions,
-    alloc: Global,
-) -> Result<(), AllocError>
-    requires ranked { AreRanked source.now }
-    requires copying { IsCopying source.now target.old maps.old }
-    requires answerable { IsAnswerable source.now functions.old depth request.now }
-    ensures copying { IsCopying source.now target.new maps.new }
-    ensures grows { Grows maps.old maps.new target.old target.new }
-    ensures functions { FunctionsGrow functions.old functions.new }
-    ensures imported { OnOk result (Imported source.now (state maps.old target.old functions.old) (request.now ∷ []) (state maps.new target.new functions.new)) }
-{
-    match request {
-        Request::Item(item) => copy_item(source, item, maps, target, alloc),
-        Request::Call(handle) => {
-            import_callee(source, *handle, depth, maps, target, functions, alloc)?;
-            Ok(())
+        match request {
+            Request::Item(item) => copying.copy_item(source, item)?,
+            Request::Call(handle) => {
+                import_callee(source, *handle, depth, copying, functions)?;
+            }
         }
     }
+    let names = Went {
+        maps: &copying.maps,
+        source,
+        functions: &functions.names,
+        alloc: copying.alloc,
+    };
+    localized(names, function, &walk)
 }
 
 /// The function that a callee's name means, copied if the name isn't known.
@@ -120,18 +94,16 @@ pub fn import_callee(
     source: &Module,
     handle: Handle<Function>,
     depth: usize,
-    maps: &mut Maps,
-    target: &mut Module,
+    copying: &mut Copying,
     functions: &mut Functions,
-    alloc: Global,
 ) -> Result<Handle<Function>, AllocError>
     requires ranked { AreRanked source.now }
-    requires copying { IsCopying source.now target.old maps.old }
+    requires copying { IsCopying source.now copying.old.target copying.old.maps }
     requires answerable { IsAnswerable source.now functions.old depth (Request.Call handle) }
-    ensures copying { IsCopying source.now target.new maps.new }
-    ensures grows { Grows maps.old maps.new target.old target.new }
+    ensures copying { IsCopying source.now copying.new.target copying.new.maps }
+    ensures grows { Grows copying.old.maps copying.new.maps copying.old.target copying.new.target }
     ensures functions { FunctionsGrow functions.old functions.new }
-    ensures imported { OnOk result (Imported source.now (state maps.old target.old functions.old) (Request.Call handle ∷ []) (state maps.new target.new functions.new)) }
+    ensures imported { OnOk result (Imported source.now (state copying.old.maps copying.old.target functions.old) (Request.Call handle ∷ []) (state copying.new.maps copying.new.target functions.new)) }
     ensures callee { IfOk result (λ h. callee_at functions.new.names source.now.functions handle ≡ Some h) }
 {
     let Some(callee) = source.functions.try_get(handle) else {
@@ -142,5 +114,5 @@ pub fn import_callee(
     }
     let span = source.functions.get_span(handle);
     let depth = depth - 1;
-    import(source, callee, span, depth, maps, target, functions, alloc)
+    import(source, callee, span, depth, copying, functions)
 }

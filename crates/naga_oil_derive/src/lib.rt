@@ -1,28 +1,23 @@
 //! Copies of items and functions from one module into another, and calls sent to another function.
 //!
-//! `renaming` says where handles go, and makes an expression anew with its handles renamed; `renamed_items` and
-//! `renamed_body` do the same with items and bodies. `same` asks whether items read alike. `copy` copies an item with what it
+//! `renaming` says where handles go, and makes expressions and bodies anew with their handles renamed; `renamed_items` does the
+//! same with items. `same` asks whether items read alike. `copy` copies an item with what it
 //! names, once for each source item, under the `maps` of what was copied; `special` finds the special types. `derive` is the
-//! module that is made. `walk` lists what a function reaches in the order of copying, found by `reach`; `function_walk` walks a
-//! whole function, `copies` copies its expressions, `localized` the function, `import` with those that it calls (`callees`).
-//! `redirect` sends calls to other functions, where they stand by `sent_calls`, and puts functions in an `order` in which each
-//! stands behind what it calls, by their `levels`.
+//! module that is made. `walk` lists what a function reaches in the order of copying, found by `function_walk`; `localized` copies
+//! a function with its expressions, `import` with those that it calls (`callees`). `redirect` sends calls to other functions, where
+//! they stand by `sent_calls`, and puts functions in an `order` in which each stands behind what it calls, by their levels.
 #![tactic(auto)]
 
 pub mod callees;
-pub mod copies;
 pub mod copy;
 pub mod derive;
 pub mod function_walk;
 pub mod import;
-mod levels;
 pub mod localized;
 pub mod maps;
 mod order;
-pub mod reach;
 pub mod redirect;
 pub mod redirect_error;
-pub mod renamed_body;
 pub mod renamed_items;
 pub mod renaming;
 pub mod same;
@@ -30,17 +25,16 @@ mod sent_calls;
 pub mod special;
 pub mod walk;
 
-pub use copy::{copy_item, copy_named_type};
+pub use copy::Copying;
 pub use derive::DerivedModule;
 pub use function_walk::walk_function;
 pub use maps::Maps;
 pub use redirect::Redirector;
 pub use redirect_error::RedirectError;
-pub use renamed_body::renamed_block;
 pub use renamed_items::{
     copied_name, renamed_constant, renamed_global, renamed_override, renamed_type,
 };
-pub use renaming::{Renaming, renamed_expression, renamed_list, renamed_option};
+pub use renaming::{Renaming, renamed_block, renamed_expression, renamed_list, renamed_option};
 use std::alloc::AllocError;
 pub use walk::{Request, Walk};
 

@@ -1,35 +1,132 @@
-ghost use Rattle.std.specs.Prelude.{◌≡◌, ◌≤◌, ◌-◌, ◌+◌, ◌++◌, ℕ, [], length, map, take, option_map, string_bytes, OnOk, IfOk};
-ghost use Rattle.naga_oil_ir.specs.ModuleValue.{argument_value, local_value, function_value, expression_values};
+ghost use Rattle.std.specs.Prelude.{◌≡◌, ◌<◌, ◌-◌, length, OnOk, IfOk, slice_get, [], map, option_map, string_bytes};
+ghost use Rattle.std.specs.Option.{option_flatten};
+ghost use Rattle.naga_oil_ir.specs.Parts.{parts};
+ghost use Rattle.naga_oil_ir.specs.ModuleValue.{expression_values, argument_value, local_value, function_value};
 ghost use Rattle.naga_oil_derive.specs.Walks.{Walks};
 ghost use Rattle.naga_oil_derive.specs.Went.{went};
-ghost use Rattle.naga_oil_derive.specs.Functions.{argument_under, result_under, local_under, names_under, name_put, named_values, local_values, Copies as IsCopied};
+ghost use Rattle.naga_oil_derive.specs.Copies.{under_table, range_under, FitIn, IsPut, IsStep};
 ghost use Rattle.naga_oil_derive.specs.Localized.{ExpressionsCopied};
+ghost use Rattle.naga_oil_derive.specs.Expressions.{IsCopyAt};
+ghost use Rattle.naga_oil_derive.specs.Functions.{argument_under, result_under, local_under, names_under, name_put, named_values, local_values, Copies as IsCopied};
 
 use super::callees::Went;
-use super::copies::{Copied, Copies, copy_places};
-use super::maps::{nowhere, place_of};
-use super::{Renaming, Tried, Walk, copied_name, renamed_block, renamed_option};
+use super::maps::{nowhere, place_of, stands_at};
+use super::walk::Bounds;
+use super::{
+    Renaming, Tried, Walk, copied_name, renamed_block, renamed_expression, renamed_option,
+};
 use indexmap::IndexMap;
 use naga_oil_ir::{
-    Arena, Function, FunctionArgument, FunctionResult, LocalVariable, Operand, Span,
+    Arena, Constant, Expression, Function, FunctionArgument, FunctionResult, GlobalVariable,
+    Handle, LocalVariable, Operand, Override, Range, Span, Type,
 };
-use std::alloc::Global;
 
-/// Arguments with their types renamed.
-fn renamed_arguments<R: Renaming>(
-    names: &R,
-    arguments: &[FunctionArgument],
-    alloc: Global,
-) -> Tried<Vec<FunctionArgument>>
-    ensures { IfOk result (λ v. map argument_value v.items ≡ map (argument_under (R.renames names.now)) (map argument_value arguments.now)) }
+/// An expression with its span.
+pub type Entry = (Expression, Span);
+
+/// Says where expressions and emitted ranges of a function go, beside the items and functions.
+#[derive(Drop)]
+pub struct Copied<'a> {
+    pub went: Went<'a>,
+    /// Where the copy of each expression stands.
+    pub table: &'a [Option<Operand>],
+    /// Where the emitted ranges begin and end in the order of copying, by their first places.
+    pub emitted: &'a [Bounds],
+    /// How many expressions of the order the initialisers of local variables reach.
+    pub began: usize,
+    /// How many copies they have.
+    pub merged: usize,
+    /// How many copies there are.
+    pub count: usize,
+    ghost fits: { FitIn began merged count emitted.now },
+}
+
+#[rattlefmt::skip]
+impl Renaming for Copied<'_> {
+    ghost renames = { λ m. under_table (went m.went) m.table.now (range_under m.emitted.now m.began m.merged m.count) };
+
+    fn ty(&self, handle: Handle<Type>) -> Handle<Type> { self.went.maps.ty(handle) }
+    fn constant(&self, handle: Handle<Constant>) -> Handle<Constant> { self.went.maps.constant(handle) }
+    fn pipeline_override(&self, handle: Handle<Override>) -> Handle<Override> { self.went.maps.pipeline_override(handle) }
+    fn global(&self, handle: Handle<GlobalVariable>) -> Handle<GlobalVariable> { self.went.maps.global(handle) }
+    fn function(&self, handle: Handle<Function>) -> Handle<Function> { self.went.callee(handle).unwrap_or(handle) }
+    fn expression(&self, handle: Handle<Expression>) -> Handle<Expression> { place_of(self.table, handle).unwrap_or(handle) }
+
+    fn range(&self, range: Range<Expression>) -> Range<Expression> {
+        let (start, began, merged) = (range.start(), self.began, self.merged);
+        let (first, last) = match stands_at(self.emitted, start) {
+            None => (self.count, self.count),
+            Some((begin, end)) => (merged + (begin - began), merged + (end - began)),
+        };
+        let end = if start < range.end() { last } else { first };
+        Range::<Expression>::new(first, end)
+    }
+
+    fn span(&self, span: Span) -> Span { self.went.maps.span(span) }
+}
+
+/// Puts a copy last; where copies are unique, one that reads alike serves again.
+fn put(target: &mut Arena<Expression>, copy: Entry, unique: bool) -> Tried<Operand>
+    ensures { IfOk result (λ h. IsPut unique (expression_values target.old) (parts copy.0, copy.1) h (expression_values target.new)) }
 {
-    let mut copies = Vec::new(alloc);
-    for argument in arguments {
-        copies.push(FunctionArgument {
-            name: copied_name(&argument.name)?,
-            ty: names.ty(argument.ty),
-            binding: argument.binding,
-        })?;
+    if unique {
+        return target.fetch_or_append(copy.0, copy.1);
+    }
+    target.append(copy.0, copy.1)
+}
+
+/// Copies of expressions, and where each stands.
+#[derive(Drop)]
+pub struct Copies {
+    pub target: Arena<Expression>,
+    pub table: Vec<Option<Operand>>,
+}
+
+impl Copies {
+    /// A copy of the expression at a place.
+    fn copy_at(&self, names: Went<'_>, source: &[Entry], place: usize) -> Tried<Entry>
+        requires { place < length source.now }
+        ensures { IfOk result (IsCopyAt (went names.entry) self.now.table.items source.now place) }
+    {
+        let copied = Copied {
+            went: names,
+            table: &self.table,
+            emitted: &[],
+            began: 0,
+            merged: 0,
+            count: 0,
+        };
+        let copy = renamed_expression(&copied, &source[place].0, names.alloc)?;
+        Ok((copy, names.maps.span(source[place].1)))
+    }
+
+    /// Copies the expression at a place.
+    fn copy_place(&mut self, names: Went<'_>, source: &[Entry], place: usize, unique: bool) -> Tried
+        requires place { place < length source.now }
+        requires room { length self.old.table.items ≡ length source.now }
+        ensures room { length self.new.table.items ≡ length self.old.table.items }
+        ensures step { OnOk result (IsStep (went names.entry) (expression_values source.now) unique place self.old.table.items (expression_values self.old.target) self.new.table.items (expression_values self.new.target)) }
+    {
+        let copy = self.copy_at(names, source, place)?;
+        let handle = put(&mut self.target, copy, unique)?;
+        self.table[place] = Some(handle);
+        Ok(())
+    }
+}
+
+/// Copies of the expressions of a function in the order of a walk; of those that initialisers reach, the ones that read alike
+/// share a copy.
+pub fn copy_expressions(names: Went<'_>, function: &Function, walk: &Walk) -> Tried<Copies>
+    requires { Walks function.now walk.now }
+    ensures { IfOk result (λ c. ExpressionsCopied (went names.entry) function.now walk.now c.table.items c.target (length c.target - (length walk.now.places.items - walk.now.began))) }
+{
+    let source = function.expressions.as_slice();
+    let mut copies = Copies {
+        target: Arena::new(names.alloc),
+        table: nowhere(source.len(), names.alloc)?,
+    };
+    for at in 0..walk.places.len() {
+        copies.copy_place(names, source, walk.places[at], at < walk.began)?;
     }
     Ok(copies)
 }
@@ -44,102 +141,76 @@ fn renamed_result<R: Renaming>(names: &R, outcome: Option<FunctionResult>) -> Op
     })
 }
 
-/// Local variables with their types and initialisers renamed.
-fn renamed_locals<R: Renaming>(
-    names: &R,
-    locals: &[(LocalVariable, Span)],
-    alloc: Global,
-) -> Tried<Arena<LocalVariable>>
-    ensures { IfOk result (λ v. local_values v ≡ map (local_under (R.renames names.now)) (local_values locals.now)) }
-{
-    let mut copies = Arena::new(alloc);
-    for local in locals {
-        let copy = LocalVariable {
-            name: copied_name(&local.0.name)?,
-            ty: names.ty(local.0.ty),
-            init: renamed_option(names, local.0.init),
-        };
-        copies.append(copy, names.span(local.1))?;
-    }
-    Ok(copies)
-}
-
 /// Names of expressions.
 type Named = IndexMap<Operand, String>;
 
-/// Names a copy, if there is one.
-fn put_name(copy: Option<Operand>, name: &String, names: &mut Named) -> Tried
-    ensures { OnOk result (named_values names.new.entries ≡ name_put copy (string_bytes name.now) (named_values names.old.entries)) }
-{
-    if let Some(copy) = copy {
-        names.insert(copy, name.clone()?)?;
+impl Copied<'_> {
+    /// Arguments with their types renamed.
+    fn arguments(&self, arguments: &[FunctionArgument]) -> Tried<Vec<FunctionArgument>>
+        ensures { IfOk result (λ v. map argument_value v.items ≡ map (argument_under (went self.now.went)) (map argument_value arguments.now)) }
+    {
+        let mut copies = Vec::new(self.went.alloc);
+        for argument in arguments {
+            copies.push(FunctionArgument {
+                name: copied_name(&argument.name)?,
+                ty: self.ty(argument.ty),
+                binding: argument.binding,
+            })?;
+        }
+        Ok(copies)
     }
-    Ok(())
-}
 
-/// Names at the copies of what they name; of the names of one copy the last stays, at the first's place.
-fn renamed_names(table: &[Option<Operand>], names: &Named, alloc: Global) -> Tried<Named>
-    ensures { IfOk result (λ m. named_values m.entries ≡ names_under table.now [] (named_values names.now.entries)) }
-{
-    let mut copies = IndexMap::new(alloc);
-    for (handle, name) in names.iter() {
-        let copy = place_of(table, *handle);
-        put_name(copy, name, &mut copies)?;
+    /// Local variables with their types and initialisers renamed.
+    fn locals(&self, locals: &[(LocalVariable, Span)]) -> Tried<Arena<LocalVariable>>
+        ensures { IfOk result (λ v. local_values v ≡ map (local_under (under_table (went self.now.went) self.now.table.now (range_under self.now.emitted.now self.now.began self.now.merged self.now.count))) (local_values locals.now)) }
+    {
+        let mut copies = Arena::new(self.went.alloc);
+        for local in locals {
+            let copy = LocalVariable {
+                name: copied_name(&local.0.name)?,
+                ty: self.ty(local.0.ty),
+                init: renamed_option(self, local.0.init),
+            };
+            copies.append(copy, self.span(local.1))?;
+        }
+        Ok(copies)
     }
-    Ok(copies)
-}
 
-/// Copies of the expressions of a function in the order of a walk, and how many those have that initialisers reach.
-fn copy_expressions(
-    names: Went<'_>,
-    function: &Function,
-    walk: &Walk,
-    alloc: Global,
-) -> Tried<(Copies, usize)>
-    requires { Walks function.now walk.now }
-    ensures { IfOk result (λ c. ExpressionsCopied (went names.entry) function.now walk.now c.0.table.items c.0.target c.1) }
-{
-    let source = function.expressions.as_slice();
-    let places = walk.places.as_slice();
-    let (began, end) = (walk.began, places.len());
-    let table = nowhere(source.len(), alloc)?;
-    let mut copies = Copies {
-        target: Arena::new(alloc),
-        table,
-    };
-    copy_places(names, source, places, 0, began, true, &mut copies, alloc)?;
-    let merged = copies.target.len();
-    copy_places(names, source, places, began, end, false, &mut copies, alloc)?;
-    Ok((copies, merged))
+    /// Names at the copies of what they name; of the names of one copy the last stays, at the first's place.
+    fn named(&self, names: &Named) -> Tried<Named>
+        ensures { IfOk result (λ m. named_values m.entries ≡ names_under self.now.table.now [] (named_values names.now.entries)) }
+    {
+        let mut copies = IndexMap::new(self.went.alloc);
+        for (handle, name) in names.iter() {
+            if let Some(copy) = place_of(self.table, *handle) {
+                copies.insert(copy, name.clone()?)?;
+            }
+        }
+        Ok(copies)
+    }
 }
 
 /// The copy of a function whose items and callees were copied.
-pub fn localized(
-    names: Went<'_>,
-    function: &Function,
-    walk: &Walk,
-    alloc: Global,
-) -> Tried<Function>
+pub fn localized(names: Went<'_>, function: &Function, walk: &Walk) -> Tried<Function>
     requires { Walks function.now walk.now }
     ensures { IfOk result (λ f. IsCopied (went names.entry) (function_value function.now) (function_value f)) }
 {
-    let (copies, merged) = copy_expressions(names, function, walk, alloc)?;
-    let Copies { target, table } = copies;
+    let Copies { target, table } = copy_expressions(names, function, walk)?;
     let copied = Copied {
         went: names,
         table: &table,
         emitted: &walk.emitted,
         began: walk.began,
-        merged,
+        merged: target.len() - (walk.places.len() - walk.began),
         count: target.len(),
     };
     Ok(Function {
         name: copied_name(&function.name)?,
-        arguments: renamed_arguments(&copied, &function.arguments, alloc)?,
+        arguments: copied.arguments(&function.arguments)?,
         result: renamed_result(&copied, function.result),
-        local_variables: renamed_locals(&copied, function.local_variables.as_slice(), alloc)?,
-        named_expressions: renamed_names(&table, &function.named_expressions, alloc)?,
-        body: renamed_block(&copied, &function.body, alloc)?,
+        local_variables: copied.locals(function.local_variables.as_slice())?,
+        named_expressions: copied.named(&function.named_expressions)?,
+        body: renamed_block(&copied, &function.body, names.alloc)?,
         expressions: target,
         diagnostic_filter_leaf: None,
     })

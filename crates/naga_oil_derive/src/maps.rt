@@ -27,6 +27,13 @@ pub(crate) fn nowhere<K>(count: usize, alloc: Global) -> Tried<Vec<Option<Index<
     Ok(vec![in alloc; None; count]?)
 }
 
+/// What a list holds at a place, if it is there.
+pub(crate) fn stands_at<T: Copy>(items: &[Option<T>], place: usize) -> Option<T>
+    ensures { result ≡ option_flatten (slice_get items.now place) }
+{
+    items.get(place).copied().flatten()
+}
+
 pub(crate) fn place_of<K>(places: &[Option<Index<K>>], handle: Index<K>) -> Option<Index<K>>
     ensures { result ≡ option_flatten (slice_get places.now handle) }
 {

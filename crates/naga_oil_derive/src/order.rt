@@ -1,24 +1,140 @@
-//! The order of functions in which each stands behind what it calls.
-ghost use Rattle.std.specs.Prelude.{◌≡◌, ◌<◌, ◌↔◌, IfOk, IsErr, All, length, unwrap_or, option_map, string_bytes, []};
+//! The order of functions in which each stands behind what it calls, by their levels: 0 without calls, else 1 more than the
+//! greatest level of a callee. A function that calls itself, or leads to one that does, has none.
+ghost use Rattle.std.specs.Prelude.{◌≡◌, ◌+◌, ◌<◌, ◌≤◌, ◌==◌, if◌then◌else◌, [], ℕ, All, IfOk, IfSome, OnOk, length, map, get_or, replicate, nat_lt, ◌&&◌, ◌↔◌, IsErr, unwrap_or, option_map, string_bytes};
+ghost use Rattle.naga_oil_ir.specs.Links.{lists, linked};
+ghost use Rattle.naga_oil_derive.specs.Count.{bit, times};
+ghost use Rattle.naga_oil_derive.specs.Level.{StayWithin, above, known, levels, without_level, by_level, HasCycle};
 ghost use Rattle.naga_oil_ir.specs.Body.{block_tokens};
-ghost use Rattle.naga_oil_ir.specs.Links.{lists};
-ghost use Rattle.naga_oil_derive.specs.Level.{StayWithin, HasCycle};
 ghost use Rattle.naga_oil_derive.specs.Ordered.{callee_of, callees_of, calls_of, names_at, ordered};
 ghost use Rattle.naga_oil_derive.specs.Redirected.{function_values};
 ghost use Rattle.naga_oil_derive.specs.RedirectFault.{Gives};
 
-use super::levels::{by_level, levels_of, without_level};
+use super::maps::stands_at;
 use super::{RedirectError, Tried};
 use naga_oil_ir::{Block, Function, Span, Token, push_block};
 use std::alloc::Global;
 
-fn callee_of(token: &Token) -> Option<usize>
-    ensures { result ≡ callee_of token.now }
+/// So many empty lists.
+fn no_places(count: usize, alloc: Global) -> Tried<Vec<Vec<usize>>>
+    ensures { IfOk result (λ v. lists v.items ≡ replicate count []) }
 {
-    match token {
-        Token::Callee(function) => Some(function.index()),
-        _ => None,
+    let mut places = Vec::new(alloc);
+    for _ in 0..count {
+        places.push(Vec::new(alloc))?;
     }
+    Ok(places)
+}
+
+/// Puts a function into the lists of its callees.
+fn push_caller(callers: &mut Vec<Vec<usize>>, function: usize, callees: &[usize]) -> Tried
+    requires { All (λ c. c < length callers.old.items) callees.now }
+    ensures long { OnOk result (length callers.new.items ≡ length callers.old.items) }
+    ensures callers { OnOk result ((c k : ℕ) → times k (linked (lists callers.new.items) c) ≡ times k (linked (lists callers.old.items) c) + times c (if function == k then callees.now else [])) }
+{
+    for callee in callees {
+        callers[*callee].push(function)?;
+    }
+    Ok(())
+}
+
+/// Of each function the functions that call it, as often as they do.
+fn callers_of(calls: &[Vec<usize>], alloc: Global) -> Tried<Vec<Vec<usize>>>
+    requires { StayWithin (lists calls.now) }
+    ensures long { IfOk result (λ v. length v.items ≡ length calls.now) }
+    ensures callers { IfOk result (λ v. (c k : ℕ) → times k (linked (lists v.items) c) ≡ times c (linked (lists calls.now) k)) }
+{
+    let mut callers = no_places(calls.len(), alloc)?;
+    for (function, callees) in calls.iter().enumerate() {
+        push_caller(&mut callers, function, callees)?;
+    }
+    Ok(callers)
+}
+
+/// 1 more than the greatest level of some functions, 0 of none; none where one has no level yet.
+fn level_above(callees: &[usize], levels: &[Option<usize>]) -> Option<usize>
+    requires { (k : ℕ) → IfSome (known levels.now k) (λ l. l < length levels.now) }
+    ensures { result ≡ above (map (known levels.now) callees.now) }
+{
+    let mut above = 0;
+    for callee in callees {
+        let level = stands_at(levels, *callee)?;
+        above = (level + 1).max(above);
+    }
+    Some(above)
+}
+
+/// Counts off a call of each of some functions; those with no more are ready.
+fn count_off(callers: &[usize], pending: &mut Vec<usize>, ready: &mut Vec<usize>) -> Tried
+    requires { (k : ℕ) → times k callers.now ≤ get_or pending.old.items k 0 }
+    ensures long { OnOk result (length pending.new.items ≡ length pending.old.items) }
+    ensures pending { OnOk result ((k : ℕ) → get_or pending.new.items k 0 + times k callers.now ≡ get_or pending.old.items k 0) }
+    ensures ready { OnOk result ((k : ℕ) → times k ready.new.items + bit (get_or pending.old.items k 0 == 0) ≡ times k ready.old.items + bit (get_or pending.new.items k 0 == 0)) }
+{
+    for caller in callers {
+        let left = pending[*caller] - 1;
+        pending[*caller] = left;
+        if left == 0 {
+            ready.push(*caller)?;
+        }
+    }
+    Ok(())
+}
+
+/// Of each function how many calls it has, and the functions that have none.
+fn open_calls(calls: &[Vec<usize>], alloc: Global) -> Tried<(Vec<usize>, Vec<usize>)>
+    ensures pending { IfOk result (λ r. r.0.items ≡ map length (lists calls.now)) }
+    ensures ready { IfOk result (λ r. (k : ℕ) → times k r.1.items ≡ bit (nat_lt k (length calls.now) && (length (linked (lists calls.now) k) == 0))) }
+{
+    let mut pending = Vec::new(alloc);
+    let mut ready = Vec::new(alloc);
+    for (function, callees) in calls.iter().enumerate() {
+        if callees.is_empty() {
+            ready.push(function)?;
+        }
+        pending.push(callees.len())?;
+    }
+    Ok((pending, ready))
+}
+
+/// The levels of functions, of each of which the places of its callees are given, in time in proportion to the calls.
+pub fn levels_of(calls: &[Vec<usize>], alloc: Global) -> Tried<Vec<Option<usize>>>
+    requires { StayWithin (lists calls.now) }
+    ensures { IfOk result (λ v. v.items ≡ levels (lists calls.now)) }
+{
+    let callers = callers_of(calls, alloc)?;
+    let (mut pending, mut ready) = open_calls(calls, alloc)?;
+    let mut levels = vec![in alloc; None; calls.len()]?;
+    while let Some(function) = ready.pop() {
+        levels[function] = level_above(&calls[function], &levels);
+        count_off(&callers[function], &mut pending, &mut ready)?;
+    }
+    Ok(levels)
+}
+
+/// The functions without a level, by place.
+pub fn without_level(levels: &[Option<usize>], alloc: Global) -> Tried<Vec<usize>>
+    ensures { IfOk result (λ v. v.items ≡ without_level levels.now) }
+{
+    let levels = levels.iter().enumerate();
+    let open = levels.filter(|(_, level)| level.is_none());
+    open.map(|(place, _)| place).collect(alloc)
+}
+
+/// The functions that have a level, by level and then by place.
+pub fn by_level(levels: &[Option<usize>], alloc: Global) -> Tried<Vec<usize>>
+    requires { (k : ℕ) → IfSome (known levels.now k) (λ l. l < length levels.now) }
+    ensures { IfOk result (λ v. v.items ≡ by_level levels.now) }
+{
+    let mut rounds = no_places(levels.len(), alloc)?;
+    for (place, level) in levels.iter().enumerate() {
+        let Some(level) = level else { continue };
+        rounds[*level].push(place)?;
+    }
+    let mut order = Vec::new(alloc);
+    for round in &rounds {
+        order.extend_from_slice(round)?;
+    }
+    Ok(order)
 }
 
 /// What a body calls, in order.
@@ -27,8 +143,11 @@ fn callees_of(body: &Block, alloc: Global) -> Tried<Vec<usize>>
 {
     let mut tokens = Vec::new(alloc);
     push_block(body, &mut tokens)?;
-    let tokens = tokens.iter();
-    tokens.filter_map(|token| callee_of(token)).collect(alloc)
+    let callees = tokens.iter().filter_map(|token| match token {
+        Token::Callee(function) => Some(function.index()),
+        _ => None,
+    });
+    callees.collect(alloc)
 }
 
 /// What each function calls.
@@ -77,3 +196,6 @@ pub fn ordered(functions: &[(Function, Span)], alloc: Global) -> Result<Vec<usiz
     let names = names_at(functions, &circular, alloc)?;
     Err(RedirectError::CircularReference(names))
 }
+
+#[cfg(test)]
+mod tests;

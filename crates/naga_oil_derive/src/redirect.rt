@@ -15,12 +15,15 @@ ghost use Rattle.naga_oil_derive.specs.Redirected.{function_values, is_named, sa
 
 use super::order::ordered;
 use super::sent_calls::send_calls;
-use super::{DerivedModule, RedirectError};
+use super::{DerivedModule, RedirectError, Tried};
 use naga_oil_ir::{Arena, EntryPoint, Function, FunctionArgument, Handle, Index, Module, Span};
-use std::alloc::{AllocError, Global};
+use std::alloc::Global;
 use std::collections::BTreeSet;
 use std::marker::Model;
 use std::mem;
+
+/// The handles of a function and its replacement.
+pub type Pair = (Handle<Function>, Handle<Function>);
 
 fn is_named(function: &Function, name: &str) -> bool
     ensures { result ≡ is_named (pointwise nat_eq name.now) (function_value function.now).name }
@@ -49,44 +52,29 @@ fn same_results(original: &Function, replacement: &Function) -> bool
 }
 
 /// Sends the calls of all functions but the one that they go to and the omitted ones.
-fn send_functions(
-    functions: &mut Arena<Function>,
-    from: Handle<Function>,
-    to: Handle<Function>,
-    omit: &BTreeSet<String>,
-    alloc: Global,
-)
-    ensures { function_values functions.new ≡ map (send_at from to (contains_text omit.now)) (enumerate_from 0 (function_values functions.old)) }
+fn send_functions(arena: &mut Arena<Function>, pair: Pair, omit: &BTreeSet<String>, alloc: Global)
+    ensures { function_values arena.new ≡ map (send_at pair.0 pair.1 (contains_text omit.now)) (enumerate_from 0 (function_values arena.old)) }
 {
-    let mut items = mem::replace(functions, Arena::new(alloc)).into_items();
+    let mut items = mem::replace(arena, Arena::new(alloc)).into_items();
     for place in 0..items.len() {
-        if place != to.index() && !is_omitted(&items[place].0, omit) {
-            send_calls(&mut items[place].0, from, to, alloc);
+        if place != pair.1.index() && !is_omitted(&items[place].0, omit) {
+            send_calls(&mut items[place].0, pair.0, pair.1, alloc);
         }
     }
-    *functions = Arena::from_items(items);
+    *arena = Arena::from_items(items);
 }
 
 /// Sends the calls of all entry points.
-fn send_entries(
-    entries: &mut Vec<EntryPoint>,
-    from: Handle<Function>,
-    to: Handle<Function>,
-    alloc: Global,
-)
-    ensures { map entry_value entries.new.items ≡ map (send_entry from to) (map entry_value entries.old.items) }
+fn send_entries(entries: &mut Vec<EntryPoint>, pair: Pair, alloc: Global)
+    ensures { map entry_value entries.new.items ≡ map (send_entry pair.0 pair.1) (map entry_value entries.old.items) }
 {
     for entry in entries.iter_mut() {
-        send_calls(&mut entry.function, from, to, alloc);
+        send_calls(&mut entry.function, pair.0, pair.1, alloc);
     }
 }
 
 /// Sets a module as the source, and imports its functions in their order.
-fn import_in_turn<'a>(
-    derived: &mut DerivedModule<'a>,
-    source: &'a Module,
-    order: &[usize],
-) -> Result<(), AllocError>
+fn import_in_turn<'a>(derived: &mut DerivedModule<'a>, source: &'a Module, order: &[usize]) -> Tried
     requires source { Redirectable source.now }
     requires order { ordered (function_values source.now.functions) ≡ Ok order.now }
     ensures imported { OnOk result (IsImportedInTurn (value_of source.now) order.now derived.old derived.new) }
@@ -103,7 +91,7 @@ fn import_in_turn<'a>(
 }
 
 /// A module with its functions in their order.
-fn in_order(source: &Module, order: &[usize], alloc: Global) -> Result<Module, AllocError>
+fn in_order(source: &Module, order: &[usize], alloc: Global) -> Tried<Module>
     requires source { Redirectable source.now }
     requires order { ordered (function_values source.now.functions) ≡ Ok order.now }
     ensures { IfOk result (λ m. IsInOrder (value_of source.now) (value_of m)) }
@@ -112,9 +100,6 @@ fn in_order(source: &Module, order: &[usize], alloc: Global) -> Result<Module, A
     import_in_turn(&mut derived, source, order)?;
     derived.into_module_with_entrypoints()
 }
-
-/// The handles of a function and its replacement.
-pub type Pair = (Handle<Function>, Handle<Function>);
 
 /// A module whose calls can be sent to other functions.
 #[derive(Drop)]
@@ -198,8 +183,8 @@ impl Redirector {
         ensures err { OnErr result (self.new ≡ self.old) }
     {
         let (from, to) = self.matched(original, replacement)?;
-        send_functions(&mut self.module.functions, from, to, omit, self.alloc);
-        send_entries(&mut self.module.entry_points, from, to, self.alloc);
+        send_functions(&mut self.module.functions, (from, to), omit, self.alloc);
+        send_entries(&mut self.module.entry_points, (from, to), self.alloc);
         Ok((from, to))
     }
 
@@ -213,8 +198,7 @@ impl Redirector {
         ensures cycle { IsErr (ordered self.functions) ↔ HasCycle (calls_of self.functions) }
     {
         let order = ordered(self.module.functions.as_slice(), self.alloc)?;
-        let module = in_order(&self.module, &order, self.alloc)?;
-        Ok(module)
+        Ok(in_order(&self.module, &order, self.alloc)?)
     }
 }
 

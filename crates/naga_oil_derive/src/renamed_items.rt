@@ -3,6 +3,7 @@ ghost use Rattle.naga_oil_ir.specs.Rows.{Text, inner_row, type_row, constant_row
 ghost use Rattle.naga_oil_derive.specs.Renames.{rename_row, rename_place};
 ghost use Rattle.naga_oil_derive.specs.World.{under_name};
 
+use super::renaming::rename_kind;
 use super::{Renaming, Tried, renamed_option};
 use naga_oil_ir::{ArraySize, Constant, GlobalVariable, Override, StructMember, Type, TypeInner};
 use std::alloc::Global;
@@ -31,29 +32,22 @@ pub fn copied_name(name: &Name) -> Tried<Name>
     }
 }
 
-fn renamed_member<R: Renaming>(names: &R, member: &StructMember) -> Tried<StructMember>
-    ensures { IfOk result (λ m. (member_label m ≡ member_label member.now) × (member_type m ≡ option_map (rename_place (R.renames names.now)) (member_type member.now))) }
-{
-    Ok(StructMember {
-        name: copied_name(&member.name)?,
-        ty: names.ty(member.ty),
-        binding: member.binding,
-        offset: member.offset,
-    })
-}
+/// The members of a struct.
+type Members = Vec<StructMember>;
 
-fn renamed_members<R: Renaming>(
-    names: &R,
-    members: &[StructMember],
-    alloc: Global,
-) -> Tried<Vec<StructMember>>
-    ensures labels { IfOk result (λ ms. map member_label ms.items ≡ map member_label members.now) }
-    ensures types { IfOk result (λ ms. map member_type ms.items ≡ map (option_map (rename_place (R.renames names.now))) (map member_type members.now)) }
+/// Members with their types renamed.
+fn renamed_members<R: Renaming>(names: &R, list: &[StructMember], alloc: Global) -> Tried<Members>
+    ensures labels { IfOk result (λ ms. map member_label ms.items ≡ map member_label list.now) }
+    ensures types { IfOk result (λ ms. map member_type ms.items ≡ map (option_map (rename_place (R.renames names.now))) (map member_type list.now)) }
 {
     let mut out = Vec::new(alloc);
-    for member in members {
-        let copy = renamed_member(names, member)?;
-        out.push(copy)?;
+    for member in list {
+        out.push(StructMember {
+            name: copied_name(&member.name)?,
+            ty: names.ty(member.ty),
+            binding: member.binding,
+            offset: member.offset,
+        })?;
     }
     Ok(out)
 }
@@ -63,25 +57,15 @@ fn renamed_members<R: Renaming>(
 fn renamed_inner<R: Renaming>(names: &R, inner: &TypeInner, alloc: Global) -> Tried<TypeInner>
     ensures { IfOk result (λ i. (n : Text) → inner_row n i ≡ rename_row (R.renames names.now) (inner_row n inner.now)) }
 {
-    match inner {
-        TypeInner::Scalar(c) => Ok(TypeInner::Scalar(*c)),
-        TypeInner::Vector(c) => Ok(TypeInner::Vector(*c)),
-        TypeInner::Matrix(c) => Ok(TypeInner::Matrix(*c)),
-        TypeInner::ValuePointer(c) => Ok(TypeInner::ValuePointer(*c)),
-        TypeInner::Image(c) => Ok(TypeInner::Image(*c)),
-        TypeInner::Sampler(c) => Ok(TypeInner::Sampler(*c)),
-        TypeInner::Atomic(c) => Ok(TypeInner::Atomic(*c)),
-        TypeInner::AccelerationStructure(c) => Ok(TypeInner::AccelerationStructure(*c)),
-        TypeInner::RayQuery(c) => Ok(TypeInner::RayQuery(*c)),
-        TypeInner::Pointer { base, space } => Ok(TypeInner::Pointer { base: names.ty(*base), space: *space }),
-        TypeInner::Struct { members, span } => {
-            let members = renamed_members(names, members, alloc)?;
-            Ok(TypeInner::Struct { members, span: *span })
-        }
+    rename_kind! { TypeInner, inner, names;
+        TypeInner::Pointer { base, space } => TypeInner::Pointer { base: names.ty(*base), space: *space };
+        TypeInner::Struct { members, span } =>
+            TypeInner::Struct { members: renamed_members(names, members, alloc)?, span: *span };
         TypeInner::Array { base, size, stride } =>
-            Ok(TypeInner::Array { base: names.ty(*base), size: renamed_size(names, size), stride: *stride }),
+            TypeInner::Array { base: names.ty(*base), size: renamed_size(names, size), stride: *stride };
         TypeInner::BindingArray { base, size } =>
-            Ok(TypeInner::BindingArray { base: names.ty(*base), size: renamed_size(names, size) }),
+            TypeInner::BindingArray { base: names.ty(*base), size: renamed_size(names, size) };
+        @ Scalar Vector Matrix ValuePointer Image Sampler Atomic AccelerationStructure RayQuery;
     }
 }
 

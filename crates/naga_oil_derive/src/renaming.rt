@@ -1,13 +1,14 @@
 ghost use Rattle.std.specs.Prelude.{◌≡◌, ℕ, IfOk, map, option_map};
 ghost use Rattle.naga_oil_ir.specs.Parts.{parts, level_code, level_x, level_y, query_code, query_level};
-ghost use Rattle.naga_oil_ir.specs.Body.{used, given, given_by};
+ghost use Rattle.naga_oil_ir.specs.Body.{used, given, given_by, block_tokens, statement_tokens, case_tokens, ray_query_tokens};
 ghost use Rattle.naga_oil_ir.specs.declared.names.ItemPlace.{ItemPlace};
-ghost use Rattle.naga_oil_derive.specs.Renames.{Renames, rename, rename_place, rename_token};
+ghost use Rattle.naga_oil_derive.specs.Renames.{Renames, rename, rename_place, rename_token, rename_tokens};
+ghost use Rattle.std.specs.List.{flat_map};
 
 use super::Tried;
 use naga_oil_ir::{
-    Constant, Expression, Function, GlobalVariable, Handle, ImageQuery, Operand, Override, Range,
-    SampleLevel, Span, Type,
+    Block, Constant, Expression, Function, GlobalVariable, Handle, ImageQuery, Operand, Override,
+    Range, RayQueryFunction, SampleLevel, Span, Statement, SwitchCase, Type,
 };
 use std::alloc::Global;
 
@@ -92,16 +93,17 @@ fn renamed_query<R: Renaming>(names: &R, query: &ImageQuery) -> ImageQuery
     }
 }
 
-/// Renames an expression: first the kinds with handles of items, levels or lists, then a table of the others, each made
-/// again from its plain values, its operands and those that may be absent.
+/// Renames a value of an enum: first the kinds whose patterns are given, then those that hold one plain value, then a table of
+/// the others, each made again from its plain values, its operands and those that may be absent.
 macro_rules! rename_kind {
-    ($expression:expr, $names:ident;
-     $($pattern:pat => $value:expr;)*
-     @
+    ($kinds:ident, $value:expr, $names:ident;
+     $($pattern:pat => $made:expr;)*
+     @ $($code:ident)*;
      $($kind:ident { $($plain:ident)*; $($operand:ident)*; $($option:ident)* })*) => {
-        match $expression {
-            $($pattern => Ok($value),)*
-            $(Expression::$kind { $($plain,)* $($operand,)* $($option,)* } => Ok(Expression::$kind {
+        match $value {
+            $($pattern => Ok($made),)*
+            $($kinds::$code(code) => Ok($kinds::$code(*code)),)*
+            $($kinds::$kind { $($plain,)* $($operand,)* $($option,)* } => Ok($kinds::$kind {
                 $($plain: *$plain,)*
                 $($operand: $names.expression(*$operand),)*
                 $($option: renamed_option($names, *$option),)*
@@ -110,18 +112,18 @@ macro_rules! rename_kind {
     };
 }
 
+pub(crate) use rename_kind;
+
 /// The expression with its handles renamed.
 #[rattlefmt::skip]
 pub fn renamed_expression<R: Renaming>(names: &R, expression: &Expression, alloc: Global) -> Tried<Expression>
     ensures { IfOk result (λ e. parts e ≡ rename (R.renames names.now) (parts expression.now)) }
 {
-    rename_kind! { expression, names;
+    rename_kind! { Expression, expression, names;
         Expression::ZeroValue(x) => Expression::ZeroValue(names.ty(*x));
         Expression::Constant(x) => Expression::Constant(names.constant(*x));
         Expression::Override(x) => Expression::Override(names.pipeline_override(*x));
         Expression::GlobalVariable(x) => Expression::GlobalVariable(names.global(*x));
-        Expression::LocalVariable(x) => Expression::LocalVariable(*x);
-        Expression::FunctionArgument(x) => Expression::FunctionArgument(*x);
         Expression::CallResult(x) => Expression::CallResult(names.function(*x));
         Expression::AtomicResult { ty, comparison } =>
             Expression::AtomicResult { ty: names.ty(*ty), comparison: *comparison };
@@ -143,7 +145,7 @@ pub fn renamed_expression<R: Renaming>(names: &R, expression: &Expression, alloc
         Expression::ImageQuery { image, query } =>
             Expression::ImageQuery { image: names.expression(*image), query: renamed_query(names, query) };
         Expression::ArrayLength(x) => Expression::ArrayLength(names.expression(*x));
-        @
+        @ LocalVariable FunctionArgument;
         Literal { kind bits; ; }
         Access { ; base index; }
         AccessIndex { index; base; }
@@ -160,5 +162,96 @@ pub fn renamed_expression<R: Renaming>(names: &R, expression: &Expression, alloc
         As { kind convert; expr; }
         RayQueryGetIntersection { committed; query; }
         RayQueryVertexPositions { committed; query; }
+    }
+}
+
+/// What is done with a ray query, with its handles renamed.
+#[rattlefmt::skip]
+fn renamed_ray_query<R: Renaming>(names: &R, fun: &RayQueryFunction) -> RayQueryFunction
+    ensures { ray_query_tokens result ≡ rename_tokens (R.renames names.now) (ray_query_tokens fun.now) }
+{
+    match fun {
+        RayQueryFunction::Initialize { acceleration_structure, descriptor } => RayQueryFunction::Initialize {
+            acceleration_structure: names.expression(*acceleration_structure),
+            descriptor: names.expression(*descriptor),
+        },
+        RayQueryFunction::Proceed { result } => RayQueryFunction::Proceed { result: names.expression(*result) },
+        RayQueryFunction::Terminate => RayQueryFunction::Terminate,
+        RayQueryFunction::GenerateIntersection { hit_t } =>
+            RayQueryFunction::GenerateIntersection { hit_t: names.expression(*hit_t) },
+        RayQueryFunction::ConfirmIntersection => RayQueryFunction::ConfirmIntersection,
+    }
+}
+
+/// The block with its handles renamed.
+#[cycle(renaming)]
+pub fn renamed_block<R: Renaming>(names: &R, block: &Block, alloc: Global) -> Tried<Block>
+    ensures { IfOk result (λ b. block_tokens b ≡ rename_tokens (R.renames names.now) (block_tokens block.now)) }
+{
+    let mut body = Vec::new(alloc);
+    for entry in &block.body {
+        let statement = renamed_statement(names, &entry.0, alloc)?;
+        body.push((statement, names.span(entry.1)))?;
+    }
+    Ok(Block { body })
+}
+
+/// The arms of a switch.
+type Cases = Vec<SwitchCase>;
+
+/// The arms of a switch with their handles renamed.
+#[cycle(renaming)]
+fn renamed_cases<R: Renaming>(names: &R, cases: &[SwitchCase], alloc: Global) -> Tried<Cases>
+    ensures { IfOk result (λ v. flat_map case_tokens v.items ≡ rename_tokens (R.renames names.now) (flat_map case_tokens cases.now)) }
+{
+    let mut copies = Vec::new(alloc);
+    for case in cases {
+        copies.push(SwitchCase {
+            value: case.value,
+            body: renamed_block(names, &case.body, alloc)?,
+            fall_through: case.fall_through,
+        })?;
+    }
+    Ok(copies)
+}
+
+/// The statement with its handles renamed.
+#[cycle(renaming)]
+#[rattlefmt::skip]
+fn renamed_statement<R: Renaming>(names: &R, statement: &Statement, alloc: Global) -> Tried<Statement>
+    ensures { IfOk result (λ s. statement_tokens s ≡ rename_tokens (R.renames names.now) (statement_tokens statement.now)) }
+{
+    rename_kind! { Statement, statement, names;
+        Statement::Emit(x) => Statement::Emit(names.range(*x));
+        Statement::Block(x) => Statement::Block(renamed_block(names, x, alloc)?);
+        Statement::If { condition, accept, reject } => Statement::If {
+            condition: names.expression(*condition),
+            accept: renamed_block(names, accept, alloc)?, reject: renamed_block(names, reject, alloc)?,
+        };
+        Statement::Switch { selector, cases } =>
+            Statement::Switch { selector: names.expression(*selector), cases: renamed_cases(names, cases, alloc)? };
+        Statement::Loop { body, continuing, break_if } => Statement::Loop {
+            body: renamed_block(names, body, alloc)?, continuing: renamed_block(names, continuing, alloc)?,
+            break_if: renamed_option(names, *break_if),
+        };
+        Statement::Break => Statement::Break;
+        Statement::Continue => Statement::Continue;
+        Statement::Kill => Statement::Kill;
+        Statement::Call { function, arguments, result } => Statement::Call {
+            function: names.function(*function),
+            arguments: renamed_list(names, arguments, alloc)?, result: renamed_option(names, *result),
+        };
+        Statement::RayQuery { query, fun } =>
+            Statement::RayQuery { query: names.expression(*query), fun: renamed_ray_query(names, fun) };
+        @ ControlBarrier MemoryBarrier;
+        Return { ; ; value }
+        Store { ; pointer value; }
+        ImageStore { ; image coordinate value; array_index }
+        Atomic { fun; pointer value; compare result }
+        ImageAtomic { fun; image coordinate value; array_index compare }
+        WorkGroupUniformLoad { ; pointer result; }
+        SubgroupBallot { ; result; predicate }
+        SubgroupGather { mode; argument result; index }
+        SubgroupCollectiveOperation { op collective; argument result; }
     }
 }

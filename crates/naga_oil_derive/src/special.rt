@@ -1,11 +1,10 @@
 ghost use Rattle.std.specs.Prelude.{◌≡◌, ◌<◌, ◌++◌, ℕ, length, take, All, Option, Some, None, OnOk, OnErr, IfOk};
 ghost use Rattle.naga_oil_ir.specs.ModuleValue.{special_value};
-ghost use Rattle.naga_oil_ir.specs.declared.names.ItemPlace.{ItemPlace};
 ghost use Rattle.naga_oil_derive.specs.World.{special_entry, special_entries, special_at as special_at_key, with_special, with_specials, HaveDistinctKeys};
-ghost use Rattle.naga_oil_derive.specs.Copying.{IsThere, AreRanked, IsCopying, Grows, WentSomewhere, CollectsNames, goes_under, handle_under, source_world, kept_over, special_names};
+ghost use Rattle.naga_oil_derive.specs.Copying.{handle_under, kept_over};
 
-use super::{Maps, Renaming, Tried, copy_item};
-use naga_oil_ir::{Handle, ItemPlace, Module, SpecialTypes, Type};
+use super::{Maps, Renaming, Tried};
+use naga_oil_ir::{Handle, SpecialTypes, Type};
 use std::alloc::Global;
 
 /// What a special type is for.
@@ -88,29 +87,6 @@ pub fn keep_special(entries: &[SpecialEntry], target: &SpecialTypes, types: &mut
             types[handle.index()] = Some(place);
         }
     }
-}
-
-/// Copies the special types of a source into a target.
-pub fn copy_special(
-    source: &Module,
-    entries: &[SpecialEntry],
-    maps: &mut Maps,
-    target: &mut Module,
-    alloc: Global,
-) -> Tried
-    requires ranked { AreRanked source.now }
-    requires there { All (λ e. IsThere source.now (ItemPlace.TypeItem e.1)) entries.now }
-    requires copying { IsCopying source.now target.old maps.old }
-    ensures copying { IsCopying source.now target.new maps.new }
-    ensures grows { Grows maps.old maps.new target.old target.new }
-    ensures reads { source_world source.now target.new maps.new ≡ source_world source.now target.old maps.old }
-    ensures went { OnOk result (All (WentSomewhere (goes_under maps.new)) (special_names entries.now)) }
-    ensures collects { OnOk result (CollectsNames source.now maps.old target.old (special_names entries.now) target.new) }
-{
-    for (_, handle) in entries {
-        copy_item(source, &ItemPlace::TypeItem(*handle), maps, target, alloc)?;
-    }
-    Ok(())
 }
 
 /// Sets the special types that a target lacks to the copies of a source's.

@@ -3,23 +3,20 @@ ghost use Rattle.std.specs.Prelude.{◌≡◌, ◌∷◌, ℕ, [], Ok, Some, Non
 ghost use Rattle.naga_oil_ir.specs.ModuleValue.{function_value};
 ghost use Rattle.naga_oil_derive.specs.DerivedFunctions.{having, meant, CanCopy, CanImport, CanCall, KeepsFunctions, KeepsMeanings, IsLocalized, IsFunctionImported, MeansAt, requests_of, AreAnswered};
 
-use super::DerivedModule;
-use crate::callees::known_as;
+use super::{DerivedModule, Placed};
+use crate::Tried;
+use crate::callees::{FunctionNames, known_as};
 use crate::import::{self, Functions};
 use indexmap::IndexMap;
 use naga_oil_ir::{Arena, Function, Handle, Module, Span};
-use std::alloc::{AllocError, Global};
+use std::alloc::Global;
 use std::mem;
 
 #[cfg(test)]
 mod tests;
 
 /// Takes the functions out of a module.
-fn take(
-    target: &mut Module,
-    names: &mut IndexMap<String, Handle<Function>>,
-    alloc: Global,
-) -> Functions
+fn take(target: &mut Module, names: &mut FunctionNames, alloc: Global) -> Functions
     ensures taken { (result.copies ≡ target.old.functions) × (result.names ≡ names.old) }
     ensures left { target.new ≡ having target.old [] }
 {
@@ -30,7 +27,7 @@ fn take(
 }
 
 /// Puts functions into a module.
-fn put(functions: Functions, target: &mut Module, names: &mut IndexMap<String, Handle<Function>>)
+fn put(functions: Functions, target: &mut Module, names: &mut FunctionNames)
     ensures target { target.new ≡ having target.old functions.copies }
     ensures names { names.new ≡ functions.names }
 {
@@ -41,7 +38,7 @@ fn put(functions: Functions, target: &mut Module, names: &mut IndexMap<String, H
 impl<'a> DerivedModule<'a> {
     /// A copy of a function over the handles of the source; what it names is copied first, and of the functions that it
     /// calls those whose names aren't known.
-    pub fn localize_function(&mut self, func: &Function) -> Result<Function, AllocError>
+    pub fn localize_function(&mut self, func: &Function) -> Tried<Function>
         requires { CanCopy self.old (function_value func.now) }
         ensures meanings { OnOk result (KeepsMeanings self.old self.new) }
         ensures answered { OnOk result (AreAnswered self.old (requests_of (function_value func.now)) self.new) }
@@ -50,39 +47,30 @@ impl<'a> DerivedModule<'a> {
     {
         let source = self.shader.unwrap();
         let depth = source.functions.len();
-        let mut taken = take(&mut self.target, &mut self.function_names, self.alloc);
-        let (maps, target) = (&mut self.maps, &mut self.target);
-        let copy = import::localize(source, func, depth, maps, target, &mut taken, self.alloc);
-        put(taken, &mut self.target, &mut self.function_names);
+        let copying = &mut self.copying;
+        let mut taken = take(&mut copying.target, &mut self.function_names, copying.alloc);
+        let copy = import::localize(source, func, depth, copying, &mut taken);
+        put(taken, &mut copying.target, &mut self.function_names);
         copy
     }
 
     /// Puts a copy of a function last, also if its name is known, which then means the copy; and first what it names.
-    pub fn import_function(
-        &mut self,
-        func: &Function,
-        span: Span,
-    ) -> Result<Handle<Function>, AllocError>
+    pub fn import_function(&mut self, func: &Function, span: Span) -> Placed<Function>
         requires { CanImport self.old (function_value func.now) }
         ensures imported { IfOk result (IsFunctionImported self.old self.new (function_value func.now) span) }
         ensures keeps { KeepsFunctions self.old self.new }
     {
-        let alloc = self.alloc;
         let source = self.shader.unwrap();
         let depth = source.functions.len();
-        let mut taken = take(&mut self.target, &mut self.function_names, alloc);
-        let (maps, target) = (&mut self.maps, &mut self.target);
-        let handle = import::import(source, func, span, depth, maps, target, &mut taken, alloc);
-        put(taken, &mut self.target, &mut self.function_names);
+        let copying = &mut self.copying;
+        let mut taken = take(&mut copying.target, &mut self.function_names, copying.alloc);
+        let handle = import::import(source, func, span, depth, copying, &mut taken);
+        put(taken, &mut copying.target, &mut self.function_names);
         handle
     }
 
     /// The function that the name of one means, copied if the name isn't known.
-    pub fn import_function_if_new(
-        &mut self,
-        func: &Function,
-        span: Span,
-    ) -> Result<Handle<Function>, AllocError>
+    pub fn import_function_if_new(&mut self, func: &Function, span: Span) -> Placed<Function>
         requires { CanImport self.old (function_value func.now) }
         ensures known { (h : ℕ) → meant self.old.function_names (function_value func.now).name ≡ Some h → (result ≡ Ok h) × (self.new ≡ self.old) }
         ensures imported { meant self.old.function_names (function_value func.now).name ≡ None → IfOk result (IsFunctionImported self.old self.new (function_value func.now) span) }
@@ -95,10 +83,7 @@ impl<'a> DerivedModule<'a> {
     }
 
     /// Where a function of the source went, by its name; it is copied if the name isn't known.
-    pub fn map_function_handle(
-        &mut self,
-        h_func: &Handle<Function>,
-    ) -> Result<Handle<Function>, AllocError>
+    pub fn map_function_handle(&mut self, h_func: &Handle<Function>) -> Placed<Function>
         requires { CanCall self.old h_func.now }
         ensures meanings { OnOk result (KeepsMeanings self.old self.new) }
         ensures answered { OnOk result (AreAnswered self.old (Request.Call h_func.now ∷ []) self.new) }
@@ -107,12 +92,10 @@ impl<'a> DerivedModule<'a> {
     {
         let source = self.shader.unwrap();
         let depth = source.functions.len();
-        let mut taken = take(&mut self.target, &mut self.function_names, self.alloc);
-        let (maps, target) = (&mut self.maps, &mut self.target);
-        let handle = import::import_callee(
-            source, *h_func, depth, maps, target, &mut taken, self.alloc,
-        );
-        put(taken, &mut self.target, &mut self.function_names);
+        let copying = &mut self.copying;
+        let mut taken = take(&mut copying.target, &mut self.function_names, copying.alloc);
+        let handle = import::import_callee(source, *h_func, depth, copying, &mut taken);
+        put(taken, &mut copying.target, &mut self.function_names);
         handle
     }
 }

@@ -1,5 +1,7 @@
-ghost use Rattle.std.specs.Prelude.{OnOk};
+ghost use Rattle.std.specs.Prelude.{OnOk, IsTrue};
 ghost use Rattle.naga_oil_derive.specs.Derived.{HasItem};
+
+mod refused;
 
 use crate::DerivedModule;
 use naga_oil_ir::{
@@ -42,21 +44,44 @@ pub(crate) fn set_source<'a>(
     Ok(())
 }
 
+/// Sets a source that passes the test of form, or there is no memory.
+pub(crate) fn set<'a>(
+    derived: &mut DerivedModule<'a>,
+    source: &'a Module,
+    offset: usize,
+    alloc: Global,
+) -> Result<(), AllocError> {
+    match source.check_form(alloc, "", 100) {
+        Ok(()) => derived.set_shader_source(source, offset),
+        Err(_) => Err(AllocError),
+    }
+}
+
+/// Whether a source is set that has an item.
+fn has(derived: &DerivedModule<'_>, item: ItemPlace) -> bool
+    ensures { IsTrue result → HasItem derived.now item }
+{
+    let Some(source) = derived.shader else {
+        return false;
+    };
+    match item {
+        ItemPlace::TypeItem(h) if h.index() < source.types.len() => true,
+        ItemPlace::ConstantItem(h) if h.index() < source.constants.len() => true,
+        ItemPlace::OverrideItem(h) if h.index() < source.overrides.len() => true,
+        ItemPlace::GlobalItem(h) if h.index() < source.global_variables.len() => true,
+        ItemPlace::ExpressionItem(h) if h.index() < source.global_expressions.len() => true,
+        _ => false,
+    }
+}
+
 /// Asks for an item of the source.
 fn ask(derived: &DerivedModule<'_>, item: ItemPlace) -> Result<(), Fail>
     ensures { OnOk result (HasItem derived.now item) }
 {
-    let Some(source) = derived.shader else {
-        return Err(Fail::from("a source"));
-    };
-    match item {
-        ItemPlace::TypeItem(h) if h.index() < source.types.len() => Ok(()),
-        ItemPlace::ConstantItem(h) if h.index() < source.constants.len() => Ok(()),
-        ItemPlace::OverrideItem(h) if h.index() < source.overrides.len() => Ok(()),
-        ItemPlace::GlobalItem(h) if h.index() < source.global_variables.len() => Ok(()),
-        ItemPlace::ExpressionItem(h) if h.index() < source.global_expressions.len() => Ok(()),
-        _ => Err(Fail::from("an item")),
+    if has(derived, item) {
+        return Ok(());
     }
+    Err(Fail::from("an item"))
 }
 
 fn copy_type(derived: &mut DerivedModule<'_>, place: usize) -> Result<Handle<Type>, Fail> {
@@ -75,7 +100,7 @@ fn shows_shifted<'a>(
     copy_type(derived, 1)?;
     assert!(rt; derived.map_span(Span::new(10, 20)) == Span::new(2_097_162, 2_097_172));
     assert!(rt; derived.map_span(Span::UNDEFINED) == Span::UNDEFINED);
-    let types = &derived.target.types;
+    let types = &derived.copying.target.types;
     assert!(rt; types.get_span(Index::new(0)) == Span::new(2_097_162, 2_097_172));
     assert!(rt; types.get_span(Index::new(1)) == Span::UNDEFINED);
     Ok(())
@@ -129,9 +154,9 @@ fn shows_first_special<'a>(
     let global = Index::new(0);
     ask(derived, ItemPlace::GlobalItem(global))?;
     derived.import_global(&global)?;
-    assert_eq!(rt; derived.target.types.len(), 1);
-    assert_eq!(rt; derived.target.global_variables.len(), 1);
-    let ty = derived.target.types.get_handle(Index::new(0));
+    assert_eq!(rt; derived.copying.target.types.len(), 1);
+    assert_eq!(rt; derived.copying.target.global_variables.len(), 1);
+    let ty = derived.copying.target.types.get_handle(Index::new(0));
     assert!(rt; ty.is_some_and(|ty| matches!(ty.inner, TypeInner::Struct { span: 32, .. })));
     Ok(())
 }
@@ -192,9 +217,9 @@ fn shows_sizes<'a>(
     derived.import_pipeline_override(&size)?;
     set_source(derived, second, 0, rt.alloc())?;
     copy_type(derived, 1)?;
-    let array = derived.target.types.get_handle(Index::new(1));
+    let array = derived.copying.target.types.get_handle(Index::new(1));
     assert!(rt; array.is_some_and(|ty| is_of_size(ty, 1)));
-    assert_eq!(rt; derived.target.overrides.len(), 2);
+    assert_eq!(rt; derived.copying.target.overrides.len(), 2);
     Ok(())
 }
 
@@ -236,8 +261,8 @@ fn shows_equal<'a>(
     set_source(derived, second, 200, rt.alloc())?;
     copy_type(derived, 1)?;
     derived.clear_shader_source();
-    assert_eq!(rt; derived.target.types.len(), 1);
-    assert!(rt; derived.target.types.get_span(Index::new(0)) == Span::new(101, 102));
+    assert_eq!(rt; derived.copying.target.types.len(), 1);
+    assert!(rt; derived.copying.target.types.get_span(Index::new(0)) == Span::new(101, 102));
     Ok(())
 }
 
@@ -281,7 +306,7 @@ fn shows_renamed<'a>(
     let copy = rename(derived, Index::new(0), "Base", rt.alloc())?;
     let again = rename(derived, Index::new(0), "Again", rt.alloc())?;
     assert!(rt; copy == again);
-    let types = &derived.target.types;
+    let types = &derived.copying.target.types;
     let name = types.get_handle(copy).and_then(|ty| ty.name.as_ref());
     assert!(rt; name.is_some_and(|name| name.as_str() == "Base"));
     let other = types.get_handle(Index::new(0));
@@ -332,9 +357,9 @@ fn shows_constant<'a>(
     ask(derived, ItemPlace::ExpressionItem(value))?;
     let value = derived.import_global_expression(value)?;
     assert_eq!(rt; value.index(), 0);
-    let constant = derived.target.constants.try_get(Index::new(0));
+    let constant = derived.copying.target.constants.try_get(Index::new(0));
     assert!(rt; constant.is_some_and(|constant| constant.init == value));
-    assert_eq!(rt; derived.target.global_expressions.len(), 1);
+    assert_eq!(rt; derived.copying.target.global_expressions.len(), 1);
     Ok(())
 }
 

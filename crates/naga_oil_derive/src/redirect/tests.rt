@@ -1,6 +1,8 @@
+mod refused;
+
 use super::*;
 use indexmap::IndexMap;
-use naga_oil_ir::{Block, Expression, Statement, Type, TypeInner};
+use naga_oil_ir::{Block, Expression, FormFault, Statement, Type, TypeInner};
 use std::alloc::AllocError;
 use std::process::Abort;
 use std::test::Fail;
@@ -101,7 +103,7 @@ fn fill(
 }
 
 /// A redirector of a module that passes the test of form.
-fn redirector(module: Module, alloc: Global) -> Result<Redirector, Fail> {
+fn redirector(module: Module, alloc: Global) -> Result<Redirector, FormFault> {
     module.check_form(alloc, "", 0)?;
     Ok(Redirector::new(alloc, module))
 }
@@ -111,7 +113,7 @@ fn calling(
     functions: &[(&str, &[usize])],
     calls: &[usize],
     alloc: Global,
-) -> Result<Redirector, Fail> {
+) -> Result<Redirector, FormFault> {
     let mut module = Module::new(alloc);
     fill(&mut module, functions, calls, alloc)?;
     redirector(module, alloc)
@@ -190,7 +192,7 @@ fn a_chain_ends_in_its_last(rt: HostRuntime) -> Result<(), Fail> {
 }
 
 /// A redirector in which the replacement takes an argument.
-fn with_wide(alloc: Global) -> Result<Redirector, Fail> {
+fn with_wide(alloc: Global) -> Result<Redirector, FormFault> {
     let mut module = Module::new(alloc);
     fill(&mut module, &[("f", &[]), ("g", &[0])], &[0], alloc)?;
     add_wide(&mut module, "r", alloc)?;

@@ -1,26 +1,21 @@
-use Rattle.std.proofs.Common.{◌≡◌, ◌∙◌, ◌<◌, ◌-◌, ◌++◌, ◌∷◌, [], ℕ, arith, rules, subst, Some, IsSome, OnOk, option_map, string_bytes, sym, ap, take_all, slice_get, List, All}
+use Rattle.std.proofs.Common.{refl, take, ◌+◌, ◌≡◌, ◌∙◌, ◌<◌, ◌-◌, ◌++◌, ◌∷◌, [], ℕ, arith, rules, subst, Some, IsSome, OnOk, option_map, string_bytes, sym, ap, take_all, slice_get, List, All}
 use Rattle.std.specs.String.{string_eq}
 use Rattle.std.proofs.lemmas.Option.{none-some}
 use Rattle.indexmap.specs.IndexMap.{Updates}
 use Rattle.naga_oil_ir.specs.declared.span.Span.{Span}
 use Rattle.naga_oil_derive.specs.Callees.{callee_at}
-use Rattle.naga_oil_derive.specs.Copying.{AreRanked, IsCopying}
-use Rattle.naga_oil_derive.specs.Imported.{state, Imported, Ready, Known, FunctionPut, IsImportable, IsAnswerable, IsAnswered}
+use Rattle.naga_oil_derive.specs.Copying.{AreRanked, IsCopying, Grows, IsThere}
+use Rattle.naga_oil_derive.specs.Imported.{State, state, Imported, Ready, Copied, Known, FunctionPut, FunctionsGrow, IsImportable, IsAnswerable, IsAnswered}
 use Rattle.naga_oil_derive.specs.Naming.{function_names, Thins}
+use Rattle.naga_oil_derive.specs.declared.copy.Copying.{Copying}
 use Rattle.naga_oil_derive.specs.declared.import.Functions.{Functions}
 use Rattle.naga_oil_derive.specs.declared.walk.Request.{Request}
+use Rattle.naga_oil_derive.specs.declared.walk.Request.TheVariants.{Call}
 use Rattle.naga_oil_derive.proofs.CopyLemmas.{Grows-refl, Grows-trans}
 use Rattle.naga_oil_derive.proofs.ImportLemmas.{FunctionsGrow-refl, FunctionsGrow-trans, Imported-more, thin_imported, imported_all}
-use Rattle.naga_oil_derive.proofs.ImportSteps.{request_at, entry_at, put_function, grow_unnamed, answered_item, called_ok, on_ok, callee_from, none_if, unknown_callee, unnamed}
+use Rattle.naga_oil_derive.proofs.ImportSteps.{request_at, entry_at, put_function, grow_unnamed, called_ok, on_ok, callee_from, none_if, unknown_callee, unnamed}
 use Rattle.naga_oil_derive.proofs.import.+importing.Goals as goal
-use Rattle.naga_oil_derive.proofs.import.+importing.Goals.{import-in-Some+in_ok-insert, import-in_default}
-
-pub answer-returns-in-Item-clause-imported : goal.answer-returns-in-Item-clause-imported
-answer-returns-in-Item-clause-imported t c =
-    let e = c.copy_item.ensures in
-    let s = state c.args.maps.now c.args.target.now c.args.functions.now in
-    let u = state c.copy_item.new.maps c.copy_item.new.target c.args.functions.now in
-    subst (λ r. OnOk c.copy_item.result (Imported c.args.source.now s (r ∷ []) u)) (sym c.in-Item.is) (answered_item c.args.source.now c.in-Item.item c.args.maps.now c.copy_item.new.maps c.args.target.now c.copy_item.new.target c.args.functions.now c.copy_item.result e.copying e.grows e.reads e.went e.collects)
+use Rattle.naga_oil_derive.proofs.import.+importing.Goals.{import-in-Some+in_ok-insert, import-in_default, localize-in-Item+in_ok-copy_item-in-Item, localize-in-Call+in_ok-import_callee-in-Call}
 
 pub import-returns-in_err-insert-clause-functions :
     goal.import-returns-in_err-insert-clause-functions
@@ -29,21 +24,21 @@ import-returns-in_err-insert-clause-functions t c =
     FunctionsGrow-trans c.args.functions.now c.localize.new.functions b c.localize.ensures.functions (grow_unnamed c.localize.new.functions b (c.in_ok-copy.copy, c.span.result) c.in_ok-handle.ensures.appended c.in_err-insert.ensures.err)
 
 -- the copy stands last under its name
-put : (t : ℕ) (c : goal.import-Joined-name-2 t) → FunctionPut c.args.source.now c.args.function.now c.args.span (state c.localize.new.maps c.localize.new.target c.localize.new.functions) (state c.localize.new.maps c.localize.new.target c.match-name-2.functions) c.in_ok-handle.handle
+put : (t : ℕ) (c : goal.import-Joined-name-2 t) → FunctionPut c.args.source.now c.args.function.now c.args.span (state c.localize.new.copying.maps c.localize.new.copying.target c.localize.new.functions) (state c.localize.new.copying.maps c.localize.new.copying.target c.match-name-2.functions) c.in_ok-handle.handle
 put t c =
     let a = c.localize.new.functions in
     let b = c.match-name-2.functions in
     let h = c.in_ok-handle.handle in
     let g = c.in_ok-copy.copy in
     let appended = c.in_ok-handle.ensures.appended ∙ ap (λ (s : Span). a.copies ++ (g, s) ∷ []) c.span.ensures in
-    elim c.match-name-2.branch [ import-in-Some+in_ok-insert w ↦ put_function c.args.source.now c.args.function.now g c.args.span c.localize.new.maps c.localize.new.target a b h w.in-Some.name c.in_ok-copy.ensures.copies (ap (λ (f : Functions). f.copies) w.functions-is ∙ appended) c.in_ok-handle.ensures.place (ap (option_map string_bytes) (sym w.in-Some.is) ∙ c.in_ok-name.ensures) (subst (λ (f : Functions). Updates string_eq a.names f.names w.in-Some.name (Some h)) (sym w.functions-is) w.in_ok-insert.ensures.updates) (ap (λ (f : Functions). f.names.entries) w.functions-is ∙ w.in_ok-insert.ensures.entries) | import-in_default w ↦ absurd (unnamed c.in_ok-name.name c.args.function.now.name w.in_default.not-Some c.in_ok-name.ensures c.requires.named) ]
+    elim c.match-name-2.branch [ import-in-Some+in_ok-insert w ↦ put_function c.args.source.now c.args.function.now g c.args.span c.localize.new.copying.maps c.localize.new.copying.target a b h w.in-Some.name c.in_ok-copy.ensures.copies (ap (λ (f : Functions). f.copies) w.functions-is ∙ appended) c.in_ok-handle.ensures.place (ap (option_map string_bytes) (sym w.in-Some.is) ∙ c.in_ok-name.ensures) (subst (λ (f : Functions). Updates string_eq a.names f.names w.in-Some.name (Some h)) (sym w.functions-is) w.in_ok-insert.ensures.updates) (ap (λ (f : Functions). f.names.entries) w.functions-is ∙ w.in_ok-insert.ensures.entries) | import-in_default w ↦ absurd (unnamed c.in_ok-name.name c.args.function.now.name w.in_default.not-Some c.in_ok-name.ensures c.requires.named) ]
 
 pub import-returns-clause-functions : goal.import-returns-clause-functions
 import-returns-clause-functions t c = FunctionsGrow-trans c.args.functions.now c.localize.new.functions c.match-name-2.functions c.localize.ensures.functions (put t c).grow
 
 pub import-returns-clause-imported : goal.import-returns-clause-imported
 import-returns-clause-imported t c = record {
-  between = state c.localize.new.maps c.localize.new.target c.localize.new.functions;
+  between = state c.localize.new.copying.maps c.localize.new.copying.target c.localize.new.functions;
   imported = c.in_ok-copy.ensures.imported;
   put = put t c;
 }
@@ -73,8 +68,8 @@ import_callee-returns-clause-imported t c =
     let fs = c.args.source.now.functions in
     let f = c.in-Some.callee.now in
     let k = c.args.handle in
-    let s = state c.args.maps.now c.args.target.now c.args.functions.now in
-    let u = state c.import.new.maps c.import.new.target c.import.new.functions in
+    let s = state c.args.copying.now.maps c.args.copying.now.target c.args.functions.now in
+    let u = state c.import.new.copying.maps c.import.new.copying.target c.import.new.functions in
     let at : slice_get fs k ≡ Some (f, c.get_span-span.result) = entry_at fs k f c.get_span-span.result c.in-Some.ensures c.get_span-span.ensures in
     let unknown = callee_from c.args.functions.now.names fs k f c.in-Some.ensures ∙ sym c.known_as.ensures ∙ none_if c.known_as.result c.in_default-known_as.not-Some in
     called_ok c.args.source.now k (f, c.get_span-span.result) s u c.import.result unknown at c.import.ensures.imported
@@ -82,49 +77,17 @@ import_callee-returns-clause-imported t c =
 pub localize-loop-request-init : goal.localize-loop-request-init
 localize-loop-request-init t c = record {
   copying = c.requires.copying;
-  grows = Grows-refl c.args.maps.now c.args.target.now;
+  grows = Grows-refl c.args.copying.now.maps c.args.copying.now.target;
   functions = FunctionsGrow-refl c.args.functions.now;
   imported = Ready;
 }
 
-pub localize-answer-requires : goal.localize-answer-requires
-localize-answer-requires t c =
-    let i = c.loop-request.invariant in
-    let xs = c.deref-request-items.result.now in
-    let ns = function_names c.args.function.now in
-    let th : Thins [] ns xs = subst (λ rs. Thins [] ns rs) (sym c.deref-request-items.ensures.value) c.in_ok-walk.ensures.requests in
-    let one : IsAnswerable c.args.source.now c.loop-request.functions c.args.depth c.request-item.result = request_at c.args.source.now c.args.functions.now c.loop-request.functions c.args.depth ns xs c.loop-request.request-index c.request-item.result th c.requires.form.requests i.functions c.loop-request-test.true c.request-item.is in
-    let ranked : AreRanked c.args.source.now = c.requires.ranked in
-    let copying : IsCopying c.args.source.now c.loop-request.target c.loop-request.maps = i.copying in
-    search rules
-
-pub localize-returns-in_err-answer-clause-grows : goal.localize-returns-in_err-answer-clause-grows
-localize-returns-in_err-answer-clause-grows t c = Grows-trans c.loop-request.invariant.grows c.answer.ensures.grows
-
-pub localize-returns-in_err-answer-clause-functions :
-    goal.localize-returns-in_err-answer-clause-functions
-localize-returns-in_err-answer-clause-functions t c = FunctionsGrow-trans c.args.functions.now c.loop-request.functions c.answer.new.functions c.loop-request.invariant.functions c.answer.ensures.functions
-
-pub localize-loop-request-preserved : goal.localize-loop-request-preserved
-localize-loop-request-preserved t c =
-    let i = c.loop-request.invariant in
-    let e = c.answer.ensures in
-    let s = state c.args.maps.now c.args.target.now c.args.functions.now in
-    let m = state c.loop-request.maps c.loop-request.target c.loop-request.functions in
-    let u = state c.answer.new.maps c.answer.new.target c.answer.new.functions in
-    record {
-      copying = e.copying;
-      grows = Grows-trans i.grows e.grows;
-      functions = FunctionsGrow-trans c.args.functions.now c.loop-request.functions c.answer.new.functions i.functions e.functions;
-      imported = Imported-more c.args.source.now s m u c.deref-request-items.result.now c.loop-request.request-index c.request-item.result c.loop-request-test.true c.request-item.is i.imported c.in_ok-answer.ensures.imported;
-    }
-
 -- all that the function names was answered
-whole : (t : ℕ) (c : goal.localize-After-drop-walk-5 t) → Imported c.args.source.now (state c.args.maps.now c.args.target.now c.args.functions.now) (function_names c.args.function.now) (state c.loop-request.maps c.loop-request.target c.loop-request.functions)
+whole : (t : ℕ) (c : goal.localize-After-drop-walk-5 t) → Imported c.args.source.now (state c.args.copying.now.maps c.args.copying.now.target c.args.functions.now) (function_names c.args.function.now) (state c.loop-request.copying.maps c.loop-request.copying.target c.loop-request.functions)
 whole t c =
     let i = c.loop-request.invariant in
-    let s = state c.args.maps.now c.args.target.now c.args.functions.now in
-    let m = state c.loop-request.maps c.loop-request.target c.loop-request.functions in
+    let s = state c.args.copying.now.maps c.args.copying.now.target c.args.functions.now in
+    let m = state c.loop-request.copying.maps c.loop-request.copying.target c.loop-request.functions in
     let xs = c.deref-request-items.result.now in
     let all = take_all c.loop-request.request-index xs c.loop-request-test.false ∙ c.deref-request-items.ensures.value in
     let thin : Imported c.args.source.now s c.in_ok-walk.walk.requests.items m = subst (λ (rs : List Request). Imported c.args.source.now s rs m) all i.imported in
@@ -132,11 +95,81 @@ whole t c =
 
 pub localize-returns-clause-imported : goal.localize-returns-clause-imported
 localize-returns-clause-imported t c =
-    let s = state c.args.maps.now c.args.target.now c.args.functions.now in
-    let m = state c.loop-request.maps c.loop-request.target c.loop-request.functions in
+    let s = state c.args.copying.now.maps c.args.copying.now.target c.args.functions.now in
+    let m = state c.loop-request.copying.maps c.loop-request.copying.target c.loop-request.functions in
     on_ok c.localized.result (Imported c.args.source.now s (function_names c.args.function.now) m) (whole t c)
 
 pub localize-returns-clause-answered : goal.localize-returns-clause-answered
 localize-returns-clause-answered t c =
-    let m = state c.loop-request.maps c.loop-request.target c.loop-request.functions in
+    let m = state c.loop-request.copying.maps c.loop-request.copying.target c.loop-request.functions in
     on_ok c.localized.result (All (IsAnswered c.args.source.now m) (function_names c.args.function.now)) (imported_all (whole t c) c.loop-request.invariant.copying)
+
+pub localize-copy_item-requires-clause-there : goal.localize-copy_item-requires-clause-there
+localize-copy_item-requires-clause-there t c =
+    let xs = c.deref-request-items.result.now in
+    let ns = function_names c.args.function.now in
+    let th : Thins [] ns xs = subst (λ rs. Thins [] ns rs) (sym c.deref-request-items.ensures.value) c.in_ok-walk.ensures.requests in
+    let at_hand = request_at c.args.source.now c.args.functions.now c.loop-request.functions c.args.depth ns xs c.loop-request.request-index c.request-item.result th c.requires.form.requests c.loop-request.invariant.functions c.loop-request-test.true c.request-item.is in
+    subst (IsAnswerable c.args.source.now c.loop-request.functions c.args.depth) c.in-Item.is at_hand
+
+pub localize-import_callee-requires : goal.localize-import_callee-requires
+localize-import_callee-requires t c =
+    let xs = c.deref-request-items.result.now in
+    let ns = function_names c.args.function.now in
+    let th : Thins [] ns xs = subst (λ rs. Thins [] ns rs) (sym c.deref-request-items.ensures.value) c.in_ok-walk.ensures.requests in
+    let at_hand = request_at c.args.source.now c.args.functions.now c.loop-request.functions c.args.depth ns xs c.loop-request.request-index c.request-item.result th c.requires.form.requests c.loop-request.invariant.functions c.loop-request-test.true c.request-item.is in
+    let i = c.loop-request.invariant in
+    let one : IsAnswerable c.args.source.now c.loop-request.functions c.args.depth (Call c.in-Call.handle) = subst (IsAnswerable c.args.source.now c.loop-request.functions c.args.depth) c.in-Call.is at_hand in
+    let ranked : AreRanked c.args.source.now = c.requires.ranked in
+    let copying : IsCopying c.args.source.now c.loop-request.copying.target c.loop-request.copying.maps = i.copying in
+    search rules
+
+pub localize-returns-in_err-copy_item-in-Item-clause-grows :
+    goal.localize-returns-in_err-copy_item-in-Item-clause-grows
+localize-returns-in_err-copy_item-in-Item-clause-grows t c = Grows-trans c.loop-request.invariant.grows c.copy_item.ensures.grows
+
+pub localize-returns-in_err-import_callee-in-Call-clause-grows :
+    goal.localize-returns-in_err-import_callee-in-Call-clause-grows
+localize-returns-in_err-import_callee-in-Call-clause-grows t c = Grows-trans c.loop-request.invariant.grows c.import_callee.ensures.grows
+
+pub localize-returns-in_err-import_callee-in-Call-clause-functions :
+    goal.localize-returns-in_err-import_callee-in-Call-clause-functions
+localize-returns-in_err-import_callee-in-Call-clause-functions t c = FunctionsGrow-trans c.args.functions.now c.loop-request.functions c.import_callee.new.functions c.loop-request.invariant.functions c.import_callee.ensures.functions
+
+pub localize-loop-request-preserved : goal.localize-loop-request-preserved
+localize-loop-request-preserved t c =
+    let i = c.loop-request.invariant in
+    let source = c.args.source.now in
+    let old = c.args.copying.now in
+    let own = c.args.functions.now in
+    let s = state old.maps old.target own in
+    let m = state c.loop-request.copying.maps c.loop-request.copying.target c.loop-request.functions in
+    let xs = c.deref-request-items.result.now in
+    let k = c.loop-request.request-index in
+    let x = c.request-item.result in
+    let more : (u : State) → Imported source m (x ∷ []) u → Imported source s (take (k + 1) xs) u = λ u e. Imported-more source s m u xs k x c.loop-request-test.true c.request-item.is i.imported e in
+    elim c.match-request.branch [
+      | localize-in-Item+in_ok-copy_item-in-Item w ↦
+          let n = w.copy_item.new.self in
+          let e = w.in_ok-copy_item-in-Item.ensures in
+          let u = state n.maps n.target c.loop-request.functions in
+          let step : Imported source m (x ∷ []) u = subst (λ (r : Request). Imported source m (r ∷ []) u) (sym w.in-Item.is) (Copied (record { copying = e.copying; grows = e.grows; reads = e.reads; place = e.went; collects = e.collects; functions = refl }) Ready) in
+          record {
+            copying = subst (λ (y : Copying). IsCopying source y.target y.maps) (sym w.copying-is) e.copying;
+            grows = subst (λ (y : Copying). Grows old.maps y.maps old.target y.target) (sym w.copying-is) (Grows-trans i.grows e.grows);
+            functions = subst (λ (y : Functions). FunctionsGrow own y) (sym w.functions-is) i.functions;
+            imported = subst (λ (y : Copying). Imported source s (take (k + 1) xs) (state y.maps y.target c.match-request.functions)) (sym w.copying-is) (subst (λ (y : Functions). Imported source s (take (k + 1) xs) (state n.maps n.target y)) (sym w.functions-is) (more u step));
+          }
+      | localize-in-Call+in_ok-import_callee-in-Call w ↦
+          let n = w.import_callee.new.copying in
+          let f = w.import_callee.new.functions in
+          let e = w.in_ok-import_callee-in-Call.ensures in
+          let u = state n.maps n.target f in
+          let step : Imported source m (x ∷ []) u = subst (λ (r : Request). Imported source m (r ∷ []) u) (sym w.in-Call.is) e.imported in
+          record {
+            copying = subst (λ (y : Copying). IsCopying source y.target y.maps) (sym w.copying-is) e.copying;
+            grows = subst (λ (y : Copying). Grows old.maps y.maps old.target y.target) (sym w.copying-is) (Grows-trans i.grows e.grows);
+            functions = subst (λ (y : Functions). FunctionsGrow own y) (sym w.functions-is) (FunctionsGrow-trans own c.loop-request.functions f i.functions e.functions);
+            imported = subst (λ (y : Copying). Imported source s (take (k + 1) xs) (state y.maps y.target c.match-request.functions)) (sym w.copying-is) (subst (λ (y : Functions). Imported source s (take (k + 1) xs) (state n.maps n.target y)) (sym w.functions-is) (more u step));
+          }
+    ]

@@ -9,16 +9,13 @@ decreases-import l = 4 * l.depth + 3
 abbrev pub decreases-localize : goal.decreases-localize
 decreases-localize l = 4 * l.depth + 2
 
-abbrev pub decreases-answer : goal.decreases-answer
-decreases-answer l = 4 * l.depth + 1
-
 abbrev pub decreases-import_callee : goal.decreases-import_callee
 decreases-import_callee l = 4 * l.depth
 
 abbrev pub invariant-localize-loop-request : goal.invariant-localize-loop-request
 invariant-localize-loop-request l = record {
-  copying : IsCopying l.source l.target l.maps;
-  grows : Grows l.fn.maps l.maps l.fn.target l.target;
+  copying : IsCopying l.source l.copying.target l.copying.maps;
+  grows : Grows l.fn.copying.maps l.copying.maps l.fn.copying.target l.copying.target;
   functions : FunctionsGrow l.fn.functions l.functions;
-  imported : Imported l.source (state l.fn.maps l.fn.target l.fn.functions) (take l.request-index l.request-items) (state l.maps l.target l.functions);
+  imported : Imported l.source (state l.fn.copying.maps l.fn.copying.target l.fn.functions) (take l.request-index l.request-items) (state l.copying.maps l.copying.target l.functions);
 }

@@ -1,4 +1,4 @@
-use Rattle.std.proofs.Common.{◌≡◌, ℕ, List, [], map, ap, sym, ◌∙◌, subst, refl}
+use Rattle.std.proofs.Common.{arith, ◌≡◌, ◌-◌, length, ℕ, List, [], map, ap, sym, ◌∙◌, subst, refl}
 use Rattle.naga_oil_ir.specs.Body.{block_tokens}
 use Rattle.naga_oil_ir.specs.ModuleValue.{argument_value, function_value}
 use Rattle.naga_oil_ir.specs.declared.module.FunctionArgument.{FunctionArgument}
@@ -19,21 +19,22 @@ returns c =
     let r = went c.args.names in
     let t = c.deref.result.now in
     let es = c.deref-2.result.now in
-    let m = c.in_ok-copies.merged in
-    let target = c.in_ok-copies.copies.target in
-    let at : t ≡ c.in_ok-copies.copies.table.items = c.deref.ensures.value in
-    let copied : ExpressionsCopied r f w t target m = subst (λ (u : Table). ExpressionsCopied r f w u target m) (sym at) c.in_ok-copies.ensures in
-    let range = range_under es w.began m c.len.result in
+    let target = c.in_ok-target.field-0.target in
+    let m = c.len.result - (c.len-2.result - w.began) in
+    let same : length target - (length w.places.items - w.began) ≡ m = omega (arith, c.len.ensures, c.len-2.ensures, w.places.ok.0) in
+    let at : t ≡ c.in_ok-target.field-0.table.items = c.deref.ensures.value in
+    let copied : ExpressionsCopied r f w t target m = subst (λ k. ExpressionsCopied r f w t target k) same (subst (λ (u : Table). ExpressionsCopied r f w u target (length target - (length w.places.items - w.began))) (sym at) c.in_ok-target.ensures) in
+    let range = range_under es w.began m c.len-3.result in
     record {
       table = t;
       range = range;
       name = c.in_ok-copied_name.ensures;
-      arguments = c.in_ok-renamed_arguments.ensures ∙ ap (λ (xs : List FunctionArgument). map (argument_under r) (map argument_value xs)) c.deref-3.ensures.value;
+      arguments = c.in_ok-arguments.ensures ∙ ap (λ (xs : List FunctionArgument). map (argument_under r) (map argument_value xs)) c.deref-3.ensures.value;
       outcome = c.renamed_result.ensures;
       expressions = local_copies r f w t target m c.requires copied;
-      locals = c.in_ok-renamed_locals.ensures ∙ ap (λ (ls : List (LocalVariable × Span)). map (local_under (under_table r t range)) (local_values ls)) c.as_slice.ensures;
-      named_expressions = c.in_ok-renamed_names.ensures ∙ ap (λ (u : Table). names_under u [] (named_values f.named_expressions.entries)) (c.deref-4.ensures.value ∙ sym at);
+      locals = c.in_ok-locals.ensures ∙ ap (λ (ls : List (LocalVariable × Span)). map (local_under (under_table r t range)) (local_values ls)) c.as_slice.ensures;
+      named_expressions = c.in_ok-named.ensures;
       body = c.in_ok-renamed_block.ensures;
-      emits = subst (λ (ns : Notes). AreCovered t (range_under ns w.began m c.len.result) (begun (function_value f)) (block_tokens f.body)) (sym c.deref-2.ensures.value) (local_emits r f w t target m c.len.result c.requires copied);
+      emits = subst (λ (ns : Notes). AreCovered t (range_under ns w.began m c.len-3.result) (begun (function_value f)) (block_tokens f.body)) (sym c.deref-2.ensures.value) (local_emits r f w t target m c.len-3.result c.requires copied);
       leaf = refl;
     }

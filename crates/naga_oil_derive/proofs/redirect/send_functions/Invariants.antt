@@ -10,5 +10,5 @@ abbrev pub invariant-loop-place : goal.invariant-loop-place
 invariant-loop-place l = record {
   long : length l.items.items ≡ length l.initial.items.items;
   unvisited : (k : ℕ) (d : Function × Span) → l.place ≤ k → get_or l.items.items k d ≡ get_or l.initial.items.items k d;
-  sent : function_values (take l.place l.items.items) ≡ map (send_at l.from l.to (contains_text l.omit)) (enumerate_from 0 (function_values (take l.place l.initial.items.items)));
+  sent : function_values (take l.place l.items.items) ≡ map (send_at l.pair.0 l.pair.1 (contains_text l.omit)) (enumerate_from 0 (function_values (take l.place l.initial.items.items)));
 }

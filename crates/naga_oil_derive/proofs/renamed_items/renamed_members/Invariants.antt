@@ -5,6 +5,6 @@ use Rattle.naga_oil_derive.proofs.renamed_items.renamed_members.Given as goal
 
 abbrev pub invariant-loop-member : goal.invariant-loop-member
 invariant-loop-member g l = record {
-  labels : map member_label l.out.items ≡ map member_label (take l.member-index l.members);
-  types : map member_type l.out.items ≡ map (option_map (rename_place (g.R.Renaming.renames l.names))) (map member_type (take l.member-index l.members));
+  labels : map member_label l.out.items ≡ map member_label (take l.member-index l.list);
+  types : map member_type l.out.items ≡ map (option_map (rename_place (g.R.Renaming.renames l.names))) (map member_type (take l.member-index l.list));
 }

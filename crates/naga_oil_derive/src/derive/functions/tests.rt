@@ -7,14 +7,15 @@ use crate::DerivedModule;
 use crate::derive::tests::set_source;
 use indexmap::IndexMap;
 use naga_oil_ir::{
-    Arena, Block, EntryPoint, Expression, Function, FunctionArgument, Handle, Index, LocalVariable,
-    Module, Range, Span, Statement, Type, TypeInner,
+    Arena, Block, EntryPoint, Expression, FormFault, Function, FunctionArgument, Handle, Index,
+    LocalVariable, Module, Range, Span, Statement, Type, TypeInner,
 };
 use std::alloc::{AllocError, Global};
 use std::process::Abort;
 use std::test::Fail;
 
 mod kinds;
+mod refused;
 
 const NONE: Span = Span::UNDEFINED;
 
@@ -149,16 +150,16 @@ fn function_at<'a>(
     derived: &DerivedModule<'a>,
     place: usize,
     alloc: Global,
-) -> Result<&'a Function, Fail>
+) -> Result<&'a Function, FormFault>
     ensures { IfOk result (λ f. CanImport derived.now (function_value f.now)) }
 {
     let Some(source) = derived.shader else {
-        return Err(Fail::from("a source"));
+        return Err(FormFault::WrongForm);
     };
     source.check_form(alloc, "", 1000)?;
     match source.functions.try_get(Index::new(place)) {
         Some(function) => Ok(function),
-        None => Err(Fail::from("a function")),
+        None => Err(FormFault::WrongForm),
     }
 }
 
@@ -167,26 +168,26 @@ fn place_of(
     derived: &DerivedModule<'_>,
     place: usize,
     alloc: Global,
-) -> Result<Handle<Function>, Fail>
+) -> Result<Handle<Function>, FormFault>
     ensures { IfOk result (CanCall derived.now) }
 {
     let Some(source) = derived.shader else {
-        return Err(Fail::from("a source"));
+        return Err(FormFault::WrongForm);
     };
     source.check_form(alloc, "", 1000)?;
     if place < source.functions.len() {
         return Ok(Index::new(place));
     }
-    Err(Fail::from("a function"))
+    Err(FormFault::WrongForm)
 }
 
 /// Tests the form of the source, whose entry points can be copied then.
-fn ask_entries(derived: &DerivedModule<'_>, alloc: Global) -> Result<(), Fail>
+fn ask_entries(derived: &DerivedModule<'_>, alloc: Global) -> Result<(), FormFault>
     ensures set { OnOk result (IsSome derived.now.source) }
     ensures entries { OnOk result (CanCopyEntries derived.now) }
 {
     let Some(source) = derived.shader else {
-        return Err(Fail::from("a source"));
+        return Err(FormFault::WrongForm);
     };
     source.check_form(alloc, "", 1000)?;
     Ok(())
@@ -432,7 +433,7 @@ fn shows_names<'a>(
 ) -> Result<(), Fail> {
     let handles = fill_by_name(derived, source, rt.alloc())?;
     assert!(rt; handles == [1, 1, 2]);
-    let functions = &derived.target.functions;
+    let functions = &derived.copying.target.functions;
     assert_eq!(rt; functions.len(), 3);
     assert_eq!(rt; functions.get_span(Index::new(1)), Span::new(103, 104));
     let f = functions.try_get(Index::new(0));

@@ -18,7 +18,7 @@ loop-entry-preserved c =
     let e = c.loop-entry.self in
     let f = c.copied_entry.new.self in
     record {
-      copied = entries_step d e f c.args.entries.now c.loop-entry.entry-index c.entry-item.result c.loop-entry.copies.items c.in_ok-copy.copy c.push.new.self.items c.loop-entry-test.true c.entry-item.is c.loop-entry.invariant.copied c.in_ok-copy.ensures.copied c.in_ok-push.ensures.items;
+      copied = entries_step d e f c.args.entries.now c.loop-entry.entry-index c.entry-item.result c.loop-entry.copies.items c.in_ok-copied_entry.field-0 c.push.new.self.items c.loop-entry-test.true c.entry-item.is c.loop-entry.invariant.copied c.in_ok-copied_entry.ensures.copied c.in_ok-push.ensures.items;
       keeps = functions_trans d e f c.loop-entry.invariant.keeps c.copied_entry.ensures.keeps;
     }
 
@@ -27,8 +27,8 @@ returns-clause-copied c =
     let xs = c.args.entries.now in
     subst (λ (ys : List EntryPoint). EntriesCopied c.args.self.now (map entry_value ys) (map entry_value c.loop-entry.copies.items) c.loop-entry.self) (take_all c.loop-entry.entry-index xs c.loop-entry-test.false) c.loop-entry.invariant.copied
 
-pub returns-in_err-copy-clause-keeps : goal.returns-in_err-copy-clause-keeps
-returns-in_err-copy-clause-keeps c = functions_trans c.args.self.now c.loop-entry.self c.copied_entry.new.self c.loop-entry.invariant.keeps c.copied_entry.ensures.keeps
+pub returns-in_err-copied_entry-clause-keeps : goal.returns-in_err-copied_entry-clause-keeps
+returns-in_err-copied_entry-clause-keeps c = functions_trans c.args.self.now c.loop-entry.self c.copied_entry.new.self c.loop-entry.invariant.keeps c.copied_entry.ensures.keeps
 
 pub returns-in_err-push-clause-keeps : goal.returns-in_err-push-clause-keeps
 returns-in_err-push-clause-keeps c = functions_trans c.args.self.now c.loop-entry.self c.copied_entry.new.self c.loop-entry.invariant.keeps c.copied_entry.ensures.keeps

@@ -5,22 +5,22 @@ use Rattle.naga_oil_derive.proofs.EntryAnswers.{answered_then}
 use Rattle.naga_oil_derive.proofs.EntrySteps.{Keeps-trans, kept_functions, functions_trans, if_mesh_later, sizes_on, mesh_on}
 use Rattle.naga_oil_derive.proofs.derive.DerivedModule.copied_entry.Goals as goal
 
-pub returns-in_err-workgroup_size_overrides-clause-keeps :
-    goal.returns-in_err-workgroup_size_overrides-clause-keeps
-returns-in_err-workgroup_size_overrides-clause-keeps c =
+pub returns-in_err-copied_sizes-clause-keeps :
+    goal.returns-in_err-copied_sizes-clause-keeps
+returns-in_err-copied_sizes-clause-keeps c =
     let a = c.localize_function.new.self in
     let b = c.copied_sizes.new.self in
     functions_trans c.args.self.now a b c.localize_function.ensures.keeps (kept_functions a b c.copied_sizes.ensures.keeps)
 
-pub returns-in_err-mesh_info-clause-keeps : goal.returns-in_err-mesh_info-clause-keeps
-returns-in_err-mesh_info-clause-keeps c =
+pub returns-in_err-copied_mesh-clause-keeps : goal.returns-in_err-copied_mesh-clause-keeps
+returns-in_err-copied_mesh-clause-keeps c =
     let a = c.localize_function.new.self in
     let b = c.copied_sizes.new.self in
     let e = c.copied_mesh.new.self in
     functions_trans c.args.self.now a e c.localize_function.ensures.keeps (kept_functions a e (Keeps-trans a b e c.copied_sizes.ensures.keeps c.copied_mesh.ensures.keeps))
 
-pub returns-in_err-task_payload-clause-keeps : goal.returns-in_err-task_payload-clause-keeps
-returns-in_err-task_payload-clause-keeps c =
+pub returns-in_err-copied_payload-clause-keeps : goal.returns-in_err-copied_payload-clause-keeps
+returns-in_err-copied_payload-clause-keeps c =
     let a = c.localize_function.new.self in
     let b = c.copied_sizes.new.self in
     let e = c.copied_mesh.new.self in
@@ -39,18 +39,18 @@ returns-clause-copied c =
     record {
       between = a;
       begins = c.localize_function.ensures.keeps;
-      answered = c.in_ok-function.ensures.answered;
-      meanings = c.in_ok-function.ensures.meanings;
-      function = c.in_ok-function.ensures.copies;
+      answered = c.in_ok-localize_function.ensures.answered;
+      meanings = c.in_ok-localize_function.ensures.meanings;
+      function = c.in_ok-localize_function.ensures.copies;
       rest = Keeps-trans a b f c.copied_sizes.ensures.keeps bf;
-      items = answered_then a b f (sizes_requests v.workgroup_size_overrides) (mesh_requests v.mesh_info ++ named_request (option_map GlobalItem v.task_payload)) c.copied_sizes.ensures.keeps.source c.in_ok-workgroup_size_overrides.ensures.answered (answered_then b e f (mesh_requests v.mesh_info) (named_request (option_map GlobalItem v.task_payload)) c.copied_mesh.ensures.keeps.source c.in_ok-mesh_info.ensures.answered c.in_ok-task_payload.ensures.answered);
+      items = answered_then a b f (sizes_requests v.workgroup_size_overrides) (mesh_requests v.mesh_info ++ named_request (option_map GlobalItem v.task_payload)) c.copied_sizes.ensures.keeps.source c.in_ok-copied_sizes.ensures.answered (answered_then b e f (mesh_requests v.mesh_info) (named_request (option_map GlobalItem v.task_payload)) c.copied_mesh.ensures.keeps.source c.in_ok-copied_mesh.ensures.answered c.in_ok-copied_payload.ensures.answered);
       name = c.in_ok-clone.ensures.cases;
       stage = refl;
       early_depth_test = refl;
       workgroup_size = refl;
-      sizes = sizes_on b f v.workgroup_size_overrides c.in_ok-workgroup_size_overrides.workgroup_size_overrides bf.source c.in_ok-workgroup_size_overrides.ensures.went;
-      mesh_info = mesh_on e f v.mesh_info c.in_ok-mesh_info.mesh_info ef.source c.in_ok-mesh_info.ensures.went;
-      task_payload = c.in_ok-task_payload.ensures.went;
+      sizes = sizes_on b f v.workgroup_size_overrides c.in_ok-copied_sizes.field-0 bf.source c.in_ok-copied_sizes.ensures.went;
+      mesh_info = mesh_on e f v.mesh_info c.in_ok-copied_mesh.field-0 ef.source c.in_ok-copied_mesh.ensures.went;
+      task_payload = c.in_ok-copied_payload.ensures.went;
     }
 
 pub returns-clause-keeps : goal.returns-clause-keeps

@@ -10,8 +10,8 @@ returns-in-None-clause-answered c =
     let d = c.args.self.now in
     subst (λ (o : Option ℕ). AreAnswered d (named_request (option_map ExpressionItem o)) d) (sym c.in-None.is) (answered_none d)
 
-pub returns-in_ok-copy-in-Some-clause-answered : goal.returns-in_ok-copy-in-Some-clause-answered
-returns-in_ok-copy-in-Some-clause-answered c =
+pub returns-in_ok-import_global_expression-in-Some-clause-answered : goal.returns-in_ok-import_global_expression-in-Some-clause-answered
+returns-in_ok-import_global_expression-in-Some-clause-answered c =
     let d = c.args.self.now in
     let e = c.import_global_expression.new.self in
-    subst (λ (o : Option ℕ). AreAnswered d (named_request (option_map ExpressionItem o)) e) (sym c.in-Some.is) (answered_item d e (ExpressionItem c.in-Some.handle) (ExpressionItem c.in_ok-copy-in-Some.copy) c.in_ok-copy-in-Some.ensures.imported c.import_global_expression.ensures.reads c.import_global_expression.ensures.keeps)
+    subst (λ (o : Option ℕ). AreAnswered d (named_request (option_map ExpressionItem o)) e) (sym c.in-Some.is) (answered_item d e (ExpressionItem c.in-Some.handle) (ExpressionItem c.in_ok-import_global_expression-in-Some.field-0) c.in_ok-import_global_expression-in-Some.ensures.imported c.import_global_expression.ensures.reads c.import_global_expression.ensures.keeps)

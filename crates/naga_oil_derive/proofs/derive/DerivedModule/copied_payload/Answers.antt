@@ -10,8 +10,8 @@ returns-in-None-clause-answered c =
     let d = c.args.self.now in
     subst (λ (o : Option ℕ). AreAnswered d (named_request (option_map GlobalItem o)) d) (sym c.in-None.is) (answered_none d)
 
-pub returns-in_ok-copy-in-Some-clause-answered : goal.returns-in_ok-copy-in-Some-clause-answered
-returns-in_ok-copy-in-Some-clause-answered c =
+pub returns-in_ok-import_global-in-Some-clause-answered : goal.returns-in_ok-import_global-in-Some-clause-answered
+returns-in_ok-import_global-in-Some-clause-answered c =
     let d = c.args.self.now in
     let e = c.import_global.new.self in
-    subst (λ (o : Option ℕ). AreAnswered d (named_request (option_map GlobalItem o)) e) (sym c.in-Some.is) (answered_item d e (GlobalItem c.in-Some.handle) (GlobalItem c.in_ok-copy-in-Some.copy) c.in_ok-copy-in-Some.ensures.imported c.import_global.ensures.reads c.import_global.ensures.keeps)
+    subst (λ (o : Option ℕ). AreAnswered d (named_request (option_map GlobalItem o)) e) (sym c.in-Some.is) (answered_item d e (GlobalItem c.in-Some.handle) (GlobalItem c.in_ok-import_global-in-Some.field-0) c.in_ok-import_global-in-Some.ensures.imported c.import_global.ensures.reads c.import_global.ensures.keeps)

@@ -9,6 +9,6 @@ use Rattle.naga_oil_derive.proofs.derive.DerivedModule.has_required_special_type
 pub returns : goal.returns
 returns c =
     let s = c.self.inside in
-    let v = special_value s.target.special_types in
+    let v = special_value s.copying.target.special_types in
     let count = entries_length v c.is_some.result c.is_some-2.result c.is_some-3.result (sym c.is_some.ensures) (sym c.is_some-2.ensures) (sym c.is_some-3.ensures) in
-    subst (λ (es : List Entry). IsTrue (((not c.is_empty.result || c.is_some.result) || c.is_some-2.result) || c.is_some-3.result) ↔ (0 < length es)) (entries_seen s.shader s.maps s.target s.function_names.entries c.args.self.now c.self.view_is) (any_entry c.is_empty.result (length v.predeclared_types) c.is_some.result c.is_some-2.result c.is_some-3.result (length (special_entries v)) count c.is_empty.ensures)
+    subst (λ (es : List Entry). IsTrue (((not c.is_empty.result || c.is_some.result) || c.is_some-2.result) || c.is_some-3.result) ↔ (0 < length es)) (entries_seen s.shader s.copying.maps s.copying.target s.function_names.entries c.args.self.now c.self.view_is) (any_entry c.is_empty.result (length v.predeclared_types) c.is_some.result c.is_some-2.result c.is_some-3.result (length (special_entries v)) count c.is_empty.ensures)

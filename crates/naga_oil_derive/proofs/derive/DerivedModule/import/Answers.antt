@@ -4,20 +4,20 @@ use Rattle.naga_oil_derive.proofs.derive.DerivedModule.import.Goals as goal
 pub invariant_of-self : goal.invariant_of-self
 invariant_of-self c =
     let s = c.self.inside in
-    derived_later s.shader c.in-Some.shader s.target c.copy_item.new.target s.maps c.copy_item.new.maps c.in-Some.is c.self.invariant c.copy_item.ensures.copying c.copy_item.ensures.grows
+    derived_later s.shader c.in-Some.shader s.copying.target c.copy_item.new.self.target s.copying.maps c.copy_item.new.self.maps c.in-Some.is c.self.invariant c.copy_item.ensures.copying c.copy_item.ensures.grows
 
 pub returns-clause-imported : goal.returns-clause-imported
 returns-clause-imported c =
     let s = c.self.inside in
     let e = c.copy_item.ensures in
-    imports_ok c.copy_item.result s.shader c.in-Some.shader s.target c.copy_item.new.target s.maps c.copy_item.new.maps s.function_names.entries c.args.self.now c.args.item c.in-Some.is c.self.view_is e.copying e.grows e.reads e.went e.collects
+    imports_ok c.copy_item.result s.shader c.in-Some.shader s.copying.target c.copy_item.new.self.target s.copying.maps c.copy_item.new.self.maps s.function_names.entries c.args.self.now c.args.item c.in-Some.is c.self.view_is e.copying e.grows e.reads e.went e.collects
 
 pub returns-clause-reads : goal.returns-clause-reads
 returns-clause-reads c =
     let s = c.self.inside in
-    reads_one s.shader c.in-Some.shader s.target c.copy_item.new.target s.maps c.copy_item.new.maps s.function_names.entries c.args.self.now c.in-Some.is c.self.view_is c.copy_item.ensures.reads
+    reads_one s.shader c.in-Some.shader s.copying.target c.copy_item.new.self.target s.copying.maps c.copy_item.new.self.maps s.function_names.entries c.args.self.now c.in-Some.is c.self.view_is c.copy_item.ensures.reads
 
 pub returns-clause-keeps : goal.returns-clause-keeps
 returns-clause-keeps c =
     let s = c.self.inside in
-    keeps_one s.shader s.target c.copy_item.new.target s.maps c.copy_item.new.maps s.function_names.entries c.args.self.now c.self.view_is c.copy_item.ensures.grows
+    keeps_one s.shader s.copying.target c.copy_item.new.self.target s.copying.maps c.copy_item.new.self.maps s.function_names.entries c.args.self.now c.self.view_is c.copy_item.ensures.grows

@@ -10,7 +10,7 @@ returns-in-Some-clause-known c =
     let o = c.args.func.now.name in
     let x = known_as s.function_names o in
     let y = meant c.args.self.now.function_names (option_map string_bytes o) in
-    λ h e. (ap Ok (one_meant x y c.in-Some.known h c.in-Some.ensures (meant_in s.shader s.maps s.target s.function_names c.args.self.now o c.self.view_is) e), refl)
+    λ h e. (ap Ok (one_meant x y c.in-Some.known h c.in-Some.ensures (meant_in s.shader s.copying.maps s.copying.target s.function_names c.args.self.now o c.self.view_is) e), refl)
 
 pub returns-in-Some-clause-imported : goal.returns-in-Some-clause-imported
 returns-in-Some-clause-imported c =
@@ -18,7 +18,7 @@ returns-in-Some-clause-imported c =
     let o = c.args.func.now.name in
     let x = known_as s.function_names o in
     let y = meant c.args.self.now.function_names (option_map string_bytes o) in
-    λ e. absurd (none_meant x y c.in-Some.known c.in-Some.ensures (meant_in s.shader s.maps s.target s.function_names c.args.self.now o c.self.view_is) e)
+    λ e. absurd (none_meant x y c.in-Some.known c.in-Some.ensures (meant_in s.shader s.copying.maps s.copying.target s.function_names c.args.self.now o c.self.view_is) e)
 
 pub returns-in-None-clause-known : goal.returns-in-None-clause-known
 returns-in-None-clause-known c =
@@ -26,4 +26,4 @@ returns-in-None-clause-known c =
     let o = c.args.func.now.name in
     let x = known_as s.function_names o in
     let y = meant c.args.self.now.function_names (option_map string_bytes o) in
-    λ h e. absurd (meant_none x y h c.in-None.ensures (meant_in s.shader s.maps s.target s.function_names c.args.self.now o c.self.view_is) e)
+    λ h e. absurd (meant_none x y h c.in-None.ensures (meant_in s.shader s.copying.maps s.copying.target s.function_names c.args.self.now o c.self.view_is) e)

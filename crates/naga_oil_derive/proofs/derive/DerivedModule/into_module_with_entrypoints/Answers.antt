@@ -4,9 +4,9 @@ use Rattle.naga_oil_derive.proofs.derive.DerivedModule.into_module_with_entrypoi
 pub copied_entries-requires : goal.copied_entries-requires
 copied_entries-requires c =
     let s = c.self.inside in
-    entries_in s.shader c.unwrap-source.result s.maps s.target s.function_names.entries c.args.self c.deref.result.now c.unwrap-source.ensures c.self.view_is c.deref.ensures.value c.requires.entries
+    entries_in s.shader c.unwrap-source.result s.copying.maps s.copying.target s.function_names.entries c.args.self c.deref.result.now c.unwrap-source.ensures c.self.view_is c.deref.ensures.value c.requires.entries
 
 pub returns : goal.returns
 returns c =
     let s = c.self.inside in
-    made_in s.shader c.unwrap-source.result s.maps s.target s.function_names.entries c.args.self c.copied_entries.new.self c.deref.result.now c.from-module.result c.in_ok-entries.entries c.unwrap-source.ensures c.self.view_is c.deref.ensures.value c.copied_entries.ensures.keeps c.in_ok-entries.ensures.copied c.from-module.ensures
+    made_in s.shader c.unwrap-source.result s.copying.maps s.copying.target s.function_names.entries c.args.self c.copied_entries.new.self c.deref.result.now c.from-module.result c.in_ok-entries.entries c.unwrap-source.ensures c.self.view_is c.deref.ensures.value c.copied_entries.ensures.keeps c.in_ok-entries.ensures.copied c.from-module.ensures

@@ -6,19 +6,19 @@ use Rattle.naga_oil_derive.proofs.FunctionCalls.{call_in, copying_in, derived_fu
 use Rattle.naga_oil_derive.proofs.derive.DerivedModule.map_function_handle.Goals as goal
 
 pub import_callee-handle-requires-clause-copying : goal.import_callee-handle-requires-clause-copying
-import_callee-handle-requires-clause-copying c = copying_in c.self.inside.shader c.unwrap-source.result c.self.inside.target c.take-taken.new.target c.self.inside.maps c.unwrap-source.ensures c.self.invariant c.take-taken.ensures.left
+import_callee-handle-requires-clause-copying c = copying_in c.self.inside.shader c.unwrap-source.result c.self.inside.copying.target c.take-taken.new.target c.self.inside.copying.maps c.unwrap-source.ensures c.self.invariant c.take-taken.ensures.left
 
 pub import_callee-handle-requires-clause-answerable : goal.import_callee-handle-requires-clause-answerable
 import_callee-handle-requires-clause-answerable c =
     let s = c.self.inside in
     let names : c.take-taken.result.names.entries ≡ s.function_names.entries = λ i. (c.take-taken.ensures.taken.1 i).entries in
-    call_in s.shader c.unwrap-source.result s.maps s.target c.take-taken.result s.function_names.entries c.args.self.now c.len-depth.result c.args.h_func.now c.unwrap-source.ensures c.self.view_is names c.len-depth.ensures c.requires.1
+    call_in s.shader c.unwrap-source.result s.copying.maps s.copying.target c.take-taken.result s.function_names.entries c.args.self.now c.len-depth.result c.args.h_func.now c.unwrap-source.ensures c.self.view_is names c.len-depth.ensures c.requires.1
 
 pub invariant_of-self : goal.invariant_of-self
 invariant_of-self c =
     let s = c.self.inside in
     let e = c.import_callee-handle.ensures in
-    derived_functions s.shader c.unwrap-source.result s.target c.take-taken.new.target c.import_callee-handle.new.target c.put.new.target s.maps c.import_callee-handle.new.maps c.import_callee-handle.new.functions.copies c.unwrap-source.ensures c.self.invariant c.take-taken.ensures.left e.copying e.grows c.put.ensures.target
+    derived_functions s.shader c.unwrap-source.result s.copying.target c.take-taken.new.target c.import_callee-handle.new.copying.target c.put.new.target s.copying.maps c.import_callee-handle.new.copying.maps c.import_callee-handle.new.functions.copies c.unwrap-source.ensures c.self.invariant c.take-taken.ensures.left e.copying e.grows c.put.ensures.target
 
 pub returns-clause-keeps : goal.returns-clause-keeps
 returns-clause-keeps c =
@@ -26,23 +26,23 @@ returns-clause-keeps c =
     let names : c.take-taken.result.names.entries ≡ s.function_names.entries = λ i. (c.take-taken.ensures.taken.1 i).entries in
     let e = c.import_callee-handle.ensures in
     let seen : c.put.new.names.entries ≡ c.import_callee-handle.new.functions.names.entries = λ i. (c.put.ensures.names i).entries in
-    keeps_functions s.shader s.target c.take-taken.new.target c.import_callee-handle.new.target c.put.new.target s.maps c.import_callee-handle.new.maps c.take-taken.result c.import_callee-handle.new.functions s.function_names.entries c.put.new.names.entries c.args.self.now c.self.view_is c.take-taken.ensures.left c.take-taken.ensures.taken.0 names e.grows e.functions c.put.ensures.target seen
+    keeps_functions s.shader s.copying.target c.take-taken.new.target c.import_callee-handle.new.copying.target c.put.new.target s.copying.maps c.import_callee-handle.new.copying.maps c.take-taken.result c.import_callee-handle.new.functions s.function_names.entries c.put.new.names.entries c.args.self.now c.self.view_is c.take-taken.ensures.left c.take-taken.ensures.taken.0 names e.grows e.functions c.put.ensures.target seen
 
 pub returns-clause-means : goal.returns-clause-means
 returns-clause-means c =
     let seen : c.put.new.names.entries ≡ c.import_callee-handle.new.functions.names.entries = λ i. (c.put.ensures.names i).entries in
-    means_ok c.import_callee-handle.result c.self.inside.shader c.unwrap-source.result c.import_callee-handle.new.maps c.put.new.target c.import_callee-handle.new.functions c.put.new.names.entries c.args.h_func.now c.unwrap-source.ensures seen c.import_callee-handle.ensures.callee
+    means_ok c.import_callee-handle.result c.self.inside.shader c.unwrap-source.result c.import_callee-handle.new.copying.maps c.put.new.target c.import_callee-handle.new.functions c.put.new.names.entries c.args.h_func.now c.unwrap-source.ensures seen c.import_callee-handle.ensures.callee
 
 pub returns-clause-meanings : goal.returns-clause-meanings
 returns-clause-meanings c =
     let s = c.self.inside in
     let names : c.take-taken.result.names.entries ≡ s.function_names.entries = λ i. (c.take-taken.ensures.taken.1 i).entries in
     let seen : c.put.new.names.entries ≡ c.import_callee-handle.new.functions.names.entries = λ i. (c.put.ensures.names i).entries in
-    keeps_meanings c.import_callee-handle.result s.shader c.unwrap-source.result.now s.maps c.import_callee-handle.new.maps s.maps s.target c.take-taken.new.target c.import_callee-handle.new.target c.put.new.target c.take-taken.result c.import_callee-handle.new.functions s.function_names.entries c.put.new.names.entries c.args.self.now (Call c.args.h_func.now ∷ []) c.self.view_is names seen c.import_callee-handle.ensures.imported
+    keeps_meanings c.import_callee-handle.result s.shader c.unwrap-source.result.now s.copying.maps c.import_callee-handle.new.copying.maps s.copying.maps s.copying.target c.take-taken.new.target c.import_callee-handle.new.copying.target c.put.new.target c.take-taken.result c.import_callee-handle.new.functions s.function_names.entries c.put.new.names.entries c.args.self.now (Call c.args.h_func.now ∷ []) c.self.view_is names seen c.import_callee-handle.ensures.imported
 
 pub returns-clause-answered : goal.returns-clause-answered
 returns-clause-answered c =
     let s = c.self.inside in
     let names : c.take-taken.result.names.entries ≡ s.function_names.entries = λ i. (c.take-taken.ensures.taken.1 i).entries in
     let seen : c.put.new.names.entries ≡ c.import_callee-handle.new.functions.names.entries = λ i. (c.put.ensures.names i).entries in
-    answered_ok c.import_callee-handle.result s.shader c.unwrap-source.result s.maps c.import_callee-handle.new.maps s.target c.take-taken.new.target c.import_callee-handle.new.target c.put.new.target c.take-taken.result c.import_callee-handle.new.functions s.function_names.entries c.put.new.names.entries c.args.self.now (Call c.args.h_func.now ∷ []) c.unwrap-source.ensures c.self.view_is c.take-taken.ensures.left c.take-taken.ensures.taken.0 names c.put.ensures.target seen c.import_callee-handle.ensures.imported
+    answered_ok c.import_callee-handle.result s.shader c.unwrap-source.result s.copying.maps c.import_callee-handle.new.copying.maps s.copying.target c.take-taken.new.target c.import_callee-handle.new.copying.target c.put.new.target c.take-taken.result c.import_callee-handle.new.functions s.function_names.entries c.put.new.names.entries c.args.self.now (Call c.args.h_func.now ∷ []) c.unwrap-source.ensures c.self.view_is c.take-taken.ensures.left c.take-taken.ensures.taken.0 names c.put.ensures.target seen c.import_callee-handle.ensures.imported

@@ -16,4 +16,4 @@ ordered-requires c = subst (λ (fs : List (Function × Span)). StayWithin (calls
 
 pub returns-clause-order : goal.returns-clause-order
 returns-clause-order c =
-    (subst (λ (v : ModuleValue). IsInOrder v (value_of c.in_ok-module.module)) (value_seen c.self.inside.module c.args.self c.self.view_is) c.in_ok-module.ensures, tt)
+    (subst (λ (v : ModuleValue). IsInOrder v (value_of c.in_ok-in_order.field-0)) (value_seen c.self.inside.module c.args.self c.self.view_is) c.in_ok-in_order.ensures, tt)

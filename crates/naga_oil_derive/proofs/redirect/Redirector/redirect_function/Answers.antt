@@ -12,4 +12,4 @@ invariant_of-self c =
     let m = c.self.inside.module in
     let value : Function × Span → FunctionValue × Span = λ e. (function_value e.0, e.1) in
     let within : c.in_ok-from.to < length m.functions = omega (arith, c.in_ok-from.ensures.within, ap (λ (v : ModuleValue). length v.functions) c.self.view_is, length-map m.functions value) in
-    redirectable-sent m c.send_functions.new.functions c.send_entries.new.entries c.in_ok-from.from c.in_ok-from.to (contains_text c.args.omit.now) within c.self.invariant c.send_functions.ensures c.send_entries.ensures
+    redirectable-sent m c.send_functions.new.arena c.send_entries.new.entries c.in_ok-from.from c.in_ok-from.to (contains_text c.args.omit.now) within c.self.invariant c.send_functions.ensures c.send_entries.ensures

@@ -519,7 +519,7 @@ fn shows_kinds<'a>(
 ) -> Result<(), Fail> {
     set_source(derived, source, 100, rt.alloc())?;
     copied(derived, 1, rt.alloc())?;
-    let target = &derived.target;
+    let target = &derived.copying.target;
     let handle = Index::new(1);
     assert_eq!(rt; target.functions.get_span(handle), Span::new(103, 104));
     let counts = [

@@ -10,4 +10,4 @@ returns-in-Some-try_get c =
     let s = c.derived.inside in
     let source = c.in-Some.source in
     let at = sym (found _ _ c.in-Some-try_get.function c.try_get.ensures c.in-Some-try_get.is) ∙ ap (λ (k : ℕ). option_map (λ (e : Function × Span). e.0) (slice_get source.now.functions k)) c.new.ensures in
-    form_import s.shader source s.maps s.target s.function_names.entries c.args.derived.now [] 1000 c.args.place c.in-Some-try_get.function.now c.in-Some.is c.derived.view_is c.in_ok-check_form.ensures.ok at
+    form_import s.shader source s.copying.maps s.copying.target s.function_names.entries c.args.derived.now [] 1000 c.args.place c.in-Some-try_get.function.now c.in-Some.is c.derived.view_is c.in_ok-check_form.ensures.ok at

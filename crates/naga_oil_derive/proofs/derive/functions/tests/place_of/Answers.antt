@@ -7,4 +7,4 @@ pub returns-then-place-len : goal.returns-then-place-len
 returns-then-place-len c =
     let s = c.derived.inside in
     let there : c.args.place < length c.in-Some.source.now.functions = omega arith in
-    subst (CanCall c.args.derived.now) (sym c.new.ensures) (form_call s.shader c.in-Some.source s.maps s.target s.function_names.entries c.args.derived.now [] 1000 c.args.place c.in-Some.is c.derived.view_is c.in_ok-check_form.ensures.ok there)
+    subst (CanCall c.args.derived.now) (sym c.new.ensures) (form_call s.shader c.in-Some.source s.copying.maps s.copying.target s.function_names.entries c.args.derived.now [] 1000 c.args.place c.in-Some.is c.derived.view_is c.in_ok-check_form.ensures.ok there)

@@ -1,0 +1,19 @@
+use Rattle.std.proofs.Common.{◌≡◌, ◌+◌, ◌*◌, All, take}
+use Rattle.naga_oil_derive.specs.Copying.{IsCopying, Grows, IsSameFrom, WentSomewhere, CollectsNames, goes_under, rank, source_world}
+use Rattle.naga_oil_derive.proofs.copy.Copying.+copying.Given as goal
+
+abbrev pub decreases-copy_names : goal.decreases-copy_names
+decreases-copy_names l = 2 * rank l.source.now l.item.now
+
+abbrev pub decreases-copy_item : goal.decreases-copy_item
+decreases-copy_item l = 2 * rank l.source.now l.item.now + 1
+
+abbrev pub invariant-copy_names-loop-name : goal.invariant-copy_names-loop-name
+invariant-copy_names-loop-name l = record {
+  copying : IsCopying l.source l.self.target l.self.maps;
+  grows : Grows l.fn.self.maps l.self.maps l.fn.self.target l.self.target;
+  reads : source_world l.source l.self.target l.self.maps ≡ source_world l.source l.fn.self.target l.fn.self.maps;
+  same : IsSameFrom l.source (rank l.source l.item) l.fn.self.maps l.self.maps;
+  collects : CollectsNames l.source l.fn.self.maps l.fn.self.target (take l.name-index l.names) l.self.target;
+  went : All (WentSomewhere (goes_under l.self.maps)) (take l.name-index l.names);
+}

@@ -1,0 +1,16 @@
+use Rattle.std.proofs.Common.{◌≡◌, take, length, ◌-◌}
+use Rattle.std.specs.List.{flat_map}
+use Rattle.naga_oil_ir.specs.Links.{lists, linked, added, trail}
+use Rattle.naga_oil_ir.specs.BodyForm.{run}
+use Rattle.naga_oil_derive.specs.Walk.{IsReady, externals, brief, notes_after}
+use Rattle.naga_oil_derive.specs.Walks.{IsOver}
+use Rattle.naga_oil_derive.specs.Naming.{names_from, name_at, token_names, local_names, Adds}
+use Rattle.naga_oil_derive.proofs.function_walk.add_tokens.Given as goal
+
+abbrev pub invariant-loop-token : goal.invariant-loop-token
+invariant-loop-token l = record {
+  so_far : l.walk.places.items ≡ added l.fn.walk.places.items (flat_map (brief l.of.kinds.items (lists l.of.links.items)) (take l.token-index l.tokens));
+  emitted : l.walk.emitted.items ≡ notes_after l.of.kinds.items (lists l.of.links.items) l.fn.walk.places.items l.fn.walk.emitted.items (take l.token-index l.tokens);
+  requests : Adds l.fn.walk.requests.items (flat_map (token_names l.of.kinds.items l.of.named.items (lists l.of.links.items)) (take l.token-index l.tokens)) l.walk.requests.items;
+  over : IsOver l.of l.walk;
+}
