@@ -3,6 +3,7 @@ mod composing;
 mod examples;
 mod faults;
 mod front;
+mod malformed;
 mod pointing;
 mod projects;
 mod registry;
