@@ -1,5 +1,5 @@
 -- What a build's steps answer.
-use Rattle.std.proofs.Common.{◌≡◌, ℕ, ◌++◌, Bool, true, false, cond, eqb, List, map, Option, Some, None, Result, Ok, Err, refl, sym, ap, subst, ◌∙◌}
+use Rattle.std.proofs.Common.{◌≡◌, ℕ, ◌++◌, List, map, Ok, Err, refl}
 use Rattle.naga_oil_ir.specs.Backend.{FrontEnd, FaultValue}
 use Rattle.naga_oil_ir.specs.ModuleValue.{ModuleValue}
 use Rattle.naga_oil_ir.specs.declared.backend.Capabilities.{Capabilities}
@@ -7,7 +7,7 @@ use Rattle.naga_oil_ir.specs.declared.language.ShaderLanguage.{ShaderLanguage}
 use Rattle.naga_oil_lines.specs.Uses.{Use}
 use Rattle.naga_oil_pre.specs.Fault.{Fault, Definitions, header_validation}
 use Rattle.naga_oil_pre.specs.Preprocessed.{Output, preprocessed}
-use Rattle.naga_oil.specs.Built.{back_fault, parse_fault, header_text, parsed_text, preprocessed_of}
+use Rattle.naga_oil.specs.Built.{back_fault, header_text, preprocessed_of}
 use Rattle.naga_oil.specs.Definition.{Definition}
 use Rattle.naga_oil.specs.Merged.{used_at_start}
 

@@ -1,5 +1,5 @@
 -- What a make comes to, at each of its ends.
-use Rattle.std.proofs.Common.{◌≡◌, ◌≤◌, ℕ, List, [], ◌∷◌, map, All, Option, Some, None, MatchOption, option_map, Result, Ok, Err, refl, sym, ap, subst, ◌∙◌, inl, inr}
+use Rattle.std.proofs.Common.{◌≡◌, ◌≤◌, ℕ, List, [], ◌∷◌, map, All, Option, Some, None, MatchOption, option_map, Result, Ok, Err, refl, sym, ap, subst, inl, inr}
 use Rattle.std.proofs.lemmas.List.Elements.{All-nil, All-cons}
 use Rattle.naga_oil_pre.specs.Fault.{Fault}
 use Rattle.naga_oil_pre.specs.View.{fault_of, Fails}
@@ -9,8 +9,8 @@ use Rattle.naga_oil.specs.declared.compose.error.ComposerError.{ComposerError}
 use Rattle.naga_oil.specs.Added.{read_source, counter_behind, counter_after}
 use Rattle.naga_oil.specs.Definition.{definition_of}
 use Rattle.naga_oil.specs.Descriptor.{ShaderSource}
-use Rattle.naga_oil.specs.Makes.{IsRefusedSo, Makes}
-use Rattle.naga_oil.specs.Refused.{Refused, refused_of, Place, place_of, nowhere, in_text, UnlessMemory}
+use Rattle.naga_oil.specs.Makes.{Makes}
+use Rattle.naga_oil.specs.Refused.{Refused, refused_of, place_of, nowhere, in_text, UnlessMemory}
 use Rattle.naga_oil.specs.Registry.{IsRegistry}
 use Rattle.naga_oil.specs.State.{State}
 use Rattle.naga_oil.proofs.AddsLemmas.{IsRefusal}

@@ -1,15 +1,21 @@
 -- A module that was built under some definitions, without where it lies in memory.
-use Rattle.std.specs.Prelude.{ℕ, List, map, String, string_bytes}
+use Rattle.std.specs.Prelude.{ℕ, Bool, false, List, map, String, Vec, string_bytes}
 use Rattle.std.specs.declared.alloc.Global.{Global}
 use Rattle.indexmap.specs.IndexMap.{IndexMap}
 use Rattle.naga_oil_ir.specs.ModuleValue.{ModuleValue}
+use Rattle.naga_oil_ir.specs.declared.names.ItemPlace.{ItemPlace}
+use Rattle.naga_oil_ir.specs.declared.names.ItemPlace.TheVariants.{TypeItem, ConstantItem, OverrideItem, GlobalItem, ExpressionItem}
 use Rattle.naga_oil_lines.specs.Uses.{Import, import_of}
+use Rattle.naga_oil_pre.specs.Recorded.{is_among}
 use Rattle.naga_oil.specs.Definition.{texts}
 use Rattle.naga_oil.specs.declared.compose.module.ComposableModule.{ComposableModule}
 
 -- functions, each with those that override it
 abbrev pub Overriding : Type 0
 Overriding = List (List ℕ × List (List ℕ))
+
+abbrev pub overriding_of : {S : Type 0} → IndexMap (String Global) (Vec (String Global) Global) S → Overriding
+overriding_of m = map (λ e. (string_bytes e.0, texts e.1.items)) m.entries
 
 pub record BuiltModule : Type 0 where
   -- what stands behind the names of its items
@@ -42,7 +48,7 @@ built_of b = record {
   globals = texts b.owned_vars.keys;
   functions = texts b.owned_functions.keys;
   virtuals = texts b.virtual_functions.keys;
-  overriding = map (λ e. (string_bytes e.0, texts e.1.items)) b.override_functions.entries;
+  overriding = overriding_of b.override_functions;
   value = b.module_ir;
   header = b.header_ir;
   offset = b.start_offset;
@@ -55,3 +61,11 @@ Builds = List (List ℕ × BuiltModule)
 
 abbrev pub builds_of : {S : Type 0} → IndexMap (String Global) ComposableModule S → Builds
 builds_of m = map (λ e. (string_bytes e.0, built_of e.1)) m.entries
+
+-- whether a name is that of one of its own items, of the kind of a place
+abbrev pub owns : BuiltModule → ItemPlace → List ℕ → Bool
+owns b (TypeItem k) name = is_among b.types name
+owns b (ConstantItem k) name = is_among b.constants name
+owns b (OverrideItem k) name = is_among b.pipeline_overrides name
+owns b (GlobalItem k) name = is_among b.globals name
+owns b (ExpressionItem k) name = false

@@ -26,6 +26,7 @@ mod items;
 mod keywords;
 mod link;
 mod make;
+mod marked;
 mod merge;
 mod module;
 mod registry;

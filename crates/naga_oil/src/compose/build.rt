@@ -1,21 +1,31 @@
 // Builds of texts: the module that each says beside what it imports.
-ghost use Rattle.std.specs.Prelude.{◌≡◌, ◌≤◌, All, string_bytes};
+ghost use Rattle.std.specs.Prelude.{◌≡◌, ◌≤◌, [], map, All, string_bytes, IfOk, OnOk};
 ghost use Rattle.std.specs.BTreeMap.{get_by_text};
 ghost use Rattle.naga_oil_ir.specs.ModuleValue.{module_value};
+ghost use Rattle.naga_oil.specs.Afresh.{entered, any_build, setting_of, may_import, Reaching, Unless, UnlessBuilt, EachReached, OneUnreached, Reached, Unreached};
+ghost use Rattle.naga_oil_lines.specs.Uses.{import_of, use_of};
 ghost use Rattle.naga_oil_pre.specs.KnownView.{output_of};
 ghost use Rattle.naga_oil_pre.specs.View.{Gives};
 ghost use Rattle.naga_oil.specs.Built.{answered, build_place, IsToldAt, ToldAt, preprocessed_of, header_text, parsed_text};
-ghost use Rattle.naga_oil.specs.Definition.{definition_of, defs_of};
+ghost use Rattle.naga_oil.specs.BuiltModule.{BuiltModule, built_of, builds_of};
+ghost use Rattle.naga_oil.specs.Begun.{decoration_of, nothing_built, begun};
+ghost use Rattle.naga_oil.specs.Definition.{definition_of, defs_of, texts};
+ghost use Rattle.naga_oil.specs.Headed.{first_lines, HeadingAnswers};
+ghost use Rattle.naga_oil.specs.Linked.{HeaderAnswers};
+ghost use Rattle.naga_oil.specs.Overriding.{overriding_of, overridden_by, with_overriding, build_named, with_build, imported_overriding};
+ghost use Rattle.naga_oil.specs.Relations.{AnswersBy, GivesBy};
 
-use crate::compose::definition::{Checked, Definition, Defs, Overrides, Tried};
+use crate::compose::definition::{Checked, Definition, Defs, Names, Overrides, Tried};
 use crate::compose::error::{ComposerError, EnsureImportsError as Missing, refused, refused_in};
+use crate::compose::formed::FormedModule;
 use crate::compose::link::{Builds, Linker};
+use crate::compose::marked::Over;
 use crate::compose::merge::{imports_of, push_additional};
 use crate::compose::module::ComposableModule;
 use crate::compose::virtuals::{add_override, read_functions};
 use naga_oil_ir::{Backend, BackendRefusal, Capabilities, Module, ShaderLanguage};
-use naga_oil_lines::ImportDefinition;
 use naga_oil_lines::decorate::decorated_name;
+use naga_oil_lines::{ImportDefWithOffset, ImportDefinition};
 use naga_oil_pre::{ComposerErrorInner as Inner, PreprocessOutput, Preprocessor};
 use std::alloc::Global;
 
@@ -42,7 +52,9 @@ pub(crate) fn answered<T, F>(answer: Result<T, BackendRefusal<F>>) -> Checked<Re
 }
 
 // Adds the functions that override one.
-fn add_overriding(alloc: Global, all: &mut Overrides, base: &str, names: &[String]) -> Tried<()> {
+fn add_overriding(alloc: Global, all: &mut Overrides, base: &str, names: &[String]) -> Tried<()>
+    ensures { OnOk result (overriding_of all.new ≡ overridden_by (overriding_of all.old) base.now (texts names.now)) }
+{
     for name in names {
         add_override(alloc, all, base, name.as_str())?;
     }
@@ -50,18 +62,76 @@ fn add_overriding(alloc: Global, all: &mut Overrides, base: &str, names: &[Strin
 }
 
 // Adds functions that are overridden, each with those that override it.
-fn add_overrides(alloc: Global, all: &mut Overrides, others: &Overrides) -> Tried<()> {
+fn add_overrides(alloc: Global, all: &mut Overrides, others: &Overrides) -> Tried<()>
+    ensures { OnOk result (overriding_of all.new ≡ with_overriding (overriding_of all.old) (overriding_of others.now)) }
+{
     for (base, names) in others.iter() {
         add_overriding(alloc, all, base.as_str(), names)?;
     }
     Ok(())
 }
 
+// What stands first: a module's directives, or the version line of GLSL.
+fn first_lines(alloc: Global, of: &Definition) -> Tried<String>
+    ensures { IfOk result (λ text. string_bytes text ≡ first_lines (definition_of of.now).language (definition_of of.now).directives) }
+{
+    match of.language {
+        ShaderLanguage::Wgsl => of.wgsl_directives.to_wgsl_string(alloc),
+        ShaderLanguage::Glsl => String::from_str(alloc, "#version 450\n"),
+    }
+}
+
+// Adds the functions that are overridden in the build of a name, if there is one.
+fn add_imported(alloc: Global, all: &mut Overrides, builds: &Builds, name: &str) -> Tried<()>
+    ensures { OnOk result (overriding_of all.new ≡ with_build (overriding_of all.old) (build_named (builds_of builds.now) name.now)) }
+{
+    match builds.get(name) {
+        Some(build) => add_overrides(alloc, all, &build.override_functions),
+        None => Ok(()),
+    }
+}
+
 // Enters a build under its name.
-fn enter(alloc: Global, builds: &mut Builds, name: &str, built: ComposableModule) -> Checked<()> {
+fn enter(alloc: Global, builds: &mut Builds, name: &str, built: ComposableModule) -> Checked<()>
+    ensures { GivesBy (λ _. builds_of builds.new ≡ entered (builds_of builds.old) name.now (built_of built)) (λ _. ⊥) result }
+{
     let name = String::from_str(alloc, name)?;
     builds.entry(name)?.or_insert(built);
     Ok(())
+}
+
+// What stands behind the names of a module's items; nothing behind those of the shader.
+fn decoration_of(alloc: Global, of: &Definition) -> Tried<String>
+    ensures { IfOk result (λ t. string_bytes t ≡ decoration_of (definition_of of.now)) }
+{
+    match of.module_index {
+        0 => Ok(String::new(alloc)),
+        _ => decorated_name(alloc, Some(of.name.as_str()), ""),
+    }
+}
+
+impl ComposableModule {
+    /// A module of nothing, whose items will be named so.
+    pub(crate) fn new(alloc: Global, decorated_name: String, index: usize) -> ComposableModule
+        requires { index ≤ 2047 }
+        ensures { built_of result ≡ nothing_built (string_bytes decorated_name) index }
+    {
+        ComposableModule {
+            decorated_name,
+            imports: Vec::new(alloc),
+            owned_types: Names::new(alloc),
+            owned_constants: Names::new(alloc),
+            owned_pipeline_overrides: Names::new(alloc),
+            owned_vars: Names::new(alloc),
+            owned_functions: Names::new(alloc),
+            virtual_functions: Names::new(alloc),
+            override_functions: Overrides::new(alloc),
+            module_ir: FormedModule::nothing(alloc),
+            header_ir: FormedModule::nothing(alloc),
+            start_offset: 0,
+            index,
+        }
+    }
 }
 
 impl<B: Backend> Maker<'_, B> {
@@ -140,29 +210,36 @@ impl<B: Backend> Maker<'_, B> {
     }
 
     // The functions that are overridden in what is imported.
-    fn imported_overrides(&self, imports: &[ImportDefinition]) -> Tried<Overrides> {
+    fn imported_overrides(&self, imports: &[ImportDefinition]) -> Tried<Overrides>
+        ensures { IfOk result (λ all. overriding_of all ≡ imported_overriding (builds_of self.now.builds) [] (map import_of imports.now)) }
+    {
         let mut all = Overrides::new(self.alloc);
         for import in imports {
-            if let Some(build) = self.builds.get(import.import.as_str()) {
-                add_overrides(self.alloc, &mut all, &build.override_functions)?;
-            }
+            add_imported(self.alloc, &mut all, &self.builds, import.import.as_str())?;
         }
         Ok(all)
     }
 
     // What is imported, without bodies, as the front end writes it.
-    fn header(&self, imports: &[ImportDefinition], language: ShaderLanguage) -> Checked<String> {
+    fn header(&self, imports: &[ImportDefinition], language: ShaderLanguage) -> Checked<String>
+        ensures { GivesBy
+            (λ text. HeaderAnswers (B.front self.now.front.now) self.now.capabilities language (builds_of self.now.builds) (map import_of imports.now) (Ok (string_bytes text)))
+            (λ fault. HeaderAnswers (B.front self.now.front.now) self.now.capabilities language (builds_of self.now.builds) (map import_of imports.now) (Err fault))
+            result }
+    {
         let mut linker = Linker::new(self.alloc, &self.builds, true);
         linker.link_imports(imports, self.builds.len())?;
         self.written(&Module::from(linker.derived), language)
     }
 
     // What stands before a text: its directives and a header of what is imported.
-    fn heading(&self, of: &Definition, imports: &[ImportDefinition]) -> Checked<String> {
-        let mut heading = match of.language {
-            ShaderLanguage::Wgsl => of.wgsl_directives.to_wgsl_string(self.alloc)?,
-            ShaderLanguage::Glsl => String::from_str(self.alloc, "#version 450\n")?,
-        };
+    fn heading(&self, of: &Definition, imports: &[ImportDefinition]) -> Checked<String>
+        ensures { GivesBy
+            (λ text. HeadingAnswers (B.front self.now.front.now) self.now.capabilities (definition_of of.now) (builds_of self.now.builds) (map import_of imports.now) (Ok (string_bytes text)))
+            (λ fault. HeadingAnswers (B.front self.now.front.now) self.now.capabilities (definition_of of.now) (builds_of self.now.builds) (map import_of imports.now) (Err fault))
+            result }
+    {
+        let mut heading = first_lines(self.alloc, of)?;
         heading.push_str(&self.header(imports, of.language)?)?;
         Ok(heading)
     }
@@ -170,11 +247,9 @@ impl<B: Backend> Maker<'_, B> {
     // A build of nothing: its decoration, what it imports, and what is overridden there.
     fn begun(&self, of: &Definition, output: &PreprocessOutput) -> Checked<ComposableModule>
         requires { of.now.module_index ≤ 2047 }
+        ensures { IfOk result (λ built. built_of built ≡ begun (builds_of self.now.builds) (definition_of of.now) (map use_of output.now.imports.items)) }
     {
-        let decoration = match of.module_index {
-            0 => String::new(self.alloc),
-            _ => decorated_name(self.alloc, Some(of.name.as_str()), "")?,
-        };
+        let decoration = decoration_of(self.alloc, of)?;
         let imports = imports_of(self.alloc, &output.imports)?;
         let overrides = self.imported_overrides(&imports)?;
         let mut built = ComposableModule::new(self.alloc, decoration, of.module_index);
@@ -190,7 +265,18 @@ impl<B: Backend> Maker<'_, B> {
         text: &str,
         built: &mut ComposableModule,
     ) -> Checked<String> {
-        let text = read_functions(self.alloc, text, &self.builds, built)?;
+        let over = Over {
+            builds: &self.builds,
+            imports: &built.imports,
+            decoration: built.decorated_name.as_str(),
+        };
+        let (virtuals, text) = read_functions(
+            self.alloc,
+            text,
+            over,
+            &mut built.override_functions,
+        )?;
+        built.virtual_functions = virtuals;
         let mut whole = self.heading(of, &built.imports)?;
         built.start_offset = whole.len();
         whole.push_str(&text)?;
@@ -204,6 +290,7 @@ impl<B: Backend> Maker<'_, B> {
         output: &PreprocessOutput,
     ) -> Result<ComposableModule, ComposerError>
         requires { of.now.module_index ≤ 2047 }
+        ensures { AnswersBy (λ b. any_build.makes (setting_of (B.front self.now.front.now) self.now.validate self.now.capabilities self.now.defs) (definition_of of.now) (output_of output.now) (builds_of self.now.builds) (built_of b)) (any_build.refuses (setting_of (B.front self.now.front.now) self.now.validate self.now.capabilities self.now.defs) (definition_of of.now) (output_of output.now) (builds_of self.now.builds)) result }
     {
         let text = output.preprocessed_source.as_str();
         let mut built = self.told(of, text, 0, self.begun(of, output))?;
@@ -215,8 +302,11 @@ impl<B: Backend> Maker<'_, B> {
 
     /// Builds a module that is among these, which are the newest first, and before it what it imports, unless it was built. What
     /// it imports has to be recorded of its text or imported besides.
+    #[cycle(ensure)]
     pub(crate) fn ensure(&mut self, name: &str, modules: &[Definition]) -> Result<(), Missing>
         requires { All (λ d. d.module_index ≤ 2047) modules.now }
+        ensures reached { Reaching (λ _. Unless (Reached any_build (setting_of (B.front self.old.front.now) self.old.validate self.old.capabilities self.old.defs) (map definition_of modules.now)) name.now (builds_of self.old.builds) (builds_of self.new.builds)) (UnlessBuilt (Unreached any_build (setting_of (B.front self.old.front.now) self.old.validate self.old.capabilities self.old.defs) (map definition_of modules.now)) name.now (builds_of self.old.builds)) result }
+        ensures rest { self.new ≡ record self.old { builds = self.new.builds } }
     {
         if self.builds.contains_key(name) {
             return Ok(());
@@ -226,19 +316,37 @@ impl<B: Backend> Maker<'_, B> {
         };
         let of = &modules[place];
         let output = self.told(of, "", 0, self.preprocessed(of))?;
-        for import in &output.imports {
-            let import = import.definition().import.as_str();
-            if !of.may_import(import) {
-                return Err(Missing::missing(self.alloc, import));
-            }
-            self.ensure(import, &modules[place + 1..])?;
-        }
+        self.ensure_imports(of, &output.imports, &modules[place + 1..])?;
         Ok(self.build(of, &output)?)
+    }
+
+    // Builds what a module imports, each of which has to be recorded of its text or imported besides.
+    #[cycle(ensure)]
+    fn ensure_imports(
+        &mut self,
+        of: &Definition,
+        imports: &[ImportDefWithOffset],
+        modules: &[Definition],
+    ) -> Result<(), Missing>
+        requires { All (λ d. d.module_index ≤ 2047) modules.now }
+        ensures reached { Reaching (λ _. EachReached (may_import (definition_of of.now)) (Unless (Reached any_build (setting_of (B.front self.old.front.now) self.old.validate self.old.capabilities self.old.defs) (map definition_of modules.now))) (map use_of imports.now) (builds_of self.old.builds) (builds_of self.new.builds)) (OneUnreached (may_import (definition_of of.now)) (Unless (Reached any_build (setting_of (B.front self.old.front.now) self.old.validate self.old.capabilities self.old.defs) (map definition_of modules.now))) (UnlessBuilt (Unreached any_build (setting_of (B.front self.old.front.now) self.old.validate self.old.capabilities self.old.defs) (map definition_of modules.now))) (map use_of imports.now) (builds_of self.old.builds)) result }
+        ensures rest { self.new ≡ record self.old { builds = self.new.builds } }
+    {
+        for import in imports {
+            let name = import.definition().import.as_str();
+            if !of.may_import(name) {
+                return Err(Missing::missing(self.alloc, name));
+            }
+            self.ensure(name, modules)?;
+        }
+        Ok(())
     }
 
     // Builds a module over the builds of what it imports, and enters it.
     fn build(&mut self, of: &Definition, output: &PreprocessOutput) -> Result<(), ComposerError>
         requires { of.now.module_index ≤ 2047 }
+        ensures built { AnswersBy (λ _. (b : BuiltModule) × any_build.makes (setting_of (B.front self.old.front.now) self.old.validate self.old.capabilities self.old.defs) (definition_of of.now) (output_of output.now) (builds_of self.old.builds) b × (builds_of self.new.builds ≡ entered (builds_of self.old.builds) (definition_of of.now).name b)) (any_build.refuses (setting_of (B.front self.old.front.now) self.old.validate self.old.capabilities self.old.defs) (definition_of of.now) (output_of output.now) (builds_of self.old.builds)) result }
+        ensures rest { self.new ≡ record self.old { builds = self.new.builds } }
     {
         let built = self.built(of, output)?;
         let entered = enter(self.alloc, &mut self.builds, of.name.as_str(), built);

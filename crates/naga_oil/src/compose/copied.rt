@@ -1,16 +1,26 @@
 // The module that a build holds and its header, copied from what was parsed.
-ghost use Rattle.std.specs.Prelude.{◌≡◌, [], IfOk, IsSome, OnOk, map};
+ghost use Rattle.std.specs.Prelude.{◌≡◌, ◌||◌, [], ◌∷◌, Some, IfOk, IsSome, OnOk, map, option_map, option_to_list, string_bytes};
+ghost use Rattle.std.specs.List.{flat_map};
 ghost use Rattle.naga_oil_ir.specs.Body.{block_tokens};
 ghost use Rattle.naga_oil_ir.specs.ItemForm.{IsThere};
-ghost use Rattle.naga_oil_ir.specs.ModuleValue.{argument_value, function_value};
+ghost use Rattle.naga_oil_ir.specs.ModuleValue.{argument_value, function_value, module_value};
 ghost use Rattle.naga_oil_ir.specs.WellFormed.{WellFormed};
 ghost use Rattle.naga_oil_ir.specs.declared.names.ItemPlace.{ItemPlace};
+ghost use Rattle.naga_oil_lines.specs.DirectivesText.{in_order};
+ghost use Rattle.naga_oil_pre.specs.Recorded.{is_among};
 ghost use Rattle.naga_oil_derive.specs.DerivedEntries.{CanCopyEntries};
+ghost use Rattle.naga_oil.specs.BuiltModule.{built_of};
+ghost use Rattle.naga_oil.specs.CopiedSteps.{special_names, own_type_at, own_types, owning_types, owns_named, owns_function, item_steps, type_in_module, type_in_header, in_module, in_header, copy_step, stub_steps, module_steps, header_steps, IsFilled, IsUnfilled, IsFinished, IsUnfinished, IsCopied, IsUncopied};
 ghost use Rattle.naga_oil.specs.CopySources.{CopiesFrom, IsFunctionOf, stub_of};
+ghost use Rattle.naga_oil.specs.Definition.{texts};
+ghost use Rattle.naga_oil.specs.Owned.{has_mark};
+ghost use Rattle.naga_oil.specs.Places.{name_at, places_of};
+ghost use Rattle.naga_oil.specs.Relations.{GivesBy};
+ghost use Rattle.naga_oil.specs.Steps.{Source as source_step, AreTaken};
 
 use crate::compose::definition::{Checked, Names, Tried};
 use crate::compose::formed::FormedModule;
-use crate::compose::items::{import_item, name_at, named, places_of};
+use crate::compose::items::{has_mark, import_item, name_at, named, note, places_of};
 use crate::compose::module::ComposableModule;
 use indexmap::IndexMap;
 use naga_oil_derive::special::special_entries;
@@ -18,18 +28,68 @@ use naga_oil_derive::{DerivedModule, copied_name};
 use naga_oil_ir::{
     Arena, Block, Function, FunctionArgument, Handle, ItemPlace, Module, Span, Type,
 };
-use naga_oil_lines::decorate::DECORATION_PRE;
 use std::alloc::Global;
 
 // The names of the special types.
-fn special_names(alloc: Global, of: &Module) -> Tried<Names> {
+fn special_names(alloc: Global, of: &Module) -> Tried<Names>
+    ensures { IfOk result (λ names. texts names.keys ≡ in_order (special_names (module_value of.now))) }
+{
+    let entries = special_entries(&of.special_types, alloc)?;
     let mut names = Names::new(alloc);
-    for (_, handle) in &special_entries(&of.special_types, alloc)? {
-        if let Some(name) = name_at(of, ItemPlace::TypeItem(*handle)) {
-            names.insert(String::from_str(alloc, name)?)?;
-        }
+    for (_, handle) in &entries {
+        note(alloc, &mut names, name_at(of, ItemPlace::TypeItem(*handle)))?;
     }
     Ok(names)
+}
+
+// Whether a type of a name isn't owned: it has a mark, or a special type has it.
+fn is_kept(special: &Names, name: &str) -> bool
+    ensures { result ≡ (is_among (texts special.now.keys) name.now || has_mark name.now) }
+{
+    special.contains(name) | has_mark(name)
+}
+
+// The decorated name of a type that is owned, which is noted.
+fn own_type(
+    source: &Module,
+    special: &Names,
+    handle: Handle<Type>,
+    built: &mut ComposableModule,
+    alloc: Global,
+) -> Tried<Option<String>>
+    requires { texts special.now.keys ≡ in_order (special_names (module_value source.now)) }
+    ensures name { IfOk result (λ n. option_map string_bytes n ≡ own_type_at (module_value source.now) (string_bytes built.old.decorated_name) (ItemPlace.TypeItem handle)) }
+    ensures built { OnOk result (built_of built.new ≡ owning_types (option_to_list (own_type_at (module_value source.now) (string_bytes built.old.decorated_name) (ItemPlace.TypeItem handle))) (built_of built.old)) }
+{
+    let Some(name) = name_at(source, ItemPlace::TypeItem(handle)) else {
+        return Ok(None);
+    };
+    if is_kept(special, name) {
+        return Ok(None);
+    }
+    let name = format!(in alloc; "{name}{}", built.decorated_name)?;
+    built.owned_types.insert(name.clone()?)?;
+    Ok(Some(name))
+}
+
+// Whether a constant, override or global is owned.
+fn is_own(source: &Module, place: &ItemPlace, built: &ComposableModule) -> bool
+    ensures { result ≡ owns_named (built_of built.now) place.now (name_at (module_value source.now) place.now) }
+{
+    match name_at(source, *place) {
+        Some(name) => built.owns(*place, name),
+        None => false,
+    }
+}
+
+// Whether a function is owned.
+fn is_own_function(function: &Function, built: &ComposableModule) -> bool
+    ensures { result ≡ owns_function (built_of built.now) (function_value function.now).name }
+{
+    match named(&function.name) {
+        Some(name) => built.owned_functions.contains(name),
+        None => false,
+    }
 }
 
 // The arguments of a function.
@@ -78,61 +138,117 @@ fn stub(alloc: Global, function: &Function) -> Tried<Function>
 #[derive(Drop)]
 struct Copying<'m> {
     alloc: Global,
-    special: Names,
     module_: DerivedModule<'m>,
     header: DerivedModule<'m>,
 }
 
 impl<'m> Copying<'m> {
-    // Copies a type. One that is owned gets its decorated name, and is copied into the header too: its name has no mark, and
-    // no special type has it.
-    fn copy_type(
-        &mut self,
-        source: &Module,
-        handle: Handle<Type>,
-        built: &mut ComposableModule,
-    ) -> Tried<()>
+    // Copies a type into both under its decorated name.
+    fn copy_own_type(&mut self, source: &Module, handle: Handle<Type>, name: String) -> Tried<()>
         requires there { IsThere source.now (ItemPlace.TypeItem handle) }
         requires module { CopiesFrom source.now self.old.module_ }
         requires header { CopiesFrom source.now self.old.header }
         ensures module { CopiesFrom source.now self.new.module_ }
         ensures header { CopiesFrom source.now self.new.header }
+        ensures module_steps { OnOk result (AreTaken (type_in_module handle (Some (string_bytes name))) self.old.module_ self.new.module_) }
+        ensures header_steps { OnOk result (AreTaken (type_in_header handle (Some (string_bytes name))) self.old.header self.new.header) }
     {
-        let place = ItemPlace::TypeItem(handle);
-        let Some(name) = name_at(source, place) else {
-            return import_item(&mut self.module_, place);
-        };
-        if self.special.contains(name) || name.contains(DECORATION_PRE) {
-            return import_item(&mut self.module_, place);
-        }
-        let name = format!(in self.alloc; "{name}{}", built.decorated_name)?;
-        built.owned_types.insert(name.clone()?)?;
         self.header.rename_type(&handle, Some(name.clone()?))?;
         self.module_.rename_type(&handle, Some(name))?;
         Ok(())
+    }
+
+    // Copies a type. One that is owned gets its decorated name, and is copied into the header too.
+    fn copy_type(
+        &mut self,
+        source: &Module,
+        special: &Names,
+        handle: Handle<Type>,
+        built: &mut ComposableModule,
+    ) -> Tried<()>
+        requires special { texts special.now.keys ≡ in_order (special_names (module_value source.now)) }
+        requires there { IsThere source.now (ItemPlace.TypeItem handle) }
+        requires module { CopiesFrom source.now self.old.module_ }
+        requires header { CopiesFrom source.now self.old.header }
+        ensures module { CopiesFrom source.now self.new.module_ }
+        ensures header { CopiesFrom source.now self.new.header }
+        ensures module_steps { OnOk result (AreTaken (in_module (module_value source.now) (built_of built.old) (ItemPlace.TypeItem handle)) self.old.module_ self.new.module_) }
+        ensures header_steps { OnOk result (AreTaken (in_header (module_value source.now) (built_of built.old) (ItemPlace.TypeItem handle)) self.old.header self.new.header) }
+        ensures built { OnOk result (built_of built.new ≡ owning_types (option_to_list (own_type_at (module_value source.now) (string_bytes built.old.decorated_name) (ItemPlace.TypeItem handle))) (built_of built.old)) }
+    {
+        match own_type(source, special, handle, built, self.alloc)? {
+            Some(name) => self.copy_own_type(source, handle, name),
+            None => import_item(&mut self.module_, ItemPlace::TypeItem(handle)),
+        }
+    }
+
+    // Copies another item into both, if it is owned.
+    fn copy_other(
+        &mut self,
+        source: &Module,
+        place: &ItemPlace,
+        built: &ComposableModule,
+    ) -> Tried<()>
+        requires there { IsThere source.now place.now }
+        requires module { CopiesFrom source.now self.old.module_ }
+        requires header { CopiesFrom source.now self.old.header }
+        ensures module { CopiesFrom source.now self.new.module_ }
+        ensures header { CopiesFrom source.now self.new.header }
+        ensures module_steps { OnOk result (AreTaken (item_steps (module_value source.now) (built_of built.now) place.now) self.old.module_ self.new.module_) }
+        ensures header_steps { OnOk result (AreTaken (item_steps (module_value source.now) (built_of built.now) place.now) self.old.header self.new.header) }
+    {
+        if !is_own(source, place, built) {
+            return Ok(());
+        }
+        import_item(&mut self.header, *place)?;
+        import_item(&mut self.module_, *place)
     }
 
     // Copies a type, or another item that is owned.
     fn copy_item(
         &mut self,
         source: &Module,
-        place: ItemPlace,
+        special: &Names,
+        place: &ItemPlace,
         built: &mut ComposableModule,
     ) -> Tried<()>
-        requires there { IsThere source.now place }
+        requires special { texts special.now.keys ≡ in_order (special_names (module_value source.now)) }
+        requires there { IsThere source.now place.now }
         requires module { CopiesFrom source.now self.old.module_ }
         requires header { CopiesFrom source.now self.old.header }
         ensures module { CopiesFrom source.now self.new.module_ }
         ensures header { CopiesFrom source.now self.new.header }
+        ensures module_steps { OnOk result (AreTaken (in_module (module_value source.now) (built_of built.old) place.now) self.old.module_ self.new.module_) }
+        ensures header_steps { OnOk result (AreTaken (in_header (module_value source.now) (built_of built.old) place.now) self.old.header self.new.header) }
+        ensures built { OnOk result (built_of built.new ≡ owning_types (option_to_list (own_type_at (module_value source.now) (string_bytes built.old.decorated_name) place.now)) (built_of built.old)) }
     {
-        if let ItemPlace::TypeItem(handle) = place {
-            return self.copy_type(source, handle, built);
+        match place {
+            ItemPlace::TypeItem(handle) => self.copy_type(source, special, *handle, built),
+            _ => self.copy_other(source, place, built),
         }
-        if !name_at(source, place).is_some_and(|name| built.owns(place, name)) {
-            return Ok(());
+    }
+
+    // Copies all types, and the constants, overrides and globals that are owned.
+    fn copy_items(
+        &mut self,
+        source: &Module,
+        special: &Names,
+        built: &mut ComposableModule,
+    ) -> Tried<()>
+        requires special { texts special.now.keys ≡ in_order (special_names (module_value source.now)) }
+        requires module { CopiesFrom source.now self.old.module_ }
+        requires header { CopiesFrom source.now self.old.header }
+        ensures module { OnOk result (CopiesFrom source.now self.new.module_) }
+        ensures header { OnOk result (CopiesFrom source.now self.new.header) }
+        ensures module_steps { OnOk result (AreTaken (flat_map (in_module (module_value source.now) (built_of built.old)) (places_of (module_value source.now))) self.old.module_ self.new.module_) }
+        ensures header_steps { OnOk result (AreTaken (flat_map (in_header (module_value source.now) (built_of built.old)) (places_of (module_value source.now))) self.old.header self.new.header) }
+        ensures built { OnOk result (built_of built.new ≡ owning_types (own_types (module_value source.now) (string_bytes built.old.decorated_name)) (built_of built.old)) }
+    {
+        let places = places_of(self.alloc, source)?;
+        for place in &places {
+            self.copy_item(source, special, place, built)?;
         }
-        import_item(&mut self.header, place)?;
-        import_item(&mut self.module_, place)
+        Ok(())
     }
 
     // Copies a function without its body into the header, if it is owned.
@@ -146,9 +262,10 @@ impl<'m> Copying<'m> {
         requires header { CopiesFrom source.now self.old.header }
         ensures header { CopiesFrom source.now self.new.header }
         ensures module { self.new.module_ ≡ self.old.module_ }
+        ensures steps { OnOk result (AreTaken (stub_steps (built_of built.now) (function_value item.now.0, item.now.1)) self.old.header self.new.header) }
     {
         let (function, span) = item;
-        if !named(&function.name).is_some_and(|name| built.owned_functions.contains(name)) {
+        if !is_own_function(function, built) {
             return Ok(());
         }
         let stub = stub(self.alloc, function)?;
@@ -168,27 +285,58 @@ impl<'m> Copying<'m> {
         requires header { CopiesFrom source.now self.old.header }
         ensures module { CopiesFrom source.now self.new.module_ }
         ensures header { CopiesFrom source.now self.new.header }
+        ensures module_steps { OnOk result (AreTaken (copy_step (function_value item.now.0, item.now.1) ∷ []) self.old.module_ self.new.module_) }
+        ensures header_steps { OnOk result (AreTaken (stub_steps (built_of built.now) (function_value item.now.0, item.now.1)) self.old.header self.new.header) }
     {
         self.copy_stub(source, item, built)?;
         self.module_.import_function(&item.0, item.1)?;
         Ok(())
     }
 
-    // Copies all types and functions, and the constants, overrides and globals that are owned.
-    fn copy_all(&mut self, source: &'m Module, built: &mut ComposableModule) -> Tried<()>
-        requires { WellFormed source.now [] 4294967295 }
-        ensures { OnOk result (CopiesFrom source.now self.new.module_) }
+    // Copies all functions, those that are owned without their bodies into the header.
+    fn copy_functions(&mut self, source: &Module, built: &ComposableModule) -> Tried<()>
+        requires module { CopiesFrom source.now self.old.module_ }
+        requires header { CopiesFrom source.now self.old.header }
+        ensures module { OnOk result (CopiesFrom source.now self.new.module_) }
+        ensures module_steps { OnOk result (AreTaken (map copy_step (module_value source.now).functions) self.old.module_ self.new.module_) }
+        ensures header_steps { OnOk result (AreTaken (flat_map (stub_steps (built_of built.now)) (module_value source.now).functions) self.old.header self.new.header) }
     {
-        self.module_.set_shader_source(source, 0)?;
-        self.header.set_shader_source(source, 0)?;
-        let places = places_of(self.alloc, source)?;
-        for place in &places {
-            self.copy_item(source, *place, built)?;
-        }
         for item in source.functions.as_slice() {
             self.copy_function(source, item, built)?;
         }
         Ok(())
+    }
+
+    // Sets the source of both.
+    fn set_source(&mut self, source: &'m Module) -> Tried<()>
+        requires { WellFormed source.now [] 4294967295 }
+        ensures module { OnOk result (CopiesFrom source.now self.new.module_) }
+        ensures header { OnOk result (CopiesFrom source.now self.new.header) }
+        ensures module_steps { OnOk result (AreTaken (source_step (module_value source.now) 0 ∷ []) self.old.module_ self.new.module_) }
+        ensures header_steps { OnOk result (AreTaken (source_step (module_value source.now) 0 ∷ []) self.old.header self.new.header) }
+    {
+        self.module_.set_shader_source(source, 0)?;
+        self.header.set_shader_source(source, 0)?;
+        Ok(())
+    }
+
+    // Copies all types and functions, and the constants, overrides and globals that are owned.
+    fn copy_all(
+        &mut self,
+        source: &'m Module,
+        special: &Names,
+        built: &mut ComposableModule,
+    ) -> Tried<()>
+        requires special { texts special.now.keys ≡ in_order (special_names (module_value source.now)) }
+        requires form { WellFormed source.now [] 4294967295 }
+        ensures module { OnOk result (CopiesFrom source.now self.new.module_) }
+        ensures module_steps { OnOk result (AreTaken (module_steps (module_value source.now) (built_of built.old)) self.old.module_ self.new.module_) }
+        ensures header_steps { OnOk result (AreTaken (header_steps (module_value source.now) (built_of built.old)) self.old.header self.new.header) }
+        ensures built { OnOk result (built_of built.new ≡ owning_types (own_types (module_value source.now) (string_bytes built.old.decorated_name)) (built_of built.old)) }
+    {
+        self.set_source(source)?;
+        self.copy_items(source, special, built)?;
+        self.copy_functions(source, built)
     }
 }
 
@@ -196,6 +344,7 @@ impl<'m> Copying<'m> {
 fn fill(alloc: Global, whole: DerivedModule<'_>, built: &mut ComposableModule) -> Checked<bool>
     requires set { IsSome whole.source }
     requires entries { CanCopyEntries whole }
+    ensures { GivesBy (IsFilled whole.entry (built_of built.old) (built_of built.new)) (IsUnfilled whole.entry) result }
 {
     let has_special_types = whole.has_required_special_types();
     built.module_ir = FormedModule::new(alloc, whole.into_module_with_entrypoints()?)?;
@@ -206,9 +355,10 @@ fn fill(alloc: Global, whole: DerivedModule<'_>, built: &mut ComposableModule) -
 fn finish(copying: Copying<'_>, built: &mut ComposableModule) -> Checked<bool>
     requires set { IsSome copying.module_.source }
     requires entries { CanCopyEntries copying.module_ }
+    ensures { GivesBy (IsFinished copying.entry.module_ copying.entry.header (built_of built.old) (built_of built.new)) (IsUnfinished copying.entry.module_ copying.entry.header) result }
 {
     #[rattlefmt::skip]
-    let Copying { alloc, module_, header, .. } = copying;
+    let Copying { alloc, module_, header } = copying;
     built.header_ir = FormedModule::new(alloc, Module::from(header))?;
     fill(alloc, module_, built)
 }
@@ -221,11 +371,12 @@ pub(crate) fn copy_parsed(
     built: &mut ComposableModule,
 ) -> Checked<bool>
     requires { WellFormed source.now [] 4294967295 }
+    ensures { GivesBy (IsCopied (module_value source.now) (built_of built.old) (built_of built.new)) (IsUncopied (module_value source.now) (built_of built.old)) result }
 {
     let special = special_names(alloc, source)?;
     let (module_, header) = (DerivedModule::new(alloc), DerivedModule::new(alloc));
     #[rattlefmt::skip]
-    let mut copying = Copying { alloc, special, module_, header };
-    copying.copy_all(source, built)?;
+    let mut copying = Copying { alloc, module_, header };
+    copying.copy_all(source, &special, built)?;
     finish(copying, built)
 }

@@ -1,3 +1,7 @@
+ghost use Rattle.std.specs.Prelude.{◌≡◌, bytes_eq};
+ghost use Rattle.std.specs.List.{list_any};
+ghost use Rattle.naga_oil.specs.Definition.{definition_of};
+
 use indexmap::IndexMap;
 use naga_oil_ir::ShaderLanguage;
 use naga_oil_lines::wgsl_directives::WgslDirectives;
@@ -47,7 +51,9 @@ pub struct ComposableModuleDefinition {
 
 impl ComposableModuleDefinition {
     // Whether an import of this module is recorded of the text, or asked for besides.
-    pub(crate) fn may_import(&self, name: &str) -> bool {
+    pub(crate) fn may_import(&self, name: &str) -> bool
+        ensures { result ≡ list_any (λ i. bytes_eq i.import.import name.now) (definition_of self.now).imports }
+    {
         self.all_imports
             .iter()
             .any(|import| import.definition().import.as_str() == name)

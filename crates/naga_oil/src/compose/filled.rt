@@ -1,7 +1,14 @@
 // The items of a build, of the module that its whole text says.
+ghost use Rattle.std.specs.Prelude.{◌≡◌, IfOk, OnOk, length, string_bytes};
+ghost use Rattle.naga_oil_ir.specs.ModuleValue.{module_value};
+ghost use Rattle.naga_oil_pre.specs.View.{Gives};
+ghost use Rattle.naga_oil.specs.BuiltModule.{built_of};
+ghost use Rattle.naga_oil.specs.Filled.{IsSaid, IsUnsaid, owned_module, owned_build, settings, names_back, IsHeld, IsUnheld, IsBuiltOf, IsUnbuilt};
+ghost use Rattle.naga_oil.specs.Relations.{GivesBy};
+
 use crate::compose::build::Maker;
 use crate::compose::copied::copy_parsed;
-use crate::compose::definition::{Checked, Definition};
+use crate::compose::definition::{Checked, Definition, Tried};
 use crate::compose::formed::{FormedModule, check_form};
 use crate::compose::items::{demote, own_items};
 use crate::compose::module::ComposableModule;
@@ -11,7 +18,9 @@ use naga_oil_pre::ComposerErrorInner;
 
 impl<B: Backend> Maker<'_, B> {
     // The module that the whole text of a build says, which has to be of good form.
-    fn said(&self, of: &Definition, whole: &str, built: &ComposableModule) -> Checked<Module> {
+    fn said(&self, of: &Definition, whole: &str, built: &ComposableModule) -> Checked<Module>
+        ensures { GivesBy (λ m. IsSaid (B.front self.now.front.now) of.now.language whole.now (string_bytes built.now.decorated_name) (module_value m)) (IsUnsaid (B.front self.now.front.now) of.now.language whole.now (string_bytes built.now.decorated_name)) result }
+    {
         if whole.len() >= 2_097_152 {
             return Err(ComposerErrorInner::TextTooLarge);
         }
@@ -27,13 +36,34 @@ impl<B: Backend> Maker<'_, B> {
         of: &Definition,
         source: &mut Module,
         built: &mut ComposableModule,
-    ) -> Checked<usize> {
+    ) -> Tried<usize>
+        ensures functions { IfOk result (λ n. n ≡ length (module_value source.old).functions) }
+        ensures items { OnOk result (module_value source.new ≡ owned_module of.now.module_index (string_bytes built.old.decorated_name) (module_value source.old)) }
+        ensures built { OnOk result (built_of built.new ≡ owned_build of.now.module_index (module_value source.old) (built_of built.old)) }
+    {
         own_items(self.alloc, source, built)?;
         let functions = source.functions.len();
         if of.module_index > 0 {
             demote(self.alloc, source, built)?;
         }
         Ok(functions)
+    }
+
+    // Tests whether the names of a build come back: of a module, when validating, without special types.
+    fn test_names(
+        &self,
+        of: &Definition,
+        source: &FormedModule,
+        built: &ComposableModule,
+        functions: usize,
+        special: bool,
+    ) -> Checked<()>
+        ensures { Gives (λ done. done) result (names_back (settings (B.front self.now.front.now) self.now.capabilities self.now.validate) of.now.module_index special source.now (built_of built.now) functions) }
+    {
+        if (of.module_index > 0) & self.validate & !special {
+            return came_back(self, source.get(), built, functions);
+        }
+        Ok(())
     }
 
     // Copies the items of a build, and tests whether their names come back.
@@ -43,12 +73,11 @@ impl<B: Backend> Maker<'_, B> {
         source: &FormedModule,
         built: &mut ComposableModule,
         functions: usize,
-    ) -> Checked<()> {
-        let has_special_types = copy_parsed(self.alloc, source.get(), built)?;
-        if of.module_index > 0 && self.validate && !has_special_types {
-            came_back(self, source.get(), built, functions)?;
-        }
-        Ok(())
+    ) -> Checked<()>
+        ensures { GivesBy (λ _. IsHeld (settings (B.front self.now.front.now) self.now.capabilities self.now.validate) of.now.module_index functions source.now (built_of built.old) (built_of built.new)) (IsUnheld (settings (B.front self.now.front.now) self.now.capabilities self.now.validate) of.now.module_index functions source.now (built_of built.old)) result }
+    {
+        let special = copy_parsed(self.alloc, source.get(), built)?;
+        self.test_names(of, source, built, functions, special)
     }
 
     /// The items of a build: of the module that its whole text says, which has to be of good form.
@@ -57,7 +86,9 @@ impl<B: Backend> Maker<'_, B> {
         of: &Definition,
         whole: &str,
         built: &mut ComposableModule,
-    ) -> Checked<()> {
+    ) -> Checked<()>
+        ensures { GivesBy (λ _. IsBuiltOf (settings (B.front self.now.front.now) self.now.capabilities self.now.validate) of.now.module_index of.now.language whole.now (built_of built.old) (built_of built.new)) (IsUnbuilt (settings (B.front self.now.front.now) self.now.capabilities self.now.validate) of.now.module_index of.now.language whole.now (built_of built.old)) result }
+    {
         let mut source = self.said(of, whole, built)?;
         let functions = self.own(of, &mut source, built)?;
         let source = FormedModule::new(self.alloc, source)?;

@@ -1,17 +1,22 @@
 // Modules that pass the test of form.
-ghost use Rattle.std.specs.Prelude.{◌≡◌, [], IfOk, OnOk};
+ghost use Rattle.std.specs.Prelude.{◌≡◌, ◌<◌, ◌↔◌, [], All, IfOk, IsTrue, option_to_list};
+ghost use Rattle.naga_oil_ir.specs.ItemForm.{special_types};
 ghost use Rattle.naga_oil_ir.specs.ModuleValue.{module_value, no_items};
 ghost use Rattle.naga_oil_ir.specs.WellFormed.{WellFormed};
+ghost use Rattle.naga_oil_derive.specs.Redirectable.{Redirectable};
+ghost use Rattle.naga_oil.specs.Formed.{IsMisformed, PassesApart, FailsApart};
+ghost use Rattle.naga_oil.specs.Relations.{GivesBy};
 
 use crate::compose::definition::Checked;
-use naga_oil_ir::{FormFault, Module};
+use naga_oil_ir::{FormFault, Handle, Module, SpecialTypes, Type};
 use naga_oil_pre::ComposerErrorInner;
 use std::alloc::Global;
 use std::marker::Model;
+use std::mem;
 
 /// Tests the form of a module, whose functions' names get a decoration, over a text of so many bytes.
 pub(crate) fn check_form(alloc: Global, of: &Module, decoration: &str, len: usize) -> Checked<()>
-    ensures { OnOk result (WellFormed of.now decoration.now len) }
+    ensures { GivesBy (λ _. WellFormed of.now decoration.now len) (IsMisformed of.now decoration.now len) result }
 {
     match of.check_form(alloc, decoration, len) {
         Ok(()) => Ok(()),
@@ -49,7 +54,7 @@ impl FormedModule {
 
     /// The module, if it passes.
     pub(crate) fn new(alloc: Global, module_: Module) -> Checked<FormedModule>
-        ensures { IfOk result (λ formed. formed ≡ module_value module_) }
+        ensures { GivesBy (λ formed. formed ≡ module_value module_) (IsMisformed module_ [] 4294967295) result }
     {
         check_form(alloc, &module_, "", 4_294_967_295)?;
         Ok(FormedModule { module_ })
@@ -61,11 +66,44 @@ impl FormedModule {
     {
         &self.module_
     }
+}
 
-    pub(crate) fn into_module(self) -> Module
-        ensures form { WellFormed result [] 4294967295 }
-        ensures value { module_value result ≡ self }
-    {
-        self.module_
+// Whether a special type is one of so many types.
+fn is_there(special: Option<Handle<Type>>, count: usize) -> bool
+    ensures { IsTrue result ↔ All (λ k. k < count) (option_to_list special) }
+{
+    special.is_none_or(|handle| handle.index() < count)
+}
+
+// Whether types are among so many types.
+fn are_among(types: &[Handle<Type>], count: usize) -> bool
+    ensures { IsTrue result ↔ All (λ k. k < count) types.now }
+{
+    types.iter().all(|handle| handle.index() < count)
+}
+
+// Whether special types are among so many types.
+fn are_there(special: &SpecialTypes, count: usize) -> bool
+    ensures { IsTrue result ↔ All (λ k. k < count) (special_types special.now) }
+{
+    is_there(special.ray_desc, count)
+        & is_there(special.ray_intersection, count)
+        & is_there(special.ray_vertex_return, count)
+        & are_among(special.predeclared_types.values().as_slice(), count)
+}
+
+/// A composed shader whose calls can be sent elsewhere: it passes the test of form, but that two special types may have become
+/// one.
+pub(crate) fn redirectable(alloc: Global, mut whole: Module) -> Checked<Module>
+    ensures form { IfOk result Redirectable }
+    ensures value { IfOk result (λ m. module_value m ≡ module_value whole) }
+    ensures passes { GivesBy PassesApart (FailsApart whole) result }
+{
+    let special_types = mem::replace(&mut whole.special_types, Module::new(alloc).special_types);
+    check_form(alloc, &whole, "", 4_294_967_295)?;
+    if !are_there(&special_types, whole.types.len()) {
+        return Err(ComposerErrorInner::WrongForm);
     }
+    whole.special_types = special_types;
+    Ok(whole)
 }

@@ -1,27 +1,19 @@
 // Functions behind keywords that no front end knows, and other characters at places of a text.
-ghost use Rattle.std.specs.Prelude.{◌≡◌, ℕ, ◌+◌, ◌<◌, ◌≤◌, ◌^◌, ◌++◌, List, length, drop, option_map, IfSome, IfOk, string_bytes};
+ghost use Rattle.std.specs.Prelude.{◌≡◌, ℕ, ◌+◌, ◌<◌, ◌≤◌, ◌^◌, ◌++◌, List, length, drop, map, option_map, IfSome, IfOk, OnOk, string_bytes};
 ghost use Rattle.std.specs.BTreeMap.{get};
 ghost use Rattle.std.specs.Char.{encode_utf8};
 ghost use Rattle.std.specs.List.{flat_map, prefix_len};
 ghost use Rattle.std.specs.Ordering.{nat_cmp};
 ghost use Rattle.std.specs.Str.{chars, IsUtf8};
-ghost use Rattle.naga_oil.specs.Keywords.{past_spaces, is_name_char, marked_name, covered_text, edited};
+ghost use Rattle.naga_oil.specs.Keywords.{past_spaces, is_name_char, marked_name, marked_in, covered_text, put, edited};
+ghost use Rattle.naga_oil.specs.KeywordsView.{marked_of};
 
 use crate::compose::definition::Tried;
+use crate::compose::marked::Marked;
 use naga_oil_lines::comment_strip_iter::CommentReplaceExt;
 use naga_oil_lines::text::{after_whitespace, past_word, split_first_char, text_before};
 use std::alloc::Global;
 use std::collections::BTreeMap;
-
-/// A function behind a keyword: the keyword's place, its name, and the name's place.
-#[derive(Clone, Copy)]
-pub(crate) struct Marked<'a> {
-    pub(crate) keyword: usize,
-    pub(crate) name: &'a str,
-    pub(crate) place: usize,
-    ghost room: { keyword + 16 < 2 ^ 64 },
-    ghost within: { place + length name.now < 2 ^ 64 },
-}
 
 /// Other characters at places of a text, in bytes.
 pub(crate) type Edits = BTreeMap<usize, char>;
@@ -70,7 +62,8 @@ fn marked_name(text: &str) -> Option<(&str, &str, &str)>
     ensures name { IfSome result (λ r. length r.0.now ≤ length r.1.now) }
     ensures within { IfSome result (λ r. length r.1.now ≤ length text.now) }
     ensures shorter { IfSome result (λ r. length r.2.now ≤ length text.now) }
-    ensures utf8 { IfSome result (λ r. IsUtf8 r.2.now) }
+    ensures suffix { IfSome result (λ r. (front : List ℕ) × (text.now ≡ front ++ r.2.now)) }
+    ensures utf8 { IfSome result (λ r. IsUtf8 r.0.now × IsUtf8 r.1.now × IsUtf8 r.2.now) }
 {
     let onwards = past_spaces(past_word(past_spaces(text)?, "fn")?)?;
     let rest = after_name(onwards);
@@ -86,20 +79,21 @@ pub(crate) fn marked_functions<'a>(
     keyword: &str,
 ) -> Tried<Vec<Marked<'a>>>
     requires { 0 < length keyword.now }
+    ensures { IfOk result (λ found. map marked_of found.items ≡ marked_in keyword.now text.now) }
 {
     let mut found = Vec::new(alloc);
     let mut rest = text;
     while let Some((before, behind)) = rest.split_once(keyword) {
-        let place = text.len() - rest.len() + before.len();
-        rest = behind;
-        if let Some((name, onwards, arguments)) = marked_name(behind) {
-            found.push(Marked {
-                keyword: place,
-                name,
-                place: text.len() - onwards.len(),
-            })?;
-            rest = arguments;
-        }
+        let Some((name, onwards, arguments)) = marked_name(behind) else {
+            rest = behind;
+            continue;
+        };
+        found.push(Marked {
+            keyword: text.len() - rest.len() + before.len(),
+            name,
+            place: text.len() - onwards.len(),
+        })?;
+        rest = arguments;
     }
     Ok(found)
 }
@@ -107,6 +101,7 @@ pub(crate) fn marked_functions<'a>(
 /// Puts other characters, of one byte each, at a place and those behind it.
 pub(crate) fn edit(edits: &mut Edits, place: usize, other: &str) -> Tried<()>
     requires { place + length other.now < 2 ^ 64 }
+    ensures { OnOk result (get nat_cmp edits.new ≡ put (get nat_cmp edits.old) place other.now) }
 {
     for (at, byte) in other.as_bytes().iter().enumerate() {
         edits.insert(place + at, *byte as char)?;

@@ -1,19 +1,39 @@
 // One shader out of a text and the registered modules that it imports.
-ghost use Rattle.std.specs.Prelude.{◌≡◌, ◌≤◌, All, IfOk};
+ghost use Rattle.std.specs.Prelude.{◌≡◌, ◌≤◌, ◌==◌, All, IfOk, map, find, option_map, Ok, Err, [], true, false, string_bytes};
+ghost use Rattle.naga_oil_ir.specs.Backend.{labels, valid_fault};
+ghost use Rattle.naga_oil_ir.specs.ModuleValue.{ModuleValue, EntryValue, entry_value, module_value};
+ghost use Rattle.naga_oil_lines.specs.Uses.{use_of};
+ghost use Rattle.naga_oil_pre.specs.Fault.{import_not_found};
+ghost use Rattle.naga_oil_pre.specs.MetadataView.{metadata_of};
+ghost use Rattle.naga_oil_pre.specs.View.{Gives, Fails};
+ghost use Rattle.naga_oil.specs.Afresh.{any_build, setting_of, Unless, UnlessBuilt, EachReached, Reached, Unreached};
+ghost use Rattle.naga_oil.specs.Built.{build_place};
+ghost use Rattle.naga_oil.specs.BuiltModule.{built_of, builds_of, overriding_of};
+ghost use Rattle.naga_oil.specs.Chains.{with_stages, sent_down, all_sent_down};
+ghost use Rattle.naga_oil.specs.Definition.{definition_of, defs_of, texts};
+ghost use Rattle.naga_oil.specs.Descriptor.{shader_source};
+ghost use Rattle.naga_oil.specs.Linked.{WholeLinked};
+ghost use Rattle.naga_oil.specs.Made.{Reading, OneUnread, any_use, may_use};
+ghost use Rattle.naga_oil.specs.Merging.{shader_definition, imported, agrees, joined, joined_over, are_among};
+ghost use Rattle.naga_oil.specs.Refused.{Answers, Tells};
+ghost use Rattle.naga_oil.specs.Relations.{GivesBy, AnswersBy};
+ghost use Rattle.naga_oil.specs.Shader.{IsChained, IsUnchained, ShaderLinked, ShaderRefused, ShaderAnswers};
+ghost use Rattle.naga_oil.specs.Validated.{last_index, invalid_shader, validated};
 
 use crate::compose::build::{Maker, answered};
-use crate::compose::definition::{Checked, Definition, Defs, Names, Tried};
+use crate::compose::definition::{Checked, Definition, Defs, Names, Overrides, Tried};
 use crate::compose::descriptor::{NagaModuleDescriptor, ShaderType};
 use crate::compose::error::{ComposerError, EnsureImportsError, refused, refused_in};
-use crate::compose::formed::FormedModule;
-use crate::compose::link::Linker;
+use crate::compose::formed::redirectable;
+use crate::compose::link::{Builds, Linker};
 use crate::compose::merge::{clone_imports, overwrite};
 use crate::compose::module::ComposableModule;
 use naga_oil_derive::Redirector;
-use naga_oil_ir::{Backend, Module, ShaderLanguage, ValidFault};
+use naga_oil_ir::{Backend, EntryPoint, Module, ShaderLanguage, ValidFault};
 use naga_oil_lines::ImportDefWithOffset;
 use naga_oil_pre::{
     ComposerErrorInner as Inner, PreprocessOutput, Preprocessor, PreprocessorMetaData,
+    ShaderDefValue,
 };
 use std::alloc::{AllocError, Global};
 
@@ -25,6 +45,11 @@ enum ReadFault {
 }
 
 impl From<Inner> for ReadFault {
+    ghost use Rattle.std.specs.Prelude.{◌≡◌};
+    ghost use Rattle.naga_oil.specs.declared.compose.make.ReadFault.TheVariants as reading;
+
+    ghost from_gives = { λ inner result. result ≡ reading.Here inner };
+
     fn from(inner: Inner) -> ReadFault {
         ReadFault::Here(inner)
     }
@@ -37,6 +62,11 @@ impl From<AllocError> for ReadFault {
 }
 
 impl From<EnsureImportsError> for ReadFault {
+    ghost use Rattle.std.specs.Prelude.{◌≡◌};
+    ghost use Rattle.naga_oil.specs.Made.{read_fault};
+
+    ghost from_gives = { λ error result. result ≡ read_fault error };
+
     fn from(error: EnsureImportsError) -> ReadFault {
         match error {
             EnsureImportsError::MissingImport(name) => ReadFault::Here(Inner::ImportNotFound(
@@ -53,7 +83,7 @@ fn shader_of(
     desc: &NagaModuleDescriptor<'_>,
     of: PreprocessorMetaData,
 ) -> Tried<Definition>
-    ensures { IfOk result (λ d. d.module_index ≡ 0) }
+    ensures { IfOk result (λ d. definition_of d ≡ shader_definition (shader_source desc.now) (metadata_of of) (defs_of of.defines) (texts of.effective_defs.keys)) }
 {
     Ok(Definition {
         name: String::new(alloc),
@@ -70,10 +100,9 @@ fn shader_of(
 }
 
 // The module that is imported.
-fn imported<'c>(
-    import: &ImportDefWithOffset,
-    modules: &'c [Definition],
-) -> Checked<&'c Definition> {
+fn imported<'c>(import: &ImportDefWithOffset, modules: &'c [Definition]) -> Checked<&'c Definition>
+    ensures { Gives (λ d. definition_of d.now) result (imported (map definition_of modules.now) (use_of import.now)) }
+{
     let name = &import.definition().import;
     match modules.iter().find(|of| of.name == *name) {
         Some(definition) => Ok(definition),
@@ -81,19 +110,44 @@ fn imported<'c>(
     }
 }
 
+// Whether a name that is defined so may be defined as a value: it has no other.
+fn agrees(known: Option<ShaderDefValue>, value: ShaderDefValue) -> bool
+    ensures { result ≡ agrees value known }
+{
+    match known {
+        None => true,
+        Some(known) => known == value,
+    }
+}
+
 // Adds definitions, which may not say another value of a name.
-fn add_consistent(defs: &mut Defs, others: &Defs) -> Checked<()> {
+fn add_consistent(defs: &mut Defs, others: &Defs) -> Checked<()>
+    ensures { GivesBy (λ done. joined (defs_of defs.old) (defs_of others.now) ≡ Ok (defs_of defs.new)) (λ f. joined (defs_of defs.old) (defs_of others.now) ≡ Err f) result }
+{
     for (name, value) in others {
         let known = defs.insert(name.clone()?, *value)?;
-        if known.is_some_and(|known| known != *value) {
+        if !agrees(known, *value) {
             return Err(Inner::InconsistentShaderDefValue { def: name.clone()? });
         }
     }
     Ok(())
 }
 
+// Adds the definitions of what is imported, which all has to be registered.
+fn merge(defs: &mut Defs, imports: &[ImportDefWithOffset], modules: &[Definition]) -> Checked<()>
+    ensures { let value = joined_over (map definition_of modules.now) (defs_of defs.old) (map use_of imports.now) in GivesBy (λ done. value ≡ Ok (defs_of defs.new)) (λ f. value ≡ Err f) result }
+{
+    for import in imports {
+        let of = imported(import, modules)?;
+        add_consistent(defs, &of.shader_defs)?;
+    }
+    Ok(())
+}
+
 // Whether definitions are among others.
-fn are_among(defs: &Defs, others: &Defs) -> bool {
+fn are_among(defs: &Defs, others: &Defs) -> bool
+    ensures { result ≡ are_among (defs_of defs.now) (defs_of others.now) }
+{
     for (name, value) in defs {
         if others.get(name.as_str()) != Some(value) {
             return false;
@@ -102,10 +156,39 @@ fn are_among(defs: &Defs, others: &Defs) -> bool {
     true
 }
 
+// Whether the second reading may import a module: one that is registered, with its definitions among these.
+fn may_use(import: &ImportDefWithOffset, modules: &[Definition], defs: &Defs) -> Checked<()>
+    ensures { GivesBy
+        (λ _. may_use (map definition_of modules.now) (defs_of defs.now) (use_of import.now) ≡ true)
+        (λ f. (may_use (map definition_of modules.now) (defs_of defs.now) (use_of import.now) ≡ false) × (f ≡ import_not_found (use_of import.now).import.import (use_of import.now).offset))
+        result }
+{
+    let of = imported(import, modules)?;
+    if are_among(&of.shader_defs, defs) {
+        return Ok(());
+    }
+    let name = import.definition().import.clone()?;
+    Err(Inner::ImportNotFound(name, import.offset()))
+}
+
 // The index of the module that a fault's last span is in; 0 is the shader's.
-fn last_index(fault: &ValidFault) -> usize {
+fn last_index(fault: &ValidFault) -> usize
+    ensures { result ≡ last_index (labels fault.now.spans.items) }
+{
     let range = fault.spans.last().and_then(|(span, _)| span.to_range());
     range.map_or(0, |range| range.start / 2_097_152)
+}
+
+// The build of an index, with its name.
+fn build_at(builds: &Builds, index: usize) -> Option<(&str, &ComposableModule)>
+    ensures { option_map (λ b. (b.0.now, built_of b.1.now)) result ≡ find (λ b. b.1.index == index) (builds_of builds.now) }
+{
+    for (name, build) in builds.iter() {
+        if build.index == index {
+            return Some((name.as_str(), build));
+        }
+    }
+    None
 }
 
 // Sends the calls of a function down those that override it: of each in turn, but for those in its own and earlier ones.
@@ -114,7 +197,9 @@ fn send_down(
     redirector: &mut Redirector,
     base: &String,
     others: &[String],
-) -> Checked<()> {
+) -> Checked<()>
+    ensures { let value = sent_down redirector.old (string_bytes base.now) (texts others.now) [] in GivesBy (λ done. value ≡ Ok redirector.new) (λ f. value ≡ Err f) result }
+{
     let mut omit = Names::new(alloc);
     let mut original = base;
     for other in others {
@@ -125,28 +210,47 @@ fn send_down(
     Ok(())
 }
 
-// The stages of entry points as a shader's type says.
-fn set_stages(whole: &mut Module, shader_type: ShaderType) {
-    let stage = match shader_type {
-        ShaderType::Wgsl => return,
-        ShaderType::GlslVertex => 0,
-        ShaderType::GlslFragment => 1,
-    };
-    for entry_point in whole.entry_points.iter_mut() {
+// Sends the calls of each function that is overridden down those that override it.
+fn send_all_down(alloc: Global, redirector: &mut Redirector, all: &Overrides) -> Checked<()>
+    ensures { let value = all_sent_down redirector.old (overriding_of all.now) in GivesBy (λ done. value ≡ Ok redirector.new) (λ f. value ≡ Err f) result }
+{
+    for (base, others) in all.iter() {
+        send_down(alloc, redirector, base, others)?;
+    }
+    Ok(())
+}
+
+// A module with its calls sent down what overrides functions, and its functions in order.
+fn chained(alloc: Global, whole: Module, all: &Overrides) -> Checked<Module>
+    ensures { GivesBy (λ made. IsChained (overriding_of all.now) (module_value whole) (module_value made)) (IsUnchained (overriding_of all.now) (module_value whole)) result }
+{
+    let whole = redirectable(alloc, whole)?;
+    let mut redirector = Redirector::new(alloc, whole);
+    send_all_down(alloc, &mut redirector, all)?;
+    Ok(redirector.into_module()?)
+}
+
+// Sets the stage of entry points.
+fn set_stage(entry_points: &mut Vec<EntryPoint>, stage: u64)
+    ensures { map entry_value entry_points.new.items ≡ map (λ (e : EntryValue). record e { stage = stage }) (map entry_value entry_points.old.items) }
+{
+    for entry_point in entry_points.iter_mut() {
         entry_point.stage = stage;
     }
 }
 
-impl<B: Backend> Maker<'_, B> {
-    // Adds the definitions of what is imported, which all has to be registered.
-    fn merge(&mut self, imports: &[ImportDefWithOffset], modules: &[Definition]) -> Checked<()> {
-        for import in imports {
-            let of = imported(import, modules)?;
-            add_consistent(&mut self.defs, &of.shader_defs)?;
-        }
-        Ok(())
+// Sets the stages of entry points as a shader's type says.
+fn set_stages(whole: &mut Module, shader_type: ShaderType)
+    ensures { module_value whole.new ≡ with_stages shader_type (module_value whole.old) }
+{
+    match shader_type {
+        ShaderType::Wgsl => {}
+        ShaderType::GlslVertex => set_stage(&mut whole.entry_points, 0),
+        ShaderType::GlslFragment => set_stage(&mut whole.entry_points, 1),
     }
+}
 
+impl<B: Backend> Maker<'_, B> {
     // Builds what the first reading imports.
     fn ensure_first(
         &mut self,
@@ -154,9 +258,15 @@ impl<B: Backend> Maker<'_, B> {
         modules: &[Definition],
     ) -> Result<(), ReadFault>
         requires { All (λ d. d.module_index ≤ 2047) modules.now }
+        ensures reached { Reading
+            (λ _. EachReached any_use (Unless (Reached any_build (setting_of (B.front self.old.front.now) self.old.validate self.old.capabilities self.old.defs) (map definition_of modules.now))) (map use_of imports.now) (builds_of self.old.builds) (builds_of self.new.builds))
+            (OneUnread any_use (Unless (Reached any_build (setting_of (B.front self.old.front.now) self.old.validate self.old.capabilities self.old.defs) (map definition_of modules.now))) (UnlessBuilt (Unreached any_build (setting_of (B.front self.old.front.now) self.old.validate self.old.capabilities self.old.defs) (map definition_of modules.now))) (map use_of imports.now) (builds_of self.old.builds))
+            result }
+        ensures rest { self.new ≡ record self.old { builds = self.new.builds } }
     {
         for import in imports {
-            self.ensure(import.definition().import.as_str(), modules)?;
+            let name = import.definition().import.as_str();
+            self.ensure(name, modules)?;
         }
         Ok(())
     }
@@ -168,14 +278,16 @@ impl<B: Backend> Maker<'_, B> {
         modules: &[Definition],
     ) -> Result<(), ReadFault>
         requires { All (λ d. d.module_index ≤ 2047) modules.now }
+        ensures reached { Reading
+            (λ _. EachReached (may_use (map definition_of modules.now) (defs_of self.old.defs)) (Unless (Reached any_build (setting_of (B.front self.old.front.now) self.old.validate self.old.capabilities self.old.defs) (map definition_of modules.now))) (map use_of imports.now) (builds_of self.old.builds) (builds_of self.new.builds))
+            (OneUnread (may_use (map definition_of modules.now) (defs_of self.old.defs)) (Unless (Reached any_build (setting_of (B.front self.old.front.now) self.old.validate self.old.capabilities self.old.defs) (map definition_of modules.now))) (UnlessBuilt (Unreached any_build (setting_of (B.front self.old.front.now) self.old.validate self.old.capabilities self.old.defs) (map definition_of modules.now))) (map use_of imports.now) (builds_of self.old.builds))
+            result }
+        ensures rest { self.new ≡ record self.old { builds = self.new.builds } }
     {
         for import in imports {
-            let of = imported(import, modules)?;
-            if !are_among(&of.shader_defs, &self.defs) {
-                let name = of.name.clone()?;
-                return Err(ReadFault::Here(Inner::ImportNotFound(name, import.offset())));
-            }
-            self.ensure(of.name.as_str(), modules)?;
+            let name = import.definition().import.as_str();
+            may_use(import, modules, &self.defs)?;
+            self.ensure(name, modules)?;
         }
         Ok(())
     }
@@ -196,7 +308,7 @@ impl<B: Backend> Maker<'_, B> {
         self.defs = shader_defs;
         overwrite(&mut self.defs, &shader.shader_defs)?;
         let first = self.preprocessed(&shader)?;
-        self.merge(&first.imports, modules)?;
+        merge(&mut self.defs, &first.imports, modules)?;
         self.ensure_first(&first.imports, modules)?;
         let second = self.preprocessed(&shader)?;
         self.ensure_second(&second.imports, modules)?;
@@ -204,7 +316,9 @@ impl<B: Backend> Maker<'_, B> {
     }
 
     // Everything that a shader owns, behind what it imports, with its entry points.
-    fn whole<'b>(&'b self, of: &'b ComposableModule) -> Tried<Module> {
+    fn whole<'b>(&'b self, of: &'b ComposableModule) -> Tried<Module>
+        ensures { IfOk result (λ whole. WholeLinked (builds_of self.now.builds) (built_of of.now) (module_value whole)) }
+    {
         let mut linker = Linker::new(self.alloc, &self.builds, false);
         linker.link_imports(&of.imports, self.builds.len())?;
         linker.link_items(of, None)?;
@@ -214,18 +328,15 @@ impl<B: Backend> Maker<'_, B> {
     }
 
     // The whole shader, its calls sent down what overrides functions.
-    fn linked(&self, of: &ComposableModule, shader_type: ShaderType) -> Checked<Module> {
+    fn linked(&self, of: &ComposableModule, shader_type: ShaderType) -> Checked<Module>
+        ensures { GivesBy (λ made. ShaderLinked (builds_of self.now.builds) (built_of of.now) shader_type (module_value made)) (ShaderRefused (builds_of self.now.builds) (built_of of.now) shader_type) result }
+    {
         let mut whole = self.whole(of)?;
         set_stages(&mut whole, shader_type);
         if of.override_functions.is_empty() {
             return Ok(whole);
         }
-        let whole = FormedModule::new(self.alloc, whole)?;
-        let mut redirector = Redirector::new(self.alloc, whole.into_module());
-        for (base, others) in of.override_functions.iter() {
-            send_down(self.alloc, &mut redirector, base, others)?;
-        }
-        Ok(redirector.into_module()?)
+        chained(self.alloc, whole, &of.override_functions)
     }
 
     // A fault of the made module, in the module that its last span is in.
@@ -235,21 +346,15 @@ impl<B: Backend> Maker<'_, B> {
         of: &Definition,
         text: &str,
         offset: usize,
-    ) -> ComposerError {
-        let index = last_index(&fault);
+    ) -> ComposerError
+        ensures { Tells {Y = ModuleValue} result (Err (invalid_shader (builds_of self.now.builds) (defs_of self.now.defs) (build_place (definition_of of.now) text.now offset (defs_of self.now.defs)) (valid_fault fault))) }
+    {
+        let built = build_at(&self.builds, last_index(&fault));
         let inner = Inner::ShaderValidationError(fault);
-        for (name, at) in self.builds.iter() {
-            if at.index == index {
-                return refused_in(
-                    self.alloc,
-                    inner,
-                    name.as_str(),
-                    at.start_offset,
-                    &self.defs,
-                );
-            }
+        match built {
+            Some((name, at)) => { refused_in(self.alloc, inner, name, at.start_offset, &self.defs) }
+            None => self.refused(of, text, inner, offset),
         }
-        self.refused(of, text, inner, offset)
     }
 
     // The made module, if it is valid where that is asked for.
@@ -259,7 +364,9 @@ impl<B: Backend> Maker<'_, B> {
         of: &Definition,
         text: &str,
         offset: usize,
-    ) -> Result<Module, ComposerError> {
+    ) -> Result<Module, ComposerError>
+        ensures { Answers module_value result (validated (B.front self.now.front.now) self.now.capabilities self.now.validate (builds_of self.now.builds) (defs_of self.now.defs) (build_place (definition_of of.now) text.now offset (defs_of self.now.defs)) (module_value made)) }
+    {
         if !self.validate {
             return Ok(made);
         }
@@ -277,7 +384,12 @@ impl<B: Backend> Maker<'_, B> {
         of: &Definition,
         text: &str,
         shader_type: ShaderType,
-    ) -> Result<Module, ComposerError> {
+    ) -> Result<Module, ComposerError>
+        ensures { let place = build_place (definition_of of.now) text.now built.now.start_offset (defs_of self.now.defs) in AnswersBy
+            (λ made. ShaderAnswers (B.front self.now.front.now) self.now.capabilities self.now.validate (builds_of self.now.builds) (defs_of self.now.defs) (built_of built.now) shader_type place (Ok (module_value made)))
+            (λ refused. ShaderAnswers (B.front self.now.front.now) self.now.capabilities self.now.validate (builds_of self.now.builds) (defs_of self.now.defs) (built_of built.now) shader_type place (Err refused))
+            result }
+    {
         let linked = self.linked(built, shader_type);
         let made = self.told(of, text, built.start_offset, linked)?;
         self.validated(made, of, text, built.start_offset)

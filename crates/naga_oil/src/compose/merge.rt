@@ -73,7 +73,9 @@ pub(crate) fn clone_imports(
 pub(crate) fn imports_of(
     alloc: Global,
     uses: &[ImportDefWithOffset],
-) -> Tried<Vec<ImportDefinition>> {
+) -> Tried<Vec<ImportDefinition>>
+    ensures { IfOk result (λ imports. map import_of imports.items ≡ map (λ u. (use_of u).import) uses.now) }
+{
     let mut imports = Vec::with_capacity(alloc, uses.len())?;
     for import in uses {
         imports.push(import.definition().try_clone()?)?;

@@ -1,10 +1,26 @@
 // Functions that may be overridden, and those that override them, as a text says by keywords that no front end knows.
-ghost use Rattle.std.specs.Prelude.{◌+◌, ◌<◌, ◌^◌, length, IfSome};
+ghost use Rattle.std.specs.Prelude.{◌≡◌, ◌+◌, ◌<◌, ◌≤◌, ◌^◌, length, map, Option, option_map, string_bytes, IfSome, IfOk, OnOk};
+ghost use Rattle.std.specs.BTreeMap.{get};
+ghost use Rattle.std.specs.List.{list_all};
+ghost use Rattle.std.specs.Ordering.{nat_cmp};
+ghost use Rattle.std.specs.Str.{chars};
+ghost use Rattle.ucd_perl.specs.Perl.{is_word_char};
+ghost use Rattle.naga_oil_lines.specs.Uses.{import_of};
+ghost use Rattle.naga_oil_pre.specs.Fault.{Fault};
+ghost use Rattle.naga_oil_pre.specs.View.{fault_of};
+ghost use Rattle.naga_oil.specs.Relations.{GivesBy};
+ghost use Rattle.std.specs.Option.{option_or};
+ghost use Rattle.naga_oil.specs.BuiltModule.{built_of, builds_of};
+ghost use Rattle.naga_oil.specs.Definition.{texts};
 ghost use Rattle.naga_oil.specs.Keywords.{AreItemAndCode};
+ghost use Rattle.naga_oil.specs.KeywordsView.{marked_of};
+ghost use Rattle.naga_oil.specs.Virtuals.{names_of, blanked, override_name, marked_override, imported_build, override_fault, are_parts, item_and_code, with_override, with_overrides, functions_in};
+ghost use Rattle.naga_oil.specs.Overriding.{overriding_of, with_new, overridden};
 
 use crate::compose::definition::{Checked, Names, Overrides, Tried};
-use crate::compose::keywords::{Edits, Marked, covered, edit, marked_functions, with_edits};
+use crate::compose::keywords::{Edits, covered, edit, marked_functions, with_edits};
 use crate::compose::link::Builds;
+use crate::compose::marked::{Marked, Over};
 use crate::compose::module::ComposableModule;
 use naga_oil_lines::ImportDefinition;
 use naga_oil_lines::decorate::{DECORATION_OVERRIDE_PRE, DECORATION_POST, DECORATION_PRE, decode};
@@ -12,44 +28,93 @@ use naga_oil_pre::ComposerErrorInner as Inner;
 use std::alloc::Global;
 use ucd_perl::is_word_code;
 
+// Adds a name, unless it is there.
+fn add_name(alloc: Global, names: &mut Vec<String>, name: &str) -> Tried<()>
+    ensures { OnOk result (texts names.new.items ≡ with_new (texts names.old.items) name.now) }
+{
+    if !names.iter().any(|other| other.as_str() == name) {
+        names.push(String::from_str(alloc, name)?)?;
+    }
+    Ok(())
+}
+
 /// Adds a function that overrides another, unless it is known.
-pub(crate) fn add_override(
-    alloc: Global,
-    all: &mut Overrides,
-    base: &str,
-    name: &str,
-) -> Tried<()> {
+pub(crate) fn add_override(alloc: Global, all: &mut Overrides, base: &str, name: &str) -> Tried<()>
+    ensures { OnOk result (overriding_of all.new ≡ overridden (overriding_of all.old) base.now name.now) }
+{
     if let Some(known) = all.get_mut(base) {
-        if !known.iter().any(|other| other.as_str() == name) {
-            known.push(String::from_str(alloc, name)?)?;
-        }
-        return Ok(());
+        return add_name(alloc, known, name);
     }
     let names = vec![in alloc; String::from_str(alloc, name)?]?;
     all.insert(String::from_str(alloc, base)?, names)?;
     Ok(())
 }
 
-// Reads functions that may be overridden: their names. The keywords become spaces.
-fn read_virtual(alloc: Global, functions: &[Marked<'_>], edits: &mut Edits) -> Tried<Names> {
+// The names of functions.
+fn names_of(alloc: Global, functions: &[Marked<'_>]) -> Tried<Names>
+    ensures { IfOk result (λ names. texts names.keys ≡ names_of (map marked_of functions.now)) }
+{
     let mut names = Names::new(alloc);
     for function in functions {
         names.insert(String::from_str(alloc, function.name)?)?;
-        edit(edits, function.keyword, "       ")?;
     }
     Ok(names)
 }
 
+// Puts other characters in the place of each keyword.
+fn blank(edits: &mut Edits, functions: &[Marked<'_>], blank: &str) -> Tried<()>
+    requires { length blank.now ≤ 16 }
+    ensures { OnOk result (get nat_cmp edits.new ≡ blanked blank.now (get nat_cmp edits.old) (map marked_of functions.now)) }
+{
+    for function in functions {
+        edit(edits, function.keyword, blank)?;
+    }
+    Ok(())
+}
+
+// Whether a text is of word characters.
+fn is_word(text: &str) -> bool
+    ensures { result ≡ list_all is_word_char (chars text.now) }
+{
+    text.chars().all(|c| is_word_code(c as u32))
+}
+
+// Whether these may be an item and a code: neither is empty, and a code is of word characters.
+fn are_parts(item: &str, code: &str) -> bool
+    ensures { result ≡ are_parts item.now code.now }
+{
+    !item.is_empty() && !code.is_empty() && is_word(code)
+}
+
 // The item and the code of its module in a decorated name.
 fn split_name(name: &str) -> Option<(&str, &str)>
-    ensures { IfSome result (λ r. AreItemAndCode name.now r.0.now r.1.now) }
+    ensures parts { IfSome result (λ r. AreItemAndCode name.now r.0.now r.1.now) }
+    ensures value { option_map (λ r. (r.0.now, r.1.now)) result ≡ item_and_code name.now }
 {
     let marked = name.strip_suffix(DECORATION_POST)?;
     let (item, code) = marked.rsplit_once(DECORATION_PRE)?;
-    if item.is_empty() || code.is_empty() || code.chars().any(|c| !is_word_code(c as u32)) {
+    if !are_parts(item, code) {
         return None;
     }
     Some((item, code))
+}
+
+// The build of a module that is imported.
+fn imported_build<'b>(
+    builds: &'b Builds,
+    imports: &[ImportDefinition],
+    module_name: &str,
+) -> Option<&'b ComposableModule>
+    ensures { option_map (λ b. built_of b.now) result ≡ imported_build (builds_of builds.now) (map import_of imports.now) module_name.now }
+{
+    if imports
+        .iter()
+        .any(|import| import.import.as_str() == module_name)
+    {
+        builds.get(module_name)
+    } else {
+        None
+    }
 }
 
 // Why an item can't be overridden by a function whose name is at a place: its module isn't imported, or it isn't virtual there.
@@ -62,9 +127,9 @@ fn override_fault(
     place: usize,
 ) -> Tried<Option<Inner>>
     requires { place + length item.now + 16 < 2 ^ 64 }
+    ensures { IfOk result (λ fault. option_map fault_of fault ≡ option_map Some (override_fault (builds_of builds.now) (map import_of imports.now) (string_bytes module_name) item.now place)) }
 {
-    let is_imported = imports.iter().any(|import| import.import == module_name);
-    match builds.get(module_name.as_str()).filter(|_| is_imported) {
+    match imported_build(builds, imports, module_name.as_str()) {
         None => {
             let code = place + item.len() + DECORATION_PRE.len();
             Ok(Some(Inner::ImportNotFound(module_name, code)))
@@ -85,16 +150,20 @@ fn note_override(
     of: &Marked<'_>,
     item: &str,
     code: &str,
-    built: &mut ComposableModule,
+    decoration: &str,
+    overriding: &mut Overrides,
     edits: &mut Edits,
 ) -> Tried<()>
     requires { AreItemAndCode of.now.name.now item.now code.now }
+    ensures edits { OnOk result (get nat_cmp edits.new ≡ marked_override (get nat_cmp edits.old) (marked_of of.now) item.now) }
+    ensures overriding { OnOk result (overriding_of overriding.new ≡ overridden (overriding_of overriding.old) of.now.name.now (override_name item.now code.now decoration.now)) }
 {
     edit(edits, of.keyword, "        ")?;
     edit(edits, of.place + item.len(), DECORATION_OVERRIDE_PRE)?;
-    let marked = format!(in alloc; "{item}{DECORATION_OVERRIDE_PRE}{code}{DECORATION_POST}")?;
-    let own = format!(in alloc; "{marked}{}", built.decorated_name)?;
-    add_override(alloc, &mut built.override_functions, of.name, &own)
+    let own = format!(in alloc;
+        "{item}{DECORATION_OVERRIDE_PRE}{code}{DECORATION_POST}{decoration}"
+    )?;
+    add_override(alloc, overriding, of.name, &own)
 }
 
 // Reads a function by which a build overrides another, or its fault; any other stays.
@@ -102,49 +171,67 @@ fn note_override(
 fn read_override(
     alloc: Global,
     of: &Marked<'_>,
-    builds: &Builds,
-    built: &mut ComposableModule,
+    over: Over<'_>,
+    overriding: &mut Overrides,
     edits: &mut Edits,
-) -> Tried<Option<Inner>> {
+) -> Tried<Option<Inner>>
+    ensures { IfOk result (λ fault. (told : Option Fault) × (option_map fault_of fault ≡ option_map Some told) × ((before : Option Fault) → record { edits = get nat_cmp edits.new; overriding = overriding_of overriding.new; fault = option_or told before } ≡ with_override (builds_of over.entry.builds.now) (map import_of over.entry.imports.now) over.entry.decoration.now (record { edits = get nat_cmp edits.old; overriding = overriding_of overriding.old; fault = before }) (marked_of of.now))) }
+{
     let Some((item, code)) = split_name(of.name) else {
         return Ok(None);
     };
     let Some(module_name) = decode(alloc, code)? else {
         return Ok(None);
     };
-    note_override(alloc, of, item, code, built, edits)?;
-    override_fault(alloc, &built.imports, builds, module_name, item, of.place)
+    note_override(alloc, of, item, code, over.decoration, overriding, edits)?;
+    override_fault(
+        alloc,
+        over.imports,
+        over.builds,
+        module_name,
+        item,
+        of.place,
+    )
 }
 
 // Reads functions by which a build overrides others, or the last of their faults.
 fn read_overrides(
     alloc: Global,
     functions: &[Marked<'_>],
-    builds: &Builds,
-    built: &mut ComposableModule,
+    over: Over<'_>,
+    overriding: &mut Overrides,
     edits: &mut Edits,
-) -> Checked<()> {
+) -> Checked<()>
+    ensures { let told = with_overrides (builds_of over.entry.builds.now) (map import_of over.entry.imports.now) over.entry.decoration.now (record { edits = get nat_cmp edits.old; overriding = overriding_of overriding.old; fault = None }) (map marked_of functions.now) in GivesBy (λ done. told ≡ record { edits = get nat_cmp edits.new; overriding = overriding_of overriding.new; fault = None }) (λ f. told.fault ≡ Some f) result }
+{
     let mut last = None;
     for function in functions {
-        last = read_override(alloc, function, builds, built, edits)?.or(last);
+        last = read_override(alloc, function, over, overriding, edits)?.or(last);
     }
-    last.map_or(Ok(()), |fault| Err(fault))
+    match last {
+        None => Ok(()),
+        Some(fault) => Err(fault),
+    }
 }
 
-/// Reads the functions of a build that may be overridden and those that override what it imports, outside comments. Gives the text
-/// without the keywords.
+/// Reads the functions of a build that may be overridden and those that override what it imports, outside comments. Gives the names
+/// of the first, and the text without the keywords.
 pub(crate) fn read_functions(
     alloc: Global,
     text: &str,
-    builds: &Builds,
-    built: &mut ComposableModule,
-) -> Checked<String> {
+    over: Over<'_>,
+    overriding: &mut Overrides,
+) -> Checked<(Names, String)>
+    ensures { let value = functions_in (builds_of over.entry.builds.now) (map import_of over.entry.imports.now) over.entry.decoration.now (overriding_of overriding.old) text.now in GivesBy (λ read. value ≡ Ok (record { virtuals = texts read.0.keys; overriding = overriding_of overriding.new; text = string_bytes read.1 })) (λ f. value ≡ Err f) result }
+{
     let covered = covered(alloc, text)?;
     let mut edits = Edits::new(alloc);
-    let functions = marked_functions(alloc, covered.as_str(), "virtual")?;
-    built.virtual_functions = read_virtual(alloc, &functions, &mut edits)?;
-    let covered = with_edits(alloc, covered.as_str(), &edits)?;
-    let functions = marked_functions(alloc, covered.as_str(), "override")?;
-    read_overrides(alloc, &functions, builds, built, &mut edits)?;
-    Ok(with_edits(alloc, text, &edits)?)
+    let virtuals = marked_functions(alloc, covered.as_str(), "virtual")?;
+    let names = names_of(alloc, &virtuals)?;
+    blank(&mut edits, &virtuals, "       ")?;
+    let shown = with_edits(alloc, covered.as_str(), &edits)?;
+    let functions = marked_functions(alloc, shown.as_str(), "override")?;
+    read_overrides(alloc, &functions, over, overriding, &mut edits)?;
+    let text = with_edits(alloc, text, &edits)?;
+    Ok((names, text))
 }

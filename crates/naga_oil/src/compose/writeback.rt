@@ -1,117 +1,199 @@
 // Whether the names of what a module owns come back when its header is written and read again.
-ghost use Rattle.std.specs.Prelude.{◌≡◌, option_map};
-ghost use Rattle.naga_oil.specs.Writeback.{lost_member};
+ghost use Rattle.std.specs.Prelude.{◌≡◌, ◌++◌, [], map, take, option_map, string_bytes, IfOk, OnOk};
+ghost use Rattle.naga_oil_ir.specs.ModuleValue.{module_value, function_value};
+ghost use Rattle.naga_oil_ir.specs.Rows.{type_row, constant_row, global_row, member_label};
+ghost use Rattle.naga_oil_pre.specs.View.{Gives};
+ghost use Rattle.naga_oil.specs.BuiltModule.{built_of};
+ghost use Rattle.naga_oil.specs.Definition.{texts};
+ghost use Rattle.naga_oil.specs.Writeback.{named_item, named_items, named_functions, struct_members, last_named, lost_member, lost_of, lost_at, lost_among, lost, unless_lost, came_back};
+ghost use Rattle.naga_oil.specs.WritebackView.{labels_of, named_of, held};
 
 use crate::compose::build::Maker;
-use crate::compose::definition::{Checked, Tried};
-use crate::compose::items::{name_at, named, places_of};
+use crate::compose::definition::{Checked, Names, Tried};
+use crate::compose::items::named;
 use crate::compose::module::ComposableModule;
-use naga_oil_ir::{Backend, ItemPlace, Module, ShaderLanguage, Span, StructMember, TypeInner};
+use naga_oil_ir::{
+    Arena, Backend, Constant, Function, GlobalVariable, Module, ShaderLanguage, Span, StructMember,
+    Type, TypeInner, UniqueArena,
+};
 use naga_oil_pre::ComposerErrorInner;
 use std::alloc::Global;
-use std::collections::{BTreeMap, BTreeSet};
+use std::collections::BTreeMap;
 
-// An item whose name doesn't come back, and its span.
-type Lost<'m> = Option<(&'m str, Span)>;
-
-// The items of a kind that came back by their names, of one name the last; of structs the members.
-type Back<'b> = BTreeMap<&'b str, Option<&'b [StructMember]>>;
-
-// The kind of a type, a constant or a global with a name, its name and its span; others aren't compared.
-fn compared(of: &Module, place: ItemPlace) -> Option<(u8, &str, Span)> {
-    let (kind, span) = match place {
-        ItemPlace::TypeItem(handle) => (0, of.types.get_span(handle)),
-        ItemPlace::ConstantItem(handle) => (1, of.constants.get_span(handle)),
-        ItemPlace::GlobalItem(handle) => (2, of.global_variables.get_span(handle)),
-        ItemPlace::OverrideItem(_) | ItemPlace::ExpressionItem(_) => return None,
-    };
-    Some((kind, name_at(of, place)?, span))
+// An item of a name, with its span; of a struct its members.
+#[derive(Clone, Copy)]
+struct NamedItem<'m> {
+    name: &'m str,
+    members: Option<&'m [StructMember]>,
+    span: Span,
 }
 
+// The name of what doesn't come back, and the span of its item.
+type Lost<'m> = Option<(&'m str, Span)>;
+
+// What came back, by names.
+type Back<'b> = BTreeMap<&'b str, NamedItem<'b>>;
+
 // The members of a struct.
-fn members(of: &Module, place: ItemPlace) -> Option<&[StructMember]> {
-    let ItemPlace::TypeItem(handle) = place else {
-        return None;
-    };
-    match &of.types.get_handle(handle)?.inner {
+fn members(of: &Type) -> Option<&[StructMember]>
+    ensures { labels_of result ≡ struct_members (type_row of.now) }
+{
+    match &of.inner {
         TypeInner::Struct { members, .. } => Some(members.as_slice()),
         _ => None,
     }
 }
 
-// The items of a kind that came back.
-fn items_back(alloc: Global, back: &Module, kind: u8) -> Tried<Back<'_>> {
-    let mut items = BTreeMap::new(alloc);
-    for place in &places_of(alloc, back)? {
-        if let Some((of_kind, name, _)) = compared(back, *place)
-            && of_kind == kind
-        {
-            items.insert(name, members(back, *place))?;
-        }
+// One item more, if it has a name.
+fn push_named<'m>(
+    items: &mut Vec<NamedItem<'m>>,
+    name: &'m Option<String>,
+    members: Option<&'m [StructMember]>,
+    span: Span,
+) -> Tried<()>
+    ensures { OnOk result (map named_of items.new.items ≡ map named_of items.old.items ++ named_item (option_map string_bytes name.now) (labels_of members.entry) span) }
+{
+    if let Some(name) = named(name) {
+        items.push(NamedItem {
+            name,
+            members,
+            span,
+        })?;
+    }
+    Ok(())
+}
+
+// The types that have names.
+fn named_types<'m>(alloc: Global, of: &'m UniqueArena<Type>) -> Tried<Vec<NamedItem<'m>>>
+    ensures { IfOk result (λ items. map named_of items.items ≡ named_items (map (λ e. (type_row e.0, e.1)) of.now)) }
+{
+    let mut items = Vec::new(alloc);
+    for (ty, span) in of.iter() {
+        push_named(&mut items, &ty.name, members(ty), *span)?;
     }
     Ok(items)
 }
 
+// The constants that have names.
+fn named_constants<'m>(alloc: Global, of: &'m Arena<Constant>) -> Tried<Vec<NamedItem<'m>>>
+    ensures { IfOk result (λ items. map named_of items.items ≡ named_items (map (λ e. (constant_row e.0, e.1)) of.now)) }
+{
+    let mut items = Vec::new(alloc);
+    for (constant, span) in of.as_slice() {
+        push_named(&mut items, &constant.name, None, *span)?;
+    }
+    Ok(items)
+}
+
+// The globals that have names.
+fn named_globals<'m>(alloc: Global, of: &'m Arena<GlobalVariable>) -> Tried<Vec<NamedItem<'m>>>
+    ensures { IfOk result (λ items. map named_of items.items ≡ named_items (map (λ e. (global_row e.0, e.1)) of.now)) }
+{
+    let mut items = Vec::new(alloc);
+    for (global, span) in of.as_slice() {
+        push_named(&mut items, &global.name, None, *span)?;
+    }
+    Ok(items)
+}
+
+// The functions that have names.
+fn named_functions<'m>(alloc: Global, of: &'m [(Function, Span)]) -> Tried<Vec<NamedItem<'m>>>
+    ensures { IfOk result (λ items. map named_of items.items ≡ named_functions (map (λ e. (function_value e.0, e.1)) of.now)) }
+{
+    let mut items = Vec::new(alloc);
+    for (function, span) in of {
+        push_named(&mut items, &function.name, None, *span)?;
+    }
+    Ok(items)
+}
+
+// The same of all functions.
+fn all_functions<'m>(alloc: Global, of: &'m Arena<Function>) -> Tried<Vec<NamedItem<'m>>>
+    ensures { IfOk result (λ items. map named_of items.items ≡ named_functions (map (λ e. (function_value e.0, e.1)) of.now)) }
+{
+    named_functions(alloc, of.as_slice())
+}
+
+// The same of the first so many.
+fn first_functions<'m>(
+    alloc: Global,
+    of: &'m Arena<Function>,
+    count: usize,
+) -> Tried<Vec<NamedItem<'m>>>
+    ensures { IfOk result (λ items. map named_of items.items ≡ named_functions (take count (map (λ e. (function_value e.0, e.1)) of.now))) }
+{
+    let functions = of.as_slice();
+    named_functions(alloc, &functions[..count.min(functions.len())])
+}
+
+// Items by their names, of one name the last.
+fn by_name<'b>(alloc: Global, items: &[NamedItem<'b>]) -> Tried<Back<'b>>
+    ensures { IfOk result (λ back. held back ≡ last_named (map named_of items.now)) }
+{
+    let mut back = BTreeMap::new(alloc);
+    for item in items {
+        back.insert(item.name, *item)?;
+    }
+    Ok(back)
+}
+
 // The name of the first member that has another name there; without one it is empty.
 fn lost_member<'m>(ours: &'m [StructMember], theirs: &[StructMember]) -> Option<&'m str>
-    ensures { option_map (λ r. r.now) result ≡ lost_member ours.now theirs.now }
+    ensures { option_map (λ r. r.now) result ≡ lost_member (map member_label ours.now) (map member_label theirs.now) }
 {
     let mut pairs = ours.iter().zip(theirs);
     let (our, _) = pairs.find(|(our, their)| our.name != their.name)?;
     Some(named(&our.name).unwrap_or(""))
 }
 
-// What is lost of an item of a name, whose members these are where it is a struct: its name unless it comes back, of a struct as
-// one, and else a member.
-fn lost_name<'m>(
-    name: &'m str,
-    ours: Option<&'m [StructMember]>,
-    theirs: Option<Option<&[StructMember]>>,
-) -> Option<&'m str> {
-    match (ours, theirs) {
-        (Some(ours), Some(Some(theirs))) => lost_member(ours, theirs),
-        (None, Some(_)) => None,
-        _ => Some(name),
+// What is lost of an item: its name unless it comes back, of a struct as one, and else a member.
+fn lost_of<'m>(ours: &NamedItem<'m>, theirs: Option<&NamedItem<'_>>) -> Option<&'m str>
+    ensures { option_map (λ r. r.now) result ≡ lost_of (named_of ours.now) (option_map (λ i. named_of i.now) theirs.entry) }
+{
+    let Some(theirs) = theirs else {
+        return Some(ours.name);
+    };
+    match (ours.members, theirs.members) {
+        (None, _) => None,
+        (Some(_), None) => Some(ours.name),
+        (Some(ours), Some(theirs)) => lost_member(ours, theirs),
     }
 }
 
-// The decorated name of an item of a kind. Types get their decoration as they are copied.
-fn decorated(alloc: Global, name: &str, kind: u8, decoration: &str) -> Tried<String> {
-    let decoration = if kind == 0 { decoration } else { "" };
-    format!(in alloc; "{name}{decoration}")
-}
-
-// What is lost of the item at a place, if it is owned and of the kind.
+// The same with the item's span, if its decorated name is among the owned ones.
 fn lost_at<'m>(
     alloc: Global,
-    source: &'m Module,
-    place: &ItemPlace,
-    items: &Back<'_>,
-    built: &ComposableModule,
-    kind: u8,
-) -> Tried<Lost<'m>> {
-    let Some((of_kind, name, span)) = compared(source, *place) else {
-        return Ok(None);
-    };
-    let decorated = decorated(alloc, name, kind, built.decorated_name.as_str())?;
-    if of_kind != kind || !built.owns(*place, decorated.as_str()) {
+    item: &NamedItem<'m>,
+    back: &Back<'_>,
+    owned: &Names,
+    decoration: &str,
+) -> Tried<Lost<'m>>
+    ensures { IfOk result (λ lost. option_map (λ l. (l.0.now, l.1)) lost ≡ lost_at (texts owned.now.keys) decoration.now (held back.now) (named_of item.now)) }
+{
+    let name = item.name;
+    let decorated = format!(in alloc; "{name}{decoration}")?;
+    if !owned.contains(decorated.as_str()) {
         return Ok(None);
     }
-    let theirs = items.get(decorated.as_str()).copied();
-    Ok(lost_name(name, members(source, *place), theirs).map(|lost| (lost, span)))
+    match lost_of(item, back.get(decorated.as_str())) {
+        Some(name) => Ok(Some((name, item.span))),
+        None => Ok(None),
+    }
 }
 
-// The first owned item of a kind that doesn't come back: of a struct that comes back as one, a member.
-fn lost_item<'m>(
+// The first of these items that is lost.
+fn lost_among<'m>(
     alloc: Global,
-    source: &'m Module,
-    back: &Module,
-    built: &ComposableModule,
-    kind: u8,
-) -> Tried<Lost<'m>> {
-    let items = items_back(alloc, back, kind)?;
-    for place in &places_of(alloc, source)? {
-        let lost = lost_at(alloc, source, place, &items, built, kind)?;
+    items: &[NamedItem<'m>],
+    back: &[NamedItem<'_>],
+    owned: &Names,
+    decoration: &str,
+) -> Tried<Lost<'m>>
+    ensures { IfOk result (λ lost. option_map (λ l. (l.0.now, l.1)) lost ≡ lost_among (texts owned.now.keys) decoration.now (last_named (map named_of back.now)) (map named_of items.now)) }
+{
+    let back = by_name(alloc, back)?;
+    for item in items {
+        let lost = lost_at(alloc, item, &back, owned, decoration)?;
         if lost.is_some() {
             return Ok(lost);
         }
@@ -119,49 +201,98 @@ fn lost_item<'m>(
     Ok(None)
 }
 
-// The first of so many functions that is owned and doesn't come back.
+// The first owned type that is lost; types get the decoration as they are copied.
+fn lost_type<'m>(
+    alloc: Global,
+    source: &'m Module,
+    back: &Module,
+    built: &ComposableModule,
+) -> Tried<Lost<'m>>
+    ensures { IfOk result (λ lost. option_map (λ l. (l.0.now, l.1)) lost ≡ lost_among (built_of built.now).types (built_of built.now).decoration (last_named (named_items (module_value back.now).types)) (named_items (module_value source.now).types)) }
+{
+    let ours = named_types(alloc, &source.types)?;
+    let theirs = named_types(alloc, &back.types)?;
+    let decoration = built.decorated_name.as_str();
+    lost_among(alloc, &ours, &theirs, &built.owned_types, decoration)
+}
+
+// The first owned constant that is lost.
+fn lost_constant<'m>(
+    alloc: Global,
+    source: &'m Module,
+    back: &Module,
+    built: &ComposableModule,
+) -> Tried<Lost<'m>>
+    ensures { IfOk result (λ lost. option_map (λ l. (l.0.now, l.1)) lost ≡ lost_among (built_of built.now).constants [] (last_named (named_items (module_value back.now).constants)) (named_items (module_value source.now).constants)) }
+{
+    let ours = named_constants(alloc, &source.constants)?;
+    let theirs = named_constants(alloc, &back.constants)?;
+    lost_among(alloc, &ours, &theirs, &built.owned_constants, "")
+}
+
+// The first owned global that is lost.
+fn lost_global<'m>(
+    alloc: Global,
+    source: &'m Module,
+    back: &Module,
+    built: &ComposableModule,
+) -> Tried<Lost<'m>>
+    ensures { IfOk result (λ lost. option_map (λ l. (l.0.now, l.1)) lost ≡ lost_among (built_of built.now).globals [] (last_named (named_items (module_value back.now).global_variables)) (named_items (module_value source.now).global_variables)) }
+{
+    let ours = named_globals(alloc, &source.global_variables)?;
+    let theirs = named_globals(alloc, &back.global_variables)?;
+    lost_among(alloc, &ours, &theirs, &built.owned_vars, "")
+}
+
+// The first owned function that is lost, of so many.
 fn lost_function<'m>(
     alloc: Global,
     source: &'m Module,
     back: &Module,
     built: &ComposableModule,
     count: usize,
-) -> Tried<Lost<'m>> {
-    let mut names = BTreeSet::new(alloc);
-    for (function, _) in back.functions.iter() {
-        if let Some(name) = named(&function.name) {
-            names.insert(name)?;
-        }
-    }
-    for (function, span) in source.functions.iter().take(count) {
-        if let Some(name) = named(&function.name)
-            && built.owned_functions.contains(name)
-            && !names.contains(name)
-        {
-            return Ok(Some((name, *span)));
-        }
-    }
-    Ok(None)
+) -> Tried<Lost<'m>>
+    ensures { IfOk result (λ lost. option_map (λ l. (l.0.now, l.1)) lost ≡ lost_among (built_of built.now).functions [] (last_named (named_functions (module_value back.now).functions)) (named_functions (take count (module_value source.now).functions))) }
+{
+    let ours = first_functions(alloc, &source.functions, count)?;
+    let theirs = all_functions(alloc, &back.functions)?;
+    lost_among(alloc, &ours, &theirs, &built.owned_functions, "")
 }
 
-// Refuses the first that doesn't come back: types, constants and globals, then so many functions.
+// The first of what a module owns that is lost: types, then constants, globals, and so many functions.
+#[tactic(auto, unfolding(crate::specs::Writeback::lost))]
+fn lost<'m>(
+    alloc: Global,
+    source: &'m Module,
+    back: &Module,
+    built: &ComposableModule,
+    functions: usize,
+) -> Tried<Lost<'m>>
+    ensures { IfOk result (λ first. option_map (λ l. (l.0.now, l.1)) first ≡ lost (module_value source.now) (module_value back.now) (built_of built.now) functions) }
+{
+    if let Some(lost) = lost_type(alloc, source, back, built)? {
+        return Ok(Some(lost));
+    }
+    if let Some(lost) = lost_constant(alloc, source, back, built)? {
+        return Ok(Some(lost));
+    }
+    if let Some(lost) = lost_global(alloc, source, back, built)? {
+        return Ok(Some(lost));
+    }
+    lost_function(alloc, source, back, built, functions)
+}
+
+// Refuses the first that is lost.
 fn check_back(
     alloc: Global,
     source: &Module,
     back: &Module,
     built: &ComposableModule,
     functions: usize,
-) -> Checked<()> {
-    let mut lost = None;
-    for kind in 0..3 {
-        if lost.is_none() {
-            lost = lost_item(alloc, source, back, built, kind)?;
-        }
-    }
-    if lost.is_none() {
-        lost = lost_function(alloc, source, back, built, functions)?;
-    }
-    let Some((name, at)) = lost else {
+) -> Checked<()>
+    ensures { Gives (λ done. done) result (unless_lost (lost (module_value source.now) (module_value back.now) (built_of built.now) functions)) }
+{
+    let Some((name, at)) = lost(alloc, source, back, built, functions)? else {
         return Ok(());
     };
     let original = String::from_str(alloc, name)?;
@@ -171,12 +302,15 @@ fn check_back(
 /// Whether what a module owns comes back by name when its header is written in WGSL and read again: its types, of structs the
 /// names of the members too, its constants and globals, then its functions, of which the first so many are compared. The header
 /// has to be written in GLSL as well.
+#[tactic(auto, unfolding(crate::specs::Writeback::came_back))]
 pub(crate) fn came_back<B: Backend>(
     maker: &Maker<'_, B>,
     source: &Module,
     built: &ComposableModule,
     functions: usize,
-) -> Checked<()> {
+) -> Checked<()>
+    ensures { Gives (λ done. done) result (came_back (B.front maker.now.front.now) maker.now.capabilities (module_value source.now) (built_of built.now) functions) }
+{
     let header = built.header_ir.get();
     let text = maker.written(header, ShaderLanguage::Wgsl)?;
     let back = maker.parsed(&text, ShaderLanguage::Wgsl)?;

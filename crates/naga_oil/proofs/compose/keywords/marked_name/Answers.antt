@@ -1,12 +1,13 @@
-use Rattle.std.proofs.Common.{◌≡◌, ℕ, List, not, None, ap, ◌∙◌, rules}
+use Rattle.std.proofs.Common.{◌≡◌, ◌++◌, ℕ, List, not, Option, None, IfSome, sym, subst, ap, ◌∙◌, rules}
 use denote.Ref.{Bor}
 use Rattle.std.specs.List.{prefix_len}
 use Rattle.std.specs.Prelude.{codes}
 use Rattle.std.specs.Str.{chars}
 use Rattle.std.proofs.lemmas.Str.{chars-IsAscii}
 use Rattle.naga_oil_lines.proofs.TextLemmas.{chars_before}
+use Rattle.naga_oil_lines.proofs.TokenLemmas.{suffix_more}
 use Rattle.naga_oil.specs.Keywords.{is_name_char, after_spaces}
-use Rattle.naga_oil.proofs.KeywordsLemmas.{none_first, none_word, none_second, onwards, none_open, name_found, map_then, empty_chars}
+use Rattle.naga_oil.proofs.KeywordsLemmas.{none_first, none_word, none_second, onwards, none_open, name_found, map_then, then_holds, empty_chars}
 use Rattle.naga_oil.proofs.compose.keywords.marked_name.Goals as goal
 
 fn_chars : chars (codes "fn") ≡ codes "fn"
@@ -48,3 +49,21 @@ returns-clause-chars c =
     let before = chars_before c.in_ok-onwards.onwards.now name c.after_name-rest.result.now (prefix_len is_name_char on) c.text_before-name.ensures c.text_before-name.utf8 c.after_name-rest.ensures.chars in
     let found = name_found on (chars (codes "(")) (chars c.after_whitespace.result.now) open_chars rest (chars c.in_ok-arguments.arguments.now) (chars name) c.is_empty.result c.in_ok-arguments.ensures.chars before (c.is_empty.ensures ∙ empty_chars name c.text_before-name.utf8) in
     rw c.then_some.ensures (map_then (not c.is_empty.result) parts (λ r. (chars r.0.now, chars r.1.now, chars r.2.now)) ∙ found ∙ whole)
+
+pub returns-clause-suffix : goal.returns-clause-suffix
+returns-clause-suffix c =
+    let text = c.args.text.now in
+    let onwards = c.in_ok-onwards.onwards.now in
+    let arguments = c.in_ok-arguments.arguments.now in
+    let first = c.in_ok-past_spaces.ensures.suffix in
+    let second = c.in_ok-onwards.ensures.suffix in
+    let name = c.after_name-rest.ensures.suffix in
+    let spaces = c.after_whitespace.ensures.suffix in
+    let a = suffix_more text first.0 c.in_ok-past_spaces.field-0.now (codes "fn") c.in_ok-past_word.field-0.now first.1 c.in_ok-past_word.ensures.suffix in
+    let b = suffix_more text a.0 c.in_ok-past_word.field-0.now second.0 onwards a.1 second.1 in
+    let d = suffix_more text b.0 onwards name.0 c.after_name-rest.result.now b.1 name.1 in
+    let e = suffix_more text d.0 c.after_name-rest.result.now spaces.0 c.after_whitespace.result.now d.1 spaces.1 in
+    let f = suffix_more text e.0 c.after_whitespace.result.now (codes "(") arguments e.1 c.in_ok-arguments.ensures.suffix in
+    let parts : Bor (List ℕ) × Bor (List ℕ) × Bor (List ℕ) = (c.text_before-name.result, c.in_ok-onwards.onwards, c.in_ok-arguments.arguments) in
+    subst (λ (o : Option (Bor (List ℕ) × Bor (List ℕ) × Bor (List ℕ))). IfSome o (λ r. (x : List ℕ) × (text ≡ x ++ r.2.now))) (sym c.then_some.ensures)
+    (then_holds (not c.is_empty.result) parts (λ r. (x : List ℕ) × (text ≡ x ++ r.2.now)) f)

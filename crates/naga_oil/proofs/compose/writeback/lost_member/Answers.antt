@@ -5,11 +5,8 @@ use Rattle.std.specs.String.{string_bytes}
 use Rattle.std.proofs.lemmas.Iterator.{YieldsList-from_slice, YieldsList-from_zip}
 use Rattle.std.proofs.lemmas.Iterator.Search.{find_from_yields_List}
 use Rattle.naga_oil_ir.specs.declared.types.StructMember.{StructMember}
-use Rattle.naga_oil.specs.Writeback.{has_other_name}
+use Rattle.naga_oil.proofs.WritebackLemmas.{differs, name_of, members_lost}
 use Rattle.naga_oil.proofs.compose.writeback.lost_member.Goals as goal
-
-abbrev name_of : StructMember × StructMember → List ℕ
-name_of p = unwrap_or (option_map string_bytes p.0.name) []
 
 abbrev shown : Bor StructMember × Bor StructMember → StructMember × StructMember
 shown p = (p.0.now, p.1.now)
@@ -20,14 +17,14 @@ unwrapped None d = refl
 
 pub returns-in_err-our : goal.returns-in_err-our
 returns-in_err-our c =
-    let found = find_from_yields_List has_other_name c.find.new.self _ c.find.result c.find.ensures.ran (YieldsList-from_zip (YieldsList-from_slice c.args.ours.now (search rules)) (YieldsList-from_slice {s = c.zip-pairs.result.b} c.args.theirs.now (search rules))) (λ x b q k. search (rules, tests)) in
+    let found = find_from_yields_List differs c.find.new.self _ c.find.result c.find.ensures.ran (YieldsList-from_zip (YieldsList-from_slice c.args.ours.now (search rules)) (YieldsList-from_slice {s = c.zip-pairs.result.b} c.args.theirs.now (search rules))) (λ x b q k. search (rules, tests)) in
     let none = ap (option_map shown) c.in_err-our.was in
-    rw c.from_residual.ensures (ap (option_map name_of) (sym none ∙ found))
+    rw c.from_residual.ensures (ap (option_map name_of) (sym none ∙ found) ∙ members_lost c.args.ours.now c.args.theirs.now)
 
 pub returns : goal.returns
 returns c =
-    let found = find_from_yields_List has_other_name c.find.new.self _ c.find.result c.find.ensures.ran (YieldsList-from_zip (YieldsList-from_slice c.args.ours.now (search rules)) (YieldsList-from_slice {s = c.zip-pairs.result.b} c.args.theirs.now (search rules))) (λ x b q k. search (rules, tests)) in
+    let found = find_from_yields_List differs c.find.new.self _ c.find.result c.find.ensures.ran (YieldsList-from_zip (YieldsList-from_slice c.args.ours.now (search rules)) (YieldsList-from_slice {s = c.zip-pairs.result.b} c.args.theirs.now (search rules))) (λ x b q k. search (rules, tests)) in
     let some = ap (option_map shown) c.in_ok-our.was in
     let name : c.unwrap_or.result.now ≡ unwrap_or (option_map string_bytes c.in_ok-our.our.now.name) [] =
     ap (λ r. r.now) c.unwrap_or.ensures ∙ unwrapped c.named.result _ ∙ ap (λ o. unwrap_or o []) c.named.ensures in
-    ap Some name ∙ ap (option_map name_of) (sym some ∙ found)
+    ap Some name ∙ ap (option_map name_of) (sym some ∙ found) ∙ members_lost c.args.ours.now c.args.theirs.now

@@ -1,4 +1,4 @@
-use Rattle.std.proofs.Common.{◌≡◌, List, map, Ok, Err, subst, string_bytes}
+use Rattle.std.proofs.Common.{map, Err, subst, string_bytes}
 use Rattle.naga_oil.specs.Definition.{definition_of}
 use Rattle.naga_oil.specs.Descriptor.{shader_source}
 use Rattle.naga_oil.specs.Makes.{Makes}

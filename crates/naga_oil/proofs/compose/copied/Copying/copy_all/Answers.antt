@@ -1,22 +1,12 @@
-use Rattle.std.proofs.Common.{arith}
-use Rattle.naga_oil_derive.proofs.RankLemmas.{form_copyable}
-use Rattle.naga_oil.proofs.SourceLemmas.{from_set, item_at, place_at}
+use Rattle.std.proofs.Common.{refl, string_bytes}
+use Rattle.naga_oil_ir.specs.ModuleValue.{module_value}
+use Rattle.naga_oil.specs.BuiltModule.{built_of}
+use Rattle.naga_oil.specs.CopiedSteps.{own_types}
+use Rattle.naga_oil.proofs.CopiedLemmas.{ok_steps, same_stubs}
 use Rattle.naga_oil.proofs.compose.copied.Copying.copy_all.Goals as goal
 
-pub set_shader_source-requires : goal.set_shader_source-requires
-set_shader_source-requires c = form_copyable _ c.requires.items
+pub returns-clause-module_steps : goal.returns-clause-module_steps
+returns-clause-module_steps c = ok_steps c.copy_functions.result _ _ _ _ _ _ _ _ refl c.in_ok-set_source.ensures.module_steps c.in_ok-copy_items.ensures.module_steps c.copy_functions.ensures.module_steps
 
-pub set_shader_source-requires-2 : goal.set_shader_source-requires-2
-set_shader_source-requires-2 c = form_copyable _ c.requires.items
-
-pub loop-place-init : goal.loop-place-init
-loop-place-init c = record {
-  whole = from_set _ 0 _ _ c.requires c.in_ok-set_shader_source.ensures.set;
-  header = from_set _ 0 _ _ c.requires c.in_ok-set_shader_source-2.ensures.set;
-}
-
-pub copy_item-requires-clause-there : goal.copy_item-requires-clause-there
-copy_item-requires-clause-there c = place_at c.args.source.now _ _ c.loop-place.place-index _ c.in_ok-places.ensures c.deref-place-items.ensures.value (omega arith) c.place-item.is
-
-pub copy_function-requires-clause-function : goal.copy_function-requires-clause-function
-copy_function-requires-clause-function c = item_at c.args.source.now _ c.loop-item.item-index _ c.as_slice-item-items.ensures (omega arith) c.item-item.is
+pub returns-clause-header_steps : goal.returns-clause-header_steps
+returns-clause-header_steps c = ok_steps c.copy_functions.result _ _ _ _ _ _ _ _ (same_stubs (built_of c.args.built.now) (built_of c.copy_items.new.built) (own_types (module_value c.args.source.now) (string_bytes c.args.built.now.decorated_name)) (module_value c.args.source.now).functions c.in_ok-copy_items.ensures.built) c.in_ok-set_source.ensures.header_steps c.in_ok-copy_items.ensures.header_steps c.copy_functions.ensures.header_steps

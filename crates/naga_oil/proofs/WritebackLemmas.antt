@@ -1,0 +1,100 @@
+-- What comes back, by names.
+use Rattle.std.proofs.Common.{◌≡◌, ℕ, List, [], ◌∷◌, ◌++◌, map, Bool, true, false, not, cond, Option, Some, None, option_map, unwrap_or, Result, Ok, Err, Bor, find, refl, sym, ap, ◌∙◌, string_bytes, String, Global, Vec}
+use Rattle.std.specs.Prelude.{zip, if◌then◌else◌, MatchOption, IfOk}
+use Rattle.std.proofs.lemmas.Map.Text.{btree_map_updates_str}
+use Rattle.std.specs.BTreeMap as tree
+use Rattle.std.specs.BTreeMap.{BTreeMap}
+use Rattle.std.specs.Cmp.Lexicographic.{slice_cmp}
+use Rattle.std.specs.Option.{option_eq, option_or, option_copied}
+use Rattle.std.specs.Ordering.{nat_cmp}
+use Rattle.std.specs.Str.{bytes_eq}
+use Rattle.naga_oil_ir.specs.Backend.{FrontEnd}
+use Rattle.naga_oil_ir.specs.ModuleValue.{ModuleValue}
+use Rattle.naga_oil_ir.specs.Rows.{Member, member_label}
+use Rattle.naga_oil_ir.specs.declared.backend.Capabilities.{Capabilities}
+use Rattle.naga_oil_ir.specs.declared.language.ShaderLanguage.TheVariants.{Wgsl, Glsl}
+use Rattle.naga_oil_ir.specs.declared.types.StructMember.{StructMember}
+use Rattle.naga_oil_pre.specs.Fault.{Fault}
+use Rattle.naga_oil_pre.specs.Recorded.{is_among}
+use Rattle.naga_oil_pre.specs.View.{Fails, fault_of}
+use Rattle.naga_oil_pre.specs.declared.fault.ComposerErrorInner.{ComposerErrorInner}
+use Rattle.naga_oil.specs.Built.{header_text, parsed_text}
+use Rattle.naga_oil.specs.BuiltModule.{BuiltModule}
+use Rattle.naga_oil.specs.Writeback.{NamedItem, last_named, has_other_name, lost_member, lost_of, lost_at, lost, unless_lost, came_back}
+use Rattle.naga_oil.specs.WritebackView.{named_of, held}
+use Rattle.naga_oil.specs.declared.compose.writeback.NamedItem.{NamedItem as CodeItem}
+
+-- ---- members
+abbrev pub differs : StructMember × StructMember → Bool
+differs (our, their) = not (option_eq (λ a b. bytes_eq (string_bytes a) (string_bytes b)) our.name their.name)
+
+abbrev pub name_of : StructMember × StructMember → List ℕ
+name_of p = unwrap_or (option_map string_bytes p.0.name) []
+
+same_names : (a b : Option (String Global)) → option_eq (λ a b. bytes_eq (string_bytes a) (string_bytes b)) a b ≡ option_eq bytes_eq (option_map string_bytes a) (option_map string_bytes b)
+same_names None None = refl
+same_names None (Some b) = refl
+same_names (Some a) None = refl
+same_names (Some a) (Some b) = refl
+
+pub members_lost : (ours theirs : List StructMember) → option_map name_of (find differs (zip ours theirs)) ≡ lost_member (map member_label ours) (map member_label theirs)
+members_lost [] theirs = refl
+members_lost (a ∷ ours) [] = refl
+members_lost (a ∷ ours) (b ∷ theirs) =
+    by (differs (a, b)) (members_lost ours theirs) ∙ ap (λ d. option_map (λ p. unwrap_or p.0.name []) (cond d (Some (member_label a, member_label b)) (find has_other_name (zip (map member_label ours) (map member_label theirs))))) (ap not (same_names a.name b.name))
+  where
+    by : (d : Bool) → option_map name_of (find differs (zip ours theirs)) ≡ lost_member (map member_label ours) (map member_label theirs)
+        → option_map name_of (cond d (Some (a, b)) (find differs (zip ours theirs))) ≡ option_map (λ p. unwrap_or p.0.name []) (cond d (Some (member_label a, member_label b)) (find has_other_name (zip (map member_label ours) (map member_label theirs))))
+    by true h = refl
+    by false h = h
+
+-- ---- items by their names
+or_assoc : {X : Type 0} (a b c : Option X) → option_or a (option_or b c) ≡ option_or (option_or a b) c
+or_assoc None b c = refl
+or_assoc (Some x) b c = refl
+
+pub held_more : (old new : BTreeMap (Bor (List ℕ)) CodeItem) (key : Bor (List ℕ)) (i : CodeItem) (more : List NamedItem) → key.now ≡ i.name.now
+    → tree.UpdatesBy (λ x y. slice_cmp nat_cmp x.now y.now) (λ k. slice_cmp nat_cmp key.now k.now) old new (Some i)
+    → (name : List ℕ) → option_or (last_named more name) (held new name) ≡ option_or (last_named (named_of i ∷ more) name) (held old name)
+held_more old new key i more same h name =
+    ap (λ o. option_or (last_named more name) (option_map named_of o)) (btree_map_updates_str key.now old new (Some i) h name)
+    ∙ ap (λ n. option_or (last_named more name) (option_map named_of (cond (bytes_eq n name) (Some i) (tree.get_by (λ k. slice_cmp nat_cmp name k.now) old)))) same
+    ∙ ap (option_or (last_named more name)) (by (bytes_eq i.name.now name) (tree.get_by (λ k. slice_cmp nat_cmp name k.now) old)) ∙ or_assoc (last_named more name) (if bytes_eq i.name.now name then Some (named_of i) else None) (held old name)
+  where
+    by : (b : Bool) (o : Option CodeItem) → option_map named_of (cond b (Some i) o) ≡ option_or (if b then Some (named_of i) else None) (option_map named_of o)
+    by true o = refl
+    by false o = refl
+
+pub copied_named : (o : Option (Bor CodeItem)) → option_map (λ i. named_of i.now) o ≡ option_map named_of (option_copied o)
+copied_named None = refl
+copied_named (Some i) = refl
+
+-- ---- an owned item, and one that isn't
+pub not_owned : (owned : List (List ℕ)) (decoration : List ℕ) (back : List ℕ → Option NamedItem) (i : NamedItem) → is_among owned (i.name ++ decoration) ≡ false → lost_at owned decoration back i ≡ None
+not_owned owned decoration back i e = rw e refl
+
+pub owned_lost : (owned : List (List ℕ)) (decoration : List ℕ) (back : List ℕ → Option NamedItem) (i : NamedItem) (o : Option (List ℕ)) → is_among owned (i.name ++ decoration) ≡ true → o ≡ lost_of i (back (i.name ++ decoration))
+    → option_map (λ name. (name, i.span)) o ≡ lost_at owned decoration back i
+owned_lost owned decoration back i o e f = rw (e, f) refl
+
+-- ---- what a header comes back as
+pub fails_then : {Y Z : Type 0} (e : ComposerErrorInner) (v : Result Y Fault) (w : Result Z Fault) → ((f : Fault) → v ≡ Err f → w ≡ Err f) → Fails e v → Fails e w
+fails_then e v w so h = by (fault_of e) h
+  where
+    by : (o : Option Fault) → MatchOption o (Unit {0}) (λ f. v ≡ Err f) → MatchOption o (Unit {0}) (λ f. w ≡ Err f)
+    by None h = tt
+    by (Some f) h = so f h
+
+module _ (front : FrontEnd) (capabilities : Capabilities) (m : ModuleValue) (b : BuiltModule) (functions : ℕ) (text : List ℕ) (back : ModuleValue) (written : header_text front capabilities Wgsl b.header ≡ Ok text) (read : parsed_text front Wgsl text ≡ Ok back) where
+  pub something_lost : (f : Fault) → unless_lost (lost m back b functions) ≡ Err f → came_back front capabilities m b functions ≡ Err f
+  unfolding came_back
+  something_lost f e = rw (written, read, e) refl
+
+  pub not_written : (f : Fault) → unless_lost (lost m back b functions) ≡ Ok tt → header_text front capabilities Glsl b.header ≡ Err f → came_back front capabilities m b functions ≡ Err f
+  unfolding came_back
+  not_written f e w = rw (written, read, e, w) refl
+
+-- items that look so, by an equal list
+pub same_named : {E : Type 0} (r : Result (Vec CodeItem Global) E) (v w : List NamedItem) → v ≡ w → IfOk r (λ items. map named_of items.items ≡ v) → IfOk r (λ items. map named_of items.items ≡ w)
+same_named (Ok x) v w e h = h ∙ e
+same_named (Err x) v w e h = tt

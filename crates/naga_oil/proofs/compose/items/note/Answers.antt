@@ -1,0 +1,11 @@
+use Rattle.std.proofs.Common.{◌≡◌, ap, sym, ◌∙◌, option_map, string_bytes, rules}
+use Rattle.naga_oil_lines.specs.DirectivesText.{with_name}
+use Rattle.naga_oil.specs.Definition.{texts}
+use Rattle.naga_oil.specs.Owned.{with_text}
+use Rattle.naga_oil.proofs.MergedLemmas.{bytes-insert}
+use Rattle.naga_oil.proofs.compose.items.note.Goals as goal
+
+pub returns-in_ok-insert-in-Some : goal.returns-in_ok-insert-in-Some
+returns-in_ok-insert-in-Some c =
+    let same : string_bytes c.in_ok-from_str-in-Some.field-0 ≡ c.in-Some.name.now = search rules in
+    ap texts c.in_ok-insert-in-Some.ensures.keys ∙ bytes-insert c.args.names.now.keys c.in_ok-from_str-in-Some.field-0 ∙ ap (with_name (texts c.args.names.now.keys)) same ∙ ap (λ n. with_text (texts c.args.names.now.keys) (option_map (λ x. x.now) n)) (sym c.in-Some.is)

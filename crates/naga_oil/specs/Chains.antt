@@ -1,0 +1,40 @@
+-- Calls that are sent down the functions that override another, and the stages of a shader's entry points.
+use Rattle.std.specs.Prelude.{ℕ, List, [], ◌∷◌, map, Result, Ok, Err}
+use Rattle.naga_oil_ir.specs.ModuleValue.{ModuleValue, EntryValue}
+use Rattle.naga_oil_derive.specs.Redirected.{matched, redirected}
+use Rattle.naga_oil_derive.specs.RedirectFault.{RedirectFault}
+use Rattle.naga_oil_pre.specs.Fault.{Fault, redirection}
+use Rattle.naga_oil_pre.specs.Recorded.{is_among}
+use Rattle.naga_oil.specs.Added.{◌>>=◌}
+use Rattle.naga_oil.specs.BuiltModule.{Overriding}
+use Rattle.naga_oil.specs.declared.compose.descriptor.ShaderType.{ShaderType}
+use Rattle.naga_oil.specs.declared.compose.descriptor.ShaderType.TheVariants as shader
+
+abbrev pub redirected_to : ModuleValue → (omitted : List (List ℕ)) → Result (ℕ × ℕ) RedirectFault → Result ModuleValue Fault
+redirected_to m omitted (Ok pair) = Ok (redirected m pair.0 pair.1 (is_among omitted))
+redirected_to m omitted (Err f) = Err (redirection f)
+
+-- a module with the calls of a function sent to another, but for those in the other and in the omitted ones
+abbrev pub sent_to : ModuleValue → (original other : List ℕ) → (omitted : List (List ℕ)) → Result ModuleValue Fault
+sent_to m original other omitted = redirected_to m omitted (matched m.functions original other)
+
+-- a module with the calls of a function sent to the first of others, those of the first to the second, and so on; calls in the omitted
+-- ones and in the earlier ones stay
+unfoldable pub sent_down : ModuleValue → (original : List ℕ) → (others omitted : List (List ℕ)) → Result ModuleValue Fault
+sent_down m original [] omitted = Ok m
+sent_down m original (other ∷ more) omitted = sent_to m original other omitted >>= λ n. sent_down n other more (other ∷ omitted)
+
+-- the same for each function that is overridden, in turn
+unfoldable pub all_sent_down : ModuleValue → Overriding → Result ModuleValue Fault
+all_sent_down m [] = Ok m
+all_sent_down m (o ∷ more) = sent_down m o.0 o.1 [] >>= λ n. all_sent_down n more
+
+-- a module whose entry points are of this stage
+abbrev pub staged : (stage : ℕ) → ModuleValue → ModuleValue
+staged stage m = record m { entry_points = map (λ (e : EntryValue). record e { stage = stage }) m.entry_points }
+
+-- a module whose entry points are of the stage of the shader's type
+abbrev pub with_stages : ShaderType → ModuleValue → ModuleValue
+with_stages shader.Wgsl m = m
+with_stages shader.GlslVertex m = staged 0 m
+with_stages shader.GlslFragment m = staged 1 m

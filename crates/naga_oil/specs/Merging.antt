@@ -1,0 +1,74 @@
+-- What a make reads of a shader, and the definitions that it merges.
+use Rattle.std.specs.Prelude.{ℕ, Bool, true, false, nat_eq, List, [], ◌∷◌, Option, Some, None, Result, Ok, Err, if◌then◌else◌, bytes_eq}
+use Rattle.std.specs.List.{list_all}
+use mathlib.Core.Bool.{beq}
+use Rattle.std.specs.Map.{lookup}
+use Rattle.std.specs.Ordering.{int_eq}
+use Rattle.naga_oil_lines.specs.Uses.{Use}
+use Rattle.naga_oil_pre.specs.Fault.{Fault, Definitions, import_not_found, inconsistent_def}
+use Rattle.naga_oil_pre.specs.Metadata.{Metadata}
+use Rattle.naga_oil_pre.specs.declared.shader_def.ShaderDefValue.{ShaderDefValue}
+use Rattle.naga_oil_pre.specs.declared.shader_def.ShaderDefValue.TheVariants as def
+use Rattle.naga_oil.specs.Added.{◌>>=◌}
+use Rattle.naga_oil.specs.Definition.{Defs, Definition}
+use Rattle.naga_oil.specs.Descriptor.{ShaderSource, language_of}
+use Rattle.naga_oil.specs.Merged.{with_def}
+use Rattle.naga_oil.specs.Registry.{module_named}
+
+-- a shader as a module of no name and no index, by what is read of its text, with its definitions and the names that it records
+abbrev pub shader_definition : ShaderSource → Metadata → (defs : Defs) → (recorded : List (List ℕ)) → Definition
+shader_definition s found defs recorded = record {
+  name = [];
+  source = found.cleaned;
+  language = language_of s.shader_type;
+  file_path = s.file_path;
+  defs = defs;
+  effective = recorded;
+  imports = found.uses;
+  additional = s.additional;
+  directives = found.directives;
+  index = 0;
+}
+
+abbrev pub module_for : Use → Option Definition → Result Definition Fault
+module_for u (Some d) = Ok d
+module_for u None = Err (import_not_found u.import.import u.offset)
+
+-- the module that is imported
+abbrev pub imported : List Definition → Use → Result Definition Fault
+imported ds u = module_for u (module_named u.import.import ds)
+
+-- what a name is defined as
+abbrev pub value_of : Defs → Definitions
+value_of defs name = lookup (λ n. bytes_eq name n) defs
+
+-- whether two values are of one kind and the same
+abbrev pub same_value : ShaderDefValue → ShaderDefValue → Bool
+same_value (def.Bool a) (def.Bool b) = beq a b
+same_value (def.Int a) (def.Int b) = int_eq a b
+same_value (def.UInt a) (def.UInt b) = nat_eq a b
+same_value a b = false
+
+-- whether a name that is defined so has the value
+abbrev pub has_value : ShaderDefValue → Option ShaderDefValue → Bool
+has_value value None = false
+has_value value (Some known) = same_value known value
+
+-- whether a name that is defined so may be defined as the value: it has no other
+abbrev pub agrees : ShaderDefValue → Option ShaderDefValue → Bool
+agrees value None = true
+agrees value (Some known) = same_value known value
+
+-- definitions with others in turn, or the first name of two values
+abbrev pub joined : Defs → Defs → Result Defs Fault
+joined defs [] = Ok defs
+joined defs (d ∷ more) = if agrees d.1 (value_of defs d.0) then joined (with_def defs d) more else Err (inconsistent_def d.0)
+
+-- the same of the definitions of each module that is imported
+abbrev pub joined_over : List Definition → Defs → List Use → Result Defs Fault
+joined_over ds defs [] = Ok defs
+joined_over ds defs (u ∷ more) = imported ds u >>= λ d. joined defs d.defs >>= λ defs. joined_over ds defs more
+
+-- whether definitions are among others
+abbrev pub are_among : Defs → Defs → Bool
+are_among defs others = list_all (λ d. has_value d.1 (value_of others d.0)) defs
