@@ -8,7 +8,7 @@ use Rattle.naga_oil_pre.specs.View.{fault_of}
 use Rattle.naga_oil_pre.specs.declared.fault.ComposerErrorInner.{ComposerErrorInner}
 use Rattle.naga_oil_pre.specs.declared.fault.ComposerErrorInner.TheVariants as code
 use Rattle.naga_oil_pre.specs.Preprocessed.{Output}
-use Rattle.naga_oil.specs.Afresh.{Setting, any_build, entered}
+use Rattle.naga_oil.specs.Afresh.{entered}
 use Rattle.naga_oil.specs.BuiltModule.{BuiltModule, Builds, built_of}
 use Rattle.naga_oil.specs.Built.{ToldAt, build_place}
 use Rattle.naga_oil.specs.Definition.{Definition}
@@ -81,16 +81,3 @@ refusal_weaker e F G h g = refused_weaker (refused_of e) (place_of e.source ≡ 
 pub passed_on : {X Y : Type 0} (P : X → Type 0) (Q : Y → Type 0) (F G : Refused → Type 0) (e : ComposerError) (y : Result Y ComposerError) → ((r : Refused) → F r → G r) → AnswersBy P F (Err e) → IsErrAnd y (λ o. o ≡ e) → AnswersBy Q G y
 passed_on P Q F G e (Ok y) h g j = absurd j
 passed_on P Q F G e (Err o) h g j = subst (λ z. AnswersBy Q G (Err z)) (sym j) (refused_weaker (refused_of e) (place_of e.source ≡ nowhere) F G h g)
-
--- an answer is any value or any fault
-pub gives_all : {X : Type 0} (r : Result X ComposerErrorInner) → GivesBy (λ x. Unit {0}) (λ f. Unit {0}) r
-gives_all (Ok x) = tt
-gives_all (Err e) = all (fault_of e)
-  where
-    all : (q : Option Fault) → MatchOption q (Unit {0}) (λ f. Unit {0})
-    all None = tt
-    all (Some f) = tt
-
--- a fault at the place of a build's text
-pub refused_there : (s : Setting) (d : Definition) (out : Output) (bs : Builds) (text : List ℕ) (offset : ℕ) → text ≡ out.text → (r : Refused) → ((f : Fault) × Unit {0} × (r ≡ record { fault = f; place = build_place d text offset s.defs })) → any_build.refuses s d out bs r
-refused_there s d out bs text offset same r h = (offset, (h.0, subst (λ (t : List ℕ). r ≡ record { fault = h.0; place = build_place d t offset s.defs }) same h.2))

@@ -35,3 +35,4 @@ pub mod MarkedLemmas
 pub mod FilledLemmas
 pub mod SplitLemmas
 pub mod FunctionsLemmas
+pub mod BuildingLemmas

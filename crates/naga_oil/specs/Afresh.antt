@@ -66,13 +66,6 @@ pub record Building : Type 1 where
   pub makes : Setting → Definition → Output → Builds → BuiltModule → Type 0
   pub refuses : Setting → Definition → Output → Builds → Refused → Type 0
 
--- any build; what is refused lies in the build's text, which begins at an offset in what spans count in
-abbrev pub any_build : Building
-any_build = record {
-  makes = λ s d out bs b. Unit {0};
-  refuses = λ s d out bs r. (offset : ℕ) × ((f : Fault) × (r ≡ record { fault = f; place = build_place d out.text offset s.defs }));
-}
-
 -- ---- builds of what is reached
 
 -- how reaching a module changes the builds, and why it isn't built

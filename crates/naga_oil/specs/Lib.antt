@@ -40,3 +40,4 @@ pub mod KeywordsView
 pub mod Virtuals
 pub mod Filled
 pub mod OwnedRows
+pub mod Building

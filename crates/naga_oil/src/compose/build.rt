@@ -2,11 +2,12 @@
 ghost use Rattle.std.specs.Prelude.{◌≡◌, ◌≤◌, [], map, All, string_bytes, IfOk, OnOk};
 ghost use Rattle.std.specs.BTreeMap.{get_by_text};
 ghost use Rattle.naga_oil_ir.specs.ModuleValue.{module_value};
-ghost use Rattle.naga_oil.specs.Afresh.{entered, any_build, setting_of, may_import, Reaching, Unless, UnlessBuilt, EachReached, OneUnreached, Reached, Unreached};
+ghost use Rattle.naga_oil.specs.Afresh.{entered, setting_of, may_import, Reaching, Unless, UnlessBuilt, EachReached, OneUnreached, Reached, Unreached};
 ghost use Rattle.naga_oil_lines.specs.Uses.{import_of, use_of};
 ghost use Rattle.naga_oil_pre.specs.KnownView.{output_of};
 ghost use Rattle.naga_oil_pre.specs.View.{Gives};
 ghost use Rattle.naga_oil.specs.Built.{answered, build_place, IsToldAt, ToldAt, preprocessed_of, header_text, parsed_text};
+ghost use Rattle.naga_oil.specs.Building.{by_steps, WholeText, NoWholeText};
 ghost use Rattle.naga_oil.specs.BuiltModule.{BuiltModule, built_of, builds_of};
 ghost use Rattle.naga_oil.specs.Begun.{decoration_of, nothing_built, begun};
 ghost use Rattle.naga_oil.specs.Definition.{definition_of, defs_of, texts};
@@ -247,7 +248,7 @@ impl<B: Backend> Maker<'_, B> {
     // A build of nothing: its decoration, what it imports, and what is overridden there.
     fn begun(&self, of: &Definition, output: &PreprocessOutput) -> Checked<ComposableModule>
         requires { of.now.module_index ≤ 2047 }
-        ensures { IfOk result (λ built. built_of built ≡ begun (builds_of self.now.builds) (definition_of of.now) (map use_of output.now.imports.items)) }
+        ensures { GivesBy (λ built. built_of built ≡ begun (builds_of self.now.builds) (definition_of of.now) (map use_of output.now.imports.items)) (λ _. ⊥) result }
     {
         let decoration = decoration_of(self.alloc, of)?;
         let imports = imports_of(self.alloc, &output.imports)?;
@@ -264,7 +265,9 @@ impl<B: Backend> Maker<'_, B> {
         of: &Definition,
         text: &str,
         built: &mut ComposableModule,
-    ) -> Checked<String> {
+    ) -> Checked<String>
+        ensures { GivesBy (λ whole. WholeText (setting_of (B.front self.now.front.now) self.now.validate self.now.capabilities self.now.defs) (definition_of of.now) (builds_of self.now.builds) text.now (built_of built.old) (string_bytes whole) (built_of built.new)) (NoWholeText (setting_of (B.front self.now.front.now) self.now.validate self.now.capabilities self.now.defs) (definition_of of.now) (builds_of self.now.builds) text.now (built_of built.old)) result }
+    {
         let over = Over {
             builds: &self.builds,
             imports: &built.imports,
@@ -278,7 +281,7 @@ impl<B: Backend> Maker<'_, B> {
         )?;
         built.virtual_functions = virtuals;
         let mut whole = self.heading(of, &built.imports)?;
-        built.start_offset = whole.len();
+        built.start_offset = whole.as_str().len();
         whole.push_str(&text)?;
         Ok(whole)
     }
@@ -290,13 +293,14 @@ impl<B: Backend> Maker<'_, B> {
         output: &PreprocessOutput,
     ) -> Result<ComposableModule, ComposerError>
         requires { of.now.module_index ≤ 2047 }
-        ensures { AnswersBy (λ b. any_build.makes (setting_of (B.front self.now.front.now) self.now.validate self.now.capabilities self.now.defs) (definition_of of.now) (output_of output.now) (builds_of self.now.builds) (built_of b)) (any_build.refuses (setting_of (B.front self.now.front.now) self.now.validate self.now.capabilities self.now.defs) (definition_of of.now) (output_of output.now) (builds_of self.now.builds)) result }
+        ensures { AnswersBy (λ b. by_steps.makes (setting_of (B.front self.now.front.now) self.now.validate self.now.capabilities self.now.defs) (definition_of of.now) (output_of output.now) (builds_of self.now.builds) (built_of b)) (by_steps.refuses (setting_of (B.front self.now.front.now) self.now.validate self.now.capabilities self.now.defs) (definition_of of.now) (output_of output.now) (builds_of self.now.builds)) result }
     {
         let text = output.preprocessed_source.as_str();
         let mut built = self.told(of, text, 0, self.begun(of, output))?;
         let whole = self.told(of, text, 0, self.whole_text(of, text, &mut built))?;
+        let offset = built.start_offset;
         let filled = self.fill(of, &whole, &mut built);
-        self.told(of, text, built.start_offset, filled)?;
+        self.told(of, text, offset, filled)?;
         Ok(built)
     }
 
@@ -305,7 +309,7 @@ impl<B: Backend> Maker<'_, B> {
     #[cycle(ensure)]
     pub(crate) fn ensure(&mut self, name: &str, modules: &[Definition]) -> Result<(), Missing>
         requires { All (λ d. d.module_index ≤ 2047) modules.now }
-        ensures reached { Reaching (λ _. Unless (Reached any_build (setting_of (B.front self.old.front.now) self.old.validate self.old.capabilities self.old.defs) (map definition_of modules.now)) name.now (builds_of self.old.builds) (builds_of self.new.builds)) (UnlessBuilt (Unreached any_build (setting_of (B.front self.old.front.now) self.old.validate self.old.capabilities self.old.defs) (map definition_of modules.now)) name.now (builds_of self.old.builds)) result }
+        ensures reached { Reaching (λ _. Unless (Reached by_steps (setting_of (B.front self.old.front.now) self.old.validate self.old.capabilities self.old.defs) (map definition_of modules.now)) name.now (builds_of self.old.builds) (builds_of self.new.builds)) (UnlessBuilt (Unreached by_steps (setting_of (B.front self.old.front.now) self.old.validate self.old.capabilities self.old.defs) (map definition_of modules.now)) name.now (builds_of self.old.builds)) result }
         ensures rest { self.new ≡ record self.old { builds = self.new.builds } }
     {
         if self.builds.contains_key(name) {
@@ -329,7 +333,7 @@ impl<B: Backend> Maker<'_, B> {
         modules: &[Definition],
     ) -> Result<(), Missing>
         requires { All (λ d. d.module_index ≤ 2047) modules.now }
-        ensures reached { Reaching (λ _. EachReached (may_import (definition_of of.now)) (Unless (Reached any_build (setting_of (B.front self.old.front.now) self.old.validate self.old.capabilities self.old.defs) (map definition_of modules.now))) (map use_of imports.now) (builds_of self.old.builds) (builds_of self.new.builds)) (OneUnreached (may_import (definition_of of.now)) (Unless (Reached any_build (setting_of (B.front self.old.front.now) self.old.validate self.old.capabilities self.old.defs) (map definition_of modules.now))) (UnlessBuilt (Unreached any_build (setting_of (B.front self.old.front.now) self.old.validate self.old.capabilities self.old.defs) (map definition_of modules.now))) (map use_of imports.now) (builds_of self.old.builds)) result }
+        ensures reached { Reaching (λ _. EachReached (may_import (definition_of of.now)) (Unless (Reached by_steps (setting_of (B.front self.old.front.now) self.old.validate self.old.capabilities self.old.defs) (map definition_of modules.now))) (map use_of imports.now) (builds_of self.old.builds) (builds_of self.new.builds)) (OneUnreached (may_import (definition_of of.now)) (Unless (Reached by_steps (setting_of (B.front self.old.front.now) self.old.validate self.old.capabilities self.old.defs) (map definition_of modules.now))) (UnlessBuilt (Unreached by_steps (setting_of (B.front self.old.front.now) self.old.validate self.old.capabilities self.old.defs) (map definition_of modules.now))) (map use_of imports.now) (builds_of self.old.builds)) result }
         ensures rest { self.new ≡ record self.old { builds = self.new.builds } }
     {
         for import in imports {
@@ -345,7 +349,7 @@ impl<B: Backend> Maker<'_, B> {
     // Builds a module over the builds of what it imports, and enters it.
     fn build(&mut self, of: &Definition, output: &PreprocessOutput) -> Result<(), ComposerError>
         requires { of.now.module_index ≤ 2047 }
-        ensures built { AnswersBy (λ _. (b : BuiltModule) × any_build.makes (setting_of (B.front self.old.front.now) self.old.validate self.old.capabilities self.old.defs) (definition_of of.now) (output_of output.now) (builds_of self.old.builds) b × (builds_of self.new.builds ≡ entered (builds_of self.old.builds) (definition_of of.now).name b)) (any_build.refuses (setting_of (B.front self.old.front.now) self.old.validate self.old.capabilities self.old.defs) (definition_of of.now) (output_of output.now) (builds_of self.old.builds)) result }
+        ensures built { AnswersBy (λ _. (b : BuiltModule) × by_steps.makes (setting_of (B.front self.old.front.now) self.old.validate self.old.capabilities self.old.defs) (definition_of of.now) (output_of output.now) (builds_of self.old.builds) b × (builds_of self.new.builds ≡ entered (builds_of self.old.builds) (definition_of of.now).name b)) (by_steps.refuses (setting_of (B.front self.old.front.now) self.old.validate self.old.capabilities self.old.defs) (definition_of of.now) (output_of output.now) (builds_of self.old.builds)) result }
         ensures rest { self.new ≡ record self.old { builds = self.new.builds } }
     {
         let built = self.built(of, output)?;

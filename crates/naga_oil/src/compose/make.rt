@@ -6,8 +6,9 @@ ghost use Rattle.naga_oil_lines.specs.Uses.{use_of};
 ghost use Rattle.naga_oil_pre.specs.Fault.{import_not_found};
 ghost use Rattle.naga_oil_pre.specs.MetadataView.{metadata_of};
 ghost use Rattle.naga_oil_pre.specs.View.{Gives, Fails};
-ghost use Rattle.naga_oil.specs.Afresh.{any_build, setting_of, Unless, UnlessBuilt, EachReached, Reached, Unreached};
+ghost use Rattle.naga_oil.specs.Afresh.{setting_of, Unless, UnlessBuilt, EachReached, Reached, Unreached};
 ghost use Rattle.naga_oil.specs.Built.{build_place};
+ghost use Rattle.naga_oil.specs.Building.{by_steps};
 ghost use Rattle.naga_oil.specs.BuiltModule.{built_of, builds_of, overriding_of};
 ghost use Rattle.naga_oil.specs.Chains.{with_stages, sent_down, all_sent_down};
 ghost use Rattle.naga_oil.specs.Definition.{definition_of, defs_of, texts};
@@ -259,8 +260,8 @@ impl<B: Backend> Maker<'_, B> {
     ) -> Result<(), ReadFault>
         requires { All (λ d. d.module_index ≤ 2047) modules.now }
         ensures reached { Reading
-            (λ _. EachReached any_use (Unless (Reached any_build (setting_of (B.front self.old.front.now) self.old.validate self.old.capabilities self.old.defs) (map definition_of modules.now))) (map use_of imports.now) (builds_of self.old.builds) (builds_of self.new.builds))
-            (OneUnread any_use (Unless (Reached any_build (setting_of (B.front self.old.front.now) self.old.validate self.old.capabilities self.old.defs) (map definition_of modules.now))) (UnlessBuilt (Unreached any_build (setting_of (B.front self.old.front.now) self.old.validate self.old.capabilities self.old.defs) (map definition_of modules.now))) (map use_of imports.now) (builds_of self.old.builds))
+            (λ _. EachReached any_use (Unless (Reached by_steps (setting_of (B.front self.old.front.now) self.old.validate self.old.capabilities self.old.defs) (map definition_of modules.now))) (map use_of imports.now) (builds_of self.old.builds) (builds_of self.new.builds))
+            (OneUnread any_use (Unless (Reached by_steps (setting_of (B.front self.old.front.now) self.old.validate self.old.capabilities self.old.defs) (map definition_of modules.now))) (UnlessBuilt (Unreached by_steps (setting_of (B.front self.old.front.now) self.old.validate self.old.capabilities self.old.defs) (map definition_of modules.now))) (map use_of imports.now) (builds_of self.old.builds))
             result }
         ensures rest { self.new ≡ record self.old { builds = self.new.builds } }
     {
@@ -279,8 +280,8 @@ impl<B: Backend> Maker<'_, B> {
     ) -> Result<(), ReadFault>
         requires { All (λ d. d.module_index ≤ 2047) modules.now }
         ensures reached { Reading
-            (λ _. EachReached (may_use (map definition_of modules.now) (defs_of self.old.defs)) (Unless (Reached any_build (setting_of (B.front self.old.front.now) self.old.validate self.old.capabilities self.old.defs) (map definition_of modules.now))) (map use_of imports.now) (builds_of self.old.builds) (builds_of self.new.builds))
-            (OneUnread (may_use (map definition_of modules.now) (defs_of self.old.defs)) (Unless (Reached any_build (setting_of (B.front self.old.front.now) self.old.validate self.old.capabilities self.old.defs) (map definition_of modules.now))) (UnlessBuilt (Unreached any_build (setting_of (B.front self.old.front.now) self.old.validate self.old.capabilities self.old.defs) (map definition_of modules.now))) (map use_of imports.now) (builds_of self.old.builds))
+            (λ _. EachReached (may_use (map definition_of modules.now) (defs_of self.old.defs)) (Unless (Reached by_steps (setting_of (B.front self.old.front.now) self.old.validate self.old.capabilities self.old.defs) (map definition_of modules.now))) (map use_of imports.now) (builds_of self.old.builds) (builds_of self.new.builds))
+            (OneUnread (may_use (map definition_of modules.now) (defs_of self.old.defs)) (Unless (Reached by_steps (setting_of (B.front self.old.front.now) self.old.validate self.old.capabilities self.old.defs) (map definition_of modules.now))) (UnlessBuilt (Unreached by_steps (setting_of (B.front self.old.front.now) self.old.validate self.old.capabilities self.old.defs) (map definition_of modules.now))) (map use_of imports.now) (builds_of self.old.builds))
             result }
         ensures rest { self.new ≡ record self.old { builds = self.new.builds } }
     {

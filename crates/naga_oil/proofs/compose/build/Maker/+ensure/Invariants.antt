@@ -1,6 +1,7 @@
 use Rattle.std.proofs.Common.{◌≡◌, ◌+◌, ◌*◌, length, map, drop}
 use Rattle.naga_oil_lines.specs.Uses.{use_of}
-use Rattle.naga_oil.specs.Afresh.{any_build, setting_of, may_import, Unbuilt, Unless, UnlessBuilt, EachReached, OneUnreached, Reached, Unreached}
+use Rattle.naga_oil.specs.Building.{by_steps}
+use Rattle.naga_oil.specs.Afresh.{setting_of, may_import, Unbuilt, Unless, UnlessBuilt, EachReached, OneUnreached, Reached, Unreached}
 use Rattle.naga_oil.specs.BuiltModule.{Builds, builds_of}
 use Rattle.naga_oil.specs.Definition.{definition_of}
 use Rattle.naga_oil.proofs.compose.build.Maker.+ensure.Given as goal
@@ -18,6 +19,6 @@ invariant-ensure_imports-loop-import g l =
     let ds = map definition_of l.modules in
     record {
       rest : l.self ≡ record l.fn.self { builds = l.self.builds };
-      reached : (cs : Builds) → EachReached may (Unless (Reached any_build s ds)) (map use_of (drop l.import-index l.imports)) (builds_of l.self.builds) cs → EachReached may (Unless (Reached any_build s ds)) (map use_of l.imports) (builds_of l.fn.self.builds) cs;
-      unreached : (w : Unbuilt) → OneUnreached may (Unless (Reached any_build s ds)) (UnlessBuilt (Unreached any_build s ds)) (map use_of (drop l.import-index l.imports)) (builds_of l.self.builds) w → OneUnreached may (Unless (Reached any_build s ds)) (UnlessBuilt (Unreached any_build s ds)) (map use_of l.imports) (builds_of l.fn.self.builds) w;
+      reached : (cs : Builds) → EachReached may (Unless (Reached by_steps s ds)) (map use_of (drop l.import-index l.imports)) (builds_of l.self.builds) cs → EachReached may (Unless (Reached by_steps s ds)) (map use_of l.imports) (builds_of l.fn.self.builds) cs;
+      unreached : (w : Unbuilt) → OneUnreached may (Unless (Reached by_steps s ds)) (UnlessBuilt (Unreached by_steps s ds)) (map use_of (drop l.import-index l.imports)) (builds_of l.self.builds) w → OneUnreached may (Unless (Reached by_steps s ds)) (UnlessBuilt (Unreached by_steps s ds)) (map use_of l.imports) (builds_of l.fn.self.builds) w;
     }

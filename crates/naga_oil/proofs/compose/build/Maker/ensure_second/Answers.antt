@@ -3,7 +3,8 @@ use Rattle.std.proofs.Math.ListN.{drop_of_length-le}
 use Rattle.naga_oil_lines.specs.Uses.{use_of}
 use Rattle.naga_oil_lines.specs.declared.import_definition.ImportDefWithOffset.{ImportDefWithOffset}
 use Rattle.naga_oil_pre.specs.Fault.{Fault, import_not_found}
-use Rattle.naga_oil.specs.Afresh.{any_build, setting_of, Unless, UnlessBuilt, EachReached, Reached, Unreached}
+use Rattle.naga_oil.specs.Building.{by_steps}
+use Rattle.naga_oil.specs.Afresh.{setting_of, Unless, UnlessBuilt, EachReached, Reached, Unreached}
 use Rattle.naga_oil.specs.BuiltModule.{builds_of}
 use Rattle.naga_oil.specs.Definition.{definition_of, defs_of, Defs}
 use Rattle.naga_oil.specs.Made.{here, OneUnread, may_use}
@@ -36,8 +37,8 @@ loop-import-preserved g c =
     let mid = builds_of c.ensure.new.self.builds in
     record {
       rest = c.ensure.ensures.rest ∙ ap (λ (m : Maker _). record m { builds = c.ensure.new.self.builds }) inv.rest;
-      reached = λ cs h. inv.reached cs (reached_then any_build may s t alike ds x (drop i is) (drop (i + 1) is) next name called bs mid cs asks c.in_ok-ensure.ensures.reached h);
-      unread = λ w h. inv.unread w (unread_then any_build may s t alike ds x (drop i is) (drop (i + 1) is) next name called bs mid w asks c.in_ok-ensure.ensures.reached h);
+      reached = λ cs h. inv.reached cs (reached_then by_steps may s t alike ds x (drop i is) (drop (i + 1) is) next name called bs mid cs asks c.in_ok-ensure.ensures.reached h);
+      unread = λ w h. inv.unread w (unread_then by_steps may s t alike ds x (drop i is) (drop (i + 1) is) next name called bs mid w asks c.in_ok-ensure.ensures.reached h);
     }
 
 pub returns-in_err-ensure-clause-reached : goal.returns-in_err-ensure-clause-reached
@@ -58,7 +59,7 @@ returns-in_err-ensure-clause-reached g c =
     let bs = builds_of m0.builds in
     let same : defs_of m0.defs ≡ defs_of c.args.self.now.defs = ap (λ (m : Maker _). defs_of m.defs) inv.rest in
     let asks : may_use ds (defs_of c.args.self.now.defs) (use_of x) ≡ true = subst (λ (q : Defs). may_use ds q (use_of x) ≡ true) same c.in_ok-may_use.ensures in
-    reading_on (λ u. EachReached may (Unless (Reached any_build s ds)) (map use_of is) (builds_of c.args.self.now.builds) (builds_of c.ensure.new.self.builds)) (UnlessBuilt (Unreached any_build t ds) name bs) (OneUnread may (Unless (Reached any_build s ds)) (UnlessBuilt (Unreached any_build s ds)) (map use_of is) (builds_of c.args.self.now.builds)) c.in_err-ensure.field-0.0 c.from_residual-in_err-ensure.result (λ v h. inv.unread _ (unread_next any_build may s t alike ds x (drop i is) (drop (i + 1) is) next name called bs v asks h)) c.in_err-ensure.ensures.reached c.from_residual-in_err-ensure.ensures.1
+    reading_on (λ u. EachReached may (Unless (Reached by_steps s ds)) (map use_of is) (builds_of c.args.self.now.builds) (builds_of c.ensure.new.self.builds)) (UnlessBuilt (Unreached by_steps t ds) name bs) (OneUnread may (Unless (Reached by_steps s ds)) (UnlessBuilt (Unreached by_steps s ds)) (map use_of is) (builds_of c.args.self.now.builds)) c.in_err-ensure.field-0.0 c.from_residual-in_err-ensure.result (λ v h. inv.unread _ (unread_next by_steps may s t alike ds x (drop i is) (drop (i + 1) is) next name called bs v asks h)) c.in_err-ensure.ensures.reached c.from_residual-in_err-ensure.ensures.1
 
 pub returns-clause-reached : goal.returns-clause-reached
 returns-clause-reached g c =
@@ -68,7 +69,7 @@ returns-clause-reached g c =
     let is = c.args.imports.now in
     let cs = builds_of c.loop-import.self.builds in
     let none : drop c.loop-import.import-index is ≡ [] = drop_of_length-le is (omega arith) in
-    c.loop-import.invariant.reached cs (subst (λ (js : List ImportDefWithOffset). EachReached may (Unless (Reached any_build s ds)) (map use_of js) cs cs) (sym none) refl)
+    c.loop-import.invariant.reached cs (subst (λ (js : List ImportDefWithOffset). EachReached may (Unless (Reached by_steps s ds)) (map use_of js) cs cs) (sym none) refl)
 
 pub returns-in_err-may_use-clause-reached : goal.returns-in_err-may_use-clause-reached
 returns-in_err-may_use-clause-reached g c =
@@ -88,4 +89,4 @@ returns-in_err-may_use-clause-reached g c =
     let bs = builds_of m0.builds in
     let same : defs_of m0.defs ≡ defs_of c.args.self.now.defs = ap (λ (m : Maker _). defs_of m.defs) inv.rest in
     let refuses = λ (f : Fault). (may_use ds (defs_of m0.defs) (use_of x) ≡ false) × (f ≡ import_not_found (use_of x).import.import (use_of x).offset) in
-    reading_here (λ u. EachReached may (Unless (Reached any_build s ds)) (map use_of is) (builds_of c.args.self.now.builds) (builds_of m0.builds)) refuses (OneUnread may (Unless (Reached any_build s ds)) (UnlessBuilt (Unreached any_build s ds)) (map use_of is) (builds_of c.args.self.now.builds)) c.in_err-may_use.field-0.0 c.from_residual.result (λ f h. inv.unread (here f) (subst (λ (e : Fault). OneUnread may (Unless (Reached any_build s ds)) (UnlessBuilt (Unreached any_build s ds)) (map use_of (drop i is)) bs (here e)) (sym h.1) (unread_missing any_build may s t alike ds x (drop i is) (drop (i + 1) is) next name called bs (subst (λ (q : Defs). may_use ds q (use_of x) ≡ false) same h.0)))) c.in_err-may_use.ensures c.from_residual.ensures.1
+    reading_here (λ u. EachReached may (Unless (Reached by_steps s ds)) (map use_of is) (builds_of c.args.self.now.builds) (builds_of m0.builds)) refuses (OneUnread may (Unless (Reached by_steps s ds)) (UnlessBuilt (Unreached by_steps s ds)) (map use_of is) (builds_of c.args.self.now.builds)) c.in_err-may_use.field-0.0 c.from_residual.result (λ f h. inv.unread (here f) (subst (λ (e : Fault). OneUnread may (Unless (Reached by_steps s ds)) (UnlessBuilt (Unreached by_steps s ds)) (map use_of (drop i is)) bs (here e)) (sym h.1) (unread_missing by_steps may s t alike ds x (drop i is) (drop (i + 1) is) next name called bs (subst (λ (q : Defs). may_use ds q (use_of x) ≡ false) same h.0)))) c.in_err-may_use.ensures c.from_residual.ensures.1

@@ -1,6 +1,7 @@
 use Rattle.std.proofs.Common.{◌≡◌, map, drop}
 use Rattle.naga_oil_lines.specs.Uses.{use_of}
-use Rattle.naga_oil.specs.Afresh.{any_build, setting_of, Unless, UnlessBuilt, EachReached, Reached, Unreached}
+use Rattle.naga_oil.specs.Building.{by_steps}
+use Rattle.naga_oil.specs.Afresh.{setting_of, Unless, UnlessBuilt, EachReached, Reached, Unreached}
 use Rattle.naga_oil.specs.BuiltModule.{Builds, builds_of}
 use Rattle.naga_oil.specs.Definition.{definition_of, defs_of}
 use Rattle.naga_oil.specs.Made.{Unread, OneUnread, may_use}
@@ -13,6 +14,6 @@ invariant-loop-import g l =
     let may = may_use ds (defs_of l.fn.self.defs) in
     record {
       rest : l.self ≡ record l.fn.self { builds = l.self.builds };
-      reached : (cs : Builds) → EachReached may (Unless (Reached any_build s ds)) (map use_of (drop l.import-index l.imports)) (builds_of l.self.builds) cs → EachReached may (Unless (Reached any_build s ds)) (map use_of l.imports) (builds_of l.fn.self.builds) cs;
-      unread : (w : Unread) → OneUnread may (Unless (Reached any_build s ds)) (UnlessBuilt (Unreached any_build s ds)) (map use_of (drop l.import-index l.imports)) (builds_of l.self.builds) w → OneUnread may (Unless (Reached any_build s ds)) (UnlessBuilt (Unreached any_build s ds)) (map use_of l.imports) (builds_of l.fn.self.builds) w;
+      reached : (cs : Builds) → EachReached may (Unless (Reached by_steps s ds)) (map use_of (drop l.import-index l.imports)) (builds_of l.self.builds) cs → EachReached may (Unless (Reached by_steps s ds)) (map use_of l.imports) (builds_of l.fn.self.builds) cs;
+      unread : (w : Unread) → OneUnread may (Unless (Reached by_steps s ds)) (UnlessBuilt (Unreached by_steps s ds)) (map use_of (drop l.import-index l.imports)) (builds_of l.self.builds) w → OneUnread may (Unless (Reached by_steps s ds)) (UnlessBuilt (Unreached by_steps s ds)) (map use_of l.imports) (builds_of l.fn.self.builds) w;
     }
