@@ -1,10 +1,7 @@
 ghost use Rattle.std.specs.Prelude.{◌≡◌};
 ghost use Rattle.naga_oil_derive.specs.Callees.{known_as, callee_at};
 
-use super::Maps;
-use indexmap::IndexMap;
-use naga_oil_ir::{Function, Handle, Module};
-use std::alloc::Global;
+use super::*;
 
 /// The functions that names mean.
 pub type FunctionNames = IndexMap<String, Handle<Function>>;

@@ -3,14 +3,7 @@ ghost use Rattle.naga_oil_ir.specs.Rows.{Row};
 ghost use Rattle.naga_oil_derive.specs.World.{value_of, world, under_name, renamed_at};
 ghost use Rattle.naga_oil_derive.specs.Copying.{IsThere, AreRanked, IsBelowItem, AreLong, IsCopying, Grows, IsSameFrom, WentSomewhere, AreNames, IsReady, CopiesOne, CollectsItem, CollectsNames, CollectsNamed, special_names, goes_under, source_world, rank};
 
-use super::renamed_items::Name;
-use super::special::SpecialEntry;
-use super::{
-    Maps, Renaming, Tried, renamed_constant, renamed_expression, renamed_global, renamed_override,
-    renamed_type,
-};
-use naga_oil_ir::{Handle, ItemPlace, Module, NameList, Names, Type};
-use std::alloc::Global;
+use super::*;
 
 fn names_of<T: Names>(item: Option<&T>, alloc: Global) -> Tried<NameList>
     ensures { IfOk result (λ v. AreNames (option_map T.row_of (option_copied item.entry)) v.items) }

@@ -4,14 +4,7 @@ ghost use Rattle.naga_oil_derive.specs.World.{value_of, special_entries};
 ghost use Rattle.naga_oil_derive.specs.Copyable.{CopyableItems};
 ghost use Rattle.naga_oil_derive.specs.Derived.{Derived, nothing, cleared, mapped_span, HasItem, IsImported, IsKnown, IsRenamed, Keeps, KeepsItems, ReadsAsBefore, IsSet};
 
-use super::special::{keep_special, set_specials, special_entries};
-use super::{Copying, Maps, Renaming, Tried};
-use indexmap::IndexMap;
-use naga_oil_ir::{
-    Constant, Expression, Function, GlobalVariable, Handle, ItemPlace, Module, Override, Span, Type,
-};
-use std::alloc::Global;
-use std::marker::Model;
+use super::*;
 
 /// Where an item went, or want of memory.
 pub type Placed<T> = Tried<Handle<T>>;

@@ -8,14 +8,7 @@ ghost use Rattle.naga_oil_derive.specs.Naming.{names_from, name_at, asked, token
 ghost use Rattle.naga_oil_ir.specs.Body.{block_tokens};
 ghost use Rattle.naga_oil_ir.specs.WellFormed.{initialisers, initialisers_of};
 
-use super::Tried;
-use super::walk::{Request, Walk, note};
-use naga_oil_ir::form::{Reading, is_external, read};
-use naga_oil_ir::names::named_item;
-use naga_oil_ir::{
-    Expression, Function, ItemPlace, LocalVariable, Named, Range, Span, Token, push_block,
-};
-use std::alloc::Global;
+use super::*;
 
 /// Requests what is named, an item or a function.
 fn ask(named: Named, requests: &mut Vec<Request>) -> Tried

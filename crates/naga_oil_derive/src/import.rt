@@ -7,13 +7,8 @@ ghost use Rattle.naga_oil_derive.specs.Imported.{state, IsAnswerable, IsImportab
 ghost use Rattle.naga_oil_derive.specs.Naming.{function_names};
 ghost use Rattle.naga_oil_derive.specs.Went.{went_by};
 
-use super::callees::{Went, known_as};
-use super::localized::localized;
-use super::walk::Request;
-use super::{Copying, Renaming, copied_name, walk_function};
-use indexmap::IndexMap;
-use naga_oil_ir::{Arena, Function, Handle, Module, Span};
-use std::alloc::AllocError;
+use super::callees::Went;
+use super::*;
 
 /// Copies of functions, and those that names mean.
 #[derive(Drop)]

@@ -35,8 +35,27 @@ pub use renamed_items::{
     copied_name, renamed_constant, renamed_global, renamed_override, renamed_type,
 };
 pub use renaming::{Renaming, renamed_block, renamed_expression, renamed_list, renamed_option};
-use std::alloc::AllocError;
 pub use walk::{Request, Walk};
+
+use callees::{FunctionNames, known_as};
+use import::Functions;
+use indexmap::IndexMap;
+use localized::localized;
+use maps::{nowhere, place_of, stands_at};
+use naga_oil_ir::form::{Reading, is_external, read};
+use naga_oil_ir::links::{is_marked, no_marks};
+use naga_oil_ir::names::named_item;
+use naga_oil_ir::*;
+use order::ordered;
+use renamed_items::Name;
+use renaming::rename_kind;
+use sent_calls::send_calls;
+use special::{SpecialEntry, keep_special, set_specials, special_entries};
+use std::alloc::{AllocError, Global};
+use std::collections::BTreeSet;
+use std::marker::Model;
+use std::mem;
+use walk::{Bounds, note};
 
 /// An answer, or want of memory.
 pub type Tried<T = ()> = Result<T, AllocError>;

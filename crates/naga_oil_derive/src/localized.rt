@@ -10,16 +10,7 @@ ghost use Rattle.naga_oil_derive.specs.Expressions.{IsCopyAt};
 ghost use Rattle.naga_oil_derive.specs.Functions.{argument_under, result_under, local_under, names_under, name_put, named_values, local_values, Copies as IsCopied};
 
 use super::callees::Went;
-use super::maps::{nowhere, place_of, stands_at};
-use super::walk::Bounds;
-use super::{
-    Renaming, Tried, Walk, copied_name, renamed_block, renamed_expression, renamed_option,
-};
-use indexmap::IndexMap;
-use naga_oil_ir::{
-    Arena, Constant, Expression, Function, FunctionArgument, FunctionResult, GlobalVariable,
-    Handle, LocalVariable, Operand, Override, Range, Span, Type,
-};
+use super::*;
 
 /// An expression with its span.
 pub type Entry = (Expression, Span);

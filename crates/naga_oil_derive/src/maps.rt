@@ -3,12 +3,7 @@ ghost use Rattle.std.specs.Option.{option_flatten};
 ghost use Rattle.naga_oil_derive.specs.World.{moved};
 ghost use Rattle.naga_oil_derive.specs.Copying.{goes_under, renames_under, AreLong};
 
-use super::{Renaming, Tried};
-use naga_oil_ir::{
-    Constant, Expression, Function, GlobalVariable, Handle, Index, ItemPlace, Module, Override,
-    Range, Span, Type,
-};
-use std::alloc::Global;
+use super::*;
 
 /// Where the items of a source went, and how far spans are shifted.
 #[derive(Drop)]

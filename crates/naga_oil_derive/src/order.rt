@@ -9,10 +9,7 @@ ghost use Rattle.naga_oil_derive.specs.Ordered.{callee_of, callees_of, calls_of,
 ghost use Rattle.naga_oil_derive.specs.Redirected.{function_values};
 ghost use Rattle.naga_oil_derive.specs.RedirectFault.{Gives};
 
-use super::maps::stands_at;
-use super::{RedirectError, Tried};
-use naga_oil_ir::{Block, Function, Span, Token, push_block};
-use std::alloc::Global;
+use super::*;
 
 /// So many empty lists.
 fn no_places(count: usize, alloc: Global) -> Tried<Vec<Vec<usize>>>

@@ -13,14 +13,7 @@ ghost use Rattle.naga_oil_derive.specs.DerivedEntries.{CanCopyEntries};
 ghost use Rattle.naga_oil_derive.specs.PutInOrder.{IsImportedInTurn, IsInOrder, PutsInOrder};
 ghost use Rattle.naga_oil_derive.specs.Redirected.{function_values, is_named, same_results, found, matched, send_at, send_entry, redirected};
 
-use super::order::ordered;
-use super::sent_calls::send_calls;
-use super::{DerivedModule, RedirectError, Tried};
-use naga_oil_ir::{Arena, EntryPoint, Function, FunctionArgument, Handle, Index, Module, Span};
-use std::alloc::Global;
-use std::collections::BTreeSet;
-use std::marker::Model;
-use std::mem;
+use super::*;
 
 /// The handles of a function and its replacement.
 pub type Pair = (Handle<Function>, Handle<Function>);

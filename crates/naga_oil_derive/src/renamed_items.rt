@@ -3,10 +3,7 @@ ghost use Rattle.naga_oil_ir.specs.Rows.{Text, inner_row, type_row, constant_row
 ghost use Rattle.naga_oil_derive.specs.Renames.{rename_row, rename_place};
 ghost use Rattle.naga_oil_derive.specs.World.{under_name};
 
-use super::renaming::rename_kind;
-use super::{Renaming, Tried, renamed_option};
-use naga_oil_ir::{ArraySize, Constant, GlobalVariable, Override, StructMember, Type, TypeInner};
-use std::alloc::Global;
+use super::*;
 
 fn renamed_size<R: Renaming>(names: &R, size: &ArraySize) -> ArraySize
     ensures plain { size_plain result ≡ size_plain size.now }

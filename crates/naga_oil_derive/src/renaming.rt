@@ -5,12 +5,7 @@ ghost use Rattle.naga_oil_ir.specs.declared.names.ItemPlace.{ItemPlace};
 ghost use Rattle.naga_oil_derive.specs.Renames.{Renames, rename, rename_place, rename_token, rename_tokens};
 ghost use Rattle.std.specs.List.{flat_map};
 
-use super::Tried;
-use naga_oil_ir::{
-    Block, Constant, Expression, Function, GlobalVariable, Handle, ImageQuery, Operand, Override,
-    Range, RayQueryFunction, SampleLevel, Span, Statement, SwitchCase, Type,
-};
-use std::alloc::Global;
+use super::*;
 
 /// Says where handles, ranges and spans go.
 pub trait Renaming {

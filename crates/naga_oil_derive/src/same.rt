@@ -2,7 +2,7 @@ ghost use Rattle.std.specs.Prelude.{◌≡◌, ◌↔◌, IsTrue};
 ghost use Rattle.naga_oil_ir.specs.Parts.{parts};
 ghost use Rattle.naga_oil_ir.specs.Rows.{type_row, constant_row, override_row, global_row};
 
-use naga_oil_ir::{Constant, Expression, GlobalVariable, Override, Type};
+use super::*;
 
 /// Whether two expressions read alike.
 pub fn same_expression(expression: &Expression, other: &Expression) -> bool

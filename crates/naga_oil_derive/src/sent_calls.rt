@@ -7,9 +7,7 @@ ghost use Rattle.naga_oil_ir.specs.ModuleValue.{function_value};
 ghost use Rattle.naga_oil_derive.specs.Renames.{rename, rename_tokens};
 ghost use Rattle.naga_oil_derive.specs.Redirected.{sent, send};
 
-use naga_oil_ir::{Arena, Block, Expression, Function, Handle, Statement, SwitchCase};
-use std::alloc::Global;
-use std::mem;
+use super::*;
 
 /// The function that a call goes to.
 type Callee = Handle<Function>;

@@ -3,9 +3,7 @@ ghost use Rattle.naga_oil_ir.specs.ModuleValue.{special_value};
 ghost use Rattle.naga_oil_derive.specs.World.{special_entry, special_entries, special_at as special_at_key, with_special, with_specials, HaveDistinctKeys};
 ghost use Rattle.naga_oil_derive.specs.Copying.{handle_under, kept_over};
 
-use super::{Maps, Renaming, Tried};
-use naga_oil_ir::{Handle, SpecialTypes, Type};
-use std::alloc::Global;
+use super::*;
 
 /// What a special type is for.
 #[derive(Clone, Copy)]

@@ -2,10 +2,7 @@ ghost use Rattle.std.specs.Prelude.{◌≡◌, ◌<◌, ◌∷◌, ℕ, [], leng
 ghost use Rattle.naga_oil_ir.specs.Links.{added, has, AreMarks};
 ghost use Rattle.naga_oil_derive.specs.Walk.{noted};
 
-use super::Tried;
-use naga_oil_ir::links::{is_marked, no_marks};
-use naga_oil_ir::{Expression, Function, Handle, ItemPlace, Range};
-use std::alloc::Global;
+use super::*;
 
 /// What a function names.
 #[derive(Clone, Copy)]

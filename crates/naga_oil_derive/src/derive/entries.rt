@@ -6,9 +6,7 @@ ghost use Rattle.naga_oil_derive.specs.Derived.{Keeps};
 ghost use Rattle.naga_oil_derive.specs.DerivedFunctions.{KeepsFunctions, AreAnswered};
 ghost use Rattle.naga_oil_derive.specs.DerivedEntries.{HasNamed, named_request, sizes_requests, mesh_requests, HasSizes, HasMesh, CanCopyEntry, CanCopyEntries, Went, SizesWent, MeshWent, EntryCopied, EntriesCopied, IsMadeWith};
 
-use super::DerivedModule;
-use crate::Tried;
-use naga_oil_ir::{EntryPoint, GlobalVariable, Handle, MeshInfo, Module, Operand};
+use super::*;
 
 type Sizes = Option<[Option<Operand>; 3]>;
 

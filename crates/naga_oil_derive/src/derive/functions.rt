@@ -3,14 +3,7 @@ ghost use Rattle.std.specs.Prelude.{◌≡◌, ◌∷◌, ℕ, [], Ok, Some, Non
 ghost use Rattle.naga_oil_ir.specs.ModuleValue.{function_value};
 ghost use Rattle.naga_oil_derive.specs.DerivedFunctions.{having, meant, CanCopy, CanImport, CanCall, KeepsFunctions, KeepsMeanings, IsLocalized, IsFunctionImported, MeansAt, requests_of, AreAnswered};
 
-use super::{DerivedModule, Placed};
-use crate::Tried;
-use crate::callees::{FunctionNames, known_as};
-use crate::import::{self, Functions};
-use indexmap::IndexMap;
-use naga_oil_ir::{Arena, Function, Handle, Module, Span};
-use std::alloc::Global;
-use std::mem;
+use super::*;
 
 #[cfg(test)]
 mod tests;
