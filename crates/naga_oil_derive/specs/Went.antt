@@ -6,7 +6,7 @@ use Rattle.naga_oil_ir.specs.declared.module.Module.{Module}
 use Rattle.naga_oil_derive.specs.Renames.{Renames}
 use Rattle.naga_oil_derive.specs.Copying.{renames_under}
 use Rattle.naga_oil_derive.specs.Callees.{callee_at}
-use Rattle.naga_oil_derive.specs.declared.callees.Went.{Went}
+use Rattle.naga_oil_derive.specs.declared.import.Went.{Went}
 use Rattle.naga_oil_derive.specs.declared.maps.Maps.{Maps}
 
 -- items go where they were put, and functions to those that their names mean

@@ -69,6 +69,7 @@ impl Copying {
     }
 
     /// Copies the item at a place, when what it names was copied.
+    #[rattlefmt::skip]
     fn copy_alone(&mut self, source: &Module, item: ItemPlace) -> Tried
         requires there { IsThere source.now item }
         requires long { AreLong self.old.maps source.now }
@@ -81,38 +82,24 @@ impl Copying {
             ItemPlace::ConstantItem(h) => copy!(self, source, h, constants, renamed_constant),
             ItemPlace::OverrideItem(h) => copy!(self, source, h, overrides, renamed_override),
             ItemPlace::GlobalItem(h) => copy!(self, source, h, global_variables, renamed_global),
-            ItemPlace::ExpressionItem(h) => {
-                copy!(
-                    self,
-                    source,
-                    h,
-                    global_expressions,
-                    renamed_expression,
-                    self.alloc
-                )
-            }
+            ItemPlace::ExpressionItem(h) => copy!(self, source, h, global_expressions, renamed_expression, self.alloc),
         }
     }
 
     /// Copies what an item names.
     #[cycle(copying)]
-    fn copy_names(
-        &mut self,
-        source: &Module,
-        item: &ItemPlace,
-        names: &[Option<ItemPlace>],
-    ) -> Tried
+    fn copy_names(&mut self, source: &Module, item: &ItemPlace, list: &[Option<ItemPlace>]) -> Tried
         requires ranked { AreRanked source.now }
-        requires below { All (IsBelowItem source.now item.now) names.now }
+        requires below { All (IsBelowItem source.now item.now) list.now }
         requires copying { IsCopying source.now self.old.target self.old.maps }
         ensures copying { IsCopying source.now self.new.target self.new.maps }
         ensures grows { Grows self.old.maps self.new.maps self.old.target self.new.target }
         ensures reads { source_world source.now self.new.target self.new.maps ≡ source_world source.now self.old.target self.old.maps }
         ensures above { IsSameFrom source.now (rank source.now item.now) self.old.maps self.new.maps }
-        ensures went { OnOk result (All (WentSomewhere (goes_under self.new.maps)) names.now) }
-        ensures collects { OnOk result (CollectsNames source.now self.old.maps self.old.target names.now self.new.target) }
+        ensures went { OnOk result (All (WentSomewhere (goes_under self.new.maps)) list.now) }
+        ensures collects { OnOk result (CollectsNames source.now self.old.maps self.old.target list.now self.new.target) }
     {
-        for name in names {
+        for name in list {
             let Some(place) = name else { continue };
             self.copy_item(source, place)?;
         }

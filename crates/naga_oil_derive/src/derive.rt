@@ -65,11 +65,8 @@ impl<'a> DerivedModule<'a> {
         let copying = &mut self.copying;
         let entries = special_entries(&shader.special_types, copying.alloc)?;
         copying.maps = Maps::new(shader, span_offset, copying.alloc)?;
-        keep_special(
-            &entries,
-            &copying.target.special_types,
-            &mut copying.maps.types,
-        );
+        let special = &copying.target.special_types;
+        keep_special(&entries, special, &mut copying.maps.types);
         copying.copy_special(shader, &entries)?;
         set_specials(&entries, &copying.maps, &mut copying.target.special_types)?;
         self.shader = Some(shader);

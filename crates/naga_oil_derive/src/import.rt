@@ -1,20 +1,48 @@
 ghost use Rattle.std.specs.Prelude.{◌≡◌, ◌∷◌, [], Some, IsSome, All, OnOk, IfOk};
 ghost use Rattle.naga_oil_ir.specs.ModuleValue.{function_value};
-ghost use Rattle.naga_oil_derive.specs.Callees.{callee_at};
+ghost use Rattle.naga_oil_derive.specs.Callees.{known_as, callee_at};
 ghost use Rattle.naga_oil_derive.specs.Copying.{AreRanked, IsCopying, Grows};
 ghost use Rattle.naga_oil_derive.specs.Functions.{Copies};
 ghost use Rattle.naga_oil_derive.specs.Imported.{state, IsAnswerable, IsImportable, Imported, FunctionImported, FunctionsGrow, IsAnswered};
 ghost use Rattle.naga_oil_derive.specs.Naming.{function_names};
 ghost use Rattle.naga_oil_derive.specs.Went.{went_by};
 
-use super::callees::Went;
 use super::*;
+
+/// The functions that names mean.
+pub type FunctionNames = IndexMap<String, Handle<Function>>;
+
+/// Where the items and functions of a source went; a function goes by its name.
+#[derive(Clone, Copy)]
+pub struct Went<'a> {
+    pub maps: &'a Maps,
+    pub source: &'a Module,
+    pub functions: &'a FunctionNames,
+    pub alloc: Global,
+}
+
+/// The function that a name means.
+pub fn known_as(functions: &FunctionNames, name: &Option<String>) -> Option<Handle<Function>>
+    ensures { result ≡ known_as functions.now name.now }
+{
+    functions.get(name.as_ref()?.as_str()).copied()
+}
+
+impl Went<'_> {
+    /// Where a function went, if its name is known.
+    pub fn callee(&self, handle: Handle<Function>) -> Option<Handle<Function>>
+        ensures { result ≡ callee_at self.now.functions.now self.now.source.now.functions handle }
+    {
+        let function = self.source.functions.try_get(handle)?;
+        known_as(self.functions, &function.name)
+    }
+}
 
 /// Copies of functions, and those that names mean.
 #[derive(Drop)]
 pub struct Functions {
     pub copies: Arena<Function>,
-    pub names: IndexMap<String, Handle<Function>>,
+    pub names: FunctionNames,
 }
 
 /// Puts a copy of a function last; its name then means the copy. Calls of functions whose names aren't known go so deep at
@@ -74,12 +102,8 @@ pub fn localize(
             }
         }
     }
-    let names = Went {
-        maps: &copying.maps,
-        source,
-        functions: &functions.names,
-        alloc: copying.alloc,
-    };
+    #[rattlefmt::skip]
+    let names = Went { maps: &copying.maps, source, functions: &functions.names, alloc: copying.alloc };
     localized(names, function, &walk)
 }
 

@@ -4,11 +4,10 @@
 //! same with items. `same` asks whether items read alike. `copy` copies an item with what it
 //! names, once for each source item, under the `maps` of what was copied; `special` finds the special types. `derive` is the
 //! module that is made. `walk` lists what a function reaches in the order of copying, found by `function_walk`; `localized` copies
-//! a function with its expressions, `import` with those that it calls (`callees`). `redirect` sends calls to other functions, where
+//! a function with its expressions, `import` with those that it calls. `redirect` sends calls to other functions, where
 //! they stand by `sent_calls`, and puts functions in an `order` in which each stands behind what it calls, by their levels.
 #![tactic(auto)]
 
-pub mod callees;
 pub mod copy;
 pub mod derive;
 pub mod function_walk;
@@ -28,33 +27,31 @@ pub mod walk;
 pub use copy::Copying;
 pub use derive::DerivedModule;
 pub use function_walk::walk_function;
-pub use maps::Maps;
-pub use redirect::Redirector;
-pub use redirect_error::RedirectError;
-pub use renamed_items::{
-    copied_name, renamed_constant, renamed_global, renamed_override, renamed_type,
-};
-pub use renaming::{Renaming, renamed_block, renamed_expression, renamed_list, renamed_option};
-pub use walk::{Request, Walk};
-
-use callees::{FunctionNames, known_as};
-use import::Functions;
+use import::{FunctionNames, Functions, known_as};
 use indexmap::IndexMap;
 use localized::localized;
+pub use maps::Maps;
 use maps::{nowhere, place_of, stands_at};
 use naga_oil_ir::form::{Reading, is_external, read};
 use naga_oil_ir::links::{is_marked, no_marks};
 use naga_oil_ir::names::named_item;
 use naga_oil_ir::*;
 use order::ordered;
+pub use redirect::Redirector;
+pub use redirect_error::RedirectError;
 use renamed_items::Name;
+pub use renamed_items::{
+    copied_name, renamed_constant, renamed_global, renamed_override, renamed_type,
+};
 use renaming::rename_kind;
+pub use renaming::{Renaming, renamed_block, renamed_expression, renamed_list, renamed_option};
 use sent_calls::send_calls;
 use special::{SpecialEntry, keep_special, set_specials, special_entries};
 use std::alloc::{AllocError, Global};
 use std::collections::BTreeSet;
 use std::marker::Model;
 use std::mem;
+pub use walk::{Request, Walk};
 use walk::{Bounds, note};
 
 /// An answer, or want of memory.

@@ -9,7 +9,7 @@ ghost use Rattle.naga_oil_derive.specs.Localized.{ExpressionsCopied};
 ghost use Rattle.naga_oil_derive.specs.Expressions.{IsCopyAt};
 ghost use Rattle.naga_oil_derive.specs.Functions.{argument_under, result_under, local_under, names_under, name_put, named_values, local_values, Copies as IsCopied};
 
-use super::callees::Went;
+use super::import::Went;
 use super::*;
 
 /// An expression with its span.
@@ -79,14 +79,8 @@ impl Copies {
         requires { place < length source.now }
         ensures { IfOk result (IsCopyAt (went names.entry) self.now.table.items source.now place) }
     {
-        let copied = Copied {
-            went: names,
-            table: &self.table,
-            emitted: &[],
-            began: 0,
-            merged: 0,
-            count: 0,
-        };
+        #[rattlefmt::skip]
+        let copied = Copied { went: names, table: &self.table, emitted: &[], began: 0, merged: 0, count: 0 };
         let copy = renamed_expression(&copied, &source[place].0, names.alloc)?;
         Ok((copy, names.maps.span(source[place].1)))
     }
@@ -141,12 +135,9 @@ impl Copied<'_> {
         ensures { IfOk result (λ v. map argument_value v.items ≡ map (argument_under (went self.now.went)) (map argument_value arguments.now)) }
     {
         let mut copies = Vec::new(self.went.alloc);
-        for argument in arguments {
-            copies.push(FunctionArgument {
-                name: copied_name(&argument.name)?,
-                ty: self.ty(argument.ty),
-                binding: argument.binding,
-            })?;
+        for of in arguments {
+            let (name, ty) = (copied_name(&of.name)?, self.ty(of.ty));
+            copies.push(FunctionArgument { name, ty, ..*of })?;
         }
         Ok(copies)
     }
@@ -157,12 +148,9 @@ impl Copied<'_> {
     {
         let mut copies = Arena::new(self.went.alloc);
         for local in locals {
-            let copy = LocalVariable {
-                name: copied_name(&local.0.name)?,
-                ty: self.ty(local.0.ty),
-                init: renamed_option(self, local.0.init),
-            };
-            copies.append(copy, self.span(local.1))?;
+            let (name, ty) = (copied_name(&local.0.name)?, self.ty(local.0.ty));
+            let init = renamed_option(self, local.0.init);
+            copies.append(LocalVariable { name, ty, init }, self.span(local.1))?;
         }
         Ok(copies)
     }

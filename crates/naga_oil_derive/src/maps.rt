@@ -104,9 +104,7 @@ impl Renaming for Maps {
 
     /// A span that is known, so far behind, at most at the last place that a span can name.
     fn span(&self, span: Span) -> Span {
-        if span == Span::UNDEFINED {
-            return span;
-        }
+        if span == Span::UNDEFINED { return span; }
         Span::new(moved(span.start, self.offset), moved(span.end, self.offset))
     }
 }

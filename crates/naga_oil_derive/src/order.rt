@@ -153,8 +153,7 @@ fn calls_of(functions: &[(Function, Span)], alloc: Global) -> Tried<Vec<Vec<usiz
 {
     let mut calls = Vec::new(alloc);
     for entry in functions {
-        let callees = callees_of(&entry.0.body, alloc)?;
-        calls.push(callees)?;
+        calls.push(callees_of(&entry.0.body, alloc)?)?;
     }
     Ok(calls)
 }
@@ -187,8 +186,7 @@ pub fn ordered(functions: &[(Function, Span)], alloc: Global) -> Result<Vec<usiz
     let levels = levels_of(&calls, alloc)?;
     let circular = without_level(&levels, alloc)?;
     if circular.is_empty() {
-        let order = by_level(&levels, alloc)?;
-        return Ok(order);
+        return Ok(by_level(&levels, alloc)?);
     }
     let names = names_at(functions, &circular, alloc)?;
     Err(RedirectError::CircularReference(names))

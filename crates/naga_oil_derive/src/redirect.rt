@@ -118,10 +118,8 @@ impl Redirector {
         requires { Redirectable shader }
         ensures { result ≡ module_value shader }
     {
-        Redirector {
-            module: shader,
-            alloc,
-        }
+        #[rattlefmt::skip]
+        Redirector { module: shader, alloc }
     }
 
     /// The first function of a name, with its place.

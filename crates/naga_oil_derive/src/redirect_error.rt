@@ -31,6 +31,3 @@ impl From<AllocError> for RedirectError {
         RedirectError::Memory
     }
 }
-
-#[cfg(test)]
-mod tests;

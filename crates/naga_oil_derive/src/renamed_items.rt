@@ -38,13 +38,9 @@ fn renamed_members<R: Renaming>(names: &R, list: &[StructMember], alloc: Global)
     ensures types { IfOk result (λ ms. map member_type ms.items ≡ map (option_map (rename_place (R.renames names.now))) (map member_type list.now)) }
 {
     let mut out = Vec::new(alloc);
-    for member in list {
-        out.push(StructMember {
-            name: copied_name(&member.name)?,
-            ty: names.ty(member.ty),
-            binding: member.binding,
-            offset: member.offset,
-        })?;
+    for of in list {
+        let (name, ty) = (copied_name(&of.name)?, names.ty(of.ty));
+        out.push(StructMember { name, ty, ..*of })?;
     }
     Ok(out)
 }
@@ -82,11 +78,9 @@ pub fn renamed_type<R: Renaming>(names: &R, ty: &Type, name: Name, alloc: Global
 pub fn renamed_constant<R: Renaming>(names: &R, item: &Constant) -> Tried<Constant>
     ensures { IfOk result (λ c. constant_row c ≡ rename_row (R.renames names.now) (constant_row item.now)) }
 {
-    Ok(Constant {
-        name: copied_name(&item.name)?,
-        ty: names.ty(item.ty),
-        init: names.expression(item.init),
-    })
+    let name = copied_name(&item.name)?;
+    let (ty, init) = (names.ty(item.ty), names.expression(item.init));
+    Ok(Constant { name, ty, init })
 }
 
 /// The override with its handles renamed.

@@ -44,10 +44,7 @@ pub fn renamed_option<R: Renaming>(names: &R, handle: Option<Operand>) -> Option
     ensures given { given result ≡ rename_token (R.renames names.now) (given handle) }
     ensures given_by { (f : ℕ) → given_by ((R.renames names.now).function f) result ≡ rename_token (R.renames names.now) (given_by f handle) }
 {
-    match handle {
-        None => None,
-        Some(handle) => Some(names.expression(handle)),
-    }
+    handle.map(|handle| names.expression(handle))
 }
 
 /// Operands, renamed.
@@ -58,6 +55,7 @@ pub fn renamed_list<R: Renaming>(names: &R, list: &[Operand], alloc: Global) -> 
 }
 
 /// A level with its operands renamed.
+#[rattlefmt::skip]
 fn renamed_level<R: Renaming>(names: &R, level: &SampleLevel) -> SampleLevel
     ensures code { level_code result ≡ level_code level.now }
     ensures x { level_x result ≡ option_map (R.renames names.now).expression (level_x level.now) }
@@ -68,22 +66,18 @@ fn renamed_level<R: Renaming>(names: &R, level: &SampleLevel) -> SampleLevel
         SampleLevel::Zero => SampleLevel::Zero,
         SampleLevel::Exact(e) => SampleLevel::Exact(names.expression(*e)),
         SampleLevel::Bias(e) => SampleLevel::Bias(names.expression(*e)),
-        SampleLevel::Gradient { x, y } => SampleLevel::Gradient {
-            x: names.expression(*x),
-            y: names.expression(*y),
-        },
+        SampleLevel::Gradient { x, y } => SampleLevel::Gradient { x: names.expression(*x), y: names.expression(*y) },
     }
 }
 
 /// A query with its operand renamed.
+#[rattlefmt::skip]
 fn renamed_query<R: Renaming>(names: &R, query: &ImageQuery) -> ImageQuery
     ensures code { query_code result ≡ query_code query.now }
     ensures level { query_level result ≡ option_map (R.renames names.now).expression (query_level query.now) }
 {
     match query {
-        ImageQuery::Size { level } => ImageQuery::Size {
-            level: renamed_option(names, *level),
-        },
+        ImageQuery::Size { level } => ImageQuery::Size { level: renamed_option(names, *level) },
         ImageQuery::Other(code) => ImageQuery::Other(*code),
     }
 }
@@ -201,11 +195,8 @@ fn renamed_cases<R: Renaming>(names: &R, cases: &[SwitchCase], alloc: Global) ->
 {
     let mut copies = Vec::new(alloc);
     for case in cases {
-        copies.push(SwitchCase {
-            value: case.value,
-            body: renamed_block(names, &case.body, alloc)?,
-            fall_through: case.fall_through,
-        })?;
+        let body = renamed_block(names, &case.body, alloc)?;
+        copies.push(SwitchCase { body, ..*case })?;
     }
     Ok(copies)
 }

@@ -25,8 +25,8 @@ by_level-requires c =
     let found : c.in_ok-levels.levels.items ≡ levels calls = c.in_ok-levels.ensures ∙ ap (λ vs. levels (lists vs)) c.deref.ensures.value ∙ ap levels c.in_ok-calls.ensures in
     low_levels calls c.deref-then-is_empty.result.now (c.deref-then-is_empty.ensures.value ∙ found)
 
-pub returns-in_err-order-clause-cycle : goal.returns-in_err-order-clause-cycle
-returns-in_err-order-clause-cycle c = ordered_cycle (function_values c.args.functions.now) c.requires
+pub returns-in_err-by_level-clause-cycle : goal.returns-in_err-by_level-clause-cycle
+returns-in_err-by_level-clause-cycle c = ordered_cycle (function_values c.args.functions.now) c.requires
 
 pub returns-then-is_empty-clause-cycle : goal.returns-then-is_empty-clause-cycle
 returns-then-is_empty-clause-cycle c = ordered_cycle (function_values c.args.functions.now) c.requires

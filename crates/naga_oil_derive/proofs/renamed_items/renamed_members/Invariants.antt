@@ -3,8 +3,8 @@ use Rattle.naga_oil_ir.specs.Rows.{member_label, member_type}
 use Rattle.naga_oil_derive.specs.Renames.{rename_place}
 use Rattle.naga_oil_derive.proofs.renamed_items.renamed_members.Given as goal
 
-abbrev pub invariant-loop-member : goal.invariant-loop-member
-invariant-loop-member g l = record {
-  labels : map member_label l.out.items ≡ map member_label (take l.member-index l.list);
-  types : map member_type l.out.items ≡ map (option_map (rename_place (g.R.Renaming.renames l.names))) (map member_type (take l.member-index l.list));
+abbrev pub invariant-loop-of : goal.invariant-loop-of
+invariant-loop-of g l = record {
+  labels : map member_label l.out.items ≡ map member_label (take l.of-index l.list);
+  types : map member_type l.out.items ≡ map (option_map (rename_place (g.R.Renaming.renames l.names))) (map member_type (take l.of-index l.list));
 }

@@ -25,8 +25,8 @@ copy_names-loop-name-preserved-in_default t c =
       grows = i.grows;
       reads = i.reads;
       same = i.same;
-      collects = none_more c.args.source.now c.args.self.now.target c.loop-name.self.target c.args.self.now.maps c.args.names.now c.loop-name.name-index c.name-item.result c.loop-name-test.true c.name-item.is is i.collects;
-      went = went_more (goes_under c.loop-name.self.maps) c.args.names.now c.loop-name.name-index c.name-item.result c.loop-name-test.true c.name-item.is (subst (WentSomewhere (goes_under c.loop-name.self.maps)) (sym is) tt) i.went;
+      collects = none_more c.args.source.now c.args.self.now.target c.loop-name.self.target c.args.self.now.maps c.args.list.now c.loop-name.name-index c.name-item.result c.loop-name-test.true c.name-item.is is i.collects;
+      went = went_more (goes_under c.loop-name.self.maps) c.args.list.now c.loop-name.name-index c.name-item.result c.loop-name-test.true c.name-item.is (subst (WentSomewhere (goes_under c.loop-name.self.maps)) (sym is) tt) i.went;
     }
 
 pub copy_names-loop-name-preserved : goal.copy_names-loop-name-preserved
@@ -34,15 +34,15 @@ copy_names-loop-name-preserved t c =
     let i = c.loop-name.invariant in
     let e = c.copy_item.ensures in
     let n = goes_under c.copy_item.new.self.maps in
-    let b = all_at (IsBelowItem c.args.source.now c.args.item.now) c.args.names.now c.loop-name.name-index c.name-item.result c.loop-name-test.true c.name-item.is c.requires.below in
+    let b = all_at (IsBelowItem c.args.source.now c.args.item.now) c.args.list.now c.loop-name.name-index c.name-item.result c.loop-name-test.true c.name-item.is c.requires.below in
     let below = rw c.in-Some.is at b in
     record {
       copying = e.copying;
       grows = Grows-trans i.grows e.grows;
       reads = e.reads ∙ i.reads;
       same = λ p h. e.above p (omega (arith, below.1)) ∙ i.same p h;
-      collects = some_more c.args.source.now c.args.self.now.target c.loop-name.self.target c.copy_item.new.self.target c.args.self.now.maps c.loop-name.self.maps c.args.names.now c.loop-name.name-index c.name-item.result _ c.loop-name-test.true c.name-item.is c.in-Some.is i.reads i.grows.special i.grows.offset i.collects c.in_ok-copy_item.ensures.collects;
-      went = went_more n c.args.names.now c.loop-name.name-index c.name-item.result c.loop-name-test.true c.name-item.is (subst (WentSomewhere n) (sym c.in-Some.is) c.in_ok-copy_item.ensures.went) (went_later (goes_under c.loop-name.self.maps) n e.grows.went _ i.went);
+      collects = some_more c.args.source.now c.args.self.now.target c.loop-name.self.target c.copy_item.new.self.target c.args.self.now.maps c.loop-name.self.maps c.args.list.now c.loop-name.name-index c.name-item.result _ c.loop-name-test.true c.name-item.is c.in-Some.is i.reads i.grows.special i.grows.offset i.collects c.in_ok-copy_item.ensures.collects;
+      went = went_more n c.args.list.now c.loop-name.name-index c.name-item.result c.loop-name-test.true c.name-item.is (subst (WentSomewhere n) (sym c.in-Some.is) c.in_ok-copy_item.ensures.went) (went_later (goes_under c.loop-name.self.maps) n e.grows.went _ i.went);
     }
 
 pub copy_names-returns-in_err-copy_item-clause-grows :
@@ -50,10 +50,10 @@ pub copy_names-returns-in_err-copy_item-clause-grows :
 copy_names-returns-in_err-copy_item-clause-grows t c = Grows-trans c.loop-name.invariant.grows c.copy_item.ensures.grows
 
 pub copy_names-returns-clause-went : goal.copy_names-returns-clause-went
-copy_names-returns-clause-went t c = went_all (goes_under c.loop-name.self.maps) c.args.names.now c.loop-name.name-index c.loop-name-test.false c.loop-name.invariant.went
+copy_names-returns-clause-went t c = went_all (goes_under c.loop-name.self.maps) c.args.list.now c.loop-name.name-index c.loop-name-test.false c.loop-name.invariant.went
 
 pub copy_names-returns-clause-collects : goal.copy_names-returns-clause-collects
-copy_names-returns-clause-collects t c = all_names c.args.source.now c.args.self.now.target c.loop-name.self.target c.args.self.now.maps c.args.names.now c.loop-name.name-index c.loop-name-test.false c.loop-name.invariant.collects
+copy_names-returns-clause-collects t c = all_names c.args.source.now c.args.self.now.target c.loop-name.self.target c.args.self.now.maps c.args.list.now c.loop-name.name-index c.loop-name-test.false c.loop-name.invariant.collects
 
 pub copy_item-returns-then-has_gone-clause-collects :
     goal.copy_item-returns-then-has_gone-clause-collects

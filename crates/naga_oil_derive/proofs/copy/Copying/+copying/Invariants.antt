@@ -14,6 +14,6 @@ invariant-copy_names-loop-name l = record {
   grows : Grows l.fn.self.maps l.self.maps l.fn.self.target l.self.target;
   reads : source_world l.source l.self.target l.self.maps ≡ source_world l.source l.fn.self.target l.fn.self.maps;
   same : IsSameFrom l.source (rank l.source l.item) l.fn.self.maps l.self.maps;
-  collects : CollectsNames l.source l.fn.self.maps l.fn.self.target (take l.name-index l.names) l.self.target;
-  went : All (WentSomewhere (goes_under l.self.maps)) (take l.name-index l.names);
+  collects : CollectsNames l.source l.fn.self.maps l.fn.self.target (take l.name-index l.list) l.self.target;
+  went : All (WentSomewhere (goes_under l.self.maps)) (take l.name-index l.list);
 }

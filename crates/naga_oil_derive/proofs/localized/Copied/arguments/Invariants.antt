@@ -4,6 +4,6 @@ use Rattle.naga_oil_derive.specs.Functions.{argument_under}
 use Rattle.naga_oil_derive.specs.Went.{went}
 use Rattle.naga_oil_derive.proofs.localized.Copied.arguments.Given as goal
 
-abbrev pub invariant-loop-argument : goal.invariant-loop-argument
-invariant-loop-argument l =
-    map argument_value l.copies.items ≡ map (argument_under (went l.self.went)) (map argument_value (take l.argument-index l.arguments))
+abbrev pub invariant-loop-of : goal.invariant-loop-of
+invariant-loop-of l =
+    map argument_value l.copies.items ≡ map (argument_under (went l.self.went)) (map argument_value (take l.of-index l.arguments))
