@@ -35,19 +35,31 @@ mod sanitize;
 mod virtuals;
 mod writeback;
 
+use build::Maker;
 pub use command::{Command, Reply, run};
 pub use composer::Composer;
 pub use definition::ComposableModuleDefinition;
+use definition::{Build, Checked, Definition, Defs, Import, Names, Overrides, Told, Tried, Use};
 pub use descriptor::{
     ComposableModuleDescriptor, NagaModuleDescriptor, OwnedShaderDefs, ShaderType,
 };
 pub use error::{ComposerError, ComposerErrorInner, EnsureImportsError, ErrSource};
+use formed::FormedModule;
+use indexmap::IndexMap;
+use link::{Builds, Linker};
+use marked::{Marked, Over};
 pub use module::ComposableModule;
+use naga_oil_derive::{DerivedModule, RedirectError};
 pub use naga_oil_ir::{
     Backend, BackendRefusal, Capabilities, ParseFault, ShaderLanguage, ValidFault, WriteFault,
     backend,
 };
+use naga_oil_ir::{
+    Arena, Constant, EntryPoint, Function, FunctionArgument, FunctionResult, GlobalVariable, Index,
+    ItemPlace, Module, Override, Span, StructMember, Type, TypeInner, UniqueArena,
+};
 pub use naga_oil_lines::decorate::{decode, decorated_name, undecorate};
+use naga_oil_lines::decorate::{DECORATION_OVERRIDE_PRE, DECORATION_POST, DECORATION_PRE};
 pub use naga_oil_lines::wgsl_directives::{
     DiagnosticDirective, EnableDirective, RequiresDirective, WgslDirectives,
 };
@@ -57,3 +69,9 @@ pub use naga_oil_lines::{
 };
 pub use naga_oil_pre as preprocess;
 pub use naga_oil_pre::{ShaderDefValue, get_preprocessor_data};
+use naga_oil_pre::{
+    ComposerErrorInner as Inner, PreprocessOutput, Preprocessor, PreprocessorMetaData,
+};
+use std::alloc::{AllocError, Global};
+use std::collections::{BTreeMap, BTreeSet};
+use std::mem;

@@ -8,13 +8,9 @@ ghost use Rattle.naga_oil.specs.Descriptor.{module_source};
 ghost use Rattle.naga_oil.specs.Registry.{removed, IsRegistry};
 ghost use Rattle.naga_oil.specs.DescribedView.{described_of, KnowsRecorded};
 
-use crate::compose::definition::{Checked, Definition};
-use crate::compose::descriptor::ComposableModuleDescriptor;
-use crate::compose::merge::{clone_imports, push_additional, take_over};
-use crate::compose::registry::{enter, free_index, gone_with, module_named, standing};
-use naga_oil_lines::ImportDefWithOffset;
-use naga_oil_pre::{ComposerErrorInner, Preprocessor, PreprocessorMetaData};
-use std::alloc::Global;
+use super::merge::{clone_imports, push_additional, take_over};
+use super::registry::{enter, free_index, gone_with, module_named, standing};
+use super::*;
 
 /// The name of a module, and the metadata of its text.
 #[derive(Drop)]
@@ -33,7 +29,7 @@ pub(crate) fn describe(alloc: Global, given: Option<&String>, text: &str) -> Che
     // A set's length tells that its names are in order.
     let _count = metadata.effective_defs.len();
     let Some(name) = given.or(metadata.name.as_ref()) else {
-        return Err(ComposerErrorInner::NoModuleName);
+        return Err(Inner::NoModuleName);
     };
     let name = name.clone()?;
     Ok(Described { name, metadata })
@@ -43,7 +39,7 @@ pub(crate) fn describe(alloc: Global, given: Option<&String>, text: &str) -> Che
 fn imported_modules<'a>(
     alloc: Global,
     modules: &[&'a Definition],
-    imports: &[ImportDefWithOffset],
+    imports: &[Use],
 ) -> Checked<Vec<&'a Definition>>
     ensures { Gives (λ v. map (λ d. definition_of d.now) v.items) result (imported_among (map (λ d. definition_of d.now) modules.now) (map use_of imports.now)) }
 {
@@ -51,7 +47,7 @@ fn imported_modules<'a>(
     for import in imports {
         let name = &import.definition().import;
         let Some(definition) = module_named(modules, name.as_str()) else {
-            return Err(ComposerErrorInner::ImportNotFound(name.clone()?, import.offset()));
+            return Err(Inner::ImportNotFound(name.clone()?, import.offset()));
         };
         imported.push(definition)?;
     }
@@ -80,7 +76,7 @@ fn new_definition(
     push_additional(&mut imports, desc.additional_imports)?;
     let imported = imported_modules(alloc, modules, imports.as_slice())?;
     let Some(module_index) = free_index(alloc, modules)? else {
-        return Err(ComposerErrorInner::TooManyModules);
+        return Err(Inner::TooManyModules);
     };
     let mut shader_defs = desc.shader_defs;
     take_over(&mut shader_defs, &mut effective_defs, imported.as_slice())?;

@@ -16,19 +16,10 @@ ghost use Rattle.naga_oil.specs.Linked.{HeaderAnswers};
 ghost use Rattle.naga_oil.specs.Overriding.{overriding_of, overridden_by, with_overriding, build_named, with_build, imported_overriding};
 ghost use Rattle.naga_oil.specs.Relations.{AnswersBy, GivesBy};
 
-use crate::compose::definition::{Checked, Definition, Defs, Names, Overrides, Tried};
-use crate::compose::error::{ComposerError, EnsureImportsError as Missing, refused, refused_in};
-use crate::compose::formed::FormedModule;
-use crate::compose::link::{Builds, Linker};
-use crate::compose::marked::Over;
-use crate::compose::merge::{imports_of, push_additional};
-use crate::compose::module::ComposableModule;
-use crate::compose::virtuals::{add_override, read_functions};
-use naga_oil_ir::{Backend, BackendRefusal, Capabilities, Module, ShaderLanguage};
-use naga_oil_lines::decorate::decorated_name;
-use naga_oil_lines::{ImportDefWithOffset, ImportDefinition};
-use naga_oil_pre::{ComposerErrorInner as Inner, PreprocessOutput, Preprocessor};
-use std::alloc::Global;
+use super::error::{EnsureImportsError as Missing, refused, refused_in};
+use super::merge::{imports_of, push_additional};
+use super::virtuals::{add_override, read_functions};
+use super::*;
 
 /// A make: a front end with its settings, the definitions, and what was built under them.
 #[derive(Drop)]
@@ -93,7 +84,7 @@ fn add_imported(alloc: Global, all: &mut Overrides, builds: &Builds, name: &str)
 }
 
 // Enters a build under its name.
-fn enter(alloc: Global, builds: &mut Builds, name: &str, built: ComposableModule) -> Checked<()>
+fn enter(alloc: Global, builds: &mut Builds, name: &str, built: Build) -> Checked<()>
     ensures { GivesBy (λ _. builds_of builds.new ≡ entered (builds_of builds.old) name.now (built_of built)) (λ _. ⊥) result }
 {
     let name = String::from_str(alloc, name)?;
@@ -159,7 +150,7 @@ impl<B: Backend> Maker<'_, B> {
         text: &str,
         offset: usize,
         answer: Checked<T>,
-    ) -> Result<T, ComposerError>
+    ) -> Told<T>
         ensures { ToldAt (build_place (definition_of of.now) text.now offset (defs_of self.now.defs)) answer result }
     {
         match answer {
@@ -211,7 +202,7 @@ impl<B: Backend> Maker<'_, B> {
     }
 
     // The functions that are overridden in what is imported.
-    fn imported_overrides(&self, imports: &[ImportDefinition]) -> Tried<Overrides>
+    fn imported_overrides(&self, imports: &[Import]) -> Tried<Overrides>
         ensures { IfOk result (λ all. overriding_of all ≡ imported_overriding (builds_of self.now.builds) [] (map import_of imports.now)) }
     {
         let mut all = Overrides::new(self.alloc);
@@ -222,7 +213,7 @@ impl<B: Backend> Maker<'_, B> {
     }
 
     // What is imported, without bodies, as the front end writes it.
-    fn header(&self, imports: &[ImportDefinition], language: ShaderLanguage) -> Checked<String>
+    fn header(&self, imports: &[Import], language: ShaderLanguage) -> Checked<String>
         ensures { GivesBy
             (λ text. HeaderAnswers (B.front self.now.front.now) self.now.capabilities language (builds_of self.now.builds) (map import_of imports.now) (Ok (string_bytes text)))
             (λ fault. HeaderAnswers (B.front self.now.front.now) self.now.capabilities language (builds_of self.now.builds) (map import_of imports.now) (Err fault))
@@ -234,7 +225,7 @@ impl<B: Backend> Maker<'_, B> {
     }
 
     // What stands before a text: its directives and a header of what is imported.
-    fn heading(&self, of: &Definition, imports: &[ImportDefinition]) -> Checked<String>
+    fn heading(&self, of: &Definition, imports: &[Import]) -> Checked<String>
         ensures { GivesBy
             (λ text. HeadingAnswers (B.front self.now.front.now) self.now.capabilities (definition_of of.now) (builds_of self.now.builds) (map import_of imports.now) (Ok (string_bytes text)))
             (λ fault. HeadingAnswers (B.front self.now.front.now) self.now.capabilities (definition_of of.now) (builds_of self.now.builds) (map import_of imports.now) (Err fault))
@@ -246,7 +237,7 @@ impl<B: Backend> Maker<'_, B> {
     }
 
     // A build of nothing: its decoration, what it imports, and what is overridden there.
-    fn begun(&self, of: &Definition, output: &PreprocessOutput) -> Checked<ComposableModule>
+    fn begun(&self, of: &Definition, output: &PreprocessOutput) -> Checked<Build>
         requires { of.now.module_index ≤ 2047 }
         ensures { GivesBy (λ built. built_of built ≡ begun (builds_of self.now.builds) (definition_of of.now) (map use_of output.now.imports.items)) (λ _. ⊥) result }
     {
@@ -260,12 +251,7 @@ impl<B: Backend> Maker<'_, B> {
     }
 
     // The whole text of a build: what stands before it, and the text, of which the functions are read.
-    fn whole_text(
-        &self,
-        of: &Definition,
-        text: &str,
-        built: &mut ComposableModule,
-    ) -> Checked<String>
+    fn whole_text(&self, of: &Definition, text: &str, built: &mut Build) -> Checked<String>
         ensures { GivesBy (λ whole. WholeText (setting_of (B.front self.now.front.now) self.now.validate self.now.capabilities self.now.defs) (definition_of of.now) (builds_of self.now.builds) text.now (built_of built.old) (string_bytes whole) (built_of built.new)) (NoWholeText (setting_of (B.front self.now.front.now) self.now.validate self.now.capabilities self.now.defs) (definition_of of.now) (builds_of self.now.builds) text.now (built_of built.old)) result }
     {
         let over = Over {
@@ -287,11 +273,7 @@ impl<B: Backend> Maker<'_, B> {
     }
 
     /// Builds a text over the builds of what it imports.
-    pub(crate) fn built(
-        &self,
-        of: &Definition,
-        output: &PreprocessOutput,
-    ) -> Result<ComposableModule, ComposerError>
+    pub(crate) fn built(&self, of: &Definition, output: &PreprocessOutput) -> Told<Build>
         requires { of.now.module_index ≤ 2047 }
         ensures { AnswersBy (λ b. by_steps.makes (setting_of (B.front self.now.front.now) self.now.validate self.now.capabilities self.now.defs) (definition_of of.now) (output_of output.now) (builds_of self.now.builds) (built_of b)) (by_steps.refuses (setting_of (B.front self.now.front.now) self.now.validate self.now.capabilities self.now.defs) (definition_of of.now) (output_of output.now) (builds_of self.now.builds)) result }
     {
@@ -329,7 +311,7 @@ impl<B: Backend> Maker<'_, B> {
     fn ensure_imports(
         &mut self,
         of: &Definition,
-        imports: &[ImportDefWithOffset],
+        imports: &[Use],
         modules: &[Definition],
     ) -> Result<(), Missing>
         requires { All (λ d. d.module_index ≤ 2047) modules.now }
@@ -347,7 +329,7 @@ impl<B: Backend> Maker<'_, B> {
     }
 
     // Builds a module over the builds of what it imports, and enters it.
-    fn build(&mut self, of: &Definition, output: &PreprocessOutput) -> Result<(), ComposerError>
+    fn build(&mut self, of: &Definition, output: &PreprocessOutput) -> Told<()>
         requires { of.now.module_index ≤ 2047 }
         ensures built { AnswersBy (λ _. (b : BuiltModule) × by_steps.makes (setting_of (B.front self.old.front.now) self.old.validate self.old.capabilities self.old.defs) (definition_of of.now) (output_of output.now) (builds_of self.old.builds) b × (builds_of self.new.builds ≡ entered (builds_of self.old.builds) (definition_of of.now).name b)) (by_steps.refuses (setting_of (B.front self.old.front.now) self.old.validate self.old.capabilities self.old.defs) (definition_of of.now) (output_of output.now) (builds_of self.old.builds)) result }
         ensures rest { self.new ≡ record self.old { builds = self.new.builds } }

@@ -2,19 +2,16 @@ ghost use Rattle.std.specs.Prelude.{◌≡◌, bytes_eq};
 ghost use Rattle.std.specs.List.{list_any};
 ghost use Rattle.naga_oil.specs.Definition.{definition_of};
 
-use indexmap::IndexMap;
-use naga_oil_ir::ShaderLanguage;
-use naga_oil_lines::wgsl_directives::WgslDirectives;
-use naga_oil_lines::{ImportDefWithOffset, ImportDefinition};
-use naga_oil_pre::{ComposerErrorInner, ShaderDefValue};
-use std::alloc::AllocError;
-use std::collections::{BTreeMap, BTreeSet};
+use super::*;
 
 // An answer, or want of memory.
 pub(crate) type Tried<T> = Result<T, AllocError>;
 
 // An answer, or a fault.
-pub(crate) type Checked<T> = Result<T, ComposerErrorInner>;
+pub(crate) type Checked<T> = Result<T, Inner>;
+
+// An answer, or a fault and where it is.
+pub(crate) type Told<T> = Result<T, ComposerError>;
 
 // Names, each once.
 pub(crate) type Names = BTreeSet<String>;
@@ -27,6 +24,14 @@ pub(crate) type Defs = BTreeMap<String, ShaderDefValue>;
 
 // A module that is registered, or the shader, whose index is 0.
 pub(crate) type Definition = ComposableModuleDefinition;
+
+// A module that was built.
+pub(crate) type Build = ComposableModule;
+
+// What is imported, and the same with the place that asks for it.
+pub(crate) type Import = ImportDefinition;
+
+pub(crate) type Use = ImportDefWithOffset;
 
 /// A registered module.
 #[derive(Drop)]

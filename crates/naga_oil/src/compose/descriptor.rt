@@ -3,10 +3,7 @@ ghost use Rattle.std.specs.Prelude.{◌≡◌, [], None, IfOk};
 ghost use Rattle.naga_oil_ir.specs.declared.language.ShaderLanguage.TheVariants as language;
 ghost use Rattle.naga_oil.specs.declared.compose.descriptor.ShaderType.TheVariants as stage;
 
-use crate::compose::definition::{Defs, Tried};
-use naga_oil_ir::ShaderLanguage;
-use naga_oil_lines::ImportDefinition;
-use std::alloc::Global;
+use super::*;
 
 /// What a shader is written as.
 #[derive(Clone, Copy, PartialEq, Eq, Debug, Default, Hash)]

@@ -7,13 +7,9 @@ ghost use Rattle.naga_oil.specs.Refused.{refused_of, place_of, nowhere, in_text,
 ghost use Rattle.naga_oil.specs.Report.{report};
 ghost use Rattle.naga_oil.specs.Sources.{path_of, text_of, offset_of};
 
-use crate::compose::composer::Composer;
-use crate::compose::definition::{Defs, Tried};
-use crate::compose::report::report;
-use naga_oil_ir::Backend;
+use super::report::report;
+use super::*;
 pub use naga_oil_pre::ComposerErrorInner;
-use naga_oil_pre::Preprocessor;
-use std::alloc::{AllocError, Global};
 use std::borrow::CowStr;
 use thiserror::Error;
 
@@ -133,7 +129,7 @@ fn memory(alloc: Global) -> ComposerError
     ensures place { place_of result.source ≡ nowhere }
 {
     ComposerError {
-        inner: ComposerErrorInner::Memory,
+        inner: Inner::Memory,
         source: ErrSource::Constructing {
             path: String::new(alloc),
             source: String::new(alloc),
@@ -145,14 +141,14 @@ fn memory(alloc: Global) -> ComposerError
 /// What is wrong with a text that was given, unless there is no memory to tell it.
 pub(crate) fn refused(
     alloc: Global,
-    inner: ComposerErrorInner,
+    inner: Inner,
     path: &str,
     source: &str,
     offset: usize,
 ) -> ComposerError
     ensures { MatchOption (refused_of result) (place_of result.source ≡ nowhere) (λ r. (fault_of inner ≡ Some r.fault) × (r.place ≡ in_text path.now source.now offset)) }
 {
-    if let ComposerErrorInner::Memory = inner {
+    if let Inner::Memory = inner {
         return memory(alloc);
     }
     match constructing(alloc, path, source, offset) {
@@ -164,14 +160,14 @@ pub(crate) fn refused(
 /// What is wrong with a registered module under definitions, unless there is no memory to tell it.
 pub(crate) fn refused_in(
     alloc: Global,
-    inner: ComposerErrorInner,
+    inner: Inner,
     name: &str,
     offset: usize,
     defs: &Defs,
 ) -> ComposerError
     ensures { MatchOption (refused_of result) (place_of result.source ≡ nowhere) (λ r. (fault_of inner ≡ Some r.fault) × (r.place ≡ in_module name.now offset (defs_of defs.now))) }
 {
-    if let ComposerErrorInner::Memory = inner {
+    if let Inner::Memory = inner {
         return memory(alloc);
     }
     match in_module(alloc, name, offset, defs) {

@@ -6,23 +6,19 @@ ghost use Rattle.naga_oil.specs.BuiltModule.{built_of};
 ghost use Rattle.naga_oil.specs.Filled.{IsSaid, IsUnsaid, owned_module, owned_build, settings, names_back, IsHeld, IsUnheld, IsBuiltOf, IsUnbuilt};
 ghost use Rattle.naga_oil.specs.Relations.{GivesBy};
 
-use crate::compose::build::Maker;
-use crate::compose::copied::copy_parsed;
-use crate::compose::definition::{Checked, Definition, Tried};
-use crate::compose::formed::{FormedModule, check_form};
-use crate::compose::items::{demote, own_items};
-use crate::compose::module::ComposableModule;
-use crate::compose::writeback::came_back;
-use naga_oil_ir::{Backend, Module};
-use naga_oil_pre::ComposerErrorInner;
+use super::copied::copy_parsed;
+use super::formed::check_form;
+use super::items::{demote, own_items};
+use super::writeback::came_back;
+use super::*;
 
 impl<B: Backend> Maker<'_, B> {
     // The module that the whole text of a build says, which has to be of good form.
-    fn said(&self, of: &Definition, whole: &str, built: &ComposableModule) -> Checked<Module>
+    fn said(&self, of: &Definition, whole: &str, built: &Build) -> Checked<Module>
         ensures { GivesBy (λ m. IsSaid (B.front self.now.front.now) of.now.language whole.now (string_bytes built.now.decorated_name) (module_value m)) (IsUnsaid (B.front self.now.front.now) of.now.language whole.now (string_bytes built.now.decorated_name)) result }
     {
         if whole.len() >= 2_097_152 {
-            return Err(ComposerErrorInner::TextTooLarge);
+            return Err(Inner::TextTooLarge);
         }
         let source = self.parsed(whole, of.language)?;
         let decoration = built.decorated_name.as_str();
@@ -31,12 +27,7 @@ impl<B: Backend> Maker<'_, B> {
     }
 
     // Decorates what a build owns, entry points too where it isn't the shader. Says how many functions there were before.
-    fn own(
-        &self,
-        of: &Definition,
-        source: &mut Module,
-        built: &mut ComposableModule,
-    ) -> Tried<usize>
+    fn own(&self, of: &Definition, source: &mut Module, built: &mut Build) -> Tried<usize>
         ensures functions { IfOk result (λ n. n ≡ length (module_value source.old).functions) }
         ensures items { OnOk result (module_value source.new ≡ owned_module of.now.module_index (string_bytes built.old.decorated_name) (module_value source.old)) }
         ensures built { OnOk result (built_of built.new ≡ owned_build of.now.module_index (module_value source.old) (built_of built.old)) }
@@ -54,7 +45,7 @@ impl<B: Backend> Maker<'_, B> {
         &self,
         of: &Definition,
         source: &FormedModule,
-        built: &ComposableModule,
+        built: &Build,
         functions: usize,
         special: bool,
     ) -> Checked<()>
@@ -71,7 +62,7 @@ impl<B: Backend> Maker<'_, B> {
         &self,
         of: &Definition,
         source: &FormedModule,
-        built: &mut ComposableModule,
+        built: &mut Build,
         functions: usize,
     ) -> Checked<()>
         ensures { GivesBy (λ _. IsHeld (settings (B.front self.now.front.now) self.now.capabilities self.now.validate) of.now.module_index functions source.now (built_of built.old) (built_of built.new)) (IsUnheld (settings (B.front self.now.front.now) self.now.capabilities self.now.validate) of.now.module_index functions source.now (built_of built.old)) result }
@@ -81,12 +72,7 @@ impl<B: Backend> Maker<'_, B> {
     }
 
     /// The items of a build: of the module that its whole text says, which has to be of good form.
-    pub(crate) fn fill(
-        &self,
-        of: &Definition,
-        whole: &str,
-        built: &mut ComposableModule,
-    ) -> Checked<()>
+    pub(crate) fn fill(&self, of: &Definition, whole: &str, built: &mut Build) -> Checked<()>
         ensures { GivesBy (λ _. IsBuiltOf (settings (B.front self.now.front.now) self.now.capabilities self.now.validate) of.now.module_index of.now.language whole.now (built_of built.old) (built_of built.new)) (IsUnbuilt (settings (B.front self.now.front.now) self.now.capabilities self.now.validate) of.now.module_index of.now.language whole.now (built_of built.old)) result }
     {
         let mut source = self.said(of, whole, built)?;

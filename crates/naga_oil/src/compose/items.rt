@@ -11,16 +11,7 @@ ghost use Rattle.naga_oil.specs.Owned.{constant_rows, override_rows, global_rows
 ghost use Rattle.naga_oil.specs.Places.{places_of, name_at};
 ghost use Rattle.naga_oil.specs.Steps.{Item as item_step, Taken};
 
-use crate::compose::definition::{Names, Tried};
-use crate::compose::module::ComposableModule;
-use naga_oil_derive::DerivedModule;
-use naga_oil_ir::{
-    Arena, Constant, EntryPoint, Function, FunctionArgument, FunctionResult, GlobalVariable, Index,
-    ItemPlace, Module, Override, Span,
-};
-use naga_oil_lines::decorate::DECORATION_PRE;
-use std::alloc::Global;
-use std::mem;
+use super::*;
 
 /// A name, if there is one.
 pub(crate) fn named(name: &Option<String>) -> Option<&str>
@@ -197,7 +188,7 @@ fn own_functions(
 }
 
 /// Decorates what a parsed module owns, but for its types.
-pub(crate) fn own_items(alloc: Global, of: &mut Module, built: &mut ComposableModule) -> Tried<()>
+pub(crate) fn own_items(alloc: Global, of: &mut Module, built: &mut Build) -> Tried<()>
     ensures items { OnOk result (module_value of.new ≡ decorated_items (string_bytes built.old.decorated_name) (module_value of.old)) }
     ensures built { OnOk result (built_of built.new ≡ owning (module_value of.old) (built_of built.old)) }
 {
@@ -318,7 +309,7 @@ fn demote_all(
 
 /// Makes the entry points functions behind the others, decorated, without bindings and with no span. One whose function has
 /// the name of another function is left out.
-pub(crate) fn demote(alloc: Global, of: &mut Module, built: &mut ComposableModule) -> Tried<()>
+pub(crate) fn demote(alloc: Global, of: &mut Module, built: &mut Build) -> Tried<()>
     ensures items { OnOk result (module_value of.new ≡ with_demoted (demotable (string_bytes built.old.decorated_name) (module_value of.old)) (module_value of.old)) }
     ensures built { OnOk result (built_of built.new ≡ owning_demoted (demotable (string_bytes built.old.decorated_name) (module_value of.old)) (built_of built.old)) }
 {

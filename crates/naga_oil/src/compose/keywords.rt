@@ -8,12 +8,9 @@ ghost use Rattle.std.specs.Str.{chars, IsUtf8};
 ghost use Rattle.naga_oil.specs.Keywords.{past_spaces, is_name_char, marked_name, marked_in, covered_text, put, edited};
 ghost use Rattle.naga_oil.specs.KeywordsView.{marked_of};
 
-use crate::compose::definition::Tried;
-use crate::compose::marked::Marked;
+use super::*;
 use naga_oil_lines::comment_strip_iter::CommentReplaceExt;
 use naga_oil_lines::text::{after_whitespace, past_word, split_first_char, text_before};
-use std::alloc::Global;
-use std::collections::BTreeMap;
 
 /// Other characters at places of a text, in bytes.
 pub(crate) type Edits = BTreeMap<usize, char>;

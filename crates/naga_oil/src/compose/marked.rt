@@ -1,7 +1,6 @@
 ghost use Rattle.std.specs.Prelude.{◌+◌, ◌<◌, ◌^◌, length};
 
-use crate::compose::link::Builds;
-use naga_oil_lines::ImportDefinition;
+use super::*;
 
 /// A function behind a keyword: the keyword's place, its name, and the name's place.
 #[derive(Clone, Copy)]
@@ -18,6 +17,6 @@ pub(crate) struct Marked<'a> {
 #[derive(Clone, Copy)]
 pub(crate) struct Over<'a> {
     pub(crate) builds: &'a Builds,
-    pub(crate) imports: &'a [ImportDefinition],
+    pub(crate) imports: &'a [Import],
     pub(crate) decoration: &'a str,
 }

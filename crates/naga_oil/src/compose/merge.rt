@@ -6,9 +6,7 @@ ghost use Rattle.naga_oil_lines.specs.Uses.{use_of, import_of};
 ghost use Rattle.naga_oil.specs.Definition.{definition_of, defs_of, texts};
 ghost use Rattle.naga_oil.specs.Merged.{overwritten, merged, used_at_start};
 
-use crate::compose::definition::{Definition, Defs, Names, Tried};
-use naga_oil_lines::{ImportDefWithOffset, ImportDefinition};
-use std::alloc::Global;
+use super::*;
 
 /// Overwrites definitions by others.
 pub(crate) fn overwrite(defs: &mut Defs, others: &Defs) -> Tried<()>
@@ -43,23 +41,17 @@ pub(crate) fn take_over(defs: &mut Defs, names: &mut Names, imported: &[&Definit
 }
 
 /// Imports with further ones behind them, which are asked for at the start of the text.
-pub(crate) fn push_additional(
-    imports: &mut Vec<ImportDefWithOffset>,
-    additional: &[ImportDefinition],
-) -> Tried<()>
+pub(crate) fn push_additional(imports: &mut Vec<Use>, additional: &[Import]) -> Tried<()>
     ensures { OnOk result (map use_of imports.new.items ≡ map use_of imports.old.items ++ map (λ i. used_at_start (import_of i)) additional.now) }
 {
     for import in additional {
-        imports.push(ImportDefWithOffset::new(import.try_clone()?, 0))?;
+        imports.push(Use::new(import.try_clone()?, 0))?;
     }
     Ok(())
 }
 
 /// Equal imports.
-pub(crate) fn clone_imports(
-    alloc: Global,
-    imports: &[ImportDefinition],
-) -> Tried<Vec<ImportDefinition>>
+pub(crate) fn clone_imports(alloc: Global, imports: &[Import]) -> Tried<Vec<Import>>
     ensures { IfOk result (λ copy. map import_of copy.items ≡ map import_of imports.now) }
 {
     let mut copy = Vec::with_capacity(alloc, imports.len())?;
@@ -70,10 +62,7 @@ pub(crate) fn clone_imports(
 }
 
 /// What is imported, wherever it is asked for.
-pub(crate) fn imports_of(
-    alloc: Global,
-    uses: &[ImportDefWithOffset],
-) -> Tried<Vec<ImportDefinition>>
+pub(crate) fn imports_of(alloc: Global, uses: &[Use]) -> Tried<Vec<Import>>
     ensures { IfOk result (λ imports. map import_of imports.items ≡ map (λ u. (use_of u).import) uses.now) }
 {
     let mut imports = Vec::with_capacity(alloc, uses.len())?;

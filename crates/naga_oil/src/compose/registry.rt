@@ -6,9 +6,7 @@ ghost use Rattle.std.specs.Str.{bytes_eq};
 ghost use Rattle.naga_oil.specs.Definition.{definition_of};
 ghost use Rattle.naga_oil.specs.Registry.{module_named, reaches, removed, standing, taken, free_index, IsRegistry};
 
-use crate::compose::definition::{Definition, Names, Tried};
-use std::alloc::Global;
-use std::collections::BTreeSet;
+use super::*;
 
 /// The module of this name.
 pub(crate) fn module_named<'a>(modules: &[&'a Definition], name: &str) -> Option<&'a Definition>
@@ -117,16 +115,12 @@ pub(crate) fn remove(alloc: Global, modules: &mut Vec<Definition>, name: &str) -
 }
 
 /// Enters a module as the newest in the place of those of some names.
-pub(crate) fn enter(
-    modules: &mut Vec<Definition>,
-    gone: &Names,
-    definition: Definition,
-) -> Tried<()>
-    ensures ok { OnOk result (map definition_of modules.new.items ≡ definition_of definition ∷ standing (contains_text gone.now) (map definition_of modules.old.items)) }
+pub(crate) fn enter(modules: &mut Vec<Definition>, gone: &Names, of: Definition) -> Tried<()>
+    ensures ok { OnOk result (map definition_of modules.new.items ≡ definition_of of ∷ standing (contains_text gone.now) (map definition_of modules.old.items)) }
     ensures err { OnErr result (modules.new.items ≡ modules.old.items) }
 {
     modules.reserve(1)?;
     remove_all(modules, gone);
-    modules.insert(0, definition)?;
+    modules.insert(0, of)?;
     Ok(())
 }

@@ -7,12 +7,7 @@ ghost use Rattle.naga_oil_pre.specs.View.{fault_of, redirection_of};
 ghost use Rattle.naga_oil.specs.Report.{message, fault_places, fault_notes, note_line, line_column, span_place, said_behind, place_line, span_lines, place_lines, report_text, report};
 ghost use Rattle.naga_oil.specs.ReportView.{line_starts, places_of};
 
-use crate::compose::definition::Tried;
-use naga_oil_derive::RedirectError;
-use naga_oil_ir::Span;
-use naga_oil_lines::decorate::undecorate;
-use naga_oil_pre::ComposerErrorInner;
-use std::alloc::Global;
+use super::*;
 
 /// How many of the lowest bits of a span's place are a place in a text. Those above are the index of the text's module.
 pub const SPAN_SHIFT: u32 = 21;
@@ -56,63 +51,63 @@ fn push_redirection(out: &mut String, error: &RedirectError) -> Tried<()>
 
 // Writes what is wrong.
 #[rattlefmt::skip]
-fn push_message(out: &mut String, inner: &ComposerErrorInner) -> Tried<()>
+fn push_message(out: &mut String, inner: &Inner) -> Tried<()>
     ensures { OnOk result (string_bytes out.new ≡ string_bytes out.old ++ message (fault_of inner.now)) }
 {
     match inner {
-        ComposerErrorInner::ImportParseError(text, _) => out.push_str(text.as_str()),
-        ComposerErrorInner::ImportNotFound(name, _) => write!(out, "required import '{name}' not found"),
-        ComposerErrorInner::WgslParseError(fault) => out.push_str(fault.message.as_str()),
-        ComposerErrorInner::GlslParseError(fault) => out.push_str(fault.message.as_str()),
-        ComposerErrorInner::WgslBackError(fault) => write!(out, "naga_oil bug, please file a report: failed to convert imported module IR back into WGSL for use with WGSL shaders: {}", fault.message),
-        ComposerErrorInner::GlslBackError(fault) => write!(out, "naga_oil bug, please file a report: failed to convert imported module IR back into GLSL for use with GLSL shaders: {}", fault.message),
-        ComposerErrorInner::HeaderValidationError(fault) => write!(out, "naga_oil bug, please file a report: composer failed to build a valid header: {}", fault.message),
-        ComposerErrorInner::ShaderValidationError(fault) => write!(out, "failed to build a valid final module: {}", fault.message),
-        ComposerErrorInner::NotEnoughEndIfs(_) => out.push_str("Not enough '# endif' lines. Each if statement should be followed by an endif statement."),
-        ComposerErrorInner::TooManyEndIfs(_) => out.push_str("Too many '# endif' lines. Each endif should be preceded by an if statement."),
-        ComposerErrorInner::ElseWithoutCondition(_) => out.push_str("'#else' without preceding condition."),
-        ComposerErrorInner::UnknownShaderDefOperator { operator, .. } => write!(out, "Unknown shader def operator: '{operator}'"),
-        ComposerErrorInner::UnknownShaderDef { shader_def_name, .. } => write!(out, "Unknown shader def: '{shader_def_name}'"),
-        ComposerErrorInner::InvalidShaderDefComparisonValue { shader_def_name, expected, value, .. } => write!(out, "Invalid shader def comparison for '{shader_def_name}': expected {expected}, got {value}"),
-        ComposerErrorInner::InconsistentShaderDefValue { def } => write!(out, "multiple inconsistent shader def values: '{def}'"),
-        ComposerErrorInner::NoModuleName => out.push_str("Attempted to add a module with no #define_import_path"),
-        ComposerErrorInner::DecorationInSource(_) => out.push_str("source contains internal decoration string, results probably won't be what you expect. if you have a legitimate reason to do this please file a report"),
-        ComposerErrorInner::GlslInvalidVersion(_) => out.push_str("naga oil only supports glsl 440 and 450"),
-        ComposerErrorInner::RedirectError(error) => push_redirection(out, error),
-        ComposerErrorInner::OverrideNotVirtual { name, .. } => write!(out, "override is invalid as `{name}` is not virtual (this error can be disabled with feature 'override_any')"),
-        ComposerErrorInner::InvalidIdentifier { original, .. } => write!(out, "Composable module identifiers must not require substitution according to naga writeback rules: `{original}`"),
-        ComposerErrorInner::InvalidShaderDefDefinitionValue { name, value, .. } => write!(out, "Invalid value for `#define`d shader def {name}: {value}"),
-        ComposerErrorInner::DefineInModule(_) => out.push_str("#define statements are only allowed at the start of the top-level shaders"),
-        ComposerErrorInner::InvalidWgslDirective { directive, position, reason } => write!(out, "Invalid WGSL directive '{directive}' at line {position}: {reason}"),
-        ComposerErrorInner::Memory => out.push_str("out of memory"),
-        ComposerErrorInner::TooManyModules => out.push_str("too many modules"),
-        ComposerErrorInner::BindingsExhausted => out.push_str("no binding left"),
-        ComposerErrorInner::TextTooLarge => out.push_str("shader text too large"),
-        ComposerErrorInner::WrongForm => out.push_str("front end gave a module of wrong form"),
+        Inner::ImportParseError(text, _) => out.push_str(text.as_str()),
+        Inner::ImportNotFound(name, _) => write!(out, "required import '{name}' not found"),
+        Inner::WgslParseError(fault) => out.push_str(fault.message.as_str()),
+        Inner::GlslParseError(fault) => out.push_str(fault.message.as_str()),
+        Inner::WgslBackError(fault) => write!(out, "naga_oil bug, please file a report: failed to convert imported module IR back into WGSL for use with WGSL shaders: {}", fault.message),
+        Inner::GlslBackError(fault) => write!(out, "naga_oil bug, please file a report: failed to convert imported module IR back into GLSL for use with GLSL shaders: {}", fault.message),
+        Inner::HeaderValidationError(fault) => write!(out, "naga_oil bug, please file a report: composer failed to build a valid header: {}", fault.message),
+        Inner::ShaderValidationError(fault) => write!(out, "failed to build a valid final module: {}", fault.message),
+        Inner::NotEnoughEndIfs(_) => out.push_str("Not enough '# endif' lines. Each if statement should be followed by an endif statement."),
+        Inner::TooManyEndIfs(_) => out.push_str("Too many '# endif' lines. Each endif should be preceded by an if statement."),
+        Inner::ElseWithoutCondition(_) => out.push_str("'#else' without preceding condition."),
+        Inner::UnknownShaderDefOperator { operator, .. } => write!(out, "Unknown shader def operator: '{operator}'"),
+        Inner::UnknownShaderDef { shader_def_name, .. } => write!(out, "Unknown shader def: '{shader_def_name}'"),
+        Inner::InvalidShaderDefComparisonValue { shader_def_name, expected, value, .. } => write!(out, "Invalid shader def comparison for '{shader_def_name}': expected {expected}, got {value}"),
+        Inner::InconsistentShaderDefValue { def } => write!(out, "multiple inconsistent shader def values: '{def}'"),
+        Inner::NoModuleName => out.push_str("Attempted to add a module with no #define_import_path"),
+        Inner::DecorationInSource(_) => out.push_str("source contains internal decoration string, results probably won't be what you expect. if you have a legitimate reason to do this please file a report"),
+        Inner::GlslInvalidVersion(_) => out.push_str("naga oil only supports glsl 440 and 450"),
+        Inner::RedirectError(error) => push_redirection(out, error),
+        Inner::OverrideNotVirtual { name, .. } => write!(out, "override is invalid as `{name}` is not virtual (this error can be disabled with feature 'override_any')"),
+        Inner::InvalidIdentifier { original, .. } => write!(out, "Composable module identifiers must not require substitution according to naga writeback rules: `{original}`"),
+        Inner::InvalidShaderDefDefinitionValue { name, value, .. } => write!(out, "Invalid value for `#define`d shader def {name}: {value}"),
+        Inner::DefineInModule(_) => out.push_str("#define statements are only allowed at the start of the top-level shaders"),
+        Inner::InvalidWgslDirective { directive, position, reason } => write!(out, "Invalid WGSL directive '{directive}' at line {position}: {reason}"),
+        Inner::Memory => out.push_str("out of memory"),
+        Inner::TooManyModules => out.push_str("too many modules"),
+        Inner::BindingsExhausted => out.push_str("no binding left"),
+        Inner::TextTooLarge => out.push_str("shader text too large"),
+        Inner::WrongForm => out.push_str("front end gave a module of wrong form"),
     }
 }
 
 // Where it is wrong.
 #[rattlefmt::skip]
-fn fault_places(inner: &ComposerErrorInner) -> Places<'_>
+fn fault_places(inner: &Inner) -> Places<'_>
     ensures { places_of result ≡ fault_places (fault_of inner.now) }
 {
     match inner {
-        ComposerErrorInner::ImportParseError(_, place) | ComposerErrorInner::ImportNotFound(_, place)
-        | ComposerErrorInner::NotEnoughEndIfs(place) | ComposerErrorInner::TooManyEndIfs(place)
-        | ComposerErrorInner::ElseWithoutCondition(place) | ComposerErrorInner::UnknownShaderDefOperator { pos: place, .. }
-        | ComposerErrorInner::UnknownShaderDef { pos: place, .. } | ComposerErrorInner::InvalidShaderDefComparisonValue { pos: place, .. }
-        | ComposerErrorInner::GlslInvalidVersion(place) | ComposerErrorInner::OverrideNotVirtual { pos: place, .. }
-        | ComposerErrorInner::InvalidShaderDefDefinitionValue { pos: place, .. } | ComposerErrorInner::DefineInModule(place) => Places::Byte(*place),
-        ComposerErrorInner::DecorationInSource(range) => Places::Byte(range.start),
-        ComposerErrorInner::RedirectError(_) => Places::Byte(0),
-        ComposerErrorInner::InvalidWgslDirective { position, .. } => Places::Line(*position),
-        ComposerErrorInner::InvalidIdentifier { at, .. } => Places::Item(*at),
-        ComposerErrorInner::WgslParseError(fault) | ComposerErrorInner::GlslParseError(fault) => Places::Spans(fault.spans.as_slice()),
-        ComposerErrorInner::HeaderValidationError(fault) | ComposerErrorInner::ShaderValidationError(fault) => Places::Spans(fault.spans.as_slice()),
-        ComposerErrorInner::WgslBackError(_) | ComposerErrorInner::GlslBackError(_) | ComposerErrorInner::InconsistentShaderDefValue { .. }
-        | ComposerErrorInner::NoModuleName | ComposerErrorInner::Memory | ComposerErrorInner::TooManyModules
-        | ComposerErrorInner::BindingsExhausted | ComposerErrorInner::TextTooLarge | ComposerErrorInner::WrongForm => Places::Nowhere,
+        Inner::ImportParseError(_, place) | Inner::ImportNotFound(_, place)
+        | Inner::NotEnoughEndIfs(place) | Inner::TooManyEndIfs(place)
+        | Inner::ElseWithoutCondition(place) | Inner::UnknownShaderDefOperator { pos: place, .. }
+        | Inner::UnknownShaderDef { pos: place, .. } | Inner::InvalidShaderDefComparisonValue { pos: place, .. }
+        | Inner::GlslInvalidVersion(place) | Inner::OverrideNotVirtual { pos: place, .. }
+        | Inner::InvalidShaderDefDefinitionValue { pos: place, .. } | Inner::DefineInModule(place) => Places::Byte(*place),
+        Inner::DecorationInSource(range) => Places::Byte(range.start),
+        Inner::RedirectError(_) => Places::Byte(0),
+        Inner::InvalidWgslDirective { position, .. } => Places::Line(*position),
+        Inner::InvalidIdentifier { at, .. } => Places::Item(*at),
+        Inner::WgslParseError(fault) | Inner::GlslParseError(fault) => Places::Spans(fault.spans.as_slice()),
+        Inner::HeaderValidationError(fault) | Inner::ShaderValidationError(fault) => Places::Spans(fault.spans.as_slice()),
+        Inner::WgslBackError(_) | Inner::GlslBackError(_) | Inner::InconsistentShaderDefValue { .. }
+        | Inner::NoModuleName | Inner::Memory | Inner::TooManyModules
+        | Inner::BindingsExhausted | Inner::TextTooLarge | Inner::WrongForm => Places::Nowhere,
     }
 }
 
@@ -128,15 +123,15 @@ fn push_note_lines(out: &mut String, said: &[String]) -> Tried<()>
 
 // Writes what is to be noted.
 #[rattlefmt::skip]
-fn push_notes(out: &mut String, inner: &ComposerErrorInner) -> Tried<()>
+fn push_notes(out: &mut String, inner: &Inner) -> Tried<()>
     ensures { OnOk result (string_bytes out.new ≡ string_bytes out.old ++ flat_map note_line (fault_notes (fault_of inner.now))) }
 {
     match inner {
-        ComposerErrorInner::ImportParseError(text, _) => write!(out, "  note: invalid import spec: '{text}'\n"),
-        ComposerErrorInner::ImportNotFound(name, _) => write!(out, "  note: missing import '{name}'\n"),
-        ComposerErrorInner::RedirectError(_) => out.push_str("  note: override error\n"),
-        ComposerErrorInner::WgslParseError(fault) | ComposerErrorInner::GlslParseError(fault) => push_note_lines(out, fault.notes.as_slice()),
-        ComposerErrorInner::HeaderValidationError(fault) | ComposerErrorInner::ShaderValidationError(fault) => push_note_lines(out, fault.notes.as_slice()),
+        Inner::ImportParseError(text, _) => write!(out, "  note: invalid import spec: '{text}'\n"),
+        Inner::ImportNotFound(name, _) => write!(out, "  note: missing import '{name}'\n"),
+        Inner::RedirectError(_) => out.push_str("  note: override error\n"),
+        Inner::WgslParseError(fault) | Inner::GlslParseError(fault) => push_note_lines(out, fault.notes.as_slice()),
+        Inner::HeaderValidationError(fault) | Inner::ShaderValidationError(fault) => push_note_lines(out, fault.notes.as_slice()),
         _ => Ok(()),
     }
 }
@@ -218,7 +213,7 @@ impl Source<'_> {
     }
 
     // What an error is told as, with decorated names as they stand.
-    fn report_text(self, alloc: Global, inner: &ComposerErrorInner) -> Tried<String>
+    fn report_text(self, alloc: Global, inner: &Inner) -> Tried<String>
         ensures { IfOk result (λ t. string_bytes t ≡ report_text self.entry.path.now self.entry.text.now self.entry.offset (fault_of inner.now)) }
     {
         let mut message = String::new(alloc);
@@ -236,13 +231,7 @@ impl Source<'_> {
 /// a line for each place (`at PATH:LINE:COLUMN`, counted from 1, columns in bytes; `in PATH` where there is none) and for each
 /// note, with decorated names as a reader knows them. Takes time and memory linear in the text and the error.
 #[tactic(auto, unfolding(crate::specs::Report::report))]
-pub fn report(
-    alloc: Global,
-    path: &str,
-    text: &str,
-    offset: usize,
-    inner: &ComposerErrorInner,
-) -> Tried<String>
+pub fn report(alloc: Global, path: &str, text: &str, offset: usize, inner: &Inner) -> Tried<String>
     ensures { IfOk result (λ t. string_bytes t ≡ report path.now text.now offset (fault_of inner.now)) }
 {
     let starts = line_starts(alloc, text)?;

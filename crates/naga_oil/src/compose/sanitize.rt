@@ -4,10 +4,7 @@ ghost use Rattle.naga_oil_pre.specs.View.{Gives};
 ghost use Rattle.naga_oil.specs.Added.{read_source};
 ghost use Rattle.naga_oil.specs.Sanitized.{first_decoration, line_feeds, ended, binding, parts_around, auto_binding, within};
 
-use crate::compose::definition::{Checked, Tried};
-use naga_oil_lines::decorate::{DECORATION_OVERRIDE_PRE, DECORATION_PRE};
-use naga_oil_pre::ComposerErrorInner;
-use std::alloc::Global;
+use super::*;
 
 // What asks for a binding with the next number.
 const AUTO_BINDING: &str = "@binding(auto)";
@@ -81,11 +78,11 @@ pub(crate) fn read_source(alloc: Global, source: &str, counter: u32) -> Checked<
     ensures { Gives (λ r. (string_bytes r.0, r.1)) result (read_source counter source.now) }
 {
     if let Some(start) = first_decoration(source) {
-        return Err(ComposerErrorInner::DecorationInSource(start..start + DECORATION_PRE.len()));
+        return Err(Inner::DecorationInSource(start..start + DECORATION_PRE.len()));
     }
     let text = with_line_feeds(alloc, source)?;
     let Some(read) = with_bindings(alloc, text.as_str(), counter)? else {
-        return Err(ComposerErrorInner::BindingsExhausted);
+        return Err(Inner::BindingsExhausted);
     };
     Ok(read)
 }

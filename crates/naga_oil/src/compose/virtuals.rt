@@ -17,15 +17,8 @@ ghost use Rattle.naga_oil.specs.KeywordsView.{marked_of};
 ghost use Rattle.naga_oil.specs.Virtuals.{names_of, blanked, override_name, marked_override, imported_build, override_fault, are_parts, item_and_code, with_override, with_overrides, functions_in};
 ghost use Rattle.naga_oil.specs.Overriding.{overriding_of, with_new, overridden};
 
-use crate::compose::definition::{Checked, Names, Overrides, Tried};
-use crate::compose::keywords::{Edits, covered, edit, marked_functions, with_edits};
-use crate::compose::link::Builds;
-use crate::compose::marked::{Marked, Over};
-use crate::compose::module::ComposableModule;
-use naga_oil_lines::ImportDefinition;
-use naga_oil_lines::decorate::{DECORATION_OVERRIDE_PRE, DECORATION_POST, DECORATION_PRE, decode};
-use naga_oil_pre::ComposerErrorInner as Inner;
-use std::alloc::Global;
+use super::keywords::{Edits, covered, edit, marked_functions, with_edits};
+use super::*;
 use ucd_perl::is_word_code;
 
 // Adds a name, unless it is there.
@@ -100,18 +93,11 @@ fn split_name(name: &str) -> Option<(&str, &str)>
 }
 
 // The build of a module that is imported.
-fn imported_build<'b>(
-    builds: &'b Builds,
-    imports: &[ImportDefinition],
-    module_name: &str,
-) -> Option<&'b ComposableModule>
-    ensures { option_map (λ b. built_of b.now) result ≡ imported_build (builds_of builds.now) (map import_of imports.now) module_name.now }
+fn imported_build<'b>(builds: &'b Builds, imports: &[Import], name: &str) -> Option<&'b Build>
+    ensures { option_map (λ b. built_of b.now) result ≡ imported_build (builds_of builds.now) (map import_of imports.now) name.now }
 {
-    if imports
-        .iter()
-        .any(|import| import.import.as_str() == module_name)
-    {
-        builds.get(module_name)
+    if imports.iter().any(|import| import.import.as_str() == name) {
+        builds.get(name)
     } else {
         None
     }
@@ -120,7 +106,7 @@ fn imported_build<'b>(
 // Why an item can't be overridden by a function whose name is at a place: its module isn't imported, or it isn't virtual there.
 fn override_fault(
     alloc: Global,
-    imports: &[ImportDefinition],
+    imports: &[Import],
     builds: &Builds,
     module_name: String,
     item: &str,

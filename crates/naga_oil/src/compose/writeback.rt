@@ -8,17 +8,8 @@ ghost use Rattle.naga_oil.specs.Definition.{texts};
 ghost use Rattle.naga_oil.specs.Writeback.{named_item, named_items, named_functions, struct_members, last_named, lost_member, lost_of, lost_at, lost_among, lost, unless_lost, came_back};
 ghost use Rattle.naga_oil.specs.WritebackView.{labels_of, named_of, held};
 
-use crate::compose::build::Maker;
-use crate::compose::definition::{Checked, Names, Tried};
-use crate::compose::items::named;
-use crate::compose::module::ComposableModule;
-use naga_oil_ir::{
-    Arena, Backend, Constant, Function, GlobalVariable, Module, ShaderLanguage, Span, StructMember,
-    Type, TypeInner, UniqueArena,
-};
-use naga_oil_pre::ComposerErrorInner;
-use std::alloc::Global;
-use std::collections::BTreeMap;
+use super::items::named;
+use super::*;
 
 // An item of a name, with its span; of a struct its members.
 #[derive(Clone, Copy)]
@@ -202,12 +193,7 @@ fn lost_among<'m>(
 }
 
 // The first owned type that is lost; types get the decoration as they are copied.
-fn lost_type<'m>(
-    alloc: Global,
-    source: &'m Module,
-    back: &Module,
-    built: &ComposableModule,
-) -> Tried<Lost<'m>>
+fn lost_type<'m>(alloc: Global, source: &'m Module, back: &Module, built: &Build) -> Tried<Lost<'m>>
     ensures { IfOk result (λ lost. option_map (λ l. (l.0.now, l.1)) lost ≡ lost_among (built_of built.now).types (built_of built.now).decoration (last_named (named_items (module_value back.now).types)) (named_items (module_value source.now).types)) }
 {
     let ours = named_types(alloc, &source.types)?;
@@ -221,7 +207,7 @@ fn lost_constant<'m>(
     alloc: Global,
     source: &'m Module,
     back: &Module,
-    built: &ComposableModule,
+    built: &Build,
 ) -> Tried<Lost<'m>>
     ensures { IfOk result (λ lost. option_map (λ l. (l.0.now, l.1)) lost ≡ lost_among (built_of built.now).constants [] (last_named (named_items (module_value back.now).constants)) (named_items (module_value source.now).constants)) }
 {
@@ -235,7 +221,7 @@ fn lost_global<'m>(
     alloc: Global,
     source: &'m Module,
     back: &Module,
-    built: &ComposableModule,
+    built: &Build,
 ) -> Tried<Lost<'m>>
     ensures { IfOk result (λ lost. option_map (λ l. (l.0.now, l.1)) lost ≡ lost_among (built_of built.now).globals [] (last_named (named_items (module_value back.now).global_variables)) (named_items (module_value source.now).global_variables)) }
 {
@@ -249,7 +235,7 @@ fn lost_function<'m>(
     alloc: Global,
     source: &'m Module,
     back: &Module,
-    built: &ComposableModule,
+    built: &Build,
     count: usize,
 ) -> Tried<Lost<'m>>
     ensures { IfOk result (λ lost. option_map (λ l. (l.0.now, l.1)) lost ≡ lost_among (built_of built.now).functions [] (last_named (named_functions (module_value back.now).functions)) (named_functions (take count (module_value source.now).functions))) }
@@ -265,7 +251,7 @@ fn lost<'m>(
     alloc: Global,
     source: &'m Module,
     back: &Module,
-    built: &ComposableModule,
+    built: &Build,
     functions: usize,
 ) -> Tried<Lost<'m>>
     ensures { IfOk result (λ first. option_map (λ l. (l.0.now, l.1)) first ≡ lost (module_value source.now) (module_value back.now) (built_of built.now) functions) }
@@ -287,7 +273,7 @@ fn check_back(
     alloc: Global,
     source: &Module,
     back: &Module,
-    built: &ComposableModule,
+    built: &Build,
     functions: usize,
 ) -> Checked<()>
     ensures { Gives (λ done. done) result (unless_lost (lost (module_value source.now) (module_value back.now) (built_of built.now) functions)) }
@@ -296,7 +282,7 @@ fn check_back(
         return Ok(());
     };
     let original = String::from_str(alloc, name)?;
-    Err(ComposerErrorInner::InvalidIdentifier { original, at })
+    Err(Inner::InvalidIdentifier { original, at })
 }
 
 /// Whether what a module owns comes back by name when its header is written in WGSL and read again: its types, of structs the
@@ -306,7 +292,7 @@ fn check_back(
 pub(crate) fn came_back<B: Backend>(
     maker: &Maker<'_, B>,
     source: &Module,
-    built: &ComposableModule,
+    built: &Build,
     functions: usize,
 ) -> Checked<()>
     ensures { Gives (λ done. done) result (came_back (B.front maker.now.front.now) maker.now.capabilities (module_value source.now) (built_of built.now) functions) }
