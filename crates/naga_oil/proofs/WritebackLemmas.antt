@@ -1,11 +1,13 @@
 -- What comes back, by names.
-use Rattle.std.proofs.Common.{◌≡◌, ℕ, List, [], ◌∷◌, ◌++◌, map, Bool, true, false, not, cond, Option, Some, None, option_map, unwrap_or, Result, Ok, Err, Bor, find, refl, sym, ap, ◌∙◌, string_bytes, String, Global, Vec}
+use Rattle.std.proofs.Common.{◌≡◌, ℕ, List, [], ◌∷◌, ◌++◌, map, Bool, true, false, not, cond, Option, Some, None, option_map, unwrap_or, Result, Ok, Err, Bor, find, take, length, refl, sym, ap, ◌∙◌, string_bytes, String, Global}
+use Rattle.std.proofs.Math.Seq.{take-length}
+use Rattle.std.proofs.lemmas.List.{length-map}
 use Rattle.std.specs.Prelude.{zip, if◌then◌else◌, MatchOption, IfOk}
 use Rattle.std.proofs.lemmas.Map.Text.{btree_map_updates_str}
 use Rattle.std.specs.BTreeMap as tree
 use Rattle.std.specs.BTreeMap.{BTreeMap}
 use Rattle.std.specs.Cmp.Lexicographic.{slice_cmp}
-use Rattle.std.specs.Option.{option_eq, option_or, option_copied}
+use Rattle.std.specs.Option.{option_eq, option_or, option_copied, is_some}
 use Rattle.std.specs.Ordering.{nat_cmp}
 use Rattle.std.specs.Str.{bytes_eq}
 use Rattle.naga_oil_ir.specs.Backend.{FrontEnd}
@@ -13,6 +15,9 @@ use Rattle.naga_oil_ir.specs.ModuleValue.{ModuleValue}
 use Rattle.naga_oil_ir.specs.Rows.{Member, member_label}
 use Rattle.naga_oil_ir.specs.declared.backend.Capabilities.{Capabilities}
 use Rattle.naga_oil_ir.specs.declared.language.ShaderLanguage.TheVariants.{Wgsl, Glsl}
+use Rattle.naga_oil_derive.specs.Redirected.{function_values}
+use Rattle.naga_oil_ir.specs.declared.module.Function.{Function}
+use Rattle.naga_oil_ir.specs.declared.span.Span.{Span}
 use Rattle.naga_oil_ir.specs.declared.types.StructMember.{StructMember}
 use Rattle.naga_oil_pre.specs.Fault.{Fault}
 use Rattle.naga_oil_pre.specs.Recorded.{is_among}
@@ -20,7 +25,7 @@ use Rattle.naga_oil_pre.specs.View.{Fails, fault_of}
 use Rattle.naga_oil_pre.specs.declared.fault.ComposerErrorInner.{ComposerErrorInner}
 use Rattle.naga_oil.specs.Built.{header_text, parsed_text}
 use Rattle.naga_oil.specs.BuiltModule.{BuiltModule}
-use Rattle.naga_oil.specs.Writeback.{NamedItem, last_named, has_other_name, lost_member, lost_of, lost_at, lost, unless_lost, came_back}
+use Rattle.naga_oil.specs.Writeback.{NamedItem, named_items, named_functions, last_named, has_other_name, lost_member, lost_of, lost_at, lost_among, lost, unless_lost, came_back}
 use Rattle.naga_oil.specs.WritebackView.{named_of, held}
 use Rattle.naga_oil.specs.declared.compose.writeback.NamedItem.{NamedItem as CodeItem}
 
@@ -94,7 +99,32 @@ module _ (front : FrontEnd) (capabilities : Capabilities) (m : ModuleValue) (b :
   unfolding came_back
   not_written f e w = rw (written, read, e, w) refl
 
--- items that look so, by an equal list
-pub same_named : {E : Type 0} (r : Result (Vec CodeItem Global) E) (v w : List NamedItem) → v ≡ w → IfOk r (λ items. map named_of items.items ≡ v) → IfOk r (λ items. map named_of items.items ≡ w)
-same_named (Ok x) v w e h = h ∙ e
-same_named (Err x) v w e h = tt
+-- ---- the first that is lost
+abbrev pub seen : Option (Bor (List ℕ) × Span) → Option (List ℕ × Span)
+seen lost = option_map (λ l. (l.0.now, l.1)) lost
+
+-- a value that looks so, by an equal one
+pub same_value : {X Y E : Type 0} (f : X → Y) (r : Result X E) (v w : Y) → v ≡ w → IfOk r (λ x. f x ≡ v) → IfOk r (λ x. f x ≡ w)
+same_value f (Ok x) v w e h = h ∙ e
+same_value f (Err x) v w e h = tt
+
+pub same_among : (owned : List (List ℕ)) {d c : List ℕ} {theirs others ours mine : List NamedItem} → d ≡ c → theirs ≡ others → ours ≡ mine → lost_among owned d (last_named theirs) ours ≡ lost_among owned c (last_named others) mine
+same_among owned e f g = rw (e, f, g) refl
+
+-- of two the first, and the second where the first is none
+pub some_first : (r : Option (Bor (List ℕ) × Span)) (v w : Option (List ℕ × Span)) → seen r ≡ v → is_some r ≡ true → seen r ≡ option_or v w
+some_first None v w e s = absurd cc
+some_first (Some x) v w e s = ap (λ o. option_or o w) e
+
+pub none_first : (r : Option (Bor (List ℕ) × Span)) (v w : Option (List ℕ × Span)) → seen r ≡ v → is_some r ≡ false → w ≡ option_or v w
+none_first None v w e s = ap (λ o. option_or o w) e
+none_first (Some x) v w e s = absurd cc
+
+pub lost-is : (m back : ModuleValue) (b : BuiltModule) (functions : ℕ)
+    → lost m back b functions ≡ option_or (lost_among b.types b.decoration (last_named (named_items back.types)) (named_items m.types)) (option_or (lost_among b.constants [] (last_named (named_items back.constants)) (named_items m.constants)) (option_or (lost_among b.globals [] (last_named (named_items back.global_variables)) (named_items m.global_variables)) (lost_among b.functions [] (last_named (named_functions back.functions)) (named_functions (take functions m.functions)))))
+unfolding lost
+lost-is m back b functions = refl
+
+-- all functions are taken
+pub all_taken : (fs : List (Function × Span)) (n : ℕ) → n ≡ length fs → named_functions (take n (function_values fs)) ≡ named_functions (function_values fs)
+all_taken fs n e = ap (λ n. named_functions (take n (function_values fs))) (e ∙ sym (length-map fs _)) ∙ ap named_functions (take-length (function_values fs))

@@ -65,32 +65,25 @@ fn new_definition(
     requires { KnowsRecorded described }
     ensures { Gives definition_of result (new_definition (map (λ d. definition_of d.now) modules.now) (module_source desc.entry) (described_of described)) }
 {
-    let Described { name, metadata } = described;
-    let PreprocessorMetaData {
-        mut imports,
-        mut effective_defs,
-        wgsl_directives,
-        cleaned_source,
-        ..
-    } = metadata;
-    push_additional(&mut imports, desc.additional_imports)?;
-    let imported = imported_modules(alloc, modules, imports.as_slice())?;
+    let Described { name, mut metadata } = described;
+    push_additional(&mut metadata.imports, desc.additional_imports)?;
+    let imported = imported_modules(alloc, modules, &metadata.imports)?;
     let Some(module_index) = free_index(alloc, modules)? else {
         return Err(Inner::TooManyModules);
     };
     let mut shader_defs = desc.shader_defs;
-    take_over(&mut shader_defs, &mut effective_defs, imported.as_slice())?;
+    take_over(&mut shader_defs, &mut metadata.effective_defs, &imported)?;
     Ok(Definition {
         name,
-        sanitized_source: cleaned_source,
+        sanitized_source: metadata.cleaned_source,
         language: desc.language,
         file_path: String::from_str(alloc, desc.file_path)?,
         shader_defs,
-        effective_defs,
-        all_imports: imports,
+        effective_defs: metadata.effective_defs,
+        all_imports: metadata.imports,
         additional_imports: clone_imports(alloc, desc.additional_imports)?,
         module_index,
-        wgsl_directives,
+        wgsl_directives: metadata.wgsl_directives,
     })
 }
 

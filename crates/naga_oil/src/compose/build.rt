@@ -44,7 +44,7 @@ pub(crate) fn answered<T, F>(answer: Result<T, BackendRefusal<F>>) -> Checked<Re
 }
 
 // Adds the functions that override one.
-fn add_overriding(alloc: Global, all: &mut Overrides, base: &str, names: &[String]) -> Tried<()>
+fn add_overriding(alloc: Global, all: &mut Overrides, base: &str, names: &[String]) -> Tried
     ensures { OnOk result (overriding_of all.new ≡ overridden_by (overriding_of all.old) base.now (texts names.now)) }
 {
     for name in names {
@@ -54,7 +54,7 @@ fn add_overriding(alloc: Global, all: &mut Overrides, base: &str, names: &[Strin
 }
 
 // Adds functions that are overridden, each with those that override it.
-fn add_overrides(alloc: Global, all: &mut Overrides, others: &Overrides) -> Tried<()>
+fn add_overrides(alloc: Global, all: &mut Overrides, others: &Overrides) -> Tried
     ensures { OnOk result (overriding_of all.new ≡ with_overriding (overriding_of all.old) (overriding_of others.now)) }
 {
     for (base, names) in others.iter() {
@@ -74,7 +74,7 @@ fn first_lines(alloc: Global, of: &Definition) -> Tried<String>
 }
 
 // Adds the functions that are overridden in the build of a name, if there is one.
-fn add_imported(alloc: Global, all: &mut Overrides, builds: &Builds, name: &str) -> Tried<()>
+fn add_imported(alloc: Global, all: &mut Overrides, builds: &Builds, name: &str) -> Tried
     ensures { OnOk result (overriding_of all.new ≡ with_build (overriding_of all.old) (build_named (builds_of builds.now) name.now)) }
 {
     match builds.get(name) {
@@ -84,7 +84,7 @@ fn add_imported(alloc: Global, all: &mut Overrides, builds: &Builds, name: &str)
 }
 
 // Enters a build under its name.
-fn enter(alloc: Global, builds: &mut Builds, name: &str, built: Build) -> Checked<()>
+fn enter(alloc: Global, builds: &mut Builds, name: &str, built: Build) -> Checked
     ensures { GivesBy (λ _. builds_of builds.new ≡ entered (builds_of builds.old) name.now (built_of built)) (λ _. ⊥) result }
 {
     let name = String::from_str(alloc, name)?;
@@ -329,7 +329,7 @@ impl<B: Backend> Maker<'_, B> {
     }
 
     // Builds a module over the builds of what it imports, and enters it.
-    fn build(&mut self, of: &Definition, output: &PreprocessOutput) -> Told<()>
+    fn build(&mut self, of: &Definition, output: &PreprocessOutput) -> Told
         requires { of.now.module_index ≤ 2047 }
         ensures built { AnswersBy (λ _. (b : BuiltModule) × by_steps.makes (setting_of (B.front self.old.front.now) self.old.validate self.old.capabilities self.old.defs) (definition_of of.now) (output_of output.now) (builds_of self.old.builds) b × (builds_of self.new.builds ≡ entered (builds_of self.old.builds) (definition_of of.now).name b)) (by_steps.refuses (setting_of (B.front self.old.front.now) self.old.validate self.old.capabilities self.old.defs) (definition_of of.now) (output_of output.now) (builds_of self.old.builds)) result }
         ensures rest { self.new ≡ record self.old { builds = self.new.builds } }

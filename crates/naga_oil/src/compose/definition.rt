@@ -5,13 +5,13 @@ ghost use Rattle.naga_oil.specs.Definition.{definition_of};
 use super::*;
 
 // An answer, or want of memory.
-pub(crate) type Tried<T> = Result<T, AllocError>;
+pub(crate) type Tried<T = ()> = Result<T, AllocError>;
 
 // An answer, or a fault.
-pub(crate) type Checked<T> = Result<T, Inner>;
+pub(crate) type Checked<T = ()> = Result<T, Inner>;
 
 // An answer, or a fault and where it is.
-pub(crate) type Told<T> = Result<T, ComposerError>;
+pub(crate) type Told<T = ()> = Result<T, ComposerError>;
 
 // Names, each once.
 pub(crate) type Names = BTreeSet<String>;

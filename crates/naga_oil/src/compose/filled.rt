@@ -9,7 +9,6 @@ ghost use Rattle.naga_oil.specs.Relations.{GivesBy};
 use super::copied::copy_parsed;
 use super::formed::check_form;
 use super::items::{demote, own_items};
-use super::writeback::came_back;
 use super::*;
 
 impl<B: Backend> Maker<'_, B> {
@@ -40,39 +39,25 @@ impl<B: Backend> Maker<'_, B> {
         Ok(functions)
     }
 
-    // Tests whether the names of a build come back: of a module, when validating, without special types.
-    fn test_names(
-        &self,
-        of: &Definition,
-        source: &FormedModule,
-        built: &Build,
-        functions: usize,
-        special: bool,
-    ) -> Checked<()>
-        ensures { Gives (λ done. done) result (names_back (settings (B.front self.now.front.now) self.now.capabilities self.now.validate) of.now.module_index special source.now (built_of built.now) functions) }
-    {
-        if (of.module_index > 0) & self.validate & !special {
-            return came_back(self, source.get(), built, functions);
-        }
-        Ok(())
-    }
-
-    // Copies the items of a build, and tests whether their names come back.
+    // Copies the items of a build, and tests whether their names come back: of a module, when validating, without special types.
     fn copy(
         &self,
         of: &Definition,
         source: &FormedModule,
         built: &mut Build,
         functions: usize,
-    ) -> Checked<()>
+    ) -> Checked
         ensures { GivesBy (λ _. IsHeld (settings (B.front self.now.front.now) self.now.capabilities self.now.validate) of.now.module_index functions source.now (built_of built.old) (built_of built.new)) (IsUnheld (settings (B.front self.now.front.now) self.now.capabilities self.now.validate) of.now.module_index functions source.now (built_of built.old)) result }
     {
         let special = copy_parsed(self.alloc, source.get(), built)?;
-        self.test_names(of, source, built, functions, special)
+        if of.module_index == 0 || !self.validate || special {
+            return Ok(());
+        }
+        self.came_back(source.get(), built, functions)
     }
 
     /// The items of a build: of the module that its whole text says, which has to be of good form.
-    pub(crate) fn fill(&self, of: &Definition, whole: &str, built: &mut Build) -> Checked<()>
+    pub(crate) fn fill(&self, of: &Definition, whole: &str, built: &mut Build) -> Checked
         ensures { GivesBy (λ _. IsBuiltOf (settings (B.front self.now.front.now) self.now.capabilities self.now.validate) of.now.module_index of.now.language whole.now (built_of built.old) (built_of built.new)) (IsUnbuilt (settings (B.front self.now.front.now) self.now.capabilities self.now.validate) of.now.module_index of.now.language whole.now (built_of built.old)) result }
     {
         let mut source = self.said(of, whole, built)?;

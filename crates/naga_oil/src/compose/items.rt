@@ -70,7 +70,7 @@ impl ComposableModule {
 }
 
 /// Copies an item of the source.
-pub(crate) fn import_item(into: &mut DerivedModule<'_>, place: ItemPlace) -> Tried<()>
+pub(crate) fn import_item(into: &mut DerivedModule<'_>, place: ItemPlace) -> Tried
     requires { HasItem into.old place }
     ensures keeps { Keeps into.old into.new }
     ensures taken { OnOk result (Taken (item_step place) into.old into.new) }
@@ -92,103 +92,83 @@ pub(crate) fn has_mark(name: &str) -> bool
 }
 
 // Decorates a name if it is owned, and notes it.
-fn own_name(name: &mut String, decoration: &str, owned: &mut Names) -> Tried<()>
-    ensures name { OnOk result (string_bytes name.new ≡ owned_name decoration.now (string_bytes name.old)) }
-    ensures owned { OnOk result (texts owned.new.keys ≡ with_owned_name decoration.now (texts owned.old.keys) (string_bytes name.old)) }
+fn own_name(name: &mut String, suffix: &str, owned: &mut Names) -> Tried
+    ensures name { OnOk result (string_bytes name.new ≡ owned_name suffix.now (string_bytes name.old)) }
+    ensures owned { OnOk result (texts owned.new.keys ≡ with_owned_name suffix.now (texts owned.old.keys) (string_bytes name.old)) }
 {
     if has_mark(name.as_str()) {
         return Ok(());
     }
-    name.push_str(decoration)?;
+    name.push_str(suffix)?;
     owned.insert(name.clone()?)?;
     Ok(())
 }
 
 // The same of a name that may be absent.
-fn own(name: &mut Option<String>, decoration: &str, owned: &mut Names) -> Tried<()>
-    ensures name { OnOk result (option_map string_bytes name.new ≡ option_map (owned_name decoration.now) (option_map string_bytes name.old)) }
-    ensures owned { OnOk result (texts owned.new.keys ≡ with_owned decoration.now (texts owned.old.keys) (option_map string_bytes name.old)) }
+fn own(name: &mut Option<String>, suffix: &str, owned: &mut Names) -> Tried
+    ensures name { OnOk result (option_map string_bytes name.new ≡ option_map (owned_name suffix.now) (option_map string_bytes name.old)) }
+    ensures owned { OnOk result (texts owned.new.keys ≡ with_owned suffix.now (texts owned.old.keys) (option_map string_bytes name.old)) }
 {
     match name {
-        Some(name) => own_name(name, decoration, owned),
+        Some(name) => own_name(name, suffix, owned),
         None => Ok(()),
     }
 }
 
 // Decorates the constants that are owned.
-fn own_constants(
-    alloc: Global,
-    of: &mut Arena<Constant>,
-    decoration: &str,
-    owned: &mut Names,
-) -> Tried<()>
-    ensures items { OnOk result (constant_rows of.new ≡ map (owned_item decoration.now) (constant_rows of.old)) }
-    ensures owned { OnOk result (texts owned.new.keys ≡ fold (with_owned decoration.now) (texts owned.old.keys) (item_names (constant_rows of.old))) }
+fn own_constants(alloc: Global, of: &mut Arena<Constant>, suffix: &str, owned: &mut Names) -> Tried
+    ensures items { OnOk result (constant_rows of.new ≡ map (owned_item suffix.now) (constant_rows of.old)) }
+    ensures owned { OnOk result (texts owned.new.keys ≡ fold (with_owned suffix.now) (texts owned.old.keys) (item_names (constant_rows of.old))) }
 {
     let mut items = mem::replace(of, Arena::new(alloc)).into_items();
     for item in items.iter_mut() {
-        own(&mut item.0.name, decoration, owned)?;
+        own(&mut item.0.name, suffix, owned)?;
     }
     *of = Arena::from_items(items);
     Ok(())
 }
 
 // Decorates the overrides that are owned.
-fn own_overrides(
-    alloc: Global,
-    of: &mut Arena<Override>,
-    decoration: &str,
-    owned: &mut Names,
-) -> Tried<()>
-    ensures items { OnOk result (override_rows of.new ≡ map (owned_item decoration.now) (override_rows of.old)) }
-    ensures owned { OnOk result (texts owned.new.keys ≡ fold (with_owned decoration.now) (texts owned.old.keys) (item_names (override_rows of.old))) }
+fn own_overrides(alloc: Global, of: &mut Arena<Override>, suffix: &str, owned: &mut Names) -> Tried
+    ensures items { OnOk result (override_rows of.new ≡ map (owned_item suffix.now) (override_rows of.old)) }
+    ensures owned { OnOk result (texts owned.new.keys ≡ fold (with_owned suffix.now) (texts owned.old.keys) (item_names (override_rows of.old))) }
 {
     let mut items = mem::replace(of, Arena::new(alloc)).into_items();
     for item in items.iter_mut() {
-        own(&mut item.0.name, decoration, owned)?;
+        own(&mut item.0.name, suffix, owned)?;
     }
     *of = Arena::from_items(items);
     Ok(())
 }
 
 // Decorates the globals that are owned.
-fn own_globals(
-    alloc: Global,
-    of: &mut Arena<GlobalVariable>,
-    decoration: &str,
-    owned: &mut Names,
-) -> Tried<()>
-    ensures items { OnOk result (global_rows of.new ≡ map (owned_item decoration.now) (global_rows of.old)) }
-    ensures owned { OnOk result (texts owned.new.keys ≡ fold (with_owned decoration.now) (texts owned.old.keys) (item_names (global_rows of.old))) }
+fn own_vars(alloc: Global, of: &mut Arena<GlobalVariable>, suffix: &str, owned: &mut Names) -> Tried
+    ensures items { OnOk result (global_rows of.new ≡ map (owned_item suffix.now) (global_rows of.old)) }
+    ensures owned { OnOk result (texts owned.new.keys ≡ fold (with_owned suffix.now) (texts owned.old.keys) (item_names (global_rows of.old))) }
 {
     let mut items = mem::replace(of, Arena::new(alloc)).into_items();
     for item in items.iter_mut() {
-        own(&mut item.0.name, decoration, owned)?;
+        own(&mut item.0.name, suffix, owned)?;
     }
     *of = Arena::from_items(items);
     Ok(())
 }
 
 // Decorates the functions that are owned.
-fn own_functions(
-    alloc: Global,
-    of: &mut Arena<Function>,
-    decoration: &str,
-    owned: &mut Names,
-) -> Tried<()>
-    ensures items { OnOk result (function_values of.new ≡ map (owned_function decoration.now) (function_values of.old)) }
-    ensures owned { OnOk result (texts owned.new.keys ≡ fold (with_owned decoration.now) (texts owned.old.keys) (function_texts (function_values of.old))) }
+fn own_functions(alloc: Global, of: &mut Arena<Function>, suffix: &str, owned: &mut Names) -> Tried
+    ensures items { OnOk result (function_values of.new ≡ map (owned_function suffix.now) (function_values of.old)) }
+    ensures owned { OnOk result (texts owned.new.keys ≡ fold (with_owned suffix.now) (texts owned.old.keys) (function_texts (function_values of.old))) }
 {
     let mut items = mem::replace(of, Arena::new(alloc)).into_items();
     for item in items.iter_mut() {
-        own(&mut item.0.name, decoration, owned)?;
+        own(&mut item.0.name, suffix, owned)?;
     }
     *of = Arena::from_items(items);
     Ok(())
 }
 
 /// Decorates what a parsed module owns, but for its types.
-pub(crate) fn own_items(alloc: Global, of: &mut Module, built: &mut Build) -> Tried<()>
+pub(crate) fn own_items(alloc: Global, of: &mut Module, built: &mut Build) -> Tried
     ensures items { OnOk result (module_value of.new ≡ decorated_items (string_bytes built.old.decorated_name) (module_value of.old)) }
     ensures built { OnOk result (built_of built.new ≡ owning (module_value of.old) (built_of built.old)) }
 {
@@ -198,7 +178,7 @@ pub(crate) fn own_items(alloc: Global, of: &mut Module, built: &mut Build) -> Tr
     let owned = &mut built.owned_pipeline_overrides;
     own_overrides(alloc, &mut of.overrides, decoration, owned)?;
     let owned = &mut built.owned_vars;
-    own_globals(alloc, &mut of.global_variables, decoration, owned)?;
+    own_vars(alloc, &mut of.global_variables, decoration, owned)?;
     let owned = &mut built.owned_functions;
     own_functions(alloc, &mut of.functions, decoration, owned)
 }
@@ -245,7 +225,7 @@ fn demoted(alloc: Global, of: EntryPoint, decoration: &str) -> Tried<(String, Fu
 }
 
 /// Notes a name, if there is one.
-pub(crate) fn note(alloc: Global, names: &mut Names, name: Option<&str>) -> Tried<()>
+pub(crate) fn note(alloc: Global, names: &mut Names, name: Option<&str>) -> Tried
     ensures { OnOk result (texts names.new.keys ≡ with_text (texts names.old.keys) (option_map (λ n. n.now) name.entry)) }
 {
     match name {
@@ -276,7 +256,7 @@ fn demote_one(
     names: &Names,
     functions: &mut Arena<Function>,
     owned: &mut Names,
-) -> Tried<()>
+) -> Tried
     ensures functions { OnOk result (function_values functions.new ≡ function_values functions.old ++ demoted decoration.now (texts names.now.keys) (entry_value entry_point)) }
     ensures owned { OnOk result (texts owned.new.keys ≡ fold with_name (texts owned.old.keys) (function_names (demoted decoration.now (texts names.now.keys) (entry_value entry_point)))) }
 {
@@ -296,7 +276,7 @@ fn demote_all(
     decoration: &str,
     functions: &mut Arena<Function>,
     owned: &mut Names,
-) -> Tried<()>
+) -> Tried
     ensures functions { OnOk result (function_values functions.new ≡ function_values functions.old ++ flat_map (demoted decoration.now (function_names (function_values functions.old))) (map entry_value entry_points.items)) }
     ensures owned { OnOk result (texts owned.new.keys ≡ fold with_name (texts owned.old.keys) (function_names (flat_map (demoted decoration.now (function_names (function_values functions.old))) (map entry_value entry_points.items)))) }
 {
@@ -309,7 +289,7 @@ fn demote_all(
 
 /// Makes the entry points functions behind the others, decorated, without bindings and with no span. One whose function has
 /// the name of another function is left out.
-pub(crate) fn demote(alloc: Global, of: &mut Module, built: &mut Build) -> Tried<()>
+pub(crate) fn demote(alloc: Global, of: &mut Module, built: &mut Build) -> Tried
     ensures items { OnOk result (module_value of.new ≡ with_demoted (demotable (string_bytes built.old.decorated_name) (module_value of.old)) (module_value of.old)) }
     ensures built { OnOk result (built_of built.new ≡ owning_demoted (demotable (string_bytes built.old.decorated_name) (module_value of.old)) (built_of built.old)) }
 {

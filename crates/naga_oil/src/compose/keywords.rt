@@ -70,11 +70,7 @@ fn marked_name(text: &str) -> Option<(&str, &str, &str)>
 }
 
 /// The functions behind a keyword, from the left.
-pub(crate) fn marked_functions<'a>(
-    alloc: Global,
-    text: &'a str,
-    keyword: &str,
-) -> Tried<Vec<Marked<'a>>>
+pub(crate) fn marked_in<'a>(alloc: Global, text: &'a str, keyword: &str) -> Tried<Vec<Marked<'a>>>
     requires { 0 < length keyword.now }
     ensures { IfOk result (λ found. map marked_of found.items ≡ marked_in keyword.now text.now) }
 {
@@ -96,7 +92,7 @@ pub(crate) fn marked_functions<'a>(
 }
 
 /// Puts other characters, of one byte each, at a place and those behind it.
-pub(crate) fn edit(edits: &mut Edits, place: usize, other: &str) -> Tried<()>
+pub(crate) fn edit(edits: &mut Edits, place: usize, other: &str) -> Tried
     requires { place + length other.now < 2 ^ 64 }
     ensures { OnOk result (get nat_cmp edits.new ≡ put (get nat_cmp edits.old) place other.now) }
 {

@@ -9,7 +9,7 @@ ghost use Rattle.naga_oil.specs.Merged.{overwritten, merged, used_at_start};
 use super::*;
 
 /// Overwrites definitions by others.
-pub(crate) fn overwrite(defs: &mut Defs, others: &Defs) -> Tried<()>
+pub(crate) fn overwrite(defs: &mut Defs, others: &Defs) -> Tried
     ensures { OnOk result (defs_of defs.new ≡ overwritten (defs_of defs.old) (defs_of others.now)) }
 {
     for (name, value) in others {
@@ -19,7 +19,7 @@ pub(crate) fn overwrite(defs: &mut Defs, others: &Defs) -> Tried<()>
 }
 
 // Adds the names of a set.
-fn add_names(names: &mut Names, others: &Names) -> Tried<()>
+fn add_names(names: &mut Names, others: &Names) -> Tried
     ensures { OnOk result (texts names.new.keys ≡ fold with_name (texts names.old.keys) (texts others.now.keys)) }
 {
     for name in others {
@@ -29,7 +29,7 @@ fn add_names(names: &mut Names, others: &Names) -> Tried<()>
 }
 
 /// Overwrites definitions by those of each module in turn, and adds its effective names.
-pub(crate) fn take_over(defs: &mut Defs, names: &mut Names, imported: &[&Definition]) -> Tried<()>
+pub(crate) fn take_over(defs: &mut Defs, names: &mut Names, imported: &[&Definition]) -> Tried
     ensures defs { OnOk result (defs_of defs.new ≡ merged (defs_of defs.old) (map (λ d. definition_of d.now) imported.now)) }
     ensures names { OnOk result (texts names.new.keys ≡ fold with_name (texts names.old.keys) (flat_map (λ d. (definition_of d.now).effective) imported.now)) }
 {
@@ -41,7 +41,7 @@ pub(crate) fn take_over(defs: &mut Defs, names: &mut Names, imported: &[&Definit
 }
 
 /// Imports with further ones behind them, which are asked for at the start of the text.
-pub(crate) fn push_additional(imports: &mut Vec<Use>, additional: &[Import]) -> Tried<()>
+pub(crate) fn push_additional(imports: &mut Vec<Use>, additional: &[Import]) -> Tried
     ensures { OnOk result (map use_of imports.new.items ≡ map use_of imports.old.items ++ map (λ i. used_at_start (import_of i)) additional.now) }
 {
     for import in additional {

@@ -12,12 +12,8 @@ use super::*;
 pub(crate) fn module_named<'a>(modules: &[&'a Definition], name: &str) -> Option<&'a Definition>
     ensures { option_map (λ d. definition_of d.now) result ≡ module_named name.now (map (λ d. definition_of d.now) modules.now) }
 {
-    for definition in modules {
-        if definition.name.as_str() == name {
-            return Some(*definition);
-        }
-    }
-    None
+    let mut modules = modules.iter().copied();
+    modules.find(|of| of.name.as_str() == name)
 }
 
 // Whether a module goes with those that go: it is the named one, or imports one that goes.
@@ -104,7 +100,7 @@ fn remove_all(modules: &mut Vec<Definition>, gone: &Names)
 }
 
 /// Removes a module, and with it all that reach it by imports.
-pub(crate) fn remove(alloc: Global, modules: &mut Vec<Definition>, name: &str) -> Tried<()>
+pub(crate) fn remove(alloc: Global, modules: &mut Vec<Definition>, name: &str) -> Tried
     requires { IsRegistry (map definition_of modules.old.items) }
     ensures ok { OnOk result (map definition_of modules.new.items ≡ removed name.now (map definition_of modules.old.items)) }
     ensures err { OnErr result (modules.new.items ≡ modules.old.items) }
@@ -115,7 +111,7 @@ pub(crate) fn remove(alloc: Global, modules: &mut Vec<Definition>, name: &str) -
 }
 
 /// Enters a module as the newest in the place of those of some names.
-pub(crate) fn enter(modules: &mut Vec<Definition>, gone: &Names, of: Definition) -> Tried<()>
+pub(crate) fn enter(modules: &mut Vec<Definition>, gone: &Names, of: Definition) -> Tried
     ensures ok { OnOk result (map definition_of modules.new.items ≡ definition_of of ∷ standing (contains_text gone.now) (map definition_of modules.old.items)) }
     ensures err { OnErr result (modules.new.items ≡ modules.old.items) }
 {

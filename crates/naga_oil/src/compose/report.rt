@@ -37,7 +37,7 @@ struct Source<'a> {
 
 // Writes why calls can't be redirected.
 #[rattlefmt::skip]
-fn push_redirection(out: &mut String, error: &RedirectError) -> Tried<()>
+fn push_redirection(out: &mut String, error: &RedirectError) -> Tried
     ensures { OnOk result (string_bytes out.new ≡ string_bytes out.old ++ message (Some (redirection_of (redirect_fault error.now)))) }
 {
     match error {
@@ -51,7 +51,7 @@ fn push_redirection(out: &mut String, error: &RedirectError) -> Tried<()>
 
 // Writes what is wrong.
 #[rattlefmt::skip]
-fn push_message(out: &mut String, inner: &Inner) -> Tried<()>
+fn push_message(out: &mut String, inner: &Inner) -> Tried
     ensures { OnOk result (string_bytes out.new ≡ string_bytes out.old ++ message (fault_of inner.now)) }
 {
     match inner {
@@ -112,7 +112,7 @@ fn fault_places(inner: &Inner) -> Places<'_>
 }
 
 // Writes notes.
-fn push_note_lines(out: &mut String, said: &[String]) -> Tried<()>
+fn push_note_lines(out: &mut String, said: &[String]) -> Tried
     ensures { OnOk result (string_bytes out.new ≡ string_bytes out.old ++ flat_map note_line (map string_bytes said.now)) }
 {
     for note in said {
@@ -123,7 +123,7 @@ fn push_note_lines(out: &mut String, said: &[String]) -> Tried<()>
 
 // Writes what is to be noted.
 #[rattlefmt::skip]
-fn push_notes(out: &mut String, inner: &Inner) -> Tried<()>
+fn push_notes(out: &mut String, inner: &Inner) -> Tried
     ensures { OnOk result (string_bytes out.new ≡ string_bytes out.old ++ flat_map note_line (fault_notes (fault_of inner.now))) }
 {
     match inner {
@@ -151,7 +151,7 @@ fn line_starts(alloc: Global, text: &str) -> Tried<Vec<usize>>
 }
 
 // Writes what is said of a place, and ends its line.
-fn push_said(out: &mut String, said: &str) -> Tried<()>
+fn push_said(out: &mut String, said: &str) -> Tried
     ensures { OnOk result (string_bytes out.new ≡ string_bytes out.old ++ said_behind said.now) }
 {
     if !said.is_empty() {
@@ -178,7 +178,7 @@ impl Source<'_> {
     }
 
     // Writes a place with what is said of it.
-    fn push_place(self, out: &mut String, place: usize, said: &str) -> Tried<()>
+    fn push_place(self, out: &mut String, place: usize, said: &str) -> Tried
         ensures { OnOk result (string_bytes out.new ≡ string_bytes out.old ++ place_line self.entry.path.now (line_column self.entry.text.now place) said.now) }
     {
         let (line, column) = self.line_column(place);
@@ -187,7 +187,7 @@ impl Source<'_> {
     }
 
     // Writes spans with what is said of each.
-    fn push_spans(self, out: &mut String, spans: &[(Span, String)]) -> Tried<()>
+    fn push_spans(self, out: &mut String, spans: &[(Span, String)]) -> Tried
         ensures { OnOk result (string_bytes out.new ≡ string_bytes out.old ++ span_lines self.entry.path.now self.entry.text.now self.entry.offset (labels spans.now)) }
     {
         if spans.is_empty() {
@@ -200,7 +200,7 @@ impl Source<'_> {
     }
 
     // Writes where something is wrong.
-    fn push_places(self, out: &mut String, places: Places<'_>, message: &str) -> Tried<()>
+    fn push_places(self, out: &mut String, places: Places<'_>, message: &str) -> Tried
         ensures { OnOk result (string_bytes out.new ≡ string_bytes out.old ++ place_lines self.entry.path.now self.entry.text.now self.entry.offset message.now (places_of places.entry)) }
     {
         match places {

@@ -17,12 +17,12 @@ ghost use Rattle.naga_oil.specs.KeywordsView.{marked_of};
 ghost use Rattle.naga_oil.specs.Virtuals.{names_of, blanked, override_name, marked_override, imported_build, override_fault, are_parts, item_and_code, with_override, with_overrides, functions_in};
 ghost use Rattle.naga_oil.specs.Overriding.{overriding_of, with_new, overridden};
 
-use super::keywords::{Edits, covered, edit, marked_functions, with_edits};
+use super::keywords::{Edits, covered, edit, marked_in, with_edits};
 use super::*;
 use ucd_perl::is_word_code;
 
 // Adds a name, unless it is there.
-fn add_name(alloc: Global, names: &mut Vec<String>, name: &str) -> Tried<()>
+fn add_name(alloc: Global, names: &mut Vec<String>, name: &str) -> Tried
     ensures { OnOk result (texts names.new.items ≡ with_new (texts names.old.items) name.now) }
 {
     if !names.iter().any(|other| other.as_str() == name) {
@@ -32,7 +32,7 @@ fn add_name(alloc: Global, names: &mut Vec<String>, name: &str) -> Tried<()>
 }
 
 /// Adds a function that overrides another, unless it is known.
-pub(crate) fn add_override(alloc: Global, all: &mut Overrides, base: &str, name: &str) -> Tried<()>
+pub(crate) fn add_override(alloc: Global, all: &mut Overrides, base: &str, name: &str) -> Tried
     ensures { OnOk result (overriding_of all.new ≡ overridden (overriding_of all.old) base.now name.now) }
 {
     if let Some(known) = all.get_mut(base) {
@@ -55,7 +55,7 @@ fn names_of(alloc: Global, functions: &[Marked<'_>]) -> Tried<Names>
 }
 
 // Puts other characters in the place of each keyword.
-fn blank(edits: &mut Edits, functions: &[Marked<'_>], blank: &str) -> Tried<()>
+fn blank(edits: &mut Edits, functions: &[Marked<'_>], blank: &str) -> Tried
     requires { length blank.now ≤ 16 }
     ensures { OnOk result (get nat_cmp edits.new ≡ blanked blank.now (get nat_cmp edits.old) (map marked_of functions.now)) }
 {
@@ -139,7 +139,7 @@ fn note_override(
     decoration: &str,
     overriding: &mut Overrides,
     edits: &mut Edits,
-) -> Tried<()>
+) -> Tried
     requires { AreItemAndCode of.now.name.now item.now code.now }
     ensures edits { OnOk result (get nat_cmp edits.new ≡ marked_override (get nat_cmp edits.old) (marked_of of.now) item.now) }
     ensures overriding { OnOk result (overriding_of overriding.new ≡ overridden (overriding_of overriding.old) of.now.name.now (override_name item.now code.now decoration.now)) }
@@ -187,7 +187,7 @@ fn read_overrides(
     over: Over<'_>,
     overriding: &mut Overrides,
     edits: &mut Edits,
-) -> Checked<()>
+) -> Checked
     ensures { let told = with_overrides (builds_of over.entry.builds.now) (map import_of over.entry.imports.now) over.entry.decoration.now (record { edits = get nat_cmp edits.old; overriding = overriding_of overriding.old; fault = None }) (map marked_of functions.now) in GivesBy (λ done. told ≡ record { edits = get nat_cmp edits.new; overriding = overriding_of overriding.new; fault = None }) (λ f. told.fault ≡ Some f) result }
 {
     let mut last = None;
@@ -212,11 +212,11 @@ pub(crate) fn read_functions(
 {
     let covered = covered(alloc, text)?;
     let mut edits = Edits::new(alloc);
-    let virtuals = marked_functions(alloc, covered.as_str(), "virtual")?;
+    let virtuals = marked_in(alloc, covered.as_str(), "virtual")?;
     let names = names_of(alloc, &virtuals)?;
     blank(&mut edits, &virtuals, "       ")?;
     let shown = with_edits(alloc, covered.as_str(), &edits)?;
-    let functions = marked_functions(alloc, shown.as_str(), "override")?;
+    let functions = marked_in(alloc, shown.as_str(), "override")?;
     read_overrides(alloc, &functions, over, overriding, &mut edits)?;
     let text = with_edits(alloc, text, &edits)?;
     Ok((names, text))

@@ -41,7 +41,7 @@ fn push_named<'m>(
     name: &'m Option<String>,
     members: Option<&'m [StructMember]>,
     span: Span,
-) -> Tried<()>
+) -> Tried
     ensures { OnOk result (map named_of items.new.items ≡ map named_of items.old.items ++ named_item (option_map string_bytes name.now) (labels_of members.entry) span) }
 {
     if let Some(name) = named(name) {
@@ -87,34 +87,20 @@ fn named_globals<'m>(alloc: Global, of: &'m Arena<GlobalVariable>) -> Tried<Vec<
     Ok(items)
 }
 
-// The functions that have names.
-fn named_functions<'m>(alloc: Global, of: &'m [(Function, Span)]) -> Tried<Vec<NamedItem<'m>>>
-    ensures { IfOk result (λ items. map named_of items.items ≡ named_functions (map (λ e. (function_value e.0, e.1)) of.now)) }
-{
-    let mut items = Vec::new(alloc);
-    for (function, span) in of {
-        push_named(&mut items, &function.name, None, *span)?;
-    }
-    Ok(items)
-}
-
-// The same of all functions.
-fn all_functions<'m>(alloc: Global, of: &'m Arena<Function>) -> Tried<Vec<NamedItem<'m>>>
-    ensures { IfOk result (λ items. map named_of items.items ≡ named_functions (map (λ e. (function_value e.0, e.1)) of.now)) }
-{
-    named_functions(alloc, of.as_slice())
-}
-
-// The same of the first so many.
-fn first_functions<'m>(
+// The functions that have names, of the first so many.
+fn named_functions<'m>(
     alloc: Global,
     of: &'m Arena<Function>,
     count: usize,
 ) -> Tried<Vec<NamedItem<'m>>>
     ensures { IfOk result (λ items. map named_of items.items ≡ named_functions (take count (map (λ e. (function_value e.0, e.1)) of.now))) }
 {
+    let mut items = Vec::new(alloc);
     let functions = of.as_slice();
-    named_functions(alloc, &functions[..count.min(functions.len())])
+    for (function, span) in &functions[..count.min(functions.len())] {
+        push_named(&mut items, &function.name, None, *span)?;
+    }
+    Ok(items)
 }
 
 // Items by their names, of one name the last.
@@ -192,61 +178,8 @@ fn lost_among<'m>(
     Ok(None)
 }
 
-// The first owned type that is lost; types get the decoration as they are copied.
-fn lost_type<'m>(alloc: Global, source: &'m Module, back: &Module, built: &Build) -> Tried<Lost<'m>>
-    ensures { IfOk result (λ lost. option_map (λ l. (l.0.now, l.1)) lost ≡ lost_among (built_of built.now).types (built_of built.now).decoration (last_named (named_items (module_value back.now).types)) (named_items (module_value source.now).types)) }
-{
-    let ours = named_types(alloc, &source.types)?;
-    let theirs = named_types(alloc, &back.types)?;
-    let decoration = built.decorated_name.as_str();
-    lost_among(alloc, &ours, &theirs, &built.owned_types, decoration)
-}
-
-// The first owned constant that is lost.
-fn lost_constant<'m>(
-    alloc: Global,
-    source: &'m Module,
-    back: &Module,
-    built: &Build,
-) -> Tried<Lost<'m>>
-    ensures { IfOk result (λ lost. option_map (λ l. (l.0.now, l.1)) lost ≡ lost_among (built_of built.now).constants [] (last_named (named_items (module_value back.now).constants)) (named_items (module_value source.now).constants)) }
-{
-    let ours = named_constants(alloc, &source.constants)?;
-    let theirs = named_constants(alloc, &back.constants)?;
-    lost_among(alloc, &ours, &theirs, &built.owned_constants, "")
-}
-
-// The first owned global that is lost.
-fn lost_global<'m>(
-    alloc: Global,
-    source: &'m Module,
-    back: &Module,
-    built: &Build,
-) -> Tried<Lost<'m>>
-    ensures { IfOk result (λ lost. option_map (λ l. (l.0.now, l.1)) lost ≡ lost_among (built_of built.now).globals [] (last_named (named_items (module_value back.now).global_variables)) (named_items (module_value source.now).global_variables)) }
-{
-    let ours = named_globals(alloc, &source.global_variables)?;
-    let theirs = named_globals(alloc, &back.global_variables)?;
-    lost_among(alloc, &ours, &theirs, &built.owned_vars, "")
-}
-
-// The first owned function that is lost, of so many.
-fn lost_function<'m>(
-    alloc: Global,
-    source: &'m Module,
-    back: &Module,
-    built: &Build,
-    count: usize,
-) -> Tried<Lost<'m>>
-    ensures { IfOk result (λ lost. option_map (λ l. (l.0.now, l.1)) lost ≡ lost_among (built_of built.now).functions [] (last_named (named_functions (module_value back.now).functions)) (named_functions (take count (module_value source.now).functions))) }
-{
-    let ours = first_functions(alloc, &source.functions, count)?;
-    let theirs = all_functions(alloc, &back.functions)?;
-    lost_among(alloc, &ours, &theirs, &built.owned_functions, "")
-}
-
-// The first of what a module owns that is lost: types, then constants, globals, and so many functions.
-#[tactic(auto, unfolding(crate::specs::Writeback::lost))]
+// The first of what a module owns that is lost: types, which get the decoration as they are copied, then constants, globals,
+// and so many functions.
 fn lost<'m>(
     alloc: Global,
     source: &'m Module,
@@ -256,16 +189,28 @@ fn lost<'m>(
 ) -> Tried<Lost<'m>>
     ensures { IfOk result (λ first. option_map (λ l. (l.0.now, l.1)) first ≡ lost (module_value source.now) (module_value back.now) (built_of built.now) functions) }
 {
-    if let Some(lost) = lost_type(alloc, source, back, built)? {
-        return Ok(Some(lost));
+    let ours = named_types(alloc, &source.types)?;
+    let theirs = named_types(alloc, &back.types)?;
+    let decoration = built.decorated_name.as_str();
+    let lost = lost_among(alloc, &ours, &theirs, &built.owned_types, decoration)?;
+    if lost.is_some() {
+        return Ok(lost);
     }
-    if let Some(lost) = lost_constant(alloc, source, back, built)? {
-        return Ok(Some(lost));
+    let ours = named_constants(alloc, &source.constants)?;
+    let theirs = named_constants(alloc, &back.constants)?;
+    let lost = lost_among(alloc, &ours, &theirs, &built.owned_constants, "")?;
+    if lost.is_some() {
+        return Ok(lost);
     }
-    if let Some(lost) = lost_global(alloc, source, back, built)? {
-        return Ok(Some(lost));
+    let ours = named_globals(alloc, &source.global_variables)?;
+    let theirs = named_globals(alloc, &back.global_variables)?;
+    let lost = lost_among(alloc, &ours, &theirs, &built.owned_vars, "")?;
+    if lost.is_some() {
+        return Ok(lost);
     }
-    lost_function(alloc, source, back, built, functions)
+    let ours = named_functions(alloc, &source.functions, functions)?;
+    let theirs = named_functions(alloc, &back.functions, back.functions.len())?;
+    lost_among(alloc, &ours, &theirs, &built.owned_functions, "")
 }
 
 // Refuses the first that is lost.
@@ -275,7 +220,7 @@ fn check_back(
     back: &Module,
     built: &Build,
     functions: usize,
-) -> Checked<()>
+) -> Checked
     ensures { Gives (λ done. done) result (unless_lost (lost (module_value source.now) (module_value back.now) (built_of built.now) functions)) }
 {
     let Some((name, at)) = lost(alloc, source, back, built, functions)? else {
@@ -285,22 +230,19 @@ fn check_back(
     Err(Inner::InvalidIdentifier { original, at })
 }
 
-/// Whether what a module owns comes back by name when its header is written in WGSL and read again: its types, of structs the
-/// names of the members too, its constants and globals, then its functions, of which the first so many are compared. The header
-/// has to be written in GLSL as well.
-#[tactic(auto, unfolding(crate::specs::Writeback::came_back))]
-pub(crate) fn came_back<B: Backend>(
-    maker: &Maker<'_, B>,
-    source: &Module,
-    built: &Build,
-    functions: usize,
-) -> Checked<()>
-    ensures { Gives (λ done. done) result (came_back (B.front maker.now.front.now) maker.now.capabilities (module_value source.now) (built_of built.now) functions) }
-{
-    let header = built.header_ir.get();
-    let text = maker.written(header, ShaderLanguage::Wgsl)?;
-    let back = maker.parsed(&text, ShaderLanguage::Wgsl)?;
-    check_back(maker.alloc, source, &back, built, functions)?;
-    maker.written(header, ShaderLanguage::Glsl)?;
-    Ok(())
+impl<B: Backend> Maker<'_, B> {
+    /// Whether what a module owns comes back by name when its header is written in WGSL and read again: its types, of structs the
+    /// names of the members too, its constants and globals, then its functions, of which the first so many are compared. The header
+    /// has to be written in GLSL as well.
+    #[tactic(auto, unfolding(crate::specs::Writeback::came_back))]
+    pub(crate) fn came_back(&self, source: &Module, built: &Build, functions: usize) -> Checked
+        ensures { Gives (λ done. done) result (came_back (B.front self.now.front.now) self.now.capabilities (module_value source.now) (built_of built.now) functions) }
+    {
+        let header = built.header_ir.get();
+        let text = self.written(header, ShaderLanguage::Wgsl)?;
+        let back = self.parsed(&text, ShaderLanguage::Wgsl)?;
+        check_back(self.alloc, source, &back, built, functions)?;
+        self.written(header, ShaderLanguage::Glsl)?;
+        Ok(())
+    }
 }

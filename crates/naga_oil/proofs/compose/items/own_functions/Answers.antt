@@ -7,6 +7,6 @@ use Rattle.naga_oil.proofs.compose.items.own_functions.Goals as goal
 
 pub loop-item-preserved : goal.loop-item-preserved
 loop-item-preserved c = record {
-  items = changed-more (λ e. (function_value e.0, e.1)) (owned_function c.args.decoration.now) c.loop-item.item-items c.loop-item.item-index c.item-item.result _ (omega arith) (function_owned c.args.decoration.now (get_or c.loop-item.item-items c.loop-item.item-index c.item-item.result) c.own.new.name c.in_ok-own.ensures.name) ∙ c.loop-item.invariant.items;
-  owned = folded-more (λ e. (function_value e.0, e.1)) (λ e. e.0.name) (with_owned c.args.decoration.now) c.loop-item.item-items c.loop-item.item-index c.item-item.result _ (texts c.loop-item.owned.keys) (texts c.own.new.owned.keys) (omega arith) c.in_ok-own.ensures.owned ∙ c.loop-item.invariant.owned;
+  items = changed-more (λ e. (function_value e.0, e.1)) (owned_function c.args.suffix.now) c.loop-item.item-items c.loop-item.item-index c.item-item.result _ (omega arith) (function_owned c.args.suffix.now (get_or c.loop-item.item-items c.loop-item.item-index c.item-item.result) c.own.new.name c.in_ok-own.ensures.name) ∙ c.loop-item.invariant.items;
+  owned = folded-more (λ e. (function_value e.0, e.1)) (λ e. e.0.name) (with_owned c.args.suffix.now) c.loop-item.item-items c.loop-item.item-index c.item-item.result _ (texts c.loop-item.owned.keys) (texts c.own.new.owned.keys) (omega arith) c.in_ok-own.ensures.owned ∙ c.loop-item.invariant.owned;
 }

@@ -5,6 +5,6 @@ use Rattle.naga_oil.proofs.compose.items.own_functions.Given as goal
 
 abbrev pub invariant-loop-item : goal.invariant-loop-item
 invariant-loop-item l = record {
-  items : function_values (take l.item-index l.item-items) ++ map (owned_function l.decoration) (function_values (drop l.item-index l.item-items)) ≡ map (owned_function l.decoration) (function_values l.fn.of);
-  owned : fold (with_owned l.decoration) (texts l.owned.keys) (function_texts (function_values (drop l.item-index l.item-items))) ≡ fold (with_owned l.decoration) (texts l.fn.owned.keys) (function_texts (function_values l.fn.of));
+  items : function_values (take l.item-index l.item-items) ++ map (owned_function l.suffix) (function_values (drop l.item-index l.item-items)) ≡ map (owned_function l.suffix) (function_values l.fn.of);
+  owned : fold (with_owned l.suffix) (texts l.owned.keys) (function_texts (function_values (drop l.item-index l.item-items))) ≡ fold (with_owned l.suffix) (texts l.fn.owned.keys) (function_texts (function_values l.fn.of));
 }

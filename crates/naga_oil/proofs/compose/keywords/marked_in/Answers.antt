@@ -3,7 +3,7 @@ use Rattle.std.proofs.lemmas.List.{map-append}
 use Rattle.naga_oil.specs.Keywords.{MarkedFunction, marked_behind}
 use Rattle.naga_oil.specs.KeywordsView.{marked_of}
 use Rattle.naga_oil.proofs.MarkedLemmas.{cut_sizes, step_end, step_past, step_marked, name_by_bytes, no_name}
-use Rattle.naga_oil.proofs.compose.keywords.marked_functions.Goals as goal
+use Rattle.naga_oil.proofs.compose.keywords.marked_in.Goals as goal
 
 pub loop-before-preserved : goal.loop-before-preserved
 loop-before-preserved c =

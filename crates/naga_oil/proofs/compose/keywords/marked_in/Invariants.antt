@@ -3,7 +3,7 @@ use denote.Text.{Utf8}
 use denote.Shadow.{shadow}
 use Rattle.naga_oil.specs.Keywords.{marked_behind}
 use Rattle.naga_oil.specs.KeywordsView.{marked_of}
-use Rattle.naga_oil.proofs.compose.keywords.marked_functions.Given as goal
+use Rattle.naga_oil.proofs.compose.keywords.marked_in.Given as goal
 
 abbrev pub invariant-loop-before : goal.invariant-loop-before
 invariant-loop-before l = record {

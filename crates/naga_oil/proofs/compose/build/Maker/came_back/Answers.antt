@@ -6,12 +6,12 @@ use Rattle.naga_oil_ir.specs.declared.language.ShaderLanguage.TheVariants.{Wgsl,
 use Rattle.naga_oil.specs.Built.{header_text, parsed_text}
 use Rattle.naga_oil.specs.BuiltModule.{built_of}
 use Rattle.naga_oil.proofs.WritebackLemmas.{fails_then, something_lost, not_written}
-use Rattle.naga_oil.proofs.compose.writeback.came_back.Goals as goal
+use Rattle.naga_oil.proofs.compose.build.Maker.came_back.Goals as goal
 
 pub returns-in_err-check_back : goal.returns-in_err-check_back
 returns-in_err-check_back g c =
-    let front = g.B.Backend.front c.args.maker.now.front.now in
-    let capabilities = c.args.maker.now.capabilities in
+    let front = g.B.Backend.front c.args.self.now.front.now in
+    let capabilities = c.args.self.now.capabilities in
     let b = built_of c.args.built.now in
     let back = module_value c.in_ok-back.back in
     let text = string_bytes c.in_ok-text.text in
@@ -22,8 +22,8 @@ returns-in_err-check_back g c =
 
 pub returns-in_err-written : goal.returns-in_err-written
 returns-in_err-written g c =
-    let front = g.B.Backend.front c.args.maker.now.front.now in
-    let capabilities = c.args.maker.now.capabilities in
+    let front = g.B.Backend.front c.args.self.now.front.now in
+    let capabilities = c.args.self.now.capabilities in
     let b = built_of c.args.built.now in
     let back = module_value c.in_ok-back.back in
     let text = string_bytes c.in_ok-text.text in

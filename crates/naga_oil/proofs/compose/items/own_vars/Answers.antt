@@ -1,0 +1,12 @@
+use Rattle.std.proofs.Common.{◌∙◌, get_or, arith}
+use Rattle.naga_oil_ir.specs.Rows.{global_row}
+use Rattle.naga_oil.specs.Definition.{texts}
+use Rattle.naga_oil.specs.Owned.{owned_item, with_owned}
+use Rattle.naga_oil.proofs.OwnedLemmas.{changed-more, folded-more, global_owned}
+use Rattle.naga_oil.proofs.compose.items.own_vars.Goals as goal
+
+pub loop-item-preserved : goal.loop-item-preserved
+loop-item-preserved c = record {
+  items = changed-more (λ e. (global_row e.0, e.1)) (owned_item c.args.suffix.now) c.loop-item.item-items c.loop-item.item-index c.item-item.result _ (omega arith) (global_owned c.args.suffix.now (get_or c.loop-item.item-items c.loop-item.item-index c.item-item.result) c.own.new.name c.in_ok-own.ensures.name) ∙ c.loop-item.invariant.items;
+  owned = folded-more (λ e. (global_row e.0, e.1)) (λ e. e.0.label.name) (with_owned c.args.suffix.now) c.loop-item.item-items c.loop-item.item-index c.item-item.result _ (texts c.loop-item.owned.keys) (texts c.own.new.owned.keys) (omega arith) c.in_ok-own.ensures.owned ∙ c.loop-item.invariant.owned;
+}
