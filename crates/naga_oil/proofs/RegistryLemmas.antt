@@ -1,9 +1,10 @@
 -- What is registered, and what goes.
-use Rattle.std.proofs.Common.{◌≡◌, ℕ, zero, suc, ◌+◌, ◌<◌, List, [], ◌∷◌, ◌++◌, Bool, true, false, not, cond, ◌||◌, eqb, refl, sym, ap, subst, ◌∙◌, map, filter, drop, get_or, length, Option, Some, None, option_map, append_assoc, arith}
+use Rattle.std.proofs.Common.{◌≡◌, ℕ, zero, suc, ◌+◌, ◌<◌, List, [], ◌∷◌, ◌++◌, Bor, Bool, true, false, not, cond, ◌||◌, eqb, refl, sym, ap, subst, ◌∙◌, map, filter, drop, get_or, length, Option, Some, None, option_map, append_assoc, arith}
 use Rattle.std.proofs.lemmas.Bool.{or_parts, ne_eqb}
 use Rattle.std.proofs.lemmas.List.{at_drop_more, drop-map}
 use Rattle.std.proofs.lemmas.Slice.Eq.{bytes_eq-Decides}
 use Rattle.std.specs.List.{list_any, find, position_from, range_with_len}
+use Rattle.std.specs.Option.{option_copied}
 use Rattle.std.specs.Str.{bytes_eq}
 use Rattle.naga_oil.specs.Definition.{Definition}
 use Rattle.naga_oil.specs.Registry.{registered, module_named, reaches, standing, taken, free_among, IsRegistry}
@@ -23,6 +24,10 @@ find_map p f (x ∷ xs) = by (p (f x)) (find_map p f xs)
 pub option_map_twice : {A B C : Type 0} (f : A → B) (g : B → C) (o : Option A) → option_map (λ x. g (f x)) o ≡ option_map g (option_map f o)
 option_map_twice f g None = refl
 option_map_twice f g (Some x) = refl
+
+pub copied_map : {A : Type 0} (o : Option (Bor A)) → option_copied o ≡ option_map (λ x. x.now) o
+copied_map None = refl
+copied_map (Some x) = refl
 
 pub list_any_same : {X : Type 0} (p q : X → Bool) → ((x : X) → p x ≡ q x) → (xs : List X) → list_any p xs ≡ list_any q xs
 list_any_same p q h [] = refl

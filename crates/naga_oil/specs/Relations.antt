@@ -11,7 +11,11 @@ abbrev pub GivesBy : {X : Type 0} → (X → Type 0) → (Fault → Type 0) → 
 GivesBy value fault (Ok x) = value x
 GivesBy value fault (Err e) = MatchOption (fault_of e) (Unit {0}) fault
 
--- the same of answers whose faults are told with their places
+-- an answer, seen as a value or a fault, is one of these, or want of memory
+abbrev pub IsAnswer : {X Y : Type 0} → (view : X → Y) → (Result Y Fault → Type 0) → Result X ComposerErrorInner → Type 0
+IsAnswer view answers r = GivesBy (λ x. answers (Ok (view x))) (λ f. answers (Err f)) r
+
+-- an answer is one of these values or one of these faults, told with its place, or want of memory
 abbrev pub AnswersBy : {X : Type 0} → (X → Type 0) → (Refused → Type 0) → Result X ComposerError → Type 0
 AnswersBy value refused (Ok x) = value x
 AnswersBy value refused (Err e) = MatchOption (refused_of e) (place_of e.source ≡ nowhere) refused

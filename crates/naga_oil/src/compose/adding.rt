@@ -67,7 +67,7 @@ fn new_definition(
 {
     let Described { name, mut metadata } = described;
     push_additional(&mut metadata.imports, desc.additional_imports)?;
-    let imported = imported_modules(alloc, modules, &metadata.imports)?;
+    let imported = imported_modules(alloc, modules, metadata.imports.as_slice())?;
     let Some(module_index) = free_index(alloc, modules)? else {
         return Err(Inner::TooManyModules);
     };

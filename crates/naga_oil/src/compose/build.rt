@@ -14,7 +14,7 @@ ghost use Rattle.naga_oil.specs.Definition.{definition_of, defs_of, texts};
 ghost use Rattle.naga_oil.specs.Headed.{first_lines, HeadingAnswers};
 ghost use Rattle.naga_oil.specs.Linked.{HeaderAnswers};
 ghost use Rattle.naga_oil.specs.Overriding.{overriding_of, overridden_by, with_overriding, build_named, with_build, imported_overriding};
-ghost use Rattle.naga_oil.specs.Relations.{AnswersBy, GivesBy};
+ghost use Rattle.naga_oil.specs.Relations.{AnswersBy, GivesBy, IsAnswer};
 
 use super::error::{EnsureImportsError as Missing, refused, refused_in};
 use super::merge::{imports_of, push_additional};
@@ -191,10 +191,8 @@ impl<B: Backend> Maker<'_, B> {
     pub(crate) fn parsed(&self, text: &str, language: ShaderLanguage) -> Checked<Module>
         ensures { Gives module_value result (parsed_text (B.front self.now.front.now) language text.now) }
     {
-        match (
-            answered(self.front.parse(self.alloc, language, text))?,
-            language,
-        ) {
+        let parsed = answered(self.front.parse(self.alloc, language, text))?;
+        match (parsed, language) {
             (Ok(parsed), _) => Ok(parsed),
             (Err(fault), ShaderLanguage::Wgsl) => Err(Inner::WgslParseError(fault)),
             (Err(fault), ShaderLanguage::Glsl) => Err(Inner::GlslParseError(fault)),
@@ -214,10 +212,7 @@ impl<B: Backend> Maker<'_, B> {
 
     // What is imported, without bodies, as the front end writes it.
     fn header(&self, imports: &[Import], language: ShaderLanguage) -> Checked<String>
-        ensures { GivesBy
-            (λ text. HeaderAnswers (B.front self.now.front.now) self.now.capabilities language (builds_of self.now.builds) (map import_of imports.now) (Ok (string_bytes text)))
-            (λ fault. HeaderAnswers (B.front self.now.front.now) self.now.capabilities language (builds_of self.now.builds) (map import_of imports.now) (Err fault))
-            result }
+        ensures { IsAnswer string_bytes (HeaderAnswers (B.front self.now.front.now) self.now.capabilities language (builds_of self.now.builds) (map import_of imports.now)) result }
     {
         let mut linker = Linker::new(self.alloc, &self.builds, true);
         linker.link_imports(imports, self.builds.len())?;
@@ -226,10 +221,7 @@ impl<B: Backend> Maker<'_, B> {
 
     // What stands before a text: its directives and a header of what is imported.
     fn heading(&self, of: &Definition, imports: &[Import]) -> Checked<String>
-        ensures { GivesBy
-            (λ text. HeadingAnswers (B.front self.now.front.now) self.now.capabilities (definition_of of.now) (builds_of self.now.builds) (map import_of imports.now) (Ok (string_bytes text)))
-            (λ fault. HeadingAnswers (B.front self.now.front.now) self.now.capabilities (definition_of of.now) (builds_of self.now.builds) (map import_of imports.now) (Err fault))
-            result }
+        ensures { IsAnswer string_bytes (HeadingAnswers (B.front self.now.front.now) self.now.capabilities (definition_of of.now) (builds_of self.now.builds) (map import_of imports.now)) result }
     {
         let mut heading = first_lines(self.alloc, of)?;
         heading.push_str(&self.header(imports, of.language)?)?;
@@ -259,12 +251,8 @@ impl<B: Backend> Maker<'_, B> {
             imports: &built.imports,
             decoration: built.decorated_name.as_str(),
         };
-        let (virtuals, text) = read_functions(
-            self.alloc,
-            text,
-            over,
-            &mut built.override_functions,
-        )?;
+        let overriding = &mut built.override_functions;
+        let (virtuals, text) = read_functions(self.alloc, text, over, overriding)?;
         built.virtual_functions = virtuals;
         let mut whole = self.heading(of, &built.imports)?;
         built.start_offset = whole.as_str().len();

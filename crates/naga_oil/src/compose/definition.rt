@@ -59,8 +59,7 @@ impl ComposableModuleDefinition {
     pub(crate) fn may_import(&self, name: &str) -> bool
         ensures { result ≡ list_any (λ i. bytes_eq i.import.import name.now) (definition_of self.now).imports }
     {
-        self.all_imports
-            .iter()
-            .any(|import| import.definition().import.as_str() == name)
+        let mut imports = self.all_imports.iter();
+        imports.any(|import| import.definition().import.as_str() == name)
     }
 }

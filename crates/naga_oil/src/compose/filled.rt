@@ -3,7 +3,7 @@ ghost use Rattle.std.specs.Prelude.{◌≡◌, IfOk, OnOk, length, string_bytes}
 ghost use Rattle.naga_oil_ir.specs.ModuleValue.{module_value};
 ghost use Rattle.naga_oil_pre.specs.View.{Gives};
 ghost use Rattle.naga_oil.specs.BuiltModule.{built_of};
-ghost use Rattle.naga_oil.specs.Filled.{IsSaid, IsUnsaid, owned_module, owned_build, settings, names_back, IsHeld, IsUnheld, IsBuiltOf, IsUnbuilt};
+ghost use Rattle.naga_oil.specs.Filled.{IsSaid, IsUnsaid, owned_module, owned_build, settings, IsHeld, IsUnheld, IsBuiltOf, IsUnbuilt};
 ghost use Rattle.naga_oil.specs.Relations.{GivesBy};
 
 use super::copied::copy_parsed;
@@ -40,20 +40,14 @@ impl<B: Backend> Maker<'_, B> {
     }
 
     // Copies the items of a build, and tests whether their names come back: of a module, when validating, without special types.
-    fn copy(
-        &self,
-        of: &Definition,
-        source: &FormedModule,
-        built: &mut Build,
-        functions: usize,
-    ) -> Checked
-        ensures { GivesBy (λ _. IsHeld (settings (B.front self.now.front.now) self.now.capabilities self.now.validate) of.now.module_index functions source.now (built_of built.old) (built_of built.new)) (IsUnheld (settings (B.front self.now.front.now) self.now.capabilities self.now.validate) of.now.module_index functions source.now (built_of built.old)) result }
+    fn copy(&self, of: &Definition, said: &FormedModule, built: &mut Build, count: usize) -> Checked
+        ensures { GivesBy (λ _. IsHeld (settings (B.front self.now.front.now) self.now.capabilities self.now.validate) of.now.module_index count said.now (built_of built.old) (built_of built.new)) (IsUnheld (settings (B.front self.now.front.now) self.now.capabilities self.now.validate) of.now.module_index count said.now (built_of built.old)) result }
     {
-        let special = copy_parsed(self.alloc, source.get(), built)?;
-        if of.module_index == 0 || !self.validate || special {
-            return Ok(());
+        let special = copy_parsed(self.alloc, said.get(), built)?;
+        if (of.module_index > 0) & self.validate & !special {
+            return self.came_back(said.get(), built, count);
         }
-        self.came_back(source.get(), built, functions)
+        Ok(())
     }
 
     /// The items of a build: of the module that its whole text says, which has to be of good form.

@@ -228,13 +228,10 @@ fn demoted(alloc: Global, of: EntryPoint, decoration: &str) -> Tried<(String, Fu
 pub(crate) fn note(alloc: Global, names: &mut Names, name: Option<&str>) -> Tried
     ensures { OnOk result (texts names.new.keys ≡ with_text (texts names.old.keys) (option_map (λ n. n.now) name.entry)) }
 {
-    match name {
-        Some(name) => {
-            names.insert(String::from_str(alloc, name)?)?;
-            Ok(())
-        }
-        None => Ok(()),
+    if let Some(name) = name {
+        names.insert(String::from_str(alloc, name)?)?;
     }
+    Ok(())
 }
 
 // The names of functions.

@@ -12,8 +12,8 @@ use super::*;
 pub(crate) fn module_named<'a>(modules: &[&'a Definition], name: &str) -> Option<&'a Definition>
     ensures { option_map (λ d. definition_of d.now) result ≡ module_named name.now (map (λ d. definition_of d.now) modules.now) }
 {
-    let mut modules = modules.iter().copied();
-    modules.find(|of| of.name.as_str() == name)
+    let mut modules = modules.iter();
+    modules.find(|of| of.name.as_str() == name).copied()
 }
 
 // Whether a module goes with those that go: it is the named one, or imports one that goes.

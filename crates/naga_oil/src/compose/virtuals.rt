@@ -106,16 +106,15 @@ fn imported_build<'b>(builds: &'b Builds, imports: &[Import], name: &str) -> Opt
 // Why an item can't be overridden by a function whose name is at a place: its module isn't imported, or it isn't virtual there.
 fn override_fault(
     alloc: Global,
-    imports: &[Import],
-    builds: &Builds,
+    over: Over<'_>,
     module_name: String,
     item: &str,
     place: usize,
 ) -> Tried<Option<Inner>>
     requires { place + length item.now + 16 < 2 ^ 64 }
-    ensures { IfOk result (λ fault. option_map fault_of fault ≡ option_map Some (override_fault (builds_of builds.now) (map import_of imports.now) (string_bytes module_name) item.now place)) }
+    ensures { IfOk result (λ fault. option_map fault_of fault ≡ option_map Some (override_fault (builds_of over.entry.builds.now) (map import_of over.entry.imports.now) (string_bytes module_name) item.now place)) }
 {
-    match imported_build(builds, imports, module_name.as_str()) {
+    match imported_build(over.builds, over.imports, module_name.as_str()) {
         None => {
             let code = place + item.len() + DECORATION_PRE.len();
             Ok(Some(Inner::ImportNotFound(module_name, code)))
@@ -170,14 +169,7 @@ fn read_override(
         return Ok(None);
     };
     note_override(alloc, of, item, code, over.decoration, overriding, edits)?;
-    override_fault(
-        alloc,
-        over.imports,
-        over.builds,
-        module_name,
-        item,
-        of.place,
-    )
+    override_fault(alloc, over, module_name, item, of.place)
 }
 
 // Reads functions by which a build overrides others, or the last of their faults.

@@ -39,8 +39,8 @@ returns c =
     let same : map use_of c.as_slice.result.now ≡ all_uses d.metadata m.additional =
     ap (map use_of) c.as_slice.ensures.value ∙ c.in_ok-push_additional.ensures ∙ ap (λ l. map use_of c.args.described.metadata.imports.items ++ l) (sym (map-map used_at_start import_of c.args.desc.additional_imports.now)) in
     let uses : map use_of c.push_additional.new.imports.items ≡ all_uses d.metadata m.additional = ap (map use_of) (sym c.as_slice.ensures.value) ∙ same in
-    let defs : defs_of c.take_over.new.defs ≡ merged m.defs found = c.in_ok-take_over.ensures.defs ∙ ap (λ xs. merged m.defs (map (λ d. definition_of d.now) xs)) c.as_slice-2.ensures.value in
-    let names = c.in_ok-take_over.ensures.names ∙ more-in_order (λ d. definition_of d.now) (recorded_names d.metadata.cleaned) (texts c.args.described.metadata.effective_defs.keys) c.as_slice-2.result.now c.requires ∙ ap (λ xs. in_order (recorded_names d.metadata.cleaned ++ flat_map (λ i. i.effective) (map (λ d. definition_of d.now) xs))) c.as_slice-2.ensures.value in
+    let defs : defs_of c.take_over.new.defs ≡ merged m.defs found = c.in_ok-take_over.ensures.defs ∙ ap (λ xs. merged m.defs (map (λ d. definition_of d.now) xs)) c.deref.ensures.value in
+    let names = c.in_ok-take_over.ensures.names ∙ more-in_order (λ d. definition_of d.now) (recorded_names d.metadata.cleaned) (texts c.args.described.metadata.effective_defs.keys) c.deref.result.now c.requires ∙ ap (λ xs. in_order (recorded_names d.metadata.cleaned ++ flat_map (λ i. i.effective) (map (λ d. definition_of d.now) xs))) c.deref.ensures.value in
     new-made ds m d (map use_of c.as_slice.result.now) same found c.in-Some.module_index c.in_ok-imported.ensures (sym c.in_ok-module_index.ensures ∙ c.in-Some.is)
     ∙ ap (λ x. Ok x) (over-filled m d found c.in-Some.module_index (string_bytes c.in_ok-from_str.field-0) (defs_of c.take_over.new.defs) (texts c.take_over.new.names.keys) (map use_of c.push_additional.new.imports.items) (map import_of c.in_ok-clone_imports.field-0.items)
     c.in_ok-from_str.ensures.ok defs names uses c.in_ok-clone_imports.ensures)

@@ -5,7 +5,7 @@ use Rattle.naga_oil.specs.Owned.{with_text}
 use Rattle.naga_oil.proofs.MergedLemmas.{bytes-insert}
 use Rattle.naga_oil.proofs.compose.items.note.Goals as goal
 
-pub returns-in_ok-insert-in-Some : goal.returns-in_ok-insert-in-Some
-returns-in_ok-insert-in-Some c =
-    let same : string_bytes c.in_ok-from_str-in-Some.field-0 ≡ c.in-Some.name.now = search rules in
-    ap texts c.in_ok-insert-in-Some.ensures.keys ∙ bytes-insert c.args.names.now.keys c.in_ok-from_str-in-Some.field-0 ∙ ap (with_name (texts c.args.names.now.keys)) same ∙ ap (λ n. with_text (texts c.args.names.now.keys) (option_map (λ x. x.now) n)) (sym c.in-Some.is)
+pub returns-in_ok-insert : goal.returns-in_ok-insert
+returns-in_ok-insert c =
+    let same : string_bytes c.in_ok-from_str.field-0 ≡ c.in-Some.name.now = search rules in
+    ap texts c.in_ok-insert.ensures.keys ∙ bytes-insert c.args.names.now.keys c.in_ok-from_str.field-0 ∙ ap (with_name (texts c.args.names.now.keys)) same ∙ ap (λ n. with_text (texts c.args.names.now.keys) (option_map (λ x. x.now) n)) (sym c.in-Some.is)

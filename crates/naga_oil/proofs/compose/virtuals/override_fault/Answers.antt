@@ -12,8 +12,8 @@ use Rattle.naga_oil.proofs.compose.virtuals.override_fault.Goals as goal
 
 pub returns-in-None : goal.returns-in-None
 returns-in-None c =
-    let builds = builds_of c.args.builds.now in
-    let imports = map import_of c.args.imports.now in
+    let builds = builds_of c.args.over.builds.now in
+    let imports = map import_of c.args.over.imports.now in
     let name = string_bytes c.args.module_name in
     let item = c.args.item.now in
     let none : imported_build builds imports name ≡ None = ap (imported_build builds imports) (sym c.as_str.ensures.value) ∙ sym c.imported_build.ensures ∙ ap (option_map (λ b. built_of b.now)) c.in-None.is in
@@ -21,8 +21,8 @@ returns-in-None c =
 
 pub returns-in-Some : goal.returns-in-Some
 returns-in-Some c =
-    let builds = builds_of c.args.builds.now in
-    let imports = map import_of c.args.imports.now in
+    let builds = builds_of c.args.over.builds.now in
+    let imports = map import_of c.args.over.imports.now in
     let name = string_bytes c.args.module_name in
     let item = c.args.item.now in
     let found : imported_build builds imports name ≡ Some (built_of c.in-Some.base.now) = ap (imported_build builds imports) (sym c.as_str.ensures.value) ∙ sym c.imported_build.ensures ∙ ap (option_map (λ b. built_of b.now)) c.in-Some.is in
@@ -31,8 +31,8 @@ returns-in-Some c =
 
 pub returns : goal.returns
 returns c =
-    let builds = builds_of c.args.builds.now in
-    let imports = map import_of c.args.imports.now in
+    let builds = builds_of c.args.over.builds.now in
+    let imports = map import_of c.args.over.imports.now in
     let name = string_bytes c.args.module_name in
     let item = c.args.item.now in
     let found : imported_build builds imports name ≡ Some (built_of c.in-Some.base.now) = ap (imported_build builds imports) (sym c.as_str.ensures.value) ∙ sym c.imported_build.ensures ∙ ap (option_map (λ b. built_of b.now)) c.in-Some.is in
