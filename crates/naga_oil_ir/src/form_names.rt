@@ -8,7 +8,7 @@ use super::form::Tested;
 use super::form_function::functions_are_named;
 use super::{Function, Module, Span};
 use std::alloc::{AllocError, Global};
-use std::collections::BTreeSet;
+use std::collections::HashSet;
 
 /// What stands between an item and the code of its module.
 const MODULE_MARK: &str = "X_naga_oil_mod_X";
@@ -59,7 +59,7 @@ fn are_distinct(names: Vec<String>, alloc: Global) -> Tested
     ensures { IfOk result (λ b. IsTrue b ↔ IsDistinct (pointwise nat_eq) (map string_bytes names.items)) }
 {
     let count = names.len();
-    let set: BTreeSet<String> = names.into_iter().collect(alloc)?;
+    let set: HashSet<String> = names.into_iter().collect(alloc)?;
     Ok(set.len() == count)
 }
 
