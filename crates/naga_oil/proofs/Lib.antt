@@ -36,3 +36,5 @@ pub mod FilledLemmas
 pub mod SplitLemmas
 pub mod FunctionsLemmas
 pub mod BuildingLemmas
+pub mod ByNameLemmas
+pub mod ReadLemmas

@@ -1,5 +1,5 @@
 -- What is linked of builds: names, builds by their names, and imports one after another.
-use Rattle.std.proofs.Common.{◌≡◌, ◌<◌, ◌≤◌, ◌*◌, ◌+◌, ◌++◌, ◌&&◌, ◌||◌, ℕ, List, [], ◌∷◌, map, drop, length, get_or, Bool, true, false, not, nat_lt, nat_eq, cond, if◌then◌else◌, Option, Some, None, MatchOption, Result, Ok, Err, IfOk, option_map, slice_get, position, refl, sym, ap, subst, ◌∙◌, String, Global, Vec, string_bytes, bytes_eq, arith}
+use Rattle.std.proofs.Common.{◌≡◌, ◌<◌, ◌≤◌, ◌*◌, ◌+◌, ◌++◌, ◌&&◌, ◌||◌, ℕ, List, [], ◌∷◌, map, drop, length, get_or, Bool, true, false, not, nat_lt, nat_eq, cond, if◌then◌else◌, Option, Some, None, MatchOption, Result, Ok, Err, IfOk, OnOk, option_map, slice_get, position, refl, sym, ap, subst, ◌∙◌, String, Global, Vec, string_bytes, bytes_eq, arith}
 use Rattle.std.proofs.lemmas.List.{drop_more, length-map}
 use Rattle.std.proofs.lemmas.Option.{slice_get-map}
 use Rattle.std.proofs.lemmas.Bool.Decides.{nat_tests}
@@ -21,7 +21,8 @@ use Rattle.naga_oil.specs.BuiltModule.{BuiltModule, Builds, built_of, builds_of}
 use Rattle.naga_oil.specs.Definition.{texts}
 use Rattle.naga_oil.specs.Linked.{Asked, asked_of, item_steps, link_steps, linked_value, placed_build, is_entered, with_place, entered_after, ImportsLinked, NotBuilt, Known, Entered, WholeLinked}
 use Rattle.naga_oil.specs.Relations.{GivesBy}
-use Rattle.naga_oil.specs.Steps.{Source, NoSource, Set, Left, Taken, AreTaken, OneStep}
+use Rattle.naga_oil.specs.Steps.{Source, Set, Left, Taken, AreTaken, OneStep}
+use Rattle.naga_oil.specs.Wanted.{source_steps}
 use Rattle.naga_oil.specs.declared.compose.link.Linker.{Linker}
 use Rattle.naga_oil.specs.declared.compose.module.ComposableModule.{ComposableModule}
 use Rattle.naga_oil.proofs.StepLemmas.{AreTaken-more}
@@ -67,11 +68,14 @@ build_missing es name at = ap (option_and_then (λ k. option_map (λ e. (k, e.1)
 
 -- ---- one build
 
--- a build whose source was set, whose items were linked, and whose source was left
-pub build_linked : (of_headers : Bool) (b : BuiltModule) (asked : Asked) (m : Module) (d e f g : Derived) → module_value m ≡ linked_value of_headers b → IsSet (value_of m) (b.index * 2097152) d e → KeepsItems d e → AreTaken (item_steps b (module_value m) asked) e f → g ≡ cleared f → AreTaken (link_steps of_headers b asked) d g
+-- a module of a build whose source was set, whose items were linked, and whose source was left
+pub source_linked : (b : BuiltModule) (asked : Asked) (m : Module) (d e f g : Derived) → IsSet (value_of m) (b.index * 2097152) d e → KeepsItems d e → AreTaken (item_steps b (module_value m) asked) e f → g ≡ cleared f → AreTaken (source_steps b (module_value m) asked) d g
 unfolding value_of
-build_linked of_headers b asked m d e f g same set keeps items left =
-    subst (λ (v : ModuleValue). AreTaken (Source v (b.index * 2097152) ∷ (item_steps b v asked ++ NoSource ∷ [])) d g) same (OneStep (Set set keeps) (AreTaken-more items (Left left)))
+source_linked b asked m d e f g set keeps items left = OneStep (Set set keeps) (AreTaken-more items (Left left))
+
+-- it is the one that is linked of the build
+pub build_linked : {T E : Type 0} (r : Result T E) (b : BuiltModule) (asked : Asked) (v : ModuleValue) (d e : Derived) (of_headers is_header : Bool) → of_headers ≡ is_header → v ≡ linked_value is_header b → OnOk r (AreTaken (source_steps b v asked) d e) → OnOk r (AreTaken (link_steps of_headers b asked) d e)
+build_linked r b asked v d e of_headers is_header is same h = subst (λ (w : ModuleValue). OnOk r (AreTaken (source_steps b w asked) d e)) (same ∙ ap (λ x. linked_value x b) (sym is)) h
 
 -- ---- places descended into
 

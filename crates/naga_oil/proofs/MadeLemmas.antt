@@ -31,7 +31,7 @@ reading_on Q F G e (Err o) h g j = subst (λ z. UnreadFor G z) (sym j) (go e g)
     go (missing.ComposerError c) k = refusal_weaker c (λ r. F (refused r)) (λ r. G (there r)) (λ r. h (refused r)) k
 
 -- a fault of the text
-pub reading_here : (Q : Unit {0} → Type 0) (F : Fault → Type 0) (G : Unread → Type 0) (inner : ComposerErrorInner) (y : Result (Unit {0}) ReadFault) → ((f : Fault) → F f → G (here f)) → MatchOption (fault_of inner) (Unit {0}) F → IsErrAnd y (λ o. o ≡ reading.Here inner) → Reading Q G y
+pub reading_here : {X : Type 0} (Q : X → Type 0) (F : Fault → Type 0) (G : Unread → Type 0) (inner : ComposerErrorInner) (y : Result X ReadFault) → ((f : Fault) → F f → G (here f)) → MatchOption (fault_of inner) (Unit {0}) F → IsErrAnd y (λ o. o ≡ reading.Here inner) → Reading Q G y
 reading_here Q F G inner (Ok y) h g j = absurd j
 reading_here Q F G inner (Err o) h g j = subst (λ z. UnreadFor G z) (sym j) (go (fault_of inner) g)
   where

@@ -103,7 +103,7 @@ all_texts : (k : String Global) (ks : List (String Global)) → AllByRecursion (
 all_texts k [] h = tt
 all_texts k (l ∷ ks) h = (h.0, all_texts k ks h.1)
 
-sorted_texts : (ks : List (String Global)) → IsStrictlySortedBy string_cmp ks → IsStrictlySortedBy (slice_cmp nat_cmp) (texts ks)
+pub sorted_texts : (ks : List (String Global)) → IsStrictlySortedBy string_cmp ks → IsStrictlySortedBy (slice_cmp nat_cmp) (texts ks)
 unfolding IsStrictlySortedBy
 sorted_texts [] h = tt
 sorted_texts (k ∷ ks) h = (all_texts k ks h.0, sorted_texts ks h.1)
@@ -125,10 +125,10 @@ found-records : (cleaned : List ℕ) (directives : Directives) (r : Result Found
 found-records cleaned directives (Ok found) = refl
 found-records cleaned directives (Err f) = tt
 
-behind-records : (r : Result (List ℕ × Directives) Fault) → RecordsOwn (metadata_behind false r)
-behind-records (Ok r) = found-records r.0 r.1 (found_in false nothing_found 0 (source_lines r.0))
-behind-records (Err f) = tt
+behind-records : (allow_defines : Bool) (r : Result (List ℕ × Directives) Fault) → RecordsOwn (metadata_behind allow_defines r)
+behind-records allow_defines (Ok r) = found-records r.0 r.1 (found_in allow_defines nothing_found 0 (source_lines r.0))
+behind-records allow_defines (Err f) = tt
 
-pub records-cleaned : (text : List ℕ) (m : Metadata) → metadata false text ≡ Ok m → m.records ≡ is_recorded m.cleaned
+pub records-cleaned : (allow_defines : Bool) (text : List ℕ) (m : Metadata) → metadata allow_defines text ≡ Ok m → m.records ≡ is_recorded m.cleaned
 unfolding metadata
-records-cleaned text m e = subst RecordsOwn e (behind-records (extracted text))
+records-cleaned allow_defines text m e = subst RecordsOwn e (behind-records allow_defines (extracted text))

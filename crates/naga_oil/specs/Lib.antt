@@ -28,6 +28,8 @@ pub mod Validated
 pub mod Owned
 pub mod Places
 pub mod Linked
+pub mod ByName
+pub mod Wanted
 pub mod WritebackView
 pub mod Overriding
 pub mod Formed
@@ -41,3 +43,5 @@ pub mod Virtuals
 pub mod Filled
 pub mod OwnedRows
 pub mod Building
+pub mod Read
+pub mod Whole

@@ -1,5 +1,6 @@
 -- What commands do, one after another.
 use Rattle.std.specs.Prelude.{◌≡◌, List, [], ◌∷◌}
+use Rattle.naga_oil_ir.specs.Backend.{FrontEnd}
 use Rattle.naga_oil.specs.Descriptor.{module_source, shader_source}
 use Rattle.naga_oil.specs.State.{State, Adds, Removes}
 use Rattle.naga_oil.specs.Makes.{Makes}
@@ -9,20 +10,20 @@ use Rattle.naga_oil.specs.declared.compose.command.Reply.{Reply}
 use Rattle.naga_oil.specs.declared.compose.command.Reply.TheVariants.{Added, Removed, Made}
 
 -- a reply is of the command's kind, and says what it did
-abbrev pub Answered : {B : Type 0} → State B → Command → Reply → State B → Type 0
-Answered old (Add d) (Added r) new = Adds (λ i. i) (λ d. d.index) old (module_source d) r new
-Answered old (Add d) (Removed r) new = ⊥
-Answered old (Add d) (Made r) new = ⊥
-Answered old (Remove name) (Added r) new = ⊥
-Answered old (Remove name) (Removed r) new = Removes old name.now r new
-Answered old (Remove name) (Made r) new = ⊥
-Answered old (Make d) (Added r) new = ⊥
-Answered old (Make d) (Removed r) new = ⊥
-Answered old (Make d) (Made r) new = Makes old (shader_source d) r new
+abbrev pub Answered : {B : Type 0} → (front : B → FrontEnd) → State B → Command → Reply → State B → Type 0
+Answered front old (Add d) (Added r) new = Adds (λ i. i) (λ d. d.index) old (module_source d) r new
+Answered front old (Add d) (Removed r) new = ⊥
+Answered front old (Add d) (Made r) new = ⊥
+Answered front old (Remove name) (Added r) new = ⊥
+Answered front old (Remove name) (Removed r) new = Removes old name.now r new
+Answered front old (Remove name) (Made r) new = ⊥
+Answered front old (Make d) (Added r) new = ⊥
+Answered front old (Make d) (Removed r) new = ⊥
+Answered front old (Make d) (Made r) new = Makes front old (shader_source d) r new
 
 -- there is a reply to each command, done after the ones before it
-abbrev pub Ran : {B : Type 0} → State B → List Command → List Reply → State B → Type 0
-Ran old [] [] new = new ≡ old
-Ran old [] (r ∷ rs) new = ⊥
-Ran old (c ∷ cs) [] new = ⊥
-Ran {B} old (c ∷ cs) (r ∷ rs) new = (mid : State B) × Answered old c r mid × Ran mid cs rs new
+abbrev pub Ran : {B : Type 0} → (front : B → FrontEnd) → State B → List Command → List Reply → State B → Type 0
+Ran front old [] [] new = new ≡ old
+Ran front old [] (r ∷ rs) new = ⊥
+Ran front old (c ∷ cs) [] new = ⊥
+Ran {B} front old (c ∷ cs) (r ∷ rs) new = (mid : State B) × Answered front old c r mid × Ran front mid cs rs new

@@ -14,6 +14,7 @@
 //! - `report`: what an error is told as.
 mod adding;
 mod build;
+mod by_name;
 mod command;
 mod composer;
 mod copied;
@@ -44,7 +45,7 @@ pub use descriptor::{
     ComposableModuleDescriptor, NagaModuleDescriptor, OwnedShaderDefs, ShaderType,
 };
 pub use error::{ComposerError, ComposerErrorInner, EnsureImportsError, ErrSource};
-use formed::FormedModule;
+use formed::{FormedModule, Header};
 use indexmap::IndexMap;
 use link::{Builds, Linker};
 use marked::{Marked, Over};
@@ -55,8 +56,8 @@ pub use naga_oil_ir::{
     backend,
 };
 use naga_oil_ir::{
-    Arena, Constant, EntryPoint, Function, FunctionArgument, FunctionResult, GlobalVariable, Index,
-    ItemPlace, Module, Override, Span, StructMember, Type, TypeInner, UniqueArena,
+    Arena, Constant, EntryPoint, Function, FunctionArgument, FunctionResult, GlobalVariable,
+    Handle, Index, ItemPlace, Module, Override, Span, StructMember, Type, TypeInner, UniqueArena,
 };
 pub use naga_oil_lines::decorate::{decode, decorated_name, undecorate};
 use naga_oil_lines::decorate::{DECORATION_OVERRIDE_PRE, DECORATION_POST, DECORATION_PRE};

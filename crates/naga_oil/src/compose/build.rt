@@ -119,7 +119,7 @@ impl ComposableModule {
             virtual_functions: Names::new(alloc),
             override_functions: Overrides::new(alloc),
             module_ir: FormedModule::nothing(alloc),
-            header_ir: FormedModule::nothing(alloc),
+            header_ir: Header::nothing(alloc),
             start_offset: 0,
             index,
         }

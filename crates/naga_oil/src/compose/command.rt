@@ -2,11 +2,7 @@
 ghost use Rattle.std.specs.Prelude.{◌≡◌, IfOk, OnErr};
 ghost use Rattle.naga_oil.specs.Ran.{Answered, Ran};
 
-use crate::compose::composer::Composer;
-use crate::compose::descriptor::{ComposableModuleDescriptor, NagaModuleDescriptor};
-use crate::compose::error::ComposerError;
-use naga_oil_ir::{Backend, Module};
-use std::alloc::AllocError;
+use super::*;
 
 /// What is asked of a composer.
 #[derive(Drop)]
@@ -21,13 +17,13 @@ pub enum Command<'a> {
 #[derive(Drop)]
 pub enum Reply {
     /// The index of the module that was added.
-    Added(Result<usize, ComposerError>),
-    Removed(Result<(), AllocError>),
-    Made(Result<Module, ComposerError>),
+    Added(Told<usize>),
+    Removed(Tried),
+    Made(Told<Module>),
 }
 
 fn answered<B: Backend>(composer: &mut Composer<B>, command: Command<'_>) -> Reply
-    ensures { Answered composer.old command.entry result composer.new }
+    ensures { Answered B.front composer.old command.entry result composer.new }
 {
     match command {
         Command::Add(desc) => Reply::Added(composer.added(desc)),
@@ -38,11 +34,8 @@ fn answered<B: Backend>(composer: &mut Composer<B>, command: Command<'_>) -> Rep
 
 /// Does what commands ask for, one after another, and gives a reply to each. It makes room for the replies first: where there
 /// is none, nothing is done.
-pub fn run<B: Backend>(
-    composer: &mut Composer<B>,
-    commands: Vec<Command<'_>>,
-) -> Result<Vec<Reply>, AllocError>
-    ensures ran { IfOk result (λ replies. Ran composer.old commands.entry.items replies.items composer.new) }
+pub fn run<B: Backend>(composer: &mut Composer<B>, commands: Vec<Command<'_>>) -> Tried<Vec<Reply>>
+    ensures ran { IfOk result (λ replies. Ran B.front composer.old commands.entry.items replies.items composer.new) }
     ensures refused { OnErr result (composer.new ≡ composer.old) }
 {
     let mut replies = Vec::with_capacity(composer.alloc(), commands.len())?;

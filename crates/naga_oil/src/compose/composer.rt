@@ -4,17 +4,11 @@ ghost use Rattle.std.specs.Borrow.{sem};
 ghost use Rattle.std.specs.Io.BufRead.{Rests};
 ghost use Rattle.naga_oil.specs.Definition.{definition_of};
 
-use crate::compose::adding::{describe, register};
-use crate::compose::build::Maker;
-use crate::compose::definition::{ComposableModuleDefinition, Defs, Tried};
-use crate::compose::descriptor::{ComposableModuleDescriptor, NagaModuleDescriptor};
-use crate::compose::error::{ComposerError, refused};
-use crate::compose::link::Builds;
-use crate::compose::registry::remove;
-use crate::compose::sanitize::read_source;
-use naga_oil_ir::{Backend, Capabilities, Module};
-use naga_oil_lines::decorate::decorated_name;
-use std::alloc::Global;
+use super::adding::{describe, register};
+use super::error::refused;
+use super::registry::remove;
+use super::sanitize::read_source;
+use super::*;
 use std::marker::Model;
 
 /// Modules, each under its name, over a front end.
@@ -25,7 +19,7 @@ pub struct Composer<B: Backend> {
     validate: bool,
     capabilities: Capabilities,
     // The newest first.
-    modules: Vec<ComposableModuleDefinition>,
+    modules: Vec<Definition>,
     // The number of the next binding.
     counter: u32,
 }
@@ -150,7 +144,7 @@ impl<B: Backend> Composer<B> {
 
     /// Removes a module, and with it all that reach it by imports. Where it isn't registered nothing changes, and no memory is
     /// taken.
-    pub fn remove_composable_module(&mut self, module_name: &str) -> Tried<()>
+    pub fn remove_composable_module(&mut self, module_name: &str) -> Tried
         ensures { Removes self.old module_name.now result self.new }
     {
         if !self.contains_module(module_name) {
@@ -160,15 +154,10 @@ impl<B: Backend> Composer<B> {
     }
 
     // Adds a module, and answers its index.
-    pub(crate) fn added(
-        &mut self,
-        desc: ComposableModuleDescriptor<'_>,
-    ) -> Result<usize, ComposerError>
+    pub(crate) fn added(&mut self, desc: ComposableModuleDescriptor<'_>) -> Told<usize>
         ensures { Adds (λ i. i) (λ d. d.index) self.old (module_source desc.entry) result self.new }
     {
-        let alloc = self.alloc;
-        let path = desc.file_path;
-        let source = desc.source;
+        let (alloc, path, source) = (self.alloc, desc.file_path, desc.source);
         let (text, counter) = match read_source(alloc, source, self.counter) {
             Ok(read) => read,
             Err(inner) => return Err(refused(alloc, inner, path, source, 0)),
@@ -199,17 +188,16 @@ impl<B: Backend> Composer<B> {
         self.newest(added)
     }
 
-    /// Makes one shader out of a text and the registered modules that it imports.
+    /// Makes one shader out of a text and the registered modules that it imports: the text is read under the definitions that
+    /// are given and its own, and again under those of what it imports; what it imports is built, each module once and behind
+    /// what it imports itself; the shader is built over that, linked, and validated where that is asked for.
     ///
     /// # Errors
     /// The first fault, in this order: a mark of a decoration, no number left for a binding, the text's own, an import that
     /// isn't registered, definitions that differ, what is wrong with a module that is imported, with the text, with what
     /// overrides functions, and with the whole; or `Memory`. Whether refused or not, it changes the counter alone.
-    pub fn make_naga_module(
-        &mut self,
-        desc: NagaModuleDescriptor<'_>,
-    ) -> Result<Module, ComposerError>
-        ensures { Makes self.old (shader_source desc.entry) result self.new }
+    pub fn make_naga_module(&mut self, desc: NagaModuleDescriptor<'_>) -> Told<Module>
+        ensures { Makes B.front self.old (shader_source desc.entry) result self.new }
     {
         let alloc = self.alloc;
         let (text, next) = match read_source(alloc, desc.source, self.counter) {
@@ -229,10 +217,7 @@ impl<B: Backend> Composer<B> {
     }
 
     // The module that was added last, or why none was.
-    fn newest(
-        &self,
-        added: Result<usize, ComposerError>,
-    ) -> Result<&ComposableModuleDefinition, ComposerError>
+    fn newest(&self, added: Told<usize>) -> Told<&Definition>
         requires { OnOk added (0 < length self.now.registry) }
         ensures { MatchResult result (λ d. IsOk added × (slice_get self.now.registry 0 ≡ Some (definition_of d.now))) (λ e. added ≡ Err e) }
     {

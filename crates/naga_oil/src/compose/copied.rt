@@ -10,25 +10,19 @@ ghost use Rattle.naga_oil_lines.specs.DirectivesText.{in_order};
 ghost use Rattle.naga_oil_pre.specs.Recorded.{is_among};
 ghost use Rattle.naga_oil_derive.specs.DerivedEntries.{CanCopyEntries};
 ghost use Rattle.naga_oil.specs.BuiltModule.{built_of};
-ghost use Rattle.naga_oil.specs.CopiedSteps.{special_names, own_type_at, own_types, owning_types, owns_named, owns_function, item_steps, type_in_module, type_in_header, in_module, in_header, copy_step, stub_steps, module_steps, header_steps, IsFilled, IsUnfilled, IsFinished, IsUnfinished, IsCopied, IsUncopied};
+ghost use Rattle.naga_oil.specs.CopiedSteps.{special_names, own_type_at, own_types, owning_types, owns_function, item_steps, type_in_module, type_in_header, in_module, in_header, copy_step, stub_steps, module_steps, header_steps, IsFilled, IsUnfilled, IsFinished, IsUnfinished, IsCopied, IsUncopied};
 ghost use Rattle.naga_oil.specs.CopySources.{CopiesFrom, IsFunctionOf, stub_of};
 ghost use Rattle.naga_oil.specs.Definition.{texts};
 ghost use Rattle.naga_oil.specs.Owned.{has_mark};
-ghost use Rattle.naga_oil.specs.Places.{name_at, places_of};
+ghost use Rattle.naga_oil.specs.Places.{places_of};
 ghost use Rattle.naga_oil.specs.Relations.{GivesBy};
 ghost use Rattle.naga_oil.specs.Steps.{Source as source_step, AreTaken};
 
-use crate::compose::definition::{Checked, Names, Tried};
-use crate::compose::formed::FormedModule;
-use crate::compose::items::{has_mark, import_item, name_at, named, note, places_of};
-use crate::compose::module::ComposableModule;
-use indexmap::IndexMap;
+use super::items::{has_mark, import_item, name_at, named, note, places_of};
+use super::*;
+use naga_oil_derive::copied_name;
 use naga_oil_derive::special::special_entries;
-use naga_oil_derive::{DerivedModule, copied_name};
-use naga_oil_ir::{
-    Arena, Block, Function, FunctionArgument, Handle, ItemPlace, Module, Span, Type,
-};
-use std::alloc::Global;
+use naga_oil_ir::Block;
 
 // The names of the special types.
 fn special_names(alloc: Global, of: &Module) -> Tried<Names>
@@ -54,7 +48,7 @@ fn own_type(
     source: &Module,
     special: &Names,
     handle: Handle<Type>,
-    built: &mut ComposableModule,
+    built: &mut Build,
     alloc: Global,
 ) -> Tried<Option<String>>
     requires { texts special.now.keys ≡ in_order (special_names (module_value source.now)) }
@@ -72,18 +66,24 @@ fn own_type(
     Ok(Some(name))
 }
 
-// Whether a constant, override or global is owned.
-fn is_own(source: &Module, place: &ItemPlace, built: &ComposableModule) -> bool
-    ensures { result ≡ owns_named (built_of built.now) place.now (name_at (module_value source.now) place.now) }
+/// Copies an item, if it is owned.
+pub(crate) fn copy_own(into: &mut DerivedModule, of: &Build, from: &Module, at: &ItemPlace) -> Tried
+    requires there { IsThere from.now at.now }
+    requires source { CopiesFrom from.now into.old }
+    ensures source { CopiesFrom from.now into.new }
+    ensures taken { OnOk result (AreTaken (item_steps (module_value from.now) (built_of of.now) at.now) into.old into.new) }
 {
-    match name_at(source, *place) {
-        Some(name) => built.owns(*place, name),
-        None => false,
+    let Some(name) = name_at(from, *at) else {
+        return Ok(());
+    };
+    if !of.owns(*at, name) {
+        return Ok(());
     }
+    import_item(into, *at)
 }
 
-// Whether a function is owned.
-fn is_own_function(function: &Function, built: &ComposableModule) -> bool
+/// Whether a function is owned.
+pub(crate) fn is_own_function(function: &Function, built: &Build) -> bool
     ensures { result ≡ owns_function (built_of built.now) (function_value function.now).name }
 {
     match named(&function.name) {
@@ -144,7 +144,7 @@ struct Copying<'m> {
 
 impl<'m> Copying<'m> {
     // Copies a type into both under its decorated name.
-    fn copy_own_type(&mut self, source: &Module, handle: Handle<Type>, name: String) -> Tried<()>
+    fn copy_own_type(&mut self, source: &Module, handle: Handle<Type>, name: String) -> Tried
         requires there { IsThere source.now (ItemPlace.TypeItem handle) }
         requires module { CopiesFrom source.now self.old.module_ }
         requires header { CopiesFrom source.now self.old.header }
@@ -164,8 +164,8 @@ impl<'m> Copying<'m> {
         source: &Module,
         special: &Names,
         handle: Handle<Type>,
-        built: &mut ComposableModule,
-    ) -> Tried<()>
+        built: &mut Build,
+    ) -> Tried
         requires special { texts special.now.keys ≡ in_order (special_names (module_value source.now)) }
         requires there { IsThere source.now (ItemPlace.TypeItem handle) }
         requires module { CopiesFrom source.now self.old.module_ }
@@ -182,36 +182,14 @@ impl<'m> Copying<'m> {
         }
     }
 
-    // Copies another item into both, if it is owned.
-    fn copy_other(
-        &mut self,
-        source: &Module,
-        place: &ItemPlace,
-        built: &ComposableModule,
-    ) -> Tried<()>
-        requires there { IsThere source.now place.now }
-        requires module { CopiesFrom source.now self.old.module_ }
-        requires header { CopiesFrom source.now self.old.header }
-        ensures module { CopiesFrom source.now self.new.module_ }
-        ensures header { CopiesFrom source.now self.new.header }
-        ensures module_steps { OnOk result (AreTaken (item_steps (module_value source.now) (built_of built.now) place.now) self.old.module_ self.new.module_) }
-        ensures header_steps { OnOk result (AreTaken (item_steps (module_value source.now) (built_of built.now) place.now) self.old.header self.new.header) }
-    {
-        if !is_own(source, place, built) {
-            return Ok(());
-        }
-        import_item(&mut self.header, *place)?;
-        import_item(&mut self.module_, *place)
-    }
-
     // Copies a type, or another item that is owned.
     fn copy_item(
         &mut self,
         source: &Module,
         special: &Names,
         place: &ItemPlace,
-        built: &mut ComposableModule,
-    ) -> Tried<()>
+        built: &mut Build,
+    ) -> Tried
         requires special { texts special.now.keys ≡ in_order (special_names (module_value source.now)) }
         requires there { IsThere source.now place.now }
         requires module { CopiesFrom source.now self.old.module_ }
@@ -224,17 +202,15 @@ impl<'m> Copying<'m> {
     {
         match place {
             ItemPlace::TypeItem(handle) => self.copy_type(source, special, *handle, built),
-            _ => self.copy_other(source, place, built),
+            _ => {
+                copy_own(&mut self.header, built, source, place)?;
+                copy_own(&mut self.module_, built, source, place)
+            }
         }
     }
 
     // Copies all types, and the constants, overrides and globals that are owned.
-    fn copy_items(
-        &mut self,
-        source: &Module,
-        special: &Names,
-        built: &mut ComposableModule,
-    ) -> Tried<()>
+    fn copy_items(&mut self, source: &Module, special: &Names, built: &mut Build) -> Tried
         requires special { texts special.now.keys ≡ in_order (special_names (module_value source.now)) }
         requires module { CopiesFrom source.now self.old.module_ }
         requires header { CopiesFrom source.now self.old.header }
@@ -252,12 +228,7 @@ impl<'m> Copying<'m> {
     }
 
     // Copies a function without its body into the header, if it is owned.
-    fn copy_stub(
-        &mut self,
-        source: &Module,
-        item: &(Function, Span),
-        built: &ComposableModule,
-    ) -> Tried<()>
+    fn copy_stub(&mut self, source: &Module, item: &(Function, Span), built: &Build) -> Tried
         requires function { IsFunctionOf source.now item.now }
         requires header { CopiesFrom source.now self.old.header }
         ensures header { CopiesFrom source.now self.new.header }
@@ -274,12 +245,7 @@ impl<'m> Copying<'m> {
     }
 
     // Copies a function, into the header too, without its body, if it is owned.
-    fn copy_function(
-        &mut self,
-        source: &Module,
-        item: &(Function, Span),
-        built: &ComposableModule,
-    ) -> Tried<()>
+    fn copy_function(&mut self, source: &Module, item: &(Function, Span), built: &Build) -> Tried
         requires function { IsFunctionOf source.now item.now }
         requires module { CopiesFrom source.now self.old.module_ }
         requires header { CopiesFrom source.now self.old.header }
@@ -294,7 +260,7 @@ impl<'m> Copying<'m> {
     }
 
     // Copies all functions, those that are owned without their bodies into the header.
-    fn copy_functions(&mut self, source: &Module, built: &ComposableModule) -> Tried<()>
+    fn copy_functions(&mut self, source: &Module, built: &Build) -> Tried
         requires module { CopiesFrom source.now self.old.module_ }
         requires header { CopiesFrom source.now self.old.header }
         ensures module { OnOk result (CopiesFrom source.now self.new.module_) }
@@ -308,7 +274,7 @@ impl<'m> Copying<'m> {
     }
 
     // Sets the source of both.
-    fn set_source(&mut self, source: &'m Module) -> Tried<()>
+    fn set_source(&mut self, source: &'m Module) -> Tried
         requires { WellFormed source.now [] 4294967295 }
         ensures module { OnOk result (CopiesFrom source.now self.new.module_) }
         ensures header { OnOk result (CopiesFrom source.now self.new.header) }
@@ -321,12 +287,7 @@ impl<'m> Copying<'m> {
     }
 
     // Copies all types and functions, and the constants, overrides and globals that are owned.
-    fn copy_all(
-        &mut self,
-        source: &'m Module,
-        special: &Names,
-        built: &mut ComposableModule,
-    ) -> Tried<()>
+    fn copy_all(&mut self, source: &'m Module, special: &Names, built: &mut Build) -> Tried
         requires special { texts special.now.keys ≡ in_order (special_names (module_value source.now)) }
         requires form { WellFormed source.now [] 4294967295 }
         ensures module { OnOk result (CopiesFrom source.now self.new.module_) }
@@ -341,7 +302,7 @@ impl<'m> Copying<'m> {
 }
 
 // The module that was copied, with the entry points of its source. Says whether there are special types.
-fn fill(alloc: Global, whole: DerivedModule<'_>, built: &mut ComposableModule) -> Checked<bool>
+fn fill(alloc: Global, whole: DerivedModule<'_>, built: &mut Build) -> Checked<bool>
     requires set { IsSome whole.source }
     requires entries { CanCopyEntries whole }
     ensures { GivesBy (IsFilled whole.entry (built_of built.old) (built_of built.new)) (IsUnfilled whole.entry) result }
@@ -352,24 +313,20 @@ fn fill(alloc: Global, whole: DerivedModule<'_>, built: &mut ComposableModule) -
 }
 
 // What was copied. Says whether there are special types.
-fn finish(copying: Copying<'_>, built: &mut ComposableModule) -> Checked<bool>
+fn finish(copying: Copying<'_>, built: &mut Build) -> Checked<bool>
     requires set { IsSome copying.module_.source }
     requires entries { CanCopyEntries copying.module_ }
     ensures { GivesBy (IsFinished copying.entry.module_ copying.entry.header (built_of built.old) (built_of built.new)) (IsUnfinished copying.entry.module_ copying.entry.header) result }
 {
     #[rattlefmt::skip]
     let Copying { alloc, module_, header } = copying;
-    built.header_ir = FormedModule::new(alloc, Module::from(header))?;
+    built.header_ir = Header::new(alloc, Module::from(header))?;
     fill(alloc, module_, built)
 }
 
 /// Copies all types and functions, and of the other items those that are owned. The names of owned types are decorated. Says
 /// whether there are special types.
-pub(crate) fn copy_parsed(
-    alloc: Global,
-    source: &Module,
-    built: &mut ComposableModule,
-) -> Checked<bool>
+pub(crate) fn copy_parsed(alloc: Global, source: &Module, built: &mut Build) -> Checked<bool>
     requires { WellFormed source.now [] 4294967295 }
     ensures { GivesBy (IsCopied (module_value source.now) (built_of built.old) (built_of built.new)) (IsUncopied (module_value source.now) (built_of built.old)) result }
 {

@@ -277,6 +277,9 @@ fn demote_all(
     ensures functions { OnOk result (function_values functions.new ≡ function_values functions.old ++ flat_map (demoted decoration.now (function_names (function_values functions.old))) (map entry_value entry_points.items)) }
     ensures owned { OnOk result (texts owned.new.keys ≡ fold with_name (texts owned.old.keys) (function_names (flat_map (demoted decoration.now (function_names (function_values functions.old))) (map entry_value entry_points.items)))) }
 {
+    if entry_points.is_empty() {
+        return Ok(());
+    }
     let names = function_names(alloc, functions)?;
     for entry_point in entry_points {
         demote_one(alloc, entry_point, decoration, &names, functions, owned)?;

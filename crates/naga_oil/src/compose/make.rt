@@ -4,6 +4,8 @@ ghost use Rattle.naga_oil_ir.specs.Backend.{labels, valid_fault};
 ghost use Rattle.naga_oil_ir.specs.ModuleValue.{ModuleValue, EntryValue, entry_value, module_value};
 ghost use Rattle.naga_oil_lines.specs.Uses.{use_of};
 ghost use Rattle.naga_oil_pre.specs.Fault.{import_not_found};
+ghost use Rattle.naga_oil_pre.specs.KnownView.{output_of};
+ghost use Rattle.naga_oil_pre.specs.Metadata.{metadata};
 ghost use Rattle.naga_oil_pre.specs.MetadataView.{metadata_of};
 ghost use Rattle.naga_oil_pre.specs.View.{Gives, Fails};
 ghost use Rattle.naga_oil.specs.Afresh.{setting_of, Unless, UnlessBuilt, EachReached, Reached, Unreached};
@@ -16,27 +18,19 @@ ghost use Rattle.naga_oil.specs.Descriptor.{shader_source};
 ghost use Rattle.naga_oil.specs.Linked.{WholeLinked};
 ghost use Rattle.naga_oil.specs.Made.{Reading, OneUnread, any_use, may_use};
 ghost use Rattle.naga_oil.specs.Merging.{shader_definition, imported, agrees, joined, joined_over, are_among};
+ghost use Rattle.naga_oil.specs.Read.{IsShader, FirstRead, NotFirstRead, SecondRead, NotSecondRead, IsRead, IsUnread};
 ghost use Rattle.naga_oil.specs.Refused.{Answers, Tells};
 ghost use Rattle.naga_oil.specs.Relations.{GivesBy, AnswersBy};
 ghost use Rattle.naga_oil.specs.Shader.{IsChained, IsUnchained, ShaderLinked, ShaderRefused, ShaderAnswers};
 ghost use Rattle.naga_oil.specs.Validated.{last_index, invalid_shader, validated};
+ghost use Rattle.naga_oil.specs.Whole.{IsToldFor, FinishAnswers, MakeAnswers};
 
-use crate::compose::build::{Maker, answered};
-use crate::compose::definition::{Checked, Definition, Defs, Names, Overrides, Tried};
-use crate::compose::descriptor::{NagaModuleDescriptor, ShaderType};
-use crate::compose::error::{ComposerError, EnsureImportsError, refused, refused_in};
-use crate::compose::formed::redirectable;
-use crate::compose::link::{Builds, Linker};
-use crate::compose::merge::{clone_imports, overwrite};
-use crate::compose::module::ComposableModule;
+use super::build::answered;
+use super::error::{refused, refused_in};
+use super::formed::redirectable;
+use super::merge::{clone_imports, overwrite};
+use super::*;
 use naga_oil_derive::Redirector;
-use naga_oil_ir::{Backend, EntryPoint, Module, ShaderLanguage, ValidFault};
-use naga_oil_lines::ImportDefWithOffset;
-use naga_oil_pre::{
-    ComposerErrorInner as Inner, PreprocessOutput, Preprocessor, PreprocessorMetaData,
-    ShaderDefValue,
-};
-use std::alloc::{AllocError, Global};
 
 // Why a shader isn't read: a fault of its text as it was given to be read, or of what it imports.
 #[derive(Drop)]
@@ -57,6 +51,12 @@ impl From<Inner> for ReadFault {
 }
 
 impl From<AllocError> for ReadFault {
+    ghost use Rattle.std.specs.Prelude.{◌≡◌};
+    ghost use Rattle.naga_oil_pre.specs.declared.fault.ComposerErrorInner.TheVariants as code;
+    ghost use Rattle.naga_oil.specs.declared.compose.make.ReadFault.TheVariants as reading;
+
+    ghost from_gives = { λ error result. result ≡ reading.Here code.Memory };
+
     fn from(error: AllocError) -> ReadFault {
         ReadFault::Here(Inner::from(error))
     }
@@ -100,8 +100,18 @@ fn shader_of(
     })
 }
 
+// What a shader's text says, as a module of no index and no name.
+fn described(alloc: Global, desc: &NagaModuleDescriptor<'_>, text: &str) -> Checked<Definition>
+    ensures { GivesBy (λ d. IsShader (shader_source desc.now) text.now (definition_of d)) (λ f. metadata true text.now ≡ Err f) result }
+{
+    let metadata = Preprocessor.get_preprocessor_metadata(alloc, text, true)?;
+    // A map's and a set's length tell that their names are in order.
+    let _lengths = (metadata.defines.len(), metadata.effective_defs.len());
+    Ok(shader_of(alloc, desc, metadata)?)
+}
+
 // The module that is imported.
-fn imported<'c>(import: &ImportDefWithOffset, modules: &'c [Definition]) -> Checked<&'c Definition>
+fn imported<'c>(import: &Use, modules: &'c [Definition]) -> Checked<&'c Definition>
     ensures { Gives (λ d. definition_of d.now) result (imported (map definition_of modules.now) (use_of import.now)) }
 {
     let name = &import.definition().import;
@@ -122,7 +132,7 @@ fn agrees(known: Option<ShaderDefValue>, value: ShaderDefValue) -> bool
 }
 
 // Adds definitions, which may not say another value of a name.
-fn add_consistent(defs: &mut Defs, others: &Defs) -> Checked<()>
+fn add_consistent(defs: &mut Defs, others: &Defs) -> Checked
     ensures { GivesBy (λ done. joined (defs_of defs.old) (defs_of others.now) ≡ Ok (defs_of defs.new)) (λ f. joined (defs_of defs.old) (defs_of others.now) ≡ Err f) result }
 {
     for (name, value) in others {
@@ -135,7 +145,7 @@ fn add_consistent(defs: &mut Defs, others: &Defs) -> Checked<()>
 }
 
 // Adds the definitions of what is imported, which all has to be registered.
-fn merge(defs: &mut Defs, imports: &[ImportDefWithOffset], modules: &[Definition]) -> Checked<()>
+fn merge(defs: &mut Defs, imports: &[Use], modules: &[Definition]) -> Checked
     ensures { let value = joined_over (map definition_of modules.now) (defs_of defs.old) (map use_of imports.now) in GivesBy (λ done. value ≡ Ok (defs_of defs.new)) (λ f. value ≡ Err f) result }
 {
     for import in imports {
@@ -158,7 +168,7 @@ fn are_among(defs: &Defs, others: &Defs) -> bool
 }
 
 // Whether the second reading may import a module: one that is registered, with its definitions among these.
-fn may_use(import: &ImportDefWithOffset, modules: &[Definition], defs: &Defs) -> Checked<()>
+fn may_use(import: &Use, modules: &[Definition], defs: &Defs) -> Checked
     ensures { GivesBy
         (λ _. may_use (map definition_of modules.now) (defs_of defs.now) (use_of import.now) ≡ true)
         (λ f. (may_use (map definition_of modules.now) (defs_of defs.now) (use_of import.now) ≡ false) × (f ≡ import_not_found (use_of import.now).import.import (use_of import.now).offset))
@@ -181,7 +191,7 @@ fn last_index(fault: &ValidFault) -> usize
 }
 
 // The build of an index, with its name.
-fn build_at(builds: &Builds, index: usize) -> Option<(&str, &ComposableModule)>
+fn build_at(builds: &Builds, index: usize) -> Option<(&str, &Build)>
     ensures { option_map (λ b. (b.0.now, built_of b.1.now)) result ≡ find (λ b. b.1.index == index) (builds_of builds.now) }
 {
     for (name, build) in builds.iter() {
@@ -198,7 +208,7 @@ fn send_down(
     redirector: &mut Redirector,
     base: &String,
     others: &[String],
-) -> Checked<()>
+) -> Checked
     ensures { let value = sent_down redirector.old (string_bytes base.now) (texts others.now) [] in GivesBy (λ done. value ≡ Ok redirector.new) (λ f. value ≡ Err f) result }
 {
     let mut omit = Names::new(alloc);
@@ -212,7 +222,7 @@ fn send_down(
 }
 
 // Sends the calls of each function that is overridden down those that override it.
-fn send_all_down(alloc: Global, redirector: &mut Redirector, all: &Overrides) -> Checked<()>
+fn send_all_down(alloc: Global, redirector: &mut Redirector, all: &Overrides) -> Checked
     ensures { let value = all_sent_down redirector.old (overriding_of all.now) in GivesBy (λ done. value ≡ Ok redirector.new) (λ f. value ≡ Err f) result }
 {
     for (base, others) in all.iter() {
@@ -253,11 +263,7 @@ fn set_stages(whole: &mut Module, shader_type: ShaderType)
 
 impl<B: Backend> Maker<'_, B> {
     // Builds what the first reading imports.
-    fn ensure_first(
-        &mut self,
-        imports: &[ImportDefWithOffset],
-        modules: &[Definition],
-    ) -> Result<(), ReadFault>
+    fn ensure_first(&mut self, imports: &[Use], modules: &[Definition]) -> Result<(), ReadFault>
         requires { All (λ d. d.module_index ≤ 2047) modules.now }
         ensures reached { Reading
             (λ _. EachReached any_use (Unless (Reached by_steps (setting_of (B.front self.old.front.now) self.old.validate self.old.capabilities self.old.defs) (map definition_of modules.now))) (map use_of imports.now) (builds_of self.old.builds) (builds_of self.new.builds))
@@ -273,11 +279,7 @@ impl<B: Backend> Maker<'_, B> {
     }
 
     // Builds what the second reading imports, of which the definitions have to be among those of the make.
-    fn ensure_second(
-        &mut self,
-        imports: &[ImportDefWithOffset],
-        modules: &[Definition],
-    ) -> Result<(), ReadFault>
+    fn ensure_second(&mut self, imports: &[Use], modules: &[Definition]) -> Result<(), ReadFault>
         requires { All (λ d. d.module_index ≤ 2047) modules.now }
         ensures reached { Reading
             (λ _. EachReached (may_use (map definition_of modules.now) (defs_of self.old.defs)) (Unless (Reached by_steps (setting_of (B.front self.old.front.now) self.old.validate self.old.capabilities self.old.defs) (map definition_of modules.now))) (map use_of imports.now) (builds_of self.old.builds) (builds_of self.new.builds))
@@ -293,6 +295,38 @@ impl<B: Backend> Maker<'_, B> {
         Ok(())
     }
 
+    // Reads a shader a first time: adds the definitions of what it imports, and builds that.
+    fn read_first(&mut self, of: &Definition, modules: &[Definition]) -> Result<(), ReadFault>
+        requires { All (λ d. d.module_index ≤ 2047) modules.now }
+        ensures read { Reading
+            (λ _. FirstRead (setting_of (B.front self.old.front.now) self.old.validate self.old.capabilities self.old.defs) (map definition_of modules.now) (definition_of of.now) (builds_of self.old.builds) (defs_of self.new.defs) (builds_of self.new.builds))
+            (NotFirstRead (setting_of (B.front self.old.front.now) self.old.validate self.old.capabilities self.old.defs) (map definition_of modules.now) (definition_of of.now) (builds_of self.old.builds))
+            result }
+        ensures rest { self.new ≡ record self.old { defs = self.new.defs; builds = self.new.builds } }
+    {
+        let output = self.preprocessed(of)?;
+        merge(&mut self.defs, &output.imports, modules)?;
+        self.ensure_first(&output.imports, modules)
+    }
+
+    // Reads a shader a second time, under the definitions of all that it imports, and builds what it imports then.
+    fn read_second(
+        &mut self,
+        of: &Definition,
+        modules: &[Definition],
+    ) -> Result<PreprocessOutput, ReadFault>
+        requires { All (λ d. d.module_index ≤ 2047) modules.now }
+        ensures read { Reading
+            (λ output. SecondRead (setting_of (B.front self.old.front.now) self.old.validate self.old.capabilities self.old.defs) (map definition_of modules.now) (definition_of of.now) (builds_of self.old.builds) (output_of output) (builds_of self.new.builds))
+            (NotSecondRead (setting_of (B.front self.old.front.now) self.old.validate self.old.capabilities self.old.defs) (map definition_of modules.now) (definition_of of.now) (builds_of self.old.builds))
+            result }
+        ensures rest { self.new ≡ record self.old { builds = self.new.builds } }
+    {
+        let output = self.preprocessed(of)?;
+        self.ensure_second(&output.imports, modules)?;
+        Ok(output)
+    }
+
     // Reads a shader's text under its definitions, and again under those of what it imports, which is built.
     fn read(
         &mut self,
@@ -301,23 +335,23 @@ impl<B: Backend> Maker<'_, B> {
         modules: &[Definition],
     ) -> Result<(Definition, PreprocessOutput), ReadFault>
         requires { All (λ d. d.module_index ≤ 2047) modules.now }
-        ensures { IfOk result (λ read. read.0.module_index ≡ 0) }
+        ensures read { Reading
+            (λ read. IsRead (setting_of (B.front self.old.front.now) self.old.validate self.old.capabilities desc.entry.shader_defs) (map definition_of modules.now) (shader_source desc.entry) text.now (builds_of self.old.builds) (definition_of read.0) (output_of read.1) (defs_of self.new.defs) (builds_of self.new.builds))
+            (IsUnread (setting_of (B.front self.old.front.now) self.old.validate self.old.capabilities desc.entry.shader_defs) (map definition_of modules.now) (shader_source desc.entry) text.now (builds_of self.old.builds))
+            result }
+        ensures rest { self.new ≡ record self.old { defs = self.new.defs; builds = self.new.builds } }
     {
-        let metadata = Preprocessor.get_preprocessor_metadata(self.alloc, text, true)?;
-        let shader = shader_of(self.alloc, &desc, metadata)?;
+        let shader = described(self.alloc, &desc, text)?;
         let NagaModuleDescriptor { shader_defs, .. } = desc;
         self.defs = shader_defs;
         overwrite(&mut self.defs, &shader.shader_defs)?;
-        let first = self.preprocessed(&shader)?;
-        merge(&mut self.defs, &first.imports, modules)?;
-        self.ensure_first(&first.imports, modules)?;
-        let second = self.preprocessed(&shader)?;
-        self.ensure_second(&second.imports, modules)?;
-        Ok((shader, second))
+        self.read_first(&shader, modules)?;
+        let output = self.read_second(&shader, modules)?;
+        Ok((shader, output))
     }
 
     // Everything that a shader owns, behind what it imports, with its entry points.
-    fn whole<'b>(&'b self, of: &'b ComposableModule) -> Tried<Module>
+    fn whole<'b>(&'b self, of: &'b Build) -> Tried<Module>
         ensures { IfOk result (λ whole. WholeLinked (builds_of self.now.builds) (built_of of.now) (module_value whole)) }
     {
         let mut linker = Linker::new(self.alloc, &self.builds, false);
@@ -329,7 +363,7 @@ impl<B: Backend> Maker<'_, B> {
     }
 
     // The whole shader, its calls sent down what overrides functions.
-    fn linked(&self, of: &ComposableModule, shader_type: ShaderType) -> Checked<Module>
+    fn linked(&self, of: &Build, shader_type: ShaderType) -> Checked<Module>
         ensures { GivesBy (λ made. ShaderLinked (builds_of self.now.builds) (built_of of.now) shader_type (module_value made)) (ShaderRefused (builds_of self.now.builds) (built_of of.now) shader_type) result }
     {
         let mut whole = self.whole(of)?;
@@ -359,13 +393,7 @@ impl<B: Backend> Maker<'_, B> {
     }
 
     // The made module, if it is valid where that is asked for.
-    fn validated(
-        &self,
-        made: Module,
-        of: &Definition,
-        text: &str,
-        offset: usize,
-    ) -> Result<Module, ComposerError>
+    fn validated(&self, made: Module, of: &Definition, text: &str, offset: usize) -> Told<Module>
         ensures { Answers module_value result (validated (B.front self.now.front.now) self.now.capabilities self.now.validate (builds_of self.now.builds) (defs_of self.now.defs) (build_place (definition_of of.now) text.now offset (defs_of self.now.defs)) (module_value made)) }
     {
         if !self.validate {
@@ -381,11 +409,11 @@ impl<B: Backend> Maker<'_, B> {
     // Links a shader that was built, and validates it.
     fn composed(
         &self,
-        built: &ComposableModule,
+        built: &Build,
         of: &Definition,
         text: &str,
         shader_type: ShaderType,
-    ) -> Result<Module, ComposerError>
+    ) -> Told<Module>
         ensures { let place = build_place (definition_of of.now) text.now built.now.start_offset (defs_of self.now.defs) in AnswersBy
             (λ made. ShaderAnswers (B.front self.now.front.now) self.now.capabilities self.now.validate (builds_of self.now.builds) (defs_of self.now.defs) (built_of built.now) shader_type place (Ok (module_value made)))
             (λ refused. ShaderAnswers (B.front self.now.front.now) self.now.capabilities self.now.validate (builds_of self.now.builds) (defs_of self.now.defs) (built_of built.now) shader_type place (Err refused))
@@ -402,8 +430,12 @@ impl<B: Backend> Maker<'_, B> {
         of: &Definition,
         output: &PreprocessOutput,
         shader_type: ShaderType,
-    ) -> Result<Module, ComposerError>
+    ) -> Told<Module>
         requires { of.now.module_index ≤ 2047 }
+        ensures { AnswersBy
+            (λ made. FinishAnswers (setting_of (B.front self.now.front.now) self.now.validate self.now.capabilities self.now.defs) (definition_of of.now) (output_of output.now) (builds_of self.now.builds) shader_type (Ok (module_value made)))
+            (λ r. FinishAnswers (setting_of (B.front self.now.front.now) self.now.validate self.now.capabilities self.now.defs) (definition_of of.now) (output_of output.now) (builds_of self.now.builds) shader_type (Err r))
+            result }
     {
         let built = self.built(of, output)?;
         let text = output.preprocessed_source.as_str();
@@ -411,7 +443,9 @@ impl<B: Backend> Maker<'_, B> {
     }
 
     // Why a shader isn't read.
-    fn unread(&self, fault: ReadFault, path: &str, text: &str) -> ComposerError {
+    fn unread(&self, fault: ReadFault, path: &str, text: &str) -> ComposerError
+        ensures { IsToldFor path.now text.now fault result }
+    {
         match fault {
             ReadFault::Here(inner) => refused(self.alloc, inner, path, text, 0),
             ReadFault::There(error) => error,
@@ -424,8 +458,12 @@ impl<B: Backend> Maker<'_, B> {
         desc: NagaModuleDescriptor<'_>,
         text: &str,
         modules: &[Definition],
-    ) -> Result<Module, ComposerError>
+    ) -> Told<Module>
         requires { All (λ d. d.module_index ≤ 2047) modules.now }
+        ensures { AnswersBy
+            (λ made. MakeAnswers (setting_of (B.front self.old.front.now) self.old.validate self.old.capabilities desc.entry.shader_defs) (map definition_of modules.now) (shader_source desc.entry) text.now (builds_of self.old.builds) (Ok (module_value made)))
+            (λ r. MakeAnswers (setting_of (B.front self.old.front.now) self.old.validate self.old.capabilities desc.entry.shader_defs) (map definition_of modules.now) (shader_source desc.entry) text.now (builds_of self.old.builds) (Err r))
+            result }
     {
         let (path, shader_type) = (desc.file_path, desc.shader_type);
         match self.read(desc, text, modules) {

@@ -1,8 +1,6 @@
 ghost use Rattle.std.specs.Prelude.{◌≤◌};
 
-use crate::compose::definition::{Names, Overrides};
-use crate::compose::formed::FormedModule;
-use naga_oil_lines::ImportDefinition;
+use super::*;
 
 /// A module that was built under some definitions.
 #[derive(Drop)]
@@ -23,7 +21,7 @@ pub struct ComposableModule {
     pub override_functions: Overrides,
     pub(crate) module_ir: FormedModule,
     /// Its own items without bodies.
-    pub(crate) header_ir: FormedModule,
+    pub(crate) header_ir: Header,
     /// Where its source begins in the text that was parsed, in bytes.
     pub(crate) start_offset: usize,
     /// Its index in the registry; 0 is the shader's.

@@ -238,7 +238,7 @@ impl<B: Backend> Maker<'_, B> {
     pub(crate) fn came_back(&self, source: &Module, built: &Build, functions: usize) -> Checked
         ensures { Gives (λ done. done) result (came_back (B.front self.now.front.now) self.now.capabilities (module_value source.now) (built_of built.now) functions) }
     {
-        let header = built.header_ir.get();
+        let (header, _) = built.header_ir.named();
         let text = self.written(header, ShaderLanguage::Wgsl)?;
         let back = self.parsed(&text, ShaderLanguage::Wgsl)?;
         check_back(self.alloc, source, &back, built, functions)?;

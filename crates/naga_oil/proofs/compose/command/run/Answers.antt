@@ -1,22 +1,23 @@
 use Rattle.std.proofs.Common.{◌≡◌, ◌++◌, ◌∷◌, [], ◌∙◌, List, ap, sym, subst, refl, length, append_assoc, length-append, arith}
 use Rattle.std.proofs.lemmas.List.{append-nil}
 use Rattle.std.specs.Vec.Iter.{into_iter_items}
+use Rattle.naga_oil_ir.specs.Backend.{FrontEnd}
 use Rattle.naga_oil.specs.Ran.{Answered, Ran}
 use Rattle.naga_oil.specs.State.{State}
 use Rattle.naga_oil.specs.declared.compose.command.Command.{Command}
 use Rattle.naga_oil.specs.declared.compose.command.Reply.{Reply}
 use Rattle.naga_oil.proofs.compose.command.run.Goals as goal
 
-ran-more : {B : Type 0} (first before mid : State B) (all left rest : List Command) (c : Command) (done more : List Reply) (r : Reply) → left ≡ c ∷ rest → more ≡ done ++ r ∷ [] → Answered before c r mid → ((rs : List Reply) (end : State B) → Ran before left rs end → Ran first all (done ++ rs) end) → (rs : List Reply) (end : State B) → Ran mid rest rs end → Ran first all (more ++ rs) end
-ran-more first before mid all left rest c done more r e f answer ran rs end h =
-    let moved : Ran before left (r ∷ rs) end = subst (λ (cs : List Command). Ran before cs (r ∷ rs) end) (sym e) (mid, answer, h) in
+ran-more : {B : Type 0} (front : B → FrontEnd) (first before mid : State B) (all left rest : List Command) (c : Command) (done more : List Reply) (r : Reply) → left ≡ c ∷ rest → more ≡ done ++ r ∷ [] → Answered front before c r mid → ((rs : List Reply) (end : State B) → Ran front before left rs end → Ran front first all (done ++ rs) end) → (rs : List Reply) (end : State B) → Ran front mid rest rs end → Ran front first all (more ++ rs) end
+ran-more front first before mid all left rest c done more r e f answer ran rs end h =
+    let moved : Ran front before left (r ∷ rs) end = subst (λ (cs : List Command). Ran front before cs (r ∷ rs) end) (sym e) (mid, answer, h) in
     let joined : more ++ rs ≡ done ++ (r ∷ rs) = ap (λ (ys : List Reply). ys ++ rs) f ∙ append_assoc done (r ∷ []) rs in
-    subst (λ (ys : List Reply). Ran first all ys end) (sym joined) (ran (r ∷ rs) end moved)
+    subst (λ (ys : List Reply). Ran front first all ys end) (sym joined) (ran (r ∷ rs) end moved)
 
-ran-all : {B : Type 0} (first end : State B) (all left : List Command) (done : List Reply) → left ≡ [] → ((rs : List Reply) (end' : State B) → Ran end left rs end' → Ran first all (done ++ rs) end') → Ran first all done end
-ran-all first end all left done e ran =
-    let last : Ran end left [] end = subst (λ (cs : List Command). Ran end cs [] end) (sym e) refl in
-    subst (λ (ys : List Reply). Ran first all ys end) (append-nil done) (ran [] end last)
+ran-all : {B : Type 0} (front : B → FrontEnd) (first end : State B) (all left : List Command) (done : List Reply) → left ≡ [] → ((rs : List Reply) (end' : State B) → Ran front end left rs end' → Ran front first all (done ++ rs) end') → Ran front first all done end
+ran-all front first end all left done e ran =
+    let last : Ran front end left [] end = subst (λ (cs : List Command). Ran front end cs [] end) (sym e) refl in
+    subst (λ (ys : List Reply). Ran front first all ys end) (append-nil done) (ran [] end last)
 
 none : {X : Type 0} (xs : List X) → length xs ≡ 0 → xs ≡ []
 none [] e = refl
@@ -34,10 +35,10 @@ loop-command-preserved g c =
       is_finite = tt;
       same = omega (arith, steps.1, fewer, kept.same);
       room = omega (arith, fewer, longer, kept.room, c.push.ensures.capacity);
-      ran = ran-more _ _ _ _ _ _ _ _ _ _ steps.0 pushed c.answered.ensures kept.ran;
+      ran = ran-more _ _ _ _ _ _ _ _ _ _ _ steps.0 pushed c.answered.ensures kept.ran;
     }
 
 pub returns-clause-ran : goal.returns-clause-ran
 returns-clause-ran g c =
     let ended : length (into_iter_items c.loop-command.command-iterator) ≡ 0 = omega (arith, c.in-None.ensures.steps.0, c.loop-command.invariant.same) in
-    ran-all _ _ _ _ _ (none _ ended) c.loop-command.invariant.ran
+    ran-all _ _ _ _ _ _ (none _ ended) c.loop-command.invariant.ran

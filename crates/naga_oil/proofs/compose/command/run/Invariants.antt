@@ -11,5 +11,5 @@ invariant-loop-command g l = record {
   is_finite : (goal.iterator-loop-command g).is_finite l.command-iterator;
   same : into_iter_len l.command-iterator ≡ length (into_iter_items l.command-iterator);
   room : length l.replies.items + length (into_iter_items l.command-iterator) ≤ vec_capacity l.replies;
-  ran : (rs : List Reply) (end : State _) → Ran l.composer (into_iter_items l.command-iterator) rs end → Ran l.fn.composer l.fn.commands.items (l.replies.items ++ rs) end;
+  ran : (rs : List Reply) (end : State _) → Ran g.B.Backend.front l.composer (into_iter_items l.command-iterator) rs end → Ran g.B.Backend.front l.fn.composer l.fn.commands.items (l.replies.items ++ rs) end;
 }

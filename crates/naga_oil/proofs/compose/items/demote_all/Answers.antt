@@ -1,4 +1,5 @@
 use Rattle.std.proofs.Common.{◌≡◌, ◌++◌, ◌∷◌, ◌∙◌, List, [], ap, sym, map, fold, length, refl, arith}
+use Rattle.std.proofs.lemmas.Bool.Decides.{nat_tests}
 use Rattle.std.specs.List.{flat_map}
 use Rattle.std.specs.Vec.Iter.{into_iter_items}
 use Rattle.naga_oil_ir.specs.ModuleValue.{entry_value}
@@ -11,6 +12,18 @@ use Rattle.naga_oil.proofs.compose.items.demote_all.Goals as goal
 none : {X : Type 0} (xs : List X) → length xs ≡ 0 → xs ≡ []
 none [] e = refl
 none (x ∷ xs) e = absurd (omega arith)
+
+pub returns-then-is_empty-clause-functions : goal.returns-then-is_empty-clause-functions
+returns-then-is_empty-clause-functions c =
+    let f = demoted c.args.decoration.now (function_names (function_values c.args.functions.now)) in
+    let no_entry : length c.args.entry_points.items ≡ 0 = grind (arith, nat_tests) in
+    demoted-last f (function_values c.args.functions.now) (map entry_value c.args.entry_points.items) (ap (map entry_value) (none _ no_entry))
+
+pub returns-then-is_empty-clause-owned : goal.returns-then-is_empty-clause-owned
+returns-then-is_empty-clause-owned c =
+    let f = demoted c.args.decoration.now (function_names (function_values c.args.functions.now)) in
+    let no_entry : length c.args.entry_points.items ≡ 0 = grind (arith, nat_tests) in
+    sym (ap (λ es. fold with_name (texts c.args.owned.now.keys) (function_names (flat_map f (map entry_value es)))) (none _ no_entry))
 
 pub loop-entry_point-init : goal.loop-entry_point-init
 loop-entry_point-init c =

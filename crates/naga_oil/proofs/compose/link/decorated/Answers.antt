@@ -15,5 +15,6 @@ loop-item-preserved c =
     let decorate = λ (item : List ℕ). item ++ c.args.decoration.now in
     let rest = drop (c.loop-item.item-index + 1) c.args.items.now in
     let step : drop c.loop-item.item-index c.args.items.now ≡ c.item-item.result ∷ rest = next_item c.args.items.now c.loop-item.item-index c.item-item.result c.loop-item-test.true c.item-item.is in
-    let more : texts c.insert.new.self.keys ≡ with_name (texts c.loop-item.names.keys) (decorate (string_bytes c.item-item.result)) = ap texts c.in_ok-insert.ensures.keys ∙ bytes-insert c.loop-item.names.keys c.in_ok-decorated_item.field-0 ∙ ap (with_name (texts c.loop-item.names.keys)) c.in_ok-decorated_item.ensures in
+    let same : string_bytes c.in_ok-name.name ≡ decorate (string_bytes c.item-item.result) = search rules in
+    let more : texts c.insert.new.self.keys ≡ with_name (texts c.loop-item.names.keys) (decorate (string_bytes c.item-item.result)) = ap texts c.in_ok-insert.ensures.keys ∙ bytes-insert c.loop-item.names.keys c.in_ok-name.name ∙ ap (with_name (texts c.loop-item.names.keys)) same in
     ap (λ ns. fold with_name ns (map decorate (texts rest))) more ∙ ap (λ (is : List (String Global)). fold with_name (texts c.loop-item.names.keys) (map decorate (texts is))) (sym step) ∙ c.loop-item.invariant

@@ -1,4 +1,4 @@
-use Rattle.std.proofs.Common.{◌≡◌, Result, Ok, Err, refl, sym, ap, ◌∙◌}
+use Rattle.std.proofs.Common.{◌≡◌, Ok, sym, ap, ◌∙◌}
 use Rattle.std.specs.String.{string_bytes}
 use Rattle.std.proofs.lemmas.Result.{err_from_is_err_and}
 use Rattle.naga_oil_ir.specs.ModuleValue.{module_value}
@@ -15,7 +15,7 @@ returns-in_err-check_back g c =
     let b = built_of c.args.built.now in
     let back = module_value c.in_ok-back.back in
     let text = string_bytes c.in_ok-text.text in
-    let written : header_text front capabilities Wgsl b.header ≡ Ok text = ap (header_text front capabilities Wgsl) (sym c.get-header.ensures.value) ∙ c.in_ok-text.ensures in
+    let written : header_text front capabilities Wgsl b.header ≡ Ok text = ap (header_text front capabilities Wgsl) (sym c.named.ensures.value) ∙ c.in_ok-text.ensures in
     let read : parsed_text front Wgsl text ≡ Ok back = ap (parsed_text front Wgsl) (sym c.deref.ensures) ∙ c.in_ok-back.ensures in
     let p = err_from_is_err_and c.from_residual-in_err-check_back.result c.from_residual-in_err-check_back.ensures.1 in
     rw (p.1, p.2) (fails_then c.in_err-check_back.field-0.0 _ _ (λ f e. something_lost front capabilities (module_value c.args.source.now) b c.args.functions text back written read f e) c.in_err-check_back.ensures)
@@ -27,7 +27,7 @@ returns-in_err-written g c =
     let b = built_of c.args.built.now in
     let back = module_value c.in_ok-back.back in
     let text = string_bytes c.in_ok-text.text in
-    let written : header_text front capabilities Wgsl b.header ≡ Ok text = ap (header_text front capabilities Wgsl) (sym c.get-header.ensures.value) ∙ c.in_ok-text.ensures in
+    let written : header_text front capabilities Wgsl b.header ≡ Ok text = ap (header_text front capabilities Wgsl) (sym c.named.ensures.value) ∙ c.in_ok-text.ensures in
     let read : parsed_text front Wgsl text ≡ Ok back = ap (parsed_text front Wgsl) (sym c.deref.ensures) ∙ c.in_ok-back.ensures in
     let p = err_from_is_err_and c.from_residual-in_err-written.result c.from_residual-in_err-written.ensures.1 in
-    rw (p.1, p.2) (fails_then c.in_err-written.field-0.0 _ _ (λ f e. not_written front capabilities (module_value c.args.source.now) b c.args.functions text back written read f c.in_ok-check_back.ensures (ap (header_text front capabilities Glsl) (sym c.get-header.ensures.value) ∙ e)) c.in_err-written.ensures)
+    rw (p.1, p.2) (fails_then c.in_err-written.field-0.0 _ _ (λ f e. not_written front capabilities (module_value c.args.source.now) b c.args.functions text back written read f c.in_ok-check_back.ensures (ap (header_text front capabilities Glsl) (sym c.named.ensures.value) ∙ e)) c.in_err-written.ensures)
