@@ -44,7 +44,7 @@ impl<T: Drop> From<AllocFailed<T>> for ImportFault {
 }
 
 // What follows a name: an `as` may lack its identifier.
-#[derive(Clone, Copy, Debug)]
+#[derive(Clone, Copy)]
 enum Alias<'a> {
     NoAlias,
     Name(&'a str),
@@ -52,7 +52,7 @@ enum Alias<'a> {
 }
 
 // A piece of an import line: a head by its name and whether the old form made it, a leaf by its key and name.
-#[derive(Clone, Copy, Debug)]
+#[derive(Clone, Copy)]
 enum Part<'a> {
     Head(&'a str, bool),
     Item(&'a str, &'a str),
@@ -62,14 +62,14 @@ enum Part<'a> {
 }
 
 // An item that an import line names.
-#[derive(Debug, Drop)]
+#[derive(Drop)]
 struct Leaf {
     key: String,
     path: String,
 }
 
 // What has been read of an import line.
-#[derive(Debug, Drop)]
+#[derive(Drop)]
 struct ImportLine {
     heads: Vec<String>,
     has_old_form: bool,

@@ -23,7 +23,7 @@ use std::alloc::{AllocError, Global};
 use std::str::Lines;
 
 // What a line is among directives.
-#[derive(Debug, Drop)]
+#[derive(Drop)]
 enum Directive<'a> {
     Enable(Vec<String>),
     Requires(Vec<String>),

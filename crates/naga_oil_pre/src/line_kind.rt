@@ -41,7 +41,7 @@ pub enum LineKind<'a> {
 }
 
 // A class of characters that lines have runs of.
-#[derive(Clone, Copy, Debug, PartialEq, Eq)]
+#[derive(Clone, Copy)]
 pub(crate) enum CharClass {
     Digit,
     Visible,

@@ -39,7 +39,7 @@ pub struct PreprocessOutput {
 }
 
 // What is to be done with a line.
-#[derive(Clone, Copy, Debug, PartialEq, Eq)]
+#[derive(Clone, Copy)]
 enum Treatment {
     Blank,
     Show,
