@@ -1,114 +1,176 @@
-use super::{ImportFault, parse_imports};
+use super::parse_imports;
 use indexmap::IndexMap;
 use std::alloc::{AllocError, Global};
 use std::test::Fail;
 
-// The entries of a map, each as `key: path path; `.
-fn entries_of(
+// What is wrong with a line, if anything is, and then all that is declared.
+fn told(
     alloc: Global,
-    declared: &IndexMap<String, Vec<String>>,
+    line: &str,
+    declared: &mut IndexMap<String, Vec<String>>,
 ) -> Result<String, AllocError> {
-    let mut text = String::new(alloc);
-    for (key, paths) in declared {
-        text.push_str(key.as_str())?;
-        text.push_str(":")?;
-        for path in paths {
-            text.push_str(" ")?;
-            text.push_str(path.as_str())?;
-        }
-        text.push_str("; ")?;
+    match parse_imports(alloc, line, declared) {
+        Ok(()) => format!(in alloc; "{declared:?}"),
+        Err(fault) => format!(in alloc; "{fault:?} {declared:?}"),
     }
-    Ok(text)
 }
+
+// The same of a line, where another line declares before it, if one is given. None where that line doesn't.
+fn told_after(alloc: Global, before: Option<&str>, line: &str) -> Option<String> {
+    let mut declared = IndexMap::new(alloc);
+    if let Some(before) = before
+        && parse_imports(alloc, before, &mut declared).is_err()
+    {
+        return None;
+    }
+    told(alloc, line, &mut declared).ok()
+}
+
+fn is_either(told: Option<String>, one: &str, other: &str) -> bool {
+    match told {
+        Some(told) => told.as_str() == one || told.as_str() == other,
+        None => false,
+    }
+}
+
+fn tells(alloc: Global, before: Option<&str>, rows: &[(&str, &str)]) -> Result<(), Fail> {
+    for (line, want) in rows {
+        if !is_either(told_after(alloc, before, line), want, want) {
+            return Err(Fail::from(*line));
+        }
+    }
+    Ok(())
+}
+
+const DECLARING: [(&str, &str); 13] = [
+    ("#import a::b", r#"{"b": ["a::b"]}"#),
+    ("#import a::{b, c}", r#"{"b": ["a::b"], "c": ["a::c"]}"#),
+    (
+        "#import a::{b as d, c}",
+        r#"{"d": ["a::b"], "c": ["a::c"]}"#,
+    ),
+    (
+        "#import a::{b::{c, d}, e}",
+        r#"{"c": ["a::b::c"], "d": ["a::b::d"], "e": ["a::e"]}"#,
+    ),
+    (
+        "#import a::b::{c, d}, e",
+        r#"{"c": ["a::b::c"], "d": ["a::b::d"], "e": ["e"]}"#,
+    ),
+    ("#import a, b", r#"{"a": ["a"], "b": ["b"]}"#),
+    (
+        "#import a::b c, d",
+        r#"{"c": ["a::b::c"], "d": ["a::b::d"]}"#,
+    ),
+    ("#import a::b c", r#"{"c": ["a::b::c"]}"#),
+    (
+        "#import a::b::{c::{d, e}, f, g::{h as i, j}}",
+        r#"{"d": ["a::b::c::d"], "e": ["a::b::c::e"], "f": ["a::b::f"], "i": ["a::b::g::h"], "j": ["a::b::g::j"]}"#,
+    ),
+    (
+        "#import a::b::{\n  c::{d, e}, \n  f, \n  g::{\n    h as i, \n    j::k::l as m,\n  }\n}\n",
+        r#"{"d": ["a::b::c::d"], "e": ["a::b::c::e"], "f": ["a::b::f"], "i": ["a::b::g::h"], "m": ["a::b::g::j::k::l"]}"#,
+    ),
+    (
+        "#import \"path//with\\ all sorts of .stuff\"::{a, b}",
+        r#"{"a": ["\"path//with\\ all sorts of .stuff\"::a"], "b": ["\"path//with\\ all sorts of .stuff\"::b"]}"#,
+    ),
+    (
+        "#import a::b, c::b, a::b;",
+        r#"{"b": ["a::b", "c::b", "a::b"]}"#,
+    ),
+    ("# import", "{}"),
+];
 
 #[test]
 fn lines_declare(rt: HostRuntime) -> Result<(), Fail> {
-    let rows = [
-        ("#import a::b", "b: a::b; "),
-        ("#import a::{b, c}", "b: a::b; c: a::c; "),
-        ("#import a::{b as d, c}", "d: a::b; c: a::c; "),
-        (
-            "#import a::{b::{c, d}, e}",
-            "c: a::b::c; d: a::b::d; e: a::e; ",
-        ),
-        ("#import a::b::{c, d}, e", "c: a::b::c; d: a::b::d; e: e; "),
-        ("#import a, b", "a: a; b: b; "),
-        ("#import a::b c, d", "c: a::b::c; d: a::b::d; "),
-        ("#import a::b c", "c: a::b::c; "),
-        (
-            "#import a::b::{c::{d, e}, f, g::{h as i, j}}",
-            "d: a::b::c::d; e: a::b::c::e; f: a::b::f; i: a::b::g::h; j: a::b::g::j; ",
-        ),
-        (
-            "#import a::b::{\n  c::{d, e}, \n  f, \n  g::{\n    h as i, \n    j::k::l as m,\n  }\n}\n",
-            "d: a::b::c::d; e: a::b::c::e; f: a::b::f; i: a::b::g::h; m: a::b::g::j::k::l; ",
-        ),
-        (
-            "#import \"path//with\\ all sorts of .stuff\"::{a, b}",
-            "a: \"path//with\\ all sorts of .stuff\"::a; b: \"path//with\\ all sorts of .stuff\"::b; ",
-        ),
-        ("#import a::b, c::b, a::b;", "b: a::b c::b a::b; "),
-        ("# import", ""),
-    ];
-    for (line, want) in rows {
-        let mut declared = IndexMap::new(rt.alloc());
-        assert_eq!(rt;
-            parse_imports(rt.alloc(), line, &mut declared),
-            Ok(()),
-            "{line}"
-        );
-        let entries = entries_of(rt.alloc(), &declared)?;
-        assert_eq!(rt; entries.as_str(), want, "{line}");
-    }
-    Ok(())
+    tells(rt.alloc(), None, &DECLARING)
 }
+
+const FIRST: &str = "#import x::{a, b}";
+
+const FAULTY: [(&str, &str); 15] = [
+    (
+        "",
+        r#"Syntax("expected #import", 0) {"a": ["x::a"], "b": ["x::b"]}"#,
+    ),
+    (
+        "#",
+        r#"Syntax("expected `#import`", 1) {"a": ["x::a"], "b": ["x::b"]}"#,
+    ),
+    (
+        "import a",
+        r#"Syntax("expected `#import`", 0) {"a": ["x::a"], "b": ["x::b"]}"#,
+    ),
+    (
+        "#include a",
+        r#"Syntax("expected `#import`", 1) {"a": ["x::a"], "b": ["x::b"]}"#,
+    ),
+    (
+        "#import a b c",
+        r#"Syntax("missing close brace", 13) {"a": ["x::a"], "b": ["x::b"]}"#,
+    ),
+    (
+        "#import a::{",
+        r#"Syntax("missing close brace", 12) {"a": ["x::a"], "b": ["x::b"]}"#,
+    ),
+    (
+        "#import a::{\n",
+        r#"Syntax("missing close brace", 13) {"a": ["x::a"], "b": ["x::b"]}"#,
+    ),
+    (
+        "#import a::b::{{c}",
+        r#"Syntax("open brace must follow `::`", 15) {"a": ["x::a"], "b": ["x::b"]}"#,
+    ),
+    (
+        "#import a::b::{c}}",
+        r#"Syntax("close brace without open", 17) {"a": ["x::a"], "b": ["x::b"]}"#,
+    ),
+    (
+        "#import a::b{{c,d}}",
+        r#"Syntax("open brace must follow `::`", 12) {"a": ["x::a"], "b": ["x::b"]}"#,
+    ),
+    (
+        "#import a:b",
+        r#"Syntax("unexpected token", 9) {"a": ["x::a"], "b": ["x::b"]}"#,
+    ),
+    (
+        "#import a::b as",
+        r#"Syntax("expected identifier after `as`", 13) {"a": ["x::a"], "b": ["x::b"]}"#,
+    ),
+    (
+        "#import a:: as {",
+        r#"Syntax("expected identifier after `as`", 12) {"a": ["x::a"], "b": ["x::b"]}"#,
+    ),
+    (
+        "#import a; b",
+        r#"Syntax("unexpected token after ';'", 11) {"a": ["x::a"], "b": ["x::b"]}"#,
+    ),
+    (
+        "#import a, b, c::{d}}",
+        r#"Syntax("close brace without open", 20) {"a": ["x::a"], "b": ["x::b"]}"#,
+    ),
+];
 
 #[test]
 fn faulty_lines_declare_nothing(rt: HostRuntime) -> Result<(), Fail> {
-    let rows = [
-        ("", "expected #import", 0),
-        ("#", "expected `#import`", 1),
-        ("import a", "expected `#import`", 0),
-        ("#include a", "expected `#import`", 1),
-        ("#import a b c", "missing close brace", 13),
-        ("#import a::{", "missing close brace", 12),
-        ("#import a::{\n", "missing close brace", 13),
-        ("#import a::b::{{c}", "open brace must follow `::`", 15),
-        ("#import a::b::{c}}", "close brace without open", 17),
-        ("#import a::b{{c,d}}", "open brace must follow `::`", 12),
-        ("#import a:b", "unexpected token", 9),
-        ("#import a::b as", "expected identifier after `as`", 13),
-        ("#import a:: as {", "expected identifier after `as`", 12),
-        ("#import a; b", "unexpected token after ';'", 11),
-        ("#import a, b, c::{d}}", "close brace without open", 20),
-    ];
-    let mut declared = IndexMap::new(rt.alloc());
-    parse_imports(rt.alloc(), "#import x::{a, b}", &mut declared)
-        .ok()
-        .ok_or("first line")?;
-    for (line, text, place) in rows {
-        let answer = parse_imports(rt.alloc(), line, &mut declared);
-        assert_eq!(rt; answer, Err(ImportFault::Syntax(text, place)), "{line}");
-        let entries = entries_of(rt.alloc(), &declared)?;
-        assert_eq!(rt; entries.as_str(), "a: x::a; b: x::b; ", "{line}");
-    }
-    Ok(())
+    tells(rt.alloc(), Some(FIRST), &FAULTY)
 }
+
+const MORE: &str = "#import y::{a, c, b, c as d, e::{f, a}}";
+
+const MORE_DECLARED: &str =
+    r#"{"a": ["x::a", "y::a", "y::e::a"], "b": ["x::b", "y::b"], "c": ["y::c"], "d": ["y::c"], "f": ["y::e::f"]}"#;
+
+const REFUSED: &str = r#"Memory {"a": ["x::a"], "b": ["x::b"]}"#;
 
 // Passes too where one allocation is refused, whichever it is.
 #[test]
-fn refused_memory_declares_nothing(rt: HostRuntime) {
-    let mut declared = IndexMap::new(rt.alloc());
-    if parse_imports(rt.alloc(), "#import x::{a, b}", &mut declared).is_err() {
-        return;
-    }
-    let line = "#import y::{a, c, b, c as d, e::{f, a}}";
-    let want = match parse_imports(rt.alloc(), line, &mut declared) {
-        Ok(()) => "a: x::a y::a y::e::a; b: x::b y::b; c: y::c; d: y::c; f: y::e::f; ",
-        Err(ImportFault::Memory) => "a: x::a; b: x::b; ",
-        Err(ImportFault::Syntax(..)) => "a line without a fault",
-    };
-    if let Ok(entries) = entries_of(rt.alloc(), &declared) {
-        assert_eq!(rt; entries.as_str(), want);
+fn refused_memory_declares_nothing(rt: HostRuntime) -> Result<(), Fail> {
+    let told = told_after(rt.alloc(), Some(FIRST), MORE);
+    if told.is_none() || is_either(told, MORE_DECLARED, REFUSED) {
+        Ok(())
+    } else {
+        Err(Fail::from(MORE))
     }
 }

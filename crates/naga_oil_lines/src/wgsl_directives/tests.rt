@@ -9,18 +9,30 @@ fn names(alloc: Global, names: &[&str]) -> Result<Vec<String>, AllocError> {
     Ok(all)
 }
 
-fn enable(alloc: Global, extensions: &[&str]) -> Result<EnableDirective, AllocError> {
-    Ok(EnableDirective {
-        extensions: names(alloc, extensions)?,
+fn push_enable(
+    alloc: Global,
+    directives: &mut WgslDirectives,
+    extensions: &[&str],
+) -> Result<(), AllocError> {
+    let extensions = names(alloc, extensions)?;
+    directives.enables.push(EnableDirective {
+        extensions,
         source_location: 7,
-    })
+    })?;
+    Ok(())
 }
 
-fn require(alloc: Global, extensions: &[&str]) -> Result<RequiresDirective, AllocError> {
-    Ok(RequiresDirective {
-        extensions: names(alloc, extensions)?,
+fn push_require(
+    alloc: Global,
+    directives: &mut WgslDirectives,
+    extensions: &[&str],
+) -> Result<(), AllocError> {
+    let extensions = names(alloc, extensions)?;
+    directives.requires_.push(RequiresDirective {
+        extensions,
         source_location: 7,
-    })
+    })?;
+    Ok(())
 }
 
 fn diagnostic(alloc: Global) -> Result<DiagnosticDirective, AllocError> {
@@ -31,55 +43,87 @@ fn diagnostic(alloc: Global) -> Result<DiagnosticDirective, AllocError> {
     })
 }
 
+fn push_diagnostic(alloc: Global, directives: &mut WgslDirectives) -> Result<(), AllocError> {
+    directives.diagnostics.push(diagnostic(alloc)?)?;
+    Ok(())
+}
+
+fn enabling(alloc: Global) -> Result<WgslDirectives, AllocError> {
+    let mut directives = WgslDirectives::new(alloc);
+    push_enable(alloc, &mut directives, &["f16", "subgroups"])?;
+    push_enable(alloc, &mut directives, &["f16"])?;
+    push_diagnostic(alloc, &mut directives)?;
+    Ok(directives)
+}
+
+fn requiring(alloc: Global) -> Result<WgslDirectives, AllocError> {
+    let mut directives = WgslDirectives::new(alloc);
+    push_require(alloc, &mut directives, &["a", "b", "a"])?;
+    Ok(directives)
+}
+
+fn of_each_kind(alloc: Global) -> Result<WgslDirectives, AllocError> {
+    let mut directives = WgslDirectives::new(alloc);
+    push_enable(alloc, &mut directives, &["f16"])?;
+    push_require(alloc, &mut directives, &["a"])?;
+    push_diagnostic(alloc, &mut directives)?;
+    Ok(directives)
+}
+
+fn is(told: Result<String, AllocError>, want: &str) -> bool {
+    match told {
+        Ok(told) => told.as_str() == want,
+        Err(_) => false,
+    }
+}
+
+// Directives that write a text are empty where the text is.
+fn write_so(
+    alloc: Global,
+    directives: Result<WgslDirectives, AllocError>,
+    want: &'static str,
+) -> Result<(), Fail> {
+    let directives = directives?;
+    if is(directives.to_wgsl_string(alloc), want) && directives.is_empty() == want.is_empty() {
+        Ok(())
+    } else {
+        Err(Fail::from(want))
+    }
+}
+
 #[test]
 fn writes_enables_and_diagnostics(rt: HostRuntime) -> Result<(), Fail> {
-    let mut directives = WgslDirectives::new(rt.alloc());
-    directives
-        .enables
-        .push(enable(rt.alloc(), &["f16", "subgroups"])?)?;
-    directives.enables.push(enable(rt.alloc(), &["f16"])?)?;
-    directives.diagnostics.push(diagnostic(rt.alloc())?)?;
-    let text = directives.to_wgsl_string(rt.alloc())?;
-    assert_eq!(rt;
-        text.as_str(),
-        "enable f16, subgroups;\ndiagnostic(warn, derivative_uniformity);\n\n"
-    );
-    assert_eq!(rt; directives.is_empty(), false);
-    Ok(())
+    let want = "enable f16, subgroups;\ndiagnostic(warn, derivative_uniformity);\n\n";
+    write_so(rt.alloc(), enabling(rt.alloc()), want)
 }
 
 #[test]
 fn writes_requires(rt: HostRuntime) -> Result<(), Fail> {
-    let mut directives = WgslDirectives::new(rt.alloc());
-    directives
-        .requires_
-        .push(require(rt.alloc(), &["a", "b", "a"])?)?;
-    let text = directives.to_wgsl_string(rt.alloc())?;
-    assert_eq!(rt; text.as_str(), "requires a, b;\n\n");
-    Ok(())
+    write_so(rt.alloc(), requiring(rt.alloc()), "requires a, b;\n\n")
 }
 
 #[test]
 fn writes_nothing(rt: HostRuntime) -> Result<(), Fail> {
-    let directives = WgslDirectives::new(rt.alloc());
-    let text = directives.to_wgsl_string(rt.alloc())?;
-    assert_eq!(rt; text.as_str(), "");
-    assert_eq!(rt; directives.is_empty(), true);
-    Ok(())
+    write_so(rt.alloc(), Ok(WgslDirectives::new(rt.alloc())), "")
+}
+
+fn are_same(one: &WgslDirectives, other: &WgslDirectives) -> bool {
+    one.enables.as_slice() == other.enables.as_slice()
+        && one.requires_.as_slice() == other.requires_.as_slice()
+        && one.diagnostics.as_slice() == other.diagnostics.as_slice()
+}
+
+fn has_same_clone(directives: &WgslDirectives) -> bool {
+    match directives.try_clone() {
+        Ok(copy) => are_same(&copy, directives),
+        Err(_) => false,
+    }
 }
 
 #[test]
 fn clones(rt: HostRuntime) -> Result<(), Fail> {
-    let mut directives = WgslDirectives::new(rt.alloc());
-    directives.enables.push(enable(rt.alloc(), &["f16"])?)?;
-    directives.requires_.push(require(rt.alloc(), &["a"])?)?;
-    directives.diagnostics.push(diagnostic(rt.alloc())?)?;
-    let copy = directives.try_clone()?;
-    assert_eq!(rt; copy.enables.as_slice(), directives.enables.as_slice());
-    assert_eq!(rt; copy.requires_.as_slice(), directives.requires_.as_slice());
-    assert_eq!(rt;
-        copy.diagnostics.as_slice(),
-        directives.diagnostics.as_slice()
-    );
-    Ok(())
+    match of_each_kind(rt.alloc()) {
+        Ok(directives) if has_same_clone(&directives) => Ok(()),
+        _ => Err(Fail::from("another clone")),
+    }
 }
