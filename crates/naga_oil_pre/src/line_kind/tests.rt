@@ -1,43 +1,90 @@
 use super::*;
 use std::test::Fail;
 
+const DEFINED: LineKind = LineKind::Condition {
+    is_else: false,
+    condition: Condition::Defined("é|1"),
+};
+
+const ELSE_DEFINED: LineKind = LineKind::Condition {
+    is_else: true,
+    condition: Condition::Defined("A"),
+};
+
+const COMPARES_LAST: LineKind = LineKind::Condition {
+    is_else: false,
+    condition: Condition::Compares {
+        name: "FO",
+        operator: "",
+        value: "O",
+    },
+};
+
+const COMPARES_LAST_LETTER: LineKind = LineKind::Condition {
+    is_else: false,
+    condition: Condition::Compares {
+        name: "FO",
+        operator: "",
+        value: "é",
+    },
+};
+
+const ELSE_COMPARES: LineKind = LineKind::Condition {
+    is_else: true,
+    condition: Condition::Compares {
+        name: "T",
+        operator: "!!",
+        value: "-1",
+    },
+};
+
+const OTHERWISE: LineKind = LineKind::Condition {
+    is_else: true,
+    condition: Condition::Otherwise,
+};
+
+const KINDS: [(&str, LineKind); 13] = [
+    (" #version 450", LineKind::Version { is_known: true }),
+    ("# version 450", LineKind::Other),
+    ("#ifdef é|1 x", DEFINED),
+    ("#\u{3000}else\u{a0}ifdef A", ELSE_DEFINED),
+    ("#if FOO", COMPARES_LAST),
+    ("#if FOé", COMPARES_LAST_LETTER),
+    ("#else if T !! -1", ELSE_COMPARES),
+    ("#else if X", OTHERWISE),
+    ("#endifx", LineKind::EndIf),
+    ("#import a", LineKind::Import),
+    ("#importx", LineKind::Other),
+    ("#define_import_path a::b c", LineKind::ImportPath("a::b")),
+    ("let x = 1; // #endif", LineKind::Other),
+];
+
 #[test]
-fn reads_kinds(rt: HostRuntime) -> Result<(), Fail> {
-    let defined = |is_else, name| LineKind::Condition {
-        is_else,
-        condition: Condition::Defined(name),
-    };
-    let compares = |is_else, name, operator, value| LineKind::Condition {
-        is_else,
-        condition: Condition::Compares {
-            name,
-            operator,
-            value,
-        },
-    };
-    let otherwise = LineKind::Condition {
-        is_else: true,
-        condition: Condition::Otherwise,
-    };
-    for (line, kind) in [
-        (" #version 450", LineKind::Version { is_known: true }),
-        ("# version 450", LineKind::Other),
-        ("#ifdef é|1 x", defined(false, "é|1")),
-        ("#\u{3000}else\u{a0}ifdef A", defined(true, "A")),
-        ("#if FOO", compares(false, "FO", "", "O")),
-        ("#if FOé", compares(false, "FO", "", "é")),
-        ("#else if T !! -1", compares(true, "T", "!!", "-1")),
-        ("#else if X", otherwise),
-        ("#endifx", LineKind::EndIf),
-        ("#import a", LineKind::Import),
-        ("#importx", LineKind::Other),
-        ("#define_import_path a::b c", LineKind::ImportPath("a::b")),
-        ("let x = 1; // #endif", LineKind::Other),
-    ] {
-        assert_eq!(rt; line_kind(line), kind);
+fn reads_kinds() -> Result<(), Fail> {
+    for (line, kind) in &KINDS {
+        if line_kind(line) != *kind {
+            return Err(Fail::from(*line));
+        }
     }
-    assert_eq!(rt; unversioned_line_kind("#version 450"), LineKind::Other);
-    assert_eq!(rt; unversioned_line_kind("#endif"), LineKind::EndIf);
-    assert!(rt; is_name("é|1_") && !is_name("") && !is_name("a b"));
     Ok(())
+}
+
+#[test]
+fn reads_unversioned_kinds() -> Result<(), Fail> {
+    if unversioned_line_kind("#version 450") == LineKind::Other
+        && unversioned_line_kind("#endif") == LineKind::EndIf
+    {
+        Ok(())
+    } else {
+        Err(Fail::from("another kind"))
+    }
+}
+
+#[test]
+fn tells_names() -> Result<(), Fail> {
+    if is_name("é|1_") && !is_name("") && !is_name("a b") {
+        Ok(())
+    } else {
+        Err(Fail::from("another name"))
+    }
 }

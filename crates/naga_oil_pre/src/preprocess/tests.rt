@@ -1,9 +1,8 @@
 use super::{PreprocessOutput, Preprocessor};
 use crate::fault::ComposerErrorInner;
 use crate::shader_def::ShaderDefValue;
-use std::alloc::Global;
+use std::alloc::{AllocError, Global};
 use std::collections::BTreeMap;
-use std::process::Abort;
 use std::test::Fail;
 
 type Definition = (&'static str, ShaderDefValue);
@@ -41,46 +40,57 @@ const VALUES: &[Definition] = &[
     ("BOOL", ShaderDefValue::Bool(false)),
 ];
 
+fn define(
+    alloc: Global,
+    shader_defs: &mut BTreeMap<String, ShaderDefValue>,
+    name: &str,
+    value: ShaderDefValue,
+) -> Result<(), AllocError> {
+    shader_defs.insert(String::from_str(alloc, name)?, value)?;
+    Ok(())
+}
+
+fn defined(
+    alloc: Global,
+    definitions: &[Definition],
+) -> Result<BTreeMap<String, ShaderDefValue>, AllocError> {
+    let mut shader_defs = BTreeMap::new(alloc);
+    for (name, value) in definitions {
+        define(alloc, &mut shader_defs, name, *value)?;
+    }
+    Ok(shader_defs)
+}
+
 fn preprocessed(
     alloc: Global,
     source: &str,
     definitions: &[Definition],
 ) -> Result<PreprocessOutput, ComposerErrorInner> {
-    let mut shader_defs = BTreeMap::new(alloc);
-    for (name, value) in definitions.iter() {
-        shader_defs.insert(String::from_str(alloc, *name)?, *value)?;
-    }
+    let shader_defs = defined(alloc, definitions)?;
     Preprocessor::default().preprocess(alloc, source, &shader_defs)
 }
 
-// Under the definitions each text becomes what stands beside it.
-fn become_these(
-    rt: &impl Abort,
-    alloc: Global,
-    definitions: &[Definition],
-    rows: &[Row],
-) -> Result<(), Fail> {
-    for (source, expected) in rows.iter() {
-        let output = preprocessed(alloc, *source, definitions)?;
-        let shown = output.preprocessed_source.replace(alloc, ' ', "~")?;
-        assert_eq!(rt; shown.as_str(), *expected, "{source}");
+// What a text becomes, which is empty or ends in a line end, or its fault, which does not.
+fn shown(alloc: Global, source: &str, definitions: &[Definition]) -> Result<String, AllocError> {
+    match preprocessed(alloc, source, definitions) {
+        Ok(output) => output.preprocessed_source.replace(alloc, ' ', "~"),
+        Err(fault) => format!(in alloc; "{fault:?}"),
     }
-    Ok(())
 }
 
-// Under the definitions each text has the fault that stands beside it.
-fn fail_so(
-    rt: &impl Abort,
-    alloc: Global,
-    definitions: &[Definition],
-    rows: &[Row],
-) -> Result<(), Fail> {
-    for (source, expected) in rows.iter() {
-        let Err(error) = preprocessed(alloc, *source, definitions) else {
-            panic!(rt; "no fault: {source}")
-        };
-        let shown = format!(in alloc; "{error:?}")?;
-        assert_eq!(rt; shown.as_str(), *expected, "{source}");
+fn is(told: Result<String, AllocError>, want: &str) -> bool {
+    match told {
+        Ok(told) => told.as_str() == want,
+        Err(_) => false,
+    }
+}
+
+// Under the definitions each text becomes what stands beside it, or has that fault.
+fn tells(alloc: Global, definitions: &[Definition], rows: &[Row]) -> Result<(), Fail> {
+    for (source, want) in rows {
+        if !is(shown(alloc, source, definitions), want) {
+            return Err(Fail::from(*source));
+        }
     }
     Ok(())
 }
@@ -120,8 +130,8 @@ const UNDER_A: &[Row] = &[
 
 #[test]
 fn shows_the_arms_that_hold(rt: HostRuntime) -> Result<(), Fail> {
-    become_these(&rt, rt.alloc(), NONE, PLAIN)?;
-    become_these(&rt, rt.alloc(), A, UNDER_A)
+    tells(rt.alloc(), NONE, PLAIN)?;
+    tells(rt.alloc(), A, UNDER_A)
 }
 
 const TEXTURES: &str =
@@ -139,9 +149,9 @@ const SECOND_ARM: &[Row] = &[(
 
 #[test]
 fn shows_the_first_arm_that_holds(rt: HostRuntime) -> Result<(), Fail> {
-    become_these(&rt, rt.alloc(), NONE, FOURTH_ARM)?;
-    become_these(&rt, rt.alloc(), SECOND, SECOND_ARM)?;
-    become_these(&rt, rt.alloc(), SECOND_THIRD, SECOND_ARM)
+    tells(rt.alloc(), NONE, FOURTH_ARM)?;
+    tells(rt.alloc(), SECOND, SECOND_ARM)?;
+    tells(rt.alloc(), SECOND_THIRD, SECOND_ARM)
 }
 
 const UNDER_THREE: &[Row] = &[
@@ -157,10 +167,10 @@ const UNDER_FALSE: &[Row] = &[("#if T != false\na\n#endif", "~~~~~~~~~~~~~~\n~\n
 
 #[test]
 fn compares_values(rt: HostRuntime) -> Result<(), Fail> {
-    become_these(&rt, rt.alloc(), THREE, UNDER_THREE)?;
-    become_these(&rt, rt.alloc(), SEVEN, UNDER_SEVEN)?;
-    become_these(&rt, rt.alloc(), TRUE, UNDER_TRUE)?;
-    become_these(&rt, rt.alloc(), FALSE, UNDER_FALSE)
+    tells(rt.alloc(), THREE, UNDER_THREE)?;
+    tells(rt.alloc(), SEVEN, UNDER_SEVEN)?;
+    tells(rt.alloc(), TRUE, UNDER_TRUE)?;
+    tells(rt.alloc(), FALSE, UNDER_FALSE)
 }
 
 const WITH_VALUES: &[Row] = &[
@@ -174,7 +184,7 @@ const WITH_VALUES: &[Row] = &[
 
 #[test]
 fn writes_values(rt: HostRuntime) -> Result<(), Fail> {
-    become_these(&rt, rt.alloc(), VALUES, WITH_VALUES)
+    tells(rt.alloc(), VALUES, WITH_VALUES)
 }
 
 const IMPORTS: &[UsesRow] = &[
@@ -205,14 +215,24 @@ const IMPORTS: &[UsesRow] = &[
     ),
 ];
 
+fn shows_and_uses(alloc: Global, output: &PreprocessOutput, text: &str, uses: &str) -> bool {
+    let imports = &output.imports;
+    output.preprocessed_source.as_str() == text && is(format!(in alloc; "{imports:?}"), uses)
+}
+
+fn substitutes(alloc: Global, source: &str, text: &str, uses: &str) -> bool {
+    match preprocessed(alloc, source, NONE) {
+        Ok(output) => shows_and_uses(alloc, &output, text, uses),
+        Err(_) => false,
+    }
+}
+
 #[test]
 fn substitutes_what_imports_declare(rt: HostRuntime) -> Result<(), Fail> {
-    for (source, text, uses) in IMPORTS.iter() {
-        let output = preprocessed(rt.alloc(), *source, NONE)?;
-        assert_eq!(rt; output.preprocessed_source.as_str(), *text, "{source}");
-        let imports = output.imports;
-        let shown = format!(in rt.alloc(); "{imports:?}")?;
-        assert_eq!(rt; shown.as_str(), *uses, "{source}");
+    for (source, text, uses) in IMPORTS {
+        if !substitutes(rt.alloc(), source, text, uses) {
+            return Err(Fail::from(*source));
+        }
     }
     Ok(())
 }
@@ -271,9 +291,9 @@ const FAULTS_OF_IMPORTS: &[Row] = &[
 
 #[test]
 fn answers_the_earliest_fault(rt: HostRuntime) -> Result<(), Fail> {
-    fail_so(&rt, rt.alloc(), NONE, FAULTS)?;
-    fail_so(&rt, rt.alloc(), A, FAULTS_UNDER_A)?;
-    fail_so(&rt, rt.alloc(), TRUE, FAULTS_UNDER_TRUE)?;
-    fail_so(&rt, rt.alloc(), SEVEN, FAULTS_UNDER_SEVEN)?;
-    fail_so(&rt, rt.alloc(), NONE, FAULTS_OF_IMPORTS)
+    tells(rt.alloc(), NONE, FAULTS)?;
+    tells(rt.alloc(), A, FAULTS_UNDER_A)?;
+    tells(rt.alloc(), TRUE, FAULTS_UNDER_TRUE)?;
+    tells(rt.alloc(), SEVEN, FAULTS_UNDER_SEVEN)?;
+    tells(rt.alloc(), NONE, FAULTS_OF_IMPORTS)
 }

@@ -1,23 +1,31 @@
 use super::*;
 use std::test::Fail;
 
+// The texts behind names, each with the value.
+const VALUES: [(Option<&str>, Option<ShaderDefValue>); 11] = [
+    (None, Some(ShaderDefValue::Bool(true))),
+    (Some("7"), Some(ShaderDefValue::UInt(7))),
+    (Some("4294967295"), Some(ShaderDefValue::UInt(4294967295))),
+    (Some("4294967296"), None),
+    (Some("-3"), Some(ShaderDefValue::Int(-3))),
+    (Some("-2147483648"), Some(ShaderDefValue::Int(-2147483648))),
+    (Some("-2147483649"), None),
+    (Some("true"), Some(ShaderDefValue::Bool(true))),
+    (Some("false"), Some(ShaderDefValue::Bool(false))),
+    (Some("x1"), None),
+    (Some(""), None),
+];
+
 #[test]
-fn reads_defined_values(rt: HostRuntime) -> Result<(), Fail> {
-    assert_eq!(rt; ShaderDefValue::default(), ShaderDefValue::Bool(true));
-    assert_eq!(rt; defined_value(None), Some(ShaderDefValue::Bool(true)));
-    for (text, value) in [
-        ("7", Some(ShaderDefValue::UInt(7))),
-        ("4294967295", Some(ShaderDefValue::UInt(4294967295))),
-        ("4294967296", None),
-        ("-3", Some(ShaderDefValue::Int(-3))),
-        ("-2147483648", Some(ShaderDefValue::Int(-2147483648))),
-        ("-2147483649", None),
-        ("true", Some(ShaderDefValue::Bool(true))),
-        ("false", Some(ShaderDefValue::Bool(false))),
-        ("x1", None),
-        ("", None),
-    ] {
-        assert_eq!(rt; defined_value(Some(text)), value);
+fn reads_defined_values() -> Result<(), Fail> {
+    for (text, value) in &VALUES {
+        if defined_value(*text) != *value {
+            return Err(Fail::from(*text));
+        }
     }
-    Ok(())
+    if ShaderDefValue::default() == ShaderDefValue::Bool(true) {
+        Ok(())
+    } else {
+        Err(Fail::from("another default"))
+    }
 }
