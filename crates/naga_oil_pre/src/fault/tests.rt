@@ -161,28 +161,34 @@ fn says_what_is_wrong(rt: HostRuntime) -> Result<(), Fail> {
             alloc,
             invalid_shader_def_comparison_value(alloc),
             "Invalid shader def comparison for 'T': expected int, got true",
-        )
-        && says(
-            alloc,
-            Ok(ComposerErrorInner::GlslInvalidVersion(1)),
-            "naga oil only supports glsl 440 and 450",
-        )
-        && says(
-            alloc,
-            invalid_shader_def_definition_value(alloc),
-            "Invalid value for `#define`d shader def A: x1",
-        )
-        && says(
-            alloc,
-            invalid_wgsl_directive(alloc),
-            "Invalid WGSL directive 'enable  ;' at line 2: No extensions specified",
-        )
-        && says(
-            alloc,
-            Ok(ComposerErrorInner::DefineInModule(1)),
-            "#define statements are only allowed at the start of the top-level shaders",
-        )
-        && says(alloc, Ok(ComposerErrorInner::Memory), "out of memory");
+        );
+    if holds {
+        Ok(())
+    } else {
+        Err(Fail::from("another text"))
+    }
+}
+
+#[test]
+fn says_what_is_wrong_with_directives(rt: HostRuntime) -> Result<(), Fail> {
+    let alloc = rt.alloc();
+    let holds = says(
+        alloc,
+        Ok(ComposerErrorInner::GlslInvalidVersion(1)),
+        "naga oil only supports glsl 440 and 450",
+    ) && says(
+        alloc,
+        invalid_shader_def_definition_value(alloc),
+        "Invalid value for `#define`d shader def A: x1",
+    ) && says(
+        alloc,
+        invalid_wgsl_directive(alloc),
+        "Invalid WGSL directive 'enable  ;' at line 2: No extensions specified",
+    ) && says(
+        alloc,
+        Ok(ComposerErrorInner::DefineInModule(1)),
+        "#define statements are only allowed at the start of the top-level shaders",
+    ) && says(alloc, Ok(ComposerErrorInner::Memory), "out of memory");
     if holds {
         Ok(())
     } else {
@@ -255,37 +261,42 @@ fn says_what_is_wrong_with_modules(rt: HostRuntime) -> Result<(), Fail> {
             alloc,
             function_not_found(alloc),
             "invalid override :can't find function f for redirection",
-        )
-        && says(
-            alloc,
-            override_not_virtual(alloc),
-            "override is invalid as `f` is not virtual (this error can be disabled with feature 'override_any')",
-        )
-        && says(
-            alloc,
-            invalid_identifier(alloc),
-            "Composable module identifiers must not require substitution according to naga writeback rules: `f`",
-        )
-        && says(
-            alloc,
-            Ok(ComposerErrorInner::from(RedirectError::Memory)),
-            "out of memory",
-        )
-        && says(
-            alloc,
-            Ok(ComposerErrorInner::TooManyModules),
-            "too many modules",
-        )
-        && says(
-            alloc,
-            Ok(ComposerErrorInner::BindingsExhausted),
-            "no binding left",
-        )
-        && says(
-            alloc,
-            Ok(ComposerErrorInner::TextTooLarge),
-            "shader text too large",
         );
+    if holds {
+        Ok(())
+    } else {
+        Err(Fail::from("another text"))
+    }
+}
+
+#[test]
+fn says_what_is_wrong_with_names(rt: HostRuntime) -> Result<(), Fail> {
+    let alloc = rt.alloc();
+    let holds = says(
+        alloc,
+        override_not_virtual(alloc),
+        "override is invalid as `f` is not virtual (this error can be disabled with feature 'override_any')",
+    ) && says(
+        alloc,
+        invalid_identifier(alloc),
+        "Composable module identifiers must not require substitution according to naga writeback rules: `f`",
+    ) && says(
+        alloc,
+        Ok(ComposerErrorInner::from(RedirectError::Memory)),
+        "out of memory",
+    ) && says(
+        alloc,
+        Ok(ComposerErrorInner::TooManyModules),
+        "too many modules",
+    ) && says(
+        alloc,
+        Ok(ComposerErrorInner::BindingsExhausted),
+        "no binding left",
+    ) && says(
+        alloc,
+        Ok(ComposerErrorInner::TextTooLarge),
+        "shader text too large",
+    );
     if holds {
         Ok(())
     } else {

@@ -105,12 +105,14 @@ fn answers_the_first_fault(rt: HostRuntime) -> Result<(), Fail> {
     tells(rt.alloc(), false, &FAULTS)
 }
 
+fn has_one_enable(found: &PreprocessorMetaData, cleaned: &str) -> bool {
+    found.cleaned_source.as_str() == cleaned && found.wgsl_directives.enables.len() == 1
+}
+
 // Whether a text's directive is kept, and the text without it.
 fn keeps(alloc: Global, source: &str, cleaned: &str) -> bool {
     match Preprocessor.get_preprocessor_metadata(alloc, source, false) {
-        Ok(found) => {
-            found.cleaned_source.as_str() == cleaned && found.wgsl_directives.enables.len() == 1
-        }
+        Ok(found) => has_one_enable(&found, cleaned),
         Err(_) => false,
     }
 }
@@ -130,15 +132,22 @@ fn data_of(alloc: Global, source: &str) -> Result<(usize, bool), AllocError> {
     Ok((imports.len(), name.is_none() && defines.is_empty()))
 }
 
+// How many imports a text's metadata has, or whether its fault is one of an import.
+fn metadata_of(alloc: Global, source: &str) -> Result<usize, bool> {
+    match Preprocessor.get_preprocessor_metadata(alloc, source, false) {
+        Ok(found) => Ok(found.imports.len()),
+        Err(fault) => Err(matches!(fault, ComposerErrorInner::ImportParseError(..))),
+    }
+}
+
 // Whether the text has metadata, or the fault of an import and no data.
 fn has_metadata_or_fault(alloc: Global, source: &str) -> bool {
     let Ok((imports, is_bare)) = data_of(alloc, source) else {
         return false;
     };
-    match Preprocessor.get_preprocessor_metadata(alloc, source, false) {
-        Ok(found) => found.imports.len() == imports,
-        Err(ComposerErrorInner::ImportParseError(..)) => is_bare && imports == 0,
-        Err(_) => false,
+    match metadata_of(alloc, source) {
+        Ok(count) => count == imports,
+        Err(is_of_import) => is_of_import && is_bare && imports == 0,
     }
 }
 
