@@ -3,25 +3,31 @@ mod refused;
 
 use super::FormFault;
 use crate::*;
+use every_kind::{EVERY, expression_of, statement_of};
 use indexmap::IndexMap;
 use std::alloc::{AllocError, Global};
-use std::test::Fail;
+use std::process::Abort;
 
-/// An expression of a test, or none.
-#[derive(Clone, Copy)]
-enum Part {
-    Nothing,
-    Literal,
-    Zero(usize),
-    Constant(usize),
-    Local(usize),
-    Argument(u32),
-    CallResult(usize),
-    Ballot,
-    Negation(usize),
-}
+/// An expression of a test: the place of its kind in the list of the kinds, and the place of what it names.
+type Part = (u64, usize);
 
-/// A statement of a test.
+const LITERAL: Part = (0, 0);
+
+const ZERO: u64 = 1;
+
+const CONSTANT: u64 = 2;
+
+const LOCAL: u64 = 5;
+
+const ARGUMENT: u64 = 6;
+
+const CALL_RESULT: u64 = 7;
+
+const BALLOT: Part = (11, 0);
+
+const NEGATION: u64 = 22;
+
+/// A statement of a test; `Every` has the place of its kind in the list of the kinds.
 #[derive(Clone, Copy)]
 enum Step {
     Emit(usize, usize),
@@ -29,23 +35,35 @@ enum Step {
     Give(usize),
     Call(usize, usize),
     Kill(u32, u32),
+    Every(u64),
 }
 
 /// The function of a test; a type and an initialiser make a local variable.
 #[derive(Clone, Copy)]
 struct Shape {
-    name: u64,
+    name: Option<&'static str>,
+    span: Span,
     argument: Option<usize>,
     given: Option<usize>,
     local: Option<(usize, usize)>,
     named: Option<usize>,
-    parts: [Part; 4],
-    steps: [Step; 3],
+    parts: &'static [Part],
+    steps: &'static [Step],
+}
+
+/// The entry point of a test: its function, a size, a mesh output and a payload.
+#[derive(Clone, Copy)]
+struct Entry {
+    shape: Shape,
+    size: Option<usize>,
+    output: Option<usize>,
+    payload: Option<usize>,
 }
 
 /// An item of a test. An array has the size of an override, or is dynamic.
 #[derive(Clone, Copy)]
 enum Added {
+    Unnamed(u32, u32),
     Named(u32, u32),
     Array(usize, Option<usize>),
     Constant(usize, usize),
@@ -53,10 +71,14 @@ enum Added {
     Global,
     Expression(Part),
     Special(u64, usize),
+    Shaped(Shape),
+    Entered(Entry),
 }
 
-use Added::{Array, Special};
-use Part::{Ballot, CallResult, Literal, Negation, Nothing, Zero};
+/// What is added to the small module, the decoration of its functions' names, and whether it is taken then.
+type Case = (&'static [Added], &'static str, bool);
+
+use Added::{Array, Entered, Shaped, Special};
 use Step::{Emit, Give, Kill, Store};
 
 const NONE: Span = Span::UNDEFINED;
@@ -64,119 +86,57 @@ const NONE: Span = Span::UNDEFINED;
 const HERE: Step = Kill(0, 0);
 
 const G: Shape = Shape {
-    name: 2,
+    name: Some("g"),
+    span: NONE,
     argument: None,
     given: None,
     local: None,
     named: None,
-    parts: [Nothing; 4],
-    steps: [HERE; 3],
+    parts: &[],
+    steps: &[HERE, HERE, HERE],
 };
 
-fn name_of(code: u64) -> Option<&'static str> {
-    match code {
-        0 => None,
-        1 => Some("f"),
-        2 => Some("g"),
-        3 => Some("main"),
-        _ => Some("fX_naga_oil_mod_XMEX"),
+const F: Shape = Shape {
+    name: Some("f"),
+    ..G
+};
+
+/// The small module: a type, a global expression, a constant of both and a function `f`.
+const SMALL: [Added; 4] = [
+    Added::Unnamed(0, 10),
+    Added::Expression(LITERAL),
+    Added::Constant(0, 0),
+    Shaped(F),
+];
+
+fn handle_of<K>(place: Option<usize>) -> Option<Index<K>> {
+    match place {
+        None => None,
+        Some(place) => Some(Index::new(place)),
     }
 }
 
-fn text_of(code: u64, alloc: Global) -> Result<Option<String>, AllocError> {
-    match name_of(code) {
-        None => Ok(None),
-        Some(name) => {
-            let text = String::from_str(alloc, name)?;
-            Ok(Some(text))
-        }
-    }
+/// Puts an item last.
+fn put<T: Item + Drop>(list: &mut Arena<T>, item: T, span: Span) -> Result<(), AllocError> {
+    list.append(item, span)?;
+    Ok(())
 }
 
-fn expression_of(part: Part) -> Expression {
-    match part {
-        Nothing | Literal => Expression::Literal { kind: 0, bits: 7 },
-        Zero(ty) => Expression::ZeroValue(Index::new(ty)),
-        Part::Constant(place) => Expression::Constant(Index::new(place)),
-        Part::Local(place) => Expression::LocalVariable(Index::new(place)),
-        Part::Argument(place) => Expression::FunctionArgument(place),
-        CallResult(function) => Expression::CallResult(Index::new(function)),
-        Ballot => Expression::SubgroupBallotResult,
-        Negation(place) => Expression::Unary {
-            op: 0,
-            expr: Index::new(place),
-        },
-    }
-}
-
-fn expressions_of(parts: [Part; 4], alloc: Global) -> Result<Arena<Expression>, AllocError> {
-    let mut list = Arena::new(alloc);
-    for part in parts {
-        if matches!(part, Nothing) {
-            continue;
-        }
-        list.append(expression_of(part), NONE)?;
-    }
-    Ok(list)
-}
-
-fn statement_of(step: Step, alloc: Global) -> (Statement, Span) {
-    match step {
-        Emit(start, end) => (Statement::Emit(Places::new(start, end)), NONE),
-        Store(to, from) => {
-            let pointer = Index::new(to);
-            let value = Index::new(from);
-            (Statement::Store { pointer, value }, NONE)
-        }
-        Give(place) => {
-            let given = Index::new(place);
-            let ballot = Statement::SubgroupBallot {
-                result: given,
-                predicate: None,
-            };
-            (ballot, NONE)
-        }
-        Step::Call(function, place) => {
-            let call = Statement::Call {
-                function: Index::new(function),
-                arguments: Vec::new(alloc),
-                result: Some(Index::new(place)),
-            };
-            (call, NONE)
-        }
-        Kill(start, end) => (Statement::Kill, Span::new(start, end)),
-    }
-}
-
-fn block_of(steps: [Step; 3], alloc: Global) -> Result<Block, AllocError> {
-    let mut body = Vec::new(alloc);
-    for step in steps {
-        body.push(statement_of(step, alloc))?;
-    }
-    Ok(Block { body })
-}
-
-fn locals_of(
-    local: Option<(usize, usize)>,
+fn set_name(
+    name: &mut Option<String>,
+    told: Option<&'static str>,
     alloc: Global,
-) -> Result<Arena<LocalVariable>, AllocError> {
-    let mut list = Arena::new(alloc);
-    if let Some((ty, init)) = local {
-        let local = LocalVariable {
-            name: None,
-            ty: Index::new(ty),
-            init: Some(Index::new(init)),
-        };
-        list.append(local, NONE)?;
+) -> Result<(), AllocError> {
+    if let Some(told) = told {
+        *name = Some(String::from_str(alloc, told)?);
     }
-    Ok(list)
+    Ok(())
 }
 
-fn arguments_of(
+fn add_argument(
+    list: &mut Vec<FunctionArgument>,
     argument: Option<usize>,
-    alloc: Global,
-) -> Result<Vec<FunctionArgument>, AllocError> {
-    let mut list = Vec::new(alloc);
+) -> Result<(), AllocError> {
     if let Some(ty) = argument {
         list.push(FunctionArgument {
             name: None,
@@ -184,19 +144,7 @@ fn arguments_of(
             binding: None,
         })?;
     }
-    Ok(list)
-}
-
-fn names_of(
-    named: Option<usize>,
-    alloc: Global,
-) -> Result<IndexMap<Handle<Expression>, String>, AllocError> {
-    let mut list = IndexMap::new(alloc);
-    if let Some(place) = named {
-        let text = String::from_str(alloc, "x")?;
-        list.insert(Index::new(place), text)?;
-    }
-    Ok(list)
+    Ok(())
 }
 
 fn given_of(given: Option<usize>) -> Option<FunctionResult> {
@@ -209,29 +157,131 @@ fn given_of(given: Option<usize>) -> Option<FunctionResult> {
     }
 }
 
-/// A function of a shape, with other expressions and another body.
-fn function_with(
-    shape: Shape,
-    expressions: Arena<Expression>,
-    body: Block,
-    alloc: Global,
-) -> Result<Function, AllocError> {
-    Ok(Function {
-        name: text_of(shape.name, alloc)?,
-        arguments: arguments_of(shape.argument, alloc)?,
-        result: given_of(shape.given),
-        local_variables: locals_of(shape.local, alloc)?,
-        expressions,
-        named_expressions: names_of(shape.named, alloc)?,
-        body,
-        diagnostic_filter_leaf: None,
-    })
+fn local_of(ty: usize, init: usize) -> LocalVariable {
+    LocalVariable {
+        name: None,
+        ty: Index::new(ty),
+        init: Some(Index::new(init)),
+    }
 }
 
-fn function_of(shape: Shape, alloc: Global) -> Result<Function, AllocError> {
-    let expressions = expressions_of(shape.parts, alloc)?;
-    let body = block_of(shape.steps, alloc)?;
-    function_with(shape, expressions, body, alloc)
+fn add_local(
+    list: &mut Arena<LocalVariable>,
+    local: Option<(usize, usize)>,
+) -> Result<(), AllocError> {
+    match local {
+        None => Ok(()),
+        Some((ty, init)) => put(list, local_of(ty, init), NONE),
+    }
+}
+
+fn add_name(
+    list: &mut IndexMap<Handle<Expression>, String>,
+    named: Option<usize>,
+    alloc: Global,
+) -> Result<(), AllocError> {
+    if let Some(place) = named {
+        let text = String::from_str(alloc, "x")?;
+        list.insert(Index::new(place), text)?;
+    }
+    Ok(())
+}
+
+fn add_part(list: &mut Arena<Expression>, part: Part, alloc: Global) -> Result<(), AllocError> {
+    let expression = expression_of(part.0, part.1, alloc)?;
+    put(list, expression, NONE)
+}
+
+fn add_parts(
+    list: &mut Arena<Expression>,
+    parts: &[Part],
+    alloc: Global,
+) -> Result<(), AllocError> {
+    for part in parts {
+        add_part(list, *part, alloc)?;
+    }
+    Ok(())
+}
+
+fn step_of(step: Step, alloc: Global) -> Result<Statement, AllocError> {
+    match step {
+        Emit(start, end) => Ok(Statement::Emit(Places::new(start, end))),
+        Store(to, from) => Ok(Statement::Store {
+            pointer: Index::new(to),
+            value: Index::new(from),
+        }),
+        Give(place) => Ok(Statement::SubgroupBallot {
+            result: Index::new(place),
+            predicate: None,
+        }),
+        Step::Call(function, place) => Ok(Statement::Call {
+            function: Index::new(function),
+            arguments: Vec::new(alloc),
+            result: Some(Index::new(place)),
+        }),
+        Kill(_, _) => Ok(Statement::Kill),
+        Step::Every(kind) => statement_of(kind, alloc),
+    }
+}
+
+fn span_of(step: Step) -> Span {
+    match step {
+        Kill(start, end) => Span::new(start, end),
+        _ => NONE,
+    }
+}
+
+fn add_step(
+    body: &mut Vec<(Statement, Span)>,
+    step: Step,
+    alloc: Global,
+) -> Result<(), AllocError> {
+    let statement = step_of(step, alloc)?;
+    body.push((statement, span_of(step)))?;
+    Ok(())
+}
+
+fn add_steps(
+    body: &mut Vec<(Statement, Span)>,
+    steps: &[Step],
+    alloc: Global,
+) -> Result<(), AllocError> {
+    for step in steps {
+        add_step(body, *step, alloc)?;
+    }
+    Ok(())
+}
+
+/// The function of nothing.
+fn nothing_of(alloc: Global) -> Function {
+    Function {
+        name: None,
+        arguments: Vec::new(alloc),
+        result: None,
+        local_variables: Arena::new(alloc),
+        expressions: Arena::new(alloc),
+        named_expressions: IndexMap::new(alloc),
+        body: Block {
+            body: Vec::new(alloc),
+        },
+        diagnostic_filter_leaf: None,
+    }
+}
+
+fn fill_function(function: &mut Function, shape: &Shape, alloc: Global) -> Result<(), AllocError> {
+    function.result = given_of(shape.given);
+    set_name(&mut function.name, shape.name, alloc)?;
+    add_argument(&mut function.arguments, shape.argument)?;
+    add_local(&mut function.local_variables, shape.local)?;
+    add_parts(&mut function.expressions, shape.parts, alloc)?;
+    add_name(&mut function.named_expressions, shape.named, alloc)?;
+    add_steps(&mut function.body.body, shape.steps, alloc)
+}
+
+fn function_of(shape: &Shape, alloc: Global) -> Result<Function, AllocError> {
+    let mut function = nothing_of(alloc);
+    fill_function(&mut function, shape, alloc)?;
+    Ok(function)
 }
 
 fn mesh_of(output: Option<usize>) -> Option<MeshInfo> {
@@ -255,510 +305,434 @@ fn sizes_of(size: Option<usize>) -> Option<[Option<Handle<Expression>>; 3]> {
     }
 }
 
-fn payload_of(payload: Option<usize>) -> Option<Handle<GlobalVariable>> {
-    match payload {
-        None => None,
-        Some(place) => Some(Index::new(place)),
-    }
-}
-
-fn entry_of(
-    shape: Shape,
-    size: Option<usize>,
-    output: Option<usize>,
-    payload: Option<usize>,
-    alloc: Global,
-) -> Result<EntryPoint, AllocError> {
-    Ok(EntryPoint {
+fn entry_of(function: Function, entry: &Entry, alloc: Global) -> EntryPoint {
+    EntryPoint {
         name: String::new(alloc),
         stage: 0,
         early_depth_test: None,
         workgroup_size: [1, 1, 1],
-        workgroup_size_overrides: sizes_of(size),
-        function: function_of(shape, alloc)?,
-        mesh_info: mesh_of(output),
-        task_payload: payload_of(payload),
-    })
+        workgroup_size_overrides: sizes_of(entry.size),
+        function,
+        mesh_info: mesh_of(entry.output),
+        task_payload: handle_of(entry.payload),
+    }
 }
 
-fn add_named(module: &mut Module, span: Span, alloc: Global) -> Result<(), AllocError> {
-    let name = Some(String::from_str(alloc, "t")?);
-    let inner = TypeInner::Scalar(2);
-    module.types.insert(Type { name, inner }, span)?;
+fn type_of(inner: TypeInner) -> Type {
+    Type { name: None, inner }
+}
+
+fn add_type(types: &mut UniqueArena<Type>, item: Type, span: Span) -> Result<(), AllocError> {
+    types.insert(item, span)?;
     Ok(())
 }
 
-fn add_array(module: &mut Module, base: usize, size: Option<usize>) -> Result<(), AllocError> {
+fn add_named(types: &mut UniqueArena<Type>, span: Span, alloc: Global) -> Result<(), AllocError> {
+    let name = Some(String::from_str(alloc, "t")?);
+    let inner = TypeInner::Scalar(2);
+    add_type(types, Type { name, inner }, span)
+}
+
+fn array_of(base: usize, size: Option<usize>) -> TypeInner {
     let size = match size {
         None => ArraySize::Dynamic,
         Some(place) => ArraySize::Pending(Index::new(place)),
     };
     let base = Index::new(base);
-    let inner = TypeInner::BindingArray { base, size };
-    module.types.insert(Type { name: None, inner }, NONE)?;
-    Ok(())
+    TypeInner::BindingArray { base, size }
 }
 
-fn add_constant(module: &mut Module, ty: usize, init: usize) -> Result<(), AllocError> {
-    let constant = Constant {
+fn constant_of(ty: usize, init: usize) -> Constant {
+    Constant {
         name: None,
         ty: Index::new(ty),
         init: Index::new(init),
-    };
-    module.constants.append(constant, NONE)?;
-    Ok(())
+    }
 }
 
-fn add_override(module: &mut Module) -> Result<(), AllocError> {
-    let item = Override {
+fn override_of() -> Override {
+    Override {
         name: None,
         id: None,
         ty: Index::new(0),
         init: None,
-    };
-    module.overrides.append(item, NONE)?;
-    Ok(())
+    }
 }
 
-fn add_global(module: &mut Module) -> Result<(), AllocError> {
-    let global = GlobalVariable {
+fn global_of() -> GlobalVariable {
+    GlobalVariable {
         name: None,
         space: 0,
         binding: None,
         ty: Index::new(0),
         init: None,
-    };
-    module.global_variables.append(global, NONE)?;
-    Ok(())
+    }
 }
 
-fn add_special(module: &mut Module, key: u64, ty: usize) -> Result<(), AllocError> {
+fn add_special(special: &mut SpecialTypes, key: u64, ty: usize) -> Result<(), AllocError> {
     match key {
-        0 => module.special_types.ray_desc = Some(Index::new(ty)),
-        1 => module.special_types.ray_intersection = Some(Index::new(ty)),
+        0 => special.ray_desc = Some(Index::new(ty)),
+        1 => special.ray_intersection = Some(Index::new(ty)),
         _ => {
-            module
-                .special_types
-                .predeclared_types
-                .insert(key, Index::new(ty))?;
+            special.predeclared_types.insert(key, Index::new(ty))?;
         }
     }
     Ok(())
 }
 
-fn add_expression(module: &mut Module, part: Part) -> Result<(), AllocError> {
-    module.global_expressions.append(expression_of(part), NONE)?;
-    Ok(())
-}
-
-fn add(module: &mut Module, added: Added, alloc: Global) -> Result<(), AllocError> {
-    match added {
-        Added::Named(start, end) => add_named(module, Span::new(start, end), alloc),
-        Array(base, size) => add_array(module, base, size),
-        Added::Constant(ty, init) => add_constant(module, ty, init),
-        Added::Override => add_override(module),
-        Added::Global => add_global(module),
-        Added::Expression(part) => add_expression(module, part),
-        Special(key, ty) => add_special(module, key, ty),
-    }
-}
-
 fn add_function(
-    module: &mut Module,
-    shape: Shape,
-    span: Span,
+    list: &mut Arena<Function>,
+    shape: &Shape,
     alloc: Global,
 ) -> Result<(), AllocError> {
     let function = function_of(shape, alloc)?;
-    module.functions.append(function, span)?;
+    put(list, function, shape.span)
+}
+
+fn add_entry(list: &mut Vec<EntryPoint>, entry: &Entry, alloc: Global) -> Result<(), AllocError> {
+    let function = function_of(&entry.shape, alloc)?;
+    list.push(entry_of(function, entry, alloc))?;
     Ok(())
 }
 
-fn add_entry(
-    module: &mut Module,
-    shape: Shape,
-    size: Option<usize>,
-    output: Option<usize>,
-    payload: Option<usize>,
-    alloc: Global,
-) -> Result<(), AllocError> {
-    let entry = entry_of(shape, size, output, payload, alloc)?;
-    module.entry_points.push(entry)?;
-    Ok(())
+fn add(module: &mut Module, added: &Added, alloc: Global) -> Result<(), AllocError> {
+    match added {
+        Added::Unnamed(start, end) => {
+            let unnamed = type_of(TypeInner::Scalar(1));
+            add_type(&mut module.types, unnamed, Span::new(*start, *end))
+        }
+        Added::Named(start, end) => { add_named(&mut module.types, Span::new(*start, *end), alloc) }
+        Array(base, size) => add_type(&mut module.types, type_of(array_of(*base, *size)), NONE),
+        Added::Constant(ty, init) => put(&mut module.constants, constant_of(*ty, *init), NONE),
+        Added::Override => put(&mut module.overrides, override_of(), NONE),
+        Added::Global => put(&mut module.global_variables, global_of(), NONE),
+        Added::Expression(part) => add_part(&mut module.global_expressions, *part, alloc),
+        Special(key, ty) => add_special(&mut module.special_types, *key, *ty),
+        Shaped(shape) => add_function(&mut module.functions, shape, alloc),
+        Entered(entry) => add_entry(&mut module.entry_points, entry, alloc),
+    }
 }
 
-/// Adds a type, a global expression, a constant of both, a function `f`, and items.
-fn fill(module: &mut Module, items: &[Added], alloc: Global) -> Result<(), AllocError> {
-    let ty = Type {
-        name: None,
-        inner: TypeInner::Scalar(1),
-    };
-    module.types.insert(ty, Span::new(0, 10))?;
-    add_expression(module, Literal)?;
-    add_constant(module, 0, 0)?;
-    add_function(module, Shape { name: 1, ..G }, NONE, alloc)?;
+fn add_all(module: &mut Module, items: &[Added], alloc: Global) -> Result<(), AllocError> {
     for item in items {
-        add(module, *item, alloc)?;
+        add(module, item, alloc)?;
     }
     Ok(())
 }
 
-/// Whether a module is taken, over a text of ten bytes.
-fn is_taken(module: &Module, decoration: &str, alloc: Global) -> Result<bool, AllocError> {
+/// Whether a module is taken, over a text of ten bytes, once items are added to it.
+fn is_filled_taken(
+    module: &mut Module,
+    small: &[Added],
+    items: &[Added],
+    decoration: &str,
+    alloc: Global,
+) -> Result<bool, AllocError> {
+    add_all(module, small, alloc)?;
+    add_all(module, items, alloc)?;
     match module.check_form(alloc, decoration, 10) {
-        Ok(_) => Ok(true),
+        Ok(()) => Ok(true),
         Err(FormFault::WrongForm) => Ok(false),
         Err(FormFault::Memory) => Err(AllocError),
     }
 }
 
-/// Whether a module is taken that is filled with items, and maybe with a second function of a decorated name.
-fn is_filled_taken(
-    module: &mut Module,
+/// Whether a module is taken of the small module's items and others.
+fn is_taken(
+    small: &[Added],
     items: &[Added],
-    function: Option<(Shape, Span)>,
-    decoration: &str,
-    alloc: Global,
-) -> Result<bool, AllocError> {
-    fill(module, items, alloc)?;
-    if let Some((shape, span)) = function {
-        add_function(module, shape, span, alloc)?;
-    }
-    is_taken(module, decoration, alloc)
-}
-
-/// Whether the small module is taken with items.
-fn are_items_taken(items: &[Added], alloc: Global) -> Result<bool, AllocError> {
-    let mut module = Module::new(alloc);
-    is_filled_taken(&mut module, items, None, "", alloc)
-}
-
-/// Whether the small module is taken with a second function.
-fn is_function_taken(
-    shape: Shape,
-    span: Span,
     decoration: &str,
     alloc: Global,
 ) -> Result<bool, AllocError> {
     let mut module = Module::new(alloc);
-    is_filled_taken(&mut module, &[], Some((shape, span)), decoration, alloc)
+    is_filled_taken(&mut module, small, items, decoration, alloc)
 }
 
-/// Whether the small module is taken with a function of these expressions and statements.
-fn is_body_taken(parts: [Part; 4], steps: [Step; 3], alloc: Global) -> Result<bool, AllocError> {
-    is_function_taken(Shape { parts, steps, ..G }, NONE, "", alloc)
+/// Whether the test of form takes a module as it should.
+fn is_told(small: &[Added], case: Case, alloc: Global) -> bool {
+    let (items, decoration, should) = case;
+    matches!(is_taken(small, items, decoration, alloc), Ok(taken) if taken == should)
 }
 
-/// Whether a module is taken that is filled, with two entry points, the second of no name.
-fn is_entered_taken(
-    module: &mut Module,
-    shape: Shape,
-    places: [Option<usize>; 3],
-    alloc: Global,
-) -> Result<bool, AllocError> {
-    let [size, output, payload] = places;
-    fill(module, &[Added::Global], alloc)?;
-    add_entry(module, shape, size, output, payload, alloc)?;
-    add_entry(module, Shape { name: 0, ..G }, None, None, None, alloc)?;
-    is_taken(module, "", alloc)
-}
-
-/// Whether the small module is taken with two entry points, the first of which names a size, a mesh output and a payload.
-fn are_entries_taken(
-    shape: Shape,
-    places: [Option<usize>; 3],
-    alloc: Global,
-) -> Result<bool, AllocError> {
-    let mut module = Module::new(alloc);
-    is_entered_taken(&mut module, shape, places, alloc)
-}
-
-#[test]
-fn an_empty_module_is_taken(rt: HostRuntime) -> Result<(), Fail> {
-    let module = Module::new(rt.alloc());
-    assert!(rt; is_taken(&module, "", rt.alloc())?);
-    Ok(())
-}
-
-#[test]
-fn functions_are_named_and_apart(rt: HostRuntime) -> Result<(), Fail> {
-    for (name, taken) in [(0, false), (1, false), (2, true)] {
-        let shape = Shape { name, ..G };
-        assert_eq!(rt; is_function_taken(shape, NONE, "", rt.alloc())?, taken);
+/// Asserts that the test of form takes the small module, with what each case adds, as it should.
+fn tells(rt: &(impl Abort + AllocGlobal), cases: &[Case]) {
+    for case in cases {
+        assert!(rt; is_told(&SMALL, *case, rt.alloc()));
     }
-    Ok(())
 }
 
-#[test]
-fn names_are_decorated(rt: HostRuntime) -> Result<(), Fail> {
-    let shape = Shape { name: 4, ..G };
-    for (decoration, taken) in [
-        ("", true),
-        ("X_naga_oil_mod_XMEX", false),
-        ("X_naga_oil_mod_XMIX", true),
-    ] {
-        assert_eq!(rt;
-            is_function_taken(shape, NONE, decoration, rt.alloc())?,
-            taken
-        );
-    }
-    Ok(())
-}
+#[rattlefmt::skip]
+const EMPTY: Case = (&[], "", true);
 
 #[test]
-fn entry_points_are_apart(rt: HostRuntime) -> Result<(), Fail> {
-    for (name, taken) in [(1, true), (3, false), (0, false)] {
-        let shape = Shape { name, ..G };
-        assert_eq!(rt; are_entries_taken(shape, [None; 3], rt.alloc())?, taken);
-    }
-    Ok(())
+fn an_empty_module_is_taken(rt: HostRuntime) {
+    assert!(rt; is_told(&[], EMPTY, rt.alloc()));
 }
 
-#[test]
-fn what_entry_points_name_is_there(rt: HostRuntime) -> Result<(), Fail> {
-    for (size, output, payload, taken) in [
-        (0, 0, 0, true),
-        (1, 0, 0, false),
-        (0, 1, 0, false),
-        (0, 0, 1, false),
-    ] {
-        let places = [Some(size), Some(output), Some(payload)];
-        let answer = are_entries_taken(G, places, rt.alloc())?;
-        assert_eq!(rt; answer, taken);
-    }
-    Ok(())
-}
+/// An entry point of no name.
+#[rattlefmt::skip]
+const LAST: Added = Entered(Entry { shape: Shape { name: None, ..G }, size: None, output: None, payload: None });
+
+#[rattlefmt::skip]
+const APART: [Case; 3] = [
+    (&[Shaped(Shape { name: None, ..G })], "", false),
+    (&[Shaped(Shape { name: Some("f"), ..G })], "", false),
+    (&[Shaped(Shape { name: Some("g"), ..G })], "", true),
+];
 
 #[test]
-fn what_functions_name_is_there(rt: HostRuntime) -> Result<(), Fail> {
-    for (argument, given, local, named, taken) in [
-        (0, 0, (0, 0), 0, true),
-        (1, 0, (0, 0), 0, false),
-        (0, 1, (0, 0), 0, false),
-        (0, 0, (1, 0), 0, false),
-        (0, 0, (0, 1), 0, false),
-        (0, 0, (0, 0), 1, false),
-    ] {
-        let shape = Shape {
-            argument: Some(argument),
-            given: Some(given),
-            local: Some(local),
-            named: Some(named),
-            parts: [Literal, Nothing, Nothing, Nothing],
-            ..G
-        };
-        assert_eq!(rt; is_function_taken(shape, NONE, "", rt.alloc())?, taken);
-    }
-    Ok(())
+fn functions_are_named_and_apart(rt: HostRuntime) {
+    tells(&rt, &APART);
 }
 
-#[test]
-fn what_expressions_name_is_there(rt: HostRuntime) -> Result<(), Fail> {
-    for (part, taken) in [
-        (Zero(0), true),
-        (Zero(1), false),
-        (Part::Constant(0), true),
-        (Part::Constant(1), false),
-        (CallResult(1), true),
-        (CallResult(2), false),
-        (Part::Local(0), false),
-        (Part::Argument(0), false),
-    ] {
-        let parts = [part, Nothing, Nothing, Nothing];
-        assert_eq!(rt; is_body_taken(parts, [HERE; 3], rt.alloc())?, taken);
-    }
-    Ok(())
-}
+#[rattlefmt::skip]
+const DECORATED: [Case; 3] = [
+    (&[Shaped(Shape { name: Some("fX_naga_oil_mod_XMEX"), ..G })], "", true),
+    (&[Shaped(Shape { name: Some("fX_naga_oil_mod_XMEX"), ..G })], "X_naga_oil_mod_XMEX", false),
+    (&[Shaped(Shape { name: Some("fX_naga_oil_mod_XMEX"), ..G })], "X_naga_oil_mod_XMIX", true),
+];
 
 #[test]
-fn operands_are_earlier(rt: HostRuntime) -> Result<(), Fail> {
-    for (place, taken) in [(0, true), (1, false), (2, false)] {
-        let parts = [Literal, Negation(place), Literal, Nothing];
-        assert_eq!(rt; is_body_taken(parts, [HERE; 3], rt.alloc())?, taken);
-    }
-    Ok(())
+fn names_are_decorated(rt: HostRuntime) {
+    tells(&rt, &DECORATED);
 }
 
-#[test]
-fn calls_go_to_earlier_functions(rt: HostRuntime) -> Result<(), Fail> {
-    for (callee, part, taken) in [
-        (0, CallResult(0), true),
-        (1, CallResult(1), false),
-        (0, CallResult(1), false),
-        (0, Ballot, false),
-    ] {
-        let parts = [part, Nothing, Nothing, Nothing];
-        let steps = [Step::Call(callee, 0), HERE, HERE];
-        assert_eq!(rt; is_body_taken(parts, steps, rt.alloc())?, taken);
-    }
-    Ok(())
-}
+#[rattlefmt::skip]
+const ENTRIES: [Case; 3] = [
+    (&[Added::Global, Entered(Entry { shape: Shape { name: Some("f"), ..G }, size: None, output: None, payload: None }), LAST], "", true),
+    (&[Added::Global, Entered(Entry { shape: Shape { name: Some("main"), ..G }, size: None, output: None, payload: None }), LAST], "", false),
+    (&[Added::Global, Entered(Entry { shape: Shape { name: None, ..G }, size: None, output: None, payload: None }), LAST], "", false),
+];
 
 #[test]
-fn results_are_given_once(rt: HostRuntime) -> Result<(), Fail> {
-    for (part, again, taken) in [
-        (Ballot, HERE, true),
-        (Ballot, Give(0), false),
-        (Literal, HERE, false),
-        (CallResult(0), HERE, false),
-    ] {
-        let parts = [part, Nothing, Nothing, Nothing];
-        assert_eq!(rt;
-            is_body_taken(parts, [Give(0), HERE, again], rt.alloc())?,
-            taken
-        );
-    }
-    Ok(())
+fn entry_points_are_apart(rt: HostRuntime) {
+    tells(&rt, &ENTRIES);
 }
 
-#[test]
-fn operands_are_known(rt: HostRuntime) -> Result<(), Fail> {
-    for (before, used, after, taken) in [
-        (Emit(1, 2), Store(0, 1), Give(2), true),
-        (Give(2), Store(2, 0), Emit(1, 2), true),
-        (Give(2), Store(0, 1), Emit(1, 2), false),
-        (Emit(1, 2), Store(2, 0), Give(2), false),
-        (Emit(1, 2), Store(0, 3), Give(2), false),
-        (Emit(1, 2), Store(0, 1), Emit(1, 2), false),
-    ] {
-        let parts = [Literal, Negation(0), Ballot, Nothing];
-        assert_eq!(rt;
-            is_body_taken(parts, [before, used, after], rt.alloc())?,
-            taken
-        );
-    }
-    Ok(())
-}
+#[rattlefmt::skip]
+const NAMED_BY_ENTRIES: [Case; 4] = [
+    (&[Added::Global, Entered(Entry { shape: G, size: Some(0), output: Some(0), payload: Some(0) }), LAST], "", true),
+    (&[Added::Global, Entered(Entry { shape: G, size: Some(1), output: Some(0), payload: Some(0) }), LAST], "", false),
+    (&[Added::Global, Entered(Entry { shape: G, size: Some(0), output: Some(1), payload: Some(0) }), LAST], "", false),
+    (&[Added::Global, Entered(Entry { shape: G, size: Some(0), output: Some(0), payload: Some(1) }), LAST], "", false),
+];
 
 #[test]
-fn emitted_ranges_are_fine(rt: HostRuntime) -> Result<(), Fail> {
-    for (start, end, taken) in [
-        (1, 3, true),
-        (4, 4, true),
-        (0, 1, false),
-        (2, 3, false),
-        (3, 4, false),
-        (4, 5, false),
-        (2, 1, false),
-    ] {
-        let parts = [Literal, Negation(0), Negation(1), Ballot];
-        assert_eq!(rt;
-            is_body_taken(parts, [HERE, HERE, Emit(start, end)], rt.alloc())?,
-            taken
-        );
-    }
-    Ok(())
+fn what_entry_points_name_is_there(rt: HostRuntime) {
+    tells(&rt, &NAMED_BY_ENTRIES);
 }
 
-#[test]
-fn initialisers_reach_no_result(rt: HostRuntime) -> Result<(), Fail> {
-    for (part, taken) in [(Literal, true), (Ballot, false)] {
-        let shape = Shape {
-            local: Some((0, 1)),
-            parts: [part, Negation(0), Nothing, Nothing],
-            steps: [Store(1, 1), HERE, HERE],
-            ..G
-        };
-        assert_eq!(rt; is_function_taken(shape, NONE, "", rt.alloc())?, taken);
-    }
-    Ok(())
-}
+#[rattlefmt::skip]
+const NAMED_BY_FUNCTIONS: [Case; 6] = [
+    (&[Shaped(Shape { argument: Some(0), given: Some(0), local: Some((0, 0)), named: Some(0), parts: &[LITERAL], ..G })], "", true),
+    (&[Shaped(Shape { argument: Some(1), given: Some(0), local: Some((0, 0)), named: Some(0), parts: &[LITERAL], ..G })], "", false),
+    (&[Shaped(Shape { argument: Some(0), given: Some(1), local: Some((0, 0)), named: Some(0), parts: &[LITERAL], ..G })], "", false),
+    (&[Shaped(Shape { argument: Some(0), given: Some(0), local: Some((1, 0)), named: Some(0), parts: &[LITERAL], ..G })], "", false),
+    (&[Shaped(Shape { argument: Some(0), given: Some(0), local: Some((0, 1)), named: Some(0), parts: &[LITERAL], ..G })], "", false),
+    (&[Shaped(Shape { argument: Some(0), given: Some(0), local: Some((0, 0)), named: Some(1), parts: &[LITERAL], ..G })], "", false),
+];
 
 #[test]
-fn spans_lie_in_the_text(rt: HostRuntime) -> Result<(), Fail> {
-    for (start, end, taken) in [(0, 0, true), (2, 10, true), (2, 11, false), (3, 2, false)] {
-        let span = Span::new(start, end);
-        assert_eq!(rt;
-            is_body_taken([Nothing; 4], [Kill(start, end); 3], rt.alloc())?,
-            taken
-        );
-        assert_eq!(rt; is_function_taken(G, span, "", rt.alloc())?, taken);
-        assert_eq!(rt;
-            are_items_taken(&[Added::Named(start, end)], rt.alloc())?,
-            taken
-        );
-    }
-    Ok(())
+fn what_functions_name_is_there(rt: HostRuntime) {
+    tells(&rt, &NAMED_BY_FUNCTIONS);
 }
 
-#[test]
-fn types_name_earlier_types(rt: HostRuntime) -> Result<(), Fail> {
-    for (base, size, taken) in [
-        (0, None, true),
-        (1, None, false),
-        (2, None, false),
-        (0, Some(0), false),
-    ] {
-        assert_eq!(rt; are_items_taken(&[Array(base, size)], rt.alloc())?, taken);
-    }
-    Ok(())
-}
+#[rattlefmt::skip]
+const NAMED_BY_EXPRESSIONS: [Case; 8] = [
+    (&[Shaped(Shape { parts: &[(ZERO, 0)], ..G })], "", true),
+    (&[Shaped(Shape { parts: &[(ZERO, 1)], ..G })], "", false),
+    (&[Shaped(Shape { parts: &[(CONSTANT, 0)], ..G })], "", true),
+    (&[Shaped(Shape { parts: &[(CONSTANT, 1)], ..G })], "", false),
+    (&[Shaped(Shape { parts: &[(CALL_RESULT, 1)], ..G })], "", true),
+    (&[Shaped(Shape { parts: &[(CALL_RESULT, 2)], ..G })], "", false),
+    (&[Shaped(Shape { parts: &[(LOCAL, 0)], ..G })], "", false),
+    (&[Shaped(Shape { parts: &[(ARGUMENT, 0)], ..G })], "", false),
+];
 
 #[test]
-fn items_name_no_sized_type(rt: HostRuntime) -> Result<(), Fail> {
-    for (item, taken) in [
-        (Added::Global, true),
-        (Added::Constant(2, 0), false),
-        (Added::Expression(Zero(1)), false),
-        (Special(0, 2), false),
-    ] {
-        let items = [Added::Override, Array(0, Some(0)), Array(1, None), item];
-        assert_eq!(rt; are_items_taken(&items, rt.alloc())?, taken);
-    }
-    Ok(())
+fn what_expressions_name_is_there(rt: HostRuntime) {
+    tells(&rt, &NAMED_BY_EXPRESSIONS);
 }
 
-#[test]
-fn global_expressions_are_fine(rt: HostRuntime) -> Result<(), Fail> {
-    for (part, taken) in [
-        (Negation(0), true),
-        (Negation(1), false),
-        (Part::Constant(0), true),
-        (Part::Constant(1), false),
-        (Ballot, false),
-        (Part::Argument(0), false),
-    ] {
-        assert_eq!(rt;
-            are_items_taken(&[Added::Expression(part)], rt.alloc())?,
-            taken
-        );
-    }
-    Ok(())
-}
+#[rattlefmt::skip]
+const EARLIER_OPERANDS: [Case; 3] = [
+    (&[Shaped(Shape { parts: &[LITERAL, (NEGATION, 0), LITERAL], ..G })], "", true),
+    (&[Shaped(Shape { parts: &[LITERAL, (NEGATION, 1), LITERAL], ..G })], "", false),
+    (&[Shaped(Shape { parts: &[LITERAL, (NEGATION, 2), LITERAL], ..G })], "", false),
+];
 
 #[test]
-fn expressions_stand_after_initialisers(rt: HostRuntime) -> Result<(), Fail> {
-    for (init, taken) in [(1, true), (2, false), (3, false), (4, false)] {
-        let items = [
-            Added::Constant(0, init),
-            Added::Expression(Literal),
-            Added::Expression(Part::Constant(1)),
-            Added::Expression(Literal),
-        ];
-        assert_eq!(rt; are_items_taken(&items, rt.alloc())?, taken);
-    }
-    Ok(())
+fn operands_are_earlier(rt: HostRuntime) {
+    tells(&rt, &EARLIER_OPERANDS);
 }
 
-#[test]
-fn special_types_are_distinct(rt: HostRuntime) -> Result<(), Fail> {
-    for (key, ty, taken) in [(2, 1, true), (2, 0, false), (1, 0, false), (1, 2, false)] {
-        let items = [Array(0, None), Special(0, 0), Special(key, ty)];
-        assert_eq!(rt; are_items_taken(&items, rt.alloc())?, taken);
-    }
-    Ok(())
-}
+#[rattlefmt::skip]
+const CALLS: [Case; 4] = [
+    (&[Shaped(Shape { parts: &[(CALL_RESULT, 0)], steps: &[Step::Call(0, 0), HERE, HERE], ..G })], "", true),
+    (&[Shaped(Shape { parts: &[(CALL_RESULT, 1)], steps: &[Step::Call(1, 0), HERE, HERE], ..G })], "", false),
+    (&[Shaped(Shape { parts: &[(CALL_RESULT, 1)], steps: &[Step::Call(0, 0), HERE, HERE], ..G })], "", false),
+    (&[Shaped(Shape { parts: &[BALLOT], steps: &[Step::Call(0, 0), HERE, HERE], ..G })], "", false),
+];
 
 #[test]
-fn special_types_reach_unnamed_types(rt: HostRuntime) -> Result<(), Fail> {
-    for (ty, taken) in [(0, false), (1, true)] {
-        let items = [
-            Added::Named(0, 0),
-            Array(1, None),
-            Special(0, 2),
-            Special(7, ty),
-        ];
-        assert_eq!(rt; are_items_taken(&items, rt.alloc())?, taken);
-    }
-    Ok(())
+fn calls_go_to_earlier_functions(rt: HostRuntime) {
+    tells(&rt, &CALLS);
+}
+
+#[rattlefmt::skip]
+const GIVEN_ONCE: [Case; 4] = [
+    (&[Shaped(Shape { parts: &[BALLOT], steps: &[Give(0), HERE, HERE], ..G })], "", true),
+    (&[Shaped(Shape { parts: &[BALLOT], steps: &[Give(0), HERE, Give(0)], ..G })], "", false),
+    (&[Shaped(Shape { parts: &[LITERAL], steps: &[Give(0), HERE, HERE], ..G })], "", false),
+    (&[Shaped(Shape { parts: &[(CALL_RESULT, 0)], steps: &[Give(0), HERE, HERE], ..G })], "", false),
+];
+
+#[test]
+fn results_are_given_once(rt: HostRuntime) {
+    tells(&rt, &GIVEN_ONCE);
+}
+
+const NEGATED: &[Part] = &[LITERAL, (NEGATION, 0), BALLOT];
+
+#[rattlefmt::skip]
+const KNOWN_OPERANDS: [Case; 6] = [
+    (&[Shaped(Shape { parts: NEGATED, steps: &[Emit(1, 2), Store(0, 1), Give(2)], ..G })], "", true),
+    (&[Shaped(Shape { parts: NEGATED, steps: &[Give(2), Store(2, 0), Emit(1, 2)], ..G })], "", true),
+    (&[Shaped(Shape { parts: NEGATED, steps: &[Give(2), Store(0, 1), Emit(1, 2)], ..G })], "", false),
+    (&[Shaped(Shape { parts: NEGATED, steps: &[Emit(1, 2), Store(2, 0), Give(2)], ..G })], "", false),
+    (&[Shaped(Shape { parts: NEGATED, steps: &[Emit(1, 2), Store(0, 3), Give(2)], ..G })], "", false),
+    (&[Shaped(Shape { parts: NEGATED, steps: &[Emit(1, 2), Store(0, 1), Emit(1, 2)], ..G })], "", false),
+];
+
+#[test]
+fn operands_are_known(rt: HostRuntime) {
+    tells(&rt, &KNOWN_OPERANDS);
+}
+
+const TWICE_NEGATED: &[Part] = &[LITERAL, (NEGATION, 0), (NEGATION, 1), BALLOT];
+
+#[rattlefmt::skip]
+const EMITTED: [Case; 7] = [
+    (&[Shaped(Shape { parts: TWICE_NEGATED, steps: &[HERE, HERE, Emit(1, 3)], ..G })], "", true),
+    (&[Shaped(Shape { parts: TWICE_NEGATED, steps: &[HERE, HERE, Emit(4, 4)], ..G })], "", true),
+    (&[Shaped(Shape { parts: TWICE_NEGATED, steps: &[HERE, HERE, Emit(0, 1)], ..G })], "", false),
+    (&[Shaped(Shape { parts: TWICE_NEGATED, steps: &[HERE, HERE, Emit(2, 3)], ..G })], "", false),
+    (&[Shaped(Shape { parts: TWICE_NEGATED, steps: &[HERE, HERE, Emit(3, 4)], ..G })], "", false),
+    (&[Shaped(Shape { parts: TWICE_NEGATED, steps: &[HERE, HERE, Emit(4, 5)], ..G })], "", false),
+    (&[Shaped(Shape { parts: TWICE_NEGATED, steps: &[HERE, HERE, Emit(2, 1)], ..G })], "", false),
+];
+
+#[test]
+fn emitted_ranges_are_fine(rt: HostRuntime) {
+    tells(&rt, &EMITTED);
+}
+
+#[rattlefmt::skip]
+const INITIALISERS: [Case; 2] = [
+    (&[Shaped(Shape { local: Some((0, 1)), parts: &[LITERAL, (NEGATION, 0)], steps: &[Store(1, 1), HERE, HERE], ..G })], "", true),
+    (&[Shaped(Shape { local: Some((0, 1)), parts: &[BALLOT, (NEGATION, 0)], steps: &[Store(1, 1), HERE, HERE], ..G })], "", false),
+];
+
+#[test]
+fn initialisers_reach_no_result(rt: HostRuntime) {
+    tells(&rt, &INITIALISERS);
+}
+
+#[rattlefmt::skip]
+const SPANS: [Case; 12] = [
+    (&[Shaped(Shape { steps: &[Kill(0, 0), Kill(0, 0), Kill(0, 0)], ..G })], "", true),
+    (&[Shaped(Shape { span: Span { start: 0, end: 0 }, ..G })], "", true),
+    (&[Added::Named(0, 0)], "", true),
+    (&[Shaped(Shape { steps: &[Kill(2, 10), Kill(2, 10), Kill(2, 10)], ..G })], "", true),
+    (&[Shaped(Shape { span: Span { start: 2, end: 10 }, ..G })], "", true),
+    (&[Added::Named(2, 10)], "", true),
+    (&[Shaped(Shape { steps: &[Kill(2, 11), Kill(2, 11), Kill(2, 11)], ..G })], "", false),
+    (&[Shaped(Shape { span: Span { start: 2, end: 11 }, ..G })], "", false),
+    (&[Added::Named(2, 11)], "", false),
+    (&[Shaped(Shape { steps: &[Kill(3, 2), Kill(3, 2), Kill(3, 2)], ..G })], "", false),
+    (&[Shaped(Shape { span: Span { start: 3, end: 2 }, ..G })], "", false),
+    (&[Added::Named(3, 2)], "", false),
+];
+
+#[test]
+fn spans_lie_in_the_text(rt: HostRuntime) {
+    tells(&rt, &SPANS);
+}
+
+#[rattlefmt::skip]
+const EARLIER_TYPES: [Case; 4] = [
+    (&[Array(0, None)], "", true),
+    (&[Array(1, None)], "", false),
+    (&[Array(2, None)], "", false),
+    (&[Array(0, Some(0))], "", false),
+];
+
+#[test]
+fn types_name_earlier_types(rt: HostRuntime) {
+    tells(&rt, &EARLIER_TYPES);
+}
+
+#[rattlefmt::skip]
+const SIZED_TYPES: [Case; 4] = [
+    (&[Added::Override, Array(0, Some(0)), Array(1, None), Added::Global], "", true),
+    (&[Added::Override, Array(0, Some(0)), Array(1, None), Added::Constant(2, 0)], "", false),
+    (&[Added::Override, Array(0, Some(0)), Array(1, None), Added::Expression((ZERO, 1))], "", false),
+    (&[Added::Override, Array(0, Some(0)), Array(1, None), Special(0, 2)], "", false),
+];
+
+#[test]
+fn items_name_no_sized_type(rt: HostRuntime) {
+    tells(&rt, &SIZED_TYPES);
+}
+
+#[rattlefmt::skip]
+const GLOBAL_EXPRESSIONS: [Case; 6] = [
+    (&[Added::Expression((NEGATION, 0))], "", true),
+    (&[Added::Expression((NEGATION, 1))], "", false),
+    (&[Added::Expression((CONSTANT, 0))], "", true),
+    (&[Added::Expression((CONSTANT, 1))], "", false),
+    (&[Added::Expression(BALLOT)], "", false),
+    (&[Added::Expression((ARGUMENT, 0))], "", false),
+];
+
+#[test]
+fn global_expressions_are_fine(rt: HostRuntime) {
+    tells(&rt, &GLOBAL_EXPRESSIONS);
+}
+
+#[rattlefmt::skip]
+const AFTER_INITIALISERS: [Case; 4] = [
+    (&[Added::Constant(0, 1), Added::Expression(LITERAL), Added::Expression((CONSTANT, 1)), Added::Expression(LITERAL)], "", true),
+    (&[Added::Constant(0, 2), Added::Expression(LITERAL), Added::Expression((CONSTANT, 1)), Added::Expression(LITERAL)], "", false),
+    (&[Added::Constant(0, 3), Added::Expression(LITERAL), Added::Expression((CONSTANT, 1)), Added::Expression(LITERAL)], "", false),
+    (&[Added::Constant(0, 4), Added::Expression(LITERAL), Added::Expression((CONSTANT, 1)), Added::Expression(LITERAL)], "", false),
+];
+
+#[test]
+fn expressions_stand_after_initialisers(rt: HostRuntime) {
+    tells(&rt, &AFTER_INITIALISERS);
+}
+
+#[rattlefmt::skip]
+const DISTINCT_SPECIAL_TYPES: [Case; 4] = [
+    (&[Array(0, None), Special(0, 0), Special(2, 1)], "", true),
+    (&[Array(0, None), Special(0, 0), Special(2, 0)], "", false),
+    (&[Array(0, None), Special(0, 0), Special(1, 0)], "", false),
+    (&[Array(0, None), Special(0, 0), Special(1, 2)], "", false),
+];
+
+#[test]
+fn special_types_are_distinct(rt: HostRuntime) {
+    tells(&rt, &DISTINCT_SPECIAL_TYPES);
+}
+
+#[rattlefmt::skip]
+const REACHED_SPECIAL_TYPES: [Case; 2] = [
+    (&[Added::Named(0, 0), Array(1, None), Special(0, 2), Special(7, 0)], "", false),
+    (&[Added::Named(0, 0), Array(1, None), Special(0, 2), Special(7, 1)], "", true),
+];
+
+#[test]
+fn special_types_reach_unnamed_types(rt: HostRuntime) {
+    tells(&rt, &REACHED_SPECIAL_TYPES);
 }

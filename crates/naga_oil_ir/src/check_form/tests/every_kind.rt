@@ -1,5 +1,5 @@
 //! Each kind of expression and of statement, by its place in the list of the kinds.
-use super::{Added, G, NONE, Shape, fill, function_with, is_taken};
+use super::{Added, Case, G, NONE, Part, Shape, Shaped, Step, tells};
 use crate::*;
 use std::alloc::{AllocError, Global};
 
@@ -13,118 +13,105 @@ fn first<K>() -> Index<K> {
 }
 
 /// The externals and the results.
-fn leaf_of(kind: u64) -> Expression {
+fn leaf_of(kind: u64, place: usize) -> Expression {
     match kind {
         0 => Expression::Literal { kind: 0, bits: 7 },
-        1 => Expression::ZeroValue(first()),
-        2 => Expression::Constant(first()),
-        3 => Expression::Override(first()),
-        4 => Expression::GlobalVariable(first()),
-        5 => Expression::LocalVariable(first()),
+        1 => Expression::ZeroValue(Index::new(place)),
+        2 => Expression::Constant(Index::new(place)),
+        3 => Expression::Override(Index::new(place)),
+        4 => Expression::GlobalVariable(Index::new(place)),
+        5 => Expression::LocalVariable(Index::new(place)),
         6 => Expression::FunctionArgument(0),
-        7 => Expression::CallResult(first()),
+        7 => Expression::CallResult(Index::new(place)),
         8 => Expression::AtomicResult {
-            ty: first(),
+            ty: Index::new(place),
             comparison: 0,
         },
-        9 => Expression::WorkGroupUniformLoadResult { ty: first() },
+        9 => Expression::WorkGroupUniformLoadResult {
+            ty: Index::new(place),
+        },
         10 => Expression::RayQueryProceedResult,
         11 => Expression::SubgroupBallotResult,
-        _ => Expression::SubgroupOperationResult { ty: first() },
+        _ => Expression::SubgroupOperationResult {
+            ty: Index::new(place),
+        },
     }
 }
 
 fn composed(alloc: Global) -> Result<Expression, AllocError> {
-    let ty = first();
-    let components = Vec::from_slice(alloc, &[first(), first()])?;
+    let ty = Index::new(0);
+    let components = Vec::from_slice(alloc, &[Index::new(0), Index::new(0)])?;
     Ok(Expression::Compose { ty, components })
 }
 
 /// Parts of values, and what stands in memory.
-fn part_of(kind: u64) -> Expression {
+fn part_of(kind: u64, at: Operand) -> Expression {
     match kind {
         14 => Expression::Access {
-            base: first(),
-            index: first(),
+            base: at,
+            index: at,
         },
-        15 => Expression::AccessIndex {
-            base: first(),
-            index: 0,
-        },
-        16 => Expression::Splat {
-            size: 2,
-            value: first(),
-        },
+        15 => Expression::AccessIndex { base: at, index: 0 },
+        16 => Expression::Splat { size: 2, value: at },
         17 => Expression::Swizzle {
             size: 2,
-            vector: first(),
+            vector: at,
             pattern: 0,
         },
-        _ => Expression::Load { pointer: first() },
+        _ => Expression::Load { pointer: at },
     }
 }
 
 /// What is read of images.
-fn image_of(kind: u64) -> Expression {
+fn image_of(kind: u64, at: Operand) -> Expression {
     match kind {
         19 => Expression::ImageSample {
-            image: first(),
-            sampler: first(),
+            image: at,
+            sampler: at,
             gather: 0,
-            coordinate: first(),
-            array_index: Some(first()),
+            coordinate: at,
+            array_index: Some(at),
             offset: None,
-            level: SampleLevel::Gradient {
-                x: first(),
-                y: first(),
-            },
-            depth_ref: Some(first()),
+            level: SampleLevel::Gradient { x: at, y: at },
+            depth_ref: Some(at),
         },
         20 => Expression::ImageLoad {
-            image: first(),
-            coordinate: first(),
+            image: at,
+            coordinate: at,
             array_index: None,
-            sample: Some(first()),
+            sample: Some(at),
             level: None,
         },
         _ => Expression::ImageQuery {
-            image: first(),
-            query: ImageQuery::Size {
-                level: Some(first()),
-            },
+            image: at,
+            query: ImageQuery::Size { level: Some(at) },
         },
     }
 }
 
 /// Operators.
-fn operator_of(kind: u64) -> Expression {
+fn operator_of(kind: u64, at: Operand) -> Expression {
     match kind {
-        22 => Expression::Unary {
-            op: 0,
-            expr: first(),
-        },
+        22 => Expression::Unary { op: 0, expr: at },
         23 => Expression::Binary {
             op: 0,
-            left: first(),
-            right: first(),
+            left: at,
+            right: at,
         },
         24 => Expression::Select {
-            condition: first(),
-            accept: first(),
-            reject: first(),
+            condition: at,
+            accept: at,
+            reject: at,
         },
-        25 => Expression::Derivative {
-            axis: 0,
-            expr: first(),
-        },
+        25 => Expression::Derivative { axis: 0, expr: at },
         26 => Expression::Relational {
             fun: 0,
-            argument: first(),
+            argument: at,
         },
         _ => Expression::Math {
             fun: 0,
-            arg: first(),
-            arg1: Some(first()),
+            arg: at,
+            arg1: Some(at),
             arg2: None,
             arg3: None,
         },
@@ -132,33 +119,34 @@ fn operator_of(kind: u64) -> Expression {
 }
 
 /// The last kinds.
-fn other_of(kind: u64) -> Expression {
+fn other_of(kind: u64, at: Operand) -> Expression {
     match kind {
         28 => Expression::As {
-            expr: first(),
+            expr: at,
             kind: 0,
             convert: 0,
         },
-        29 => Expression::ArrayLength(first()),
+        29 => Expression::ArrayLength(at),
         30 => Expression::RayQueryGetIntersection {
-            query: first(),
+            query: at,
             committed: 0,
         },
         _ => Expression::RayQueryVertexPositions {
-            query: first(),
+            query: at,
             committed: 0,
         },
     }
 }
 
-pub fn expression_of(kind: u64, alloc: Global) -> Result<Expression, AllocError> {
+/// The expression of a kind, all of whose handles are of one place; a composed one and an argument have the first place.
+pub fn expression_of(kind: u64, place: usize, alloc: Global) -> Result<Expression, AllocError> {
     match kind {
-        0..=12 => Ok(leaf_of(kind)),
+        0..=12 => Ok(leaf_of(kind, place)),
         13 => composed(alloc),
-        14..=18 => Ok(part_of(kind)),
-        19..=21 => Ok(image_of(kind)),
-        22..=27 => Ok(operator_of(kind)),
-        _ => Ok(other_of(kind)),
+        14..=18 => Ok(part_of(kind, Index::new(place))),
+        19..=21 => Ok(image_of(kind, Index::new(place))),
+        22..=27 => Ok(operator_of(kind, Index::new(place))),
+        _ => Ok(other_of(kind, Index::new(place))),
     }
 }
 
@@ -302,49 +290,38 @@ pub fn statement_of(kind: u64, alloc: Global) -> Result<Statement, AllocError> {
 }
 
 /// An expression of each kind in the order of the kinds, and one more result.
-fn expressions(alloc: Global) -> Result<Arena<Expression>, AllocError> {
-    let mut list = Arena::new(alloc);
-    for kind in 0..EXPRESSIONS {
-        list.append(expression_of(kind, alloc)?, NONE)?;
-    }
-    list.append(leaf_of(12), NONE)?;
-    Ok(list)
-}
+#[rattlefmt::skip]
+const EVERY_PART: [Part; 33] = [
+    (0, 0), (1, 0), (2, 0), (3, 0), (4, 0), (5, 0), (6, 0), (7, 0), (8, 0), (9, 0), (10, 0), 
+    (11, 0), (12, 0), (13, 0), (14, 0), (15, 0), (16, 0), (17, 0), (18, 0), (19, 0), (20, 0), (21, 0), 
+    (22, 0), (23, 0), (24, 0), (25, 0), (26, 0), (27, 0), (28, 0), (29, 0), (30, 0), (31, 0), (12, 0),
+];
 
 /// A statement of each kind in the order of the kinds.
-fn body(alloc: Global) -> Result<Block, AllocError> {
-    let mut body = Vec::new(alloc);
-    for kind in 0..STATEMENTS {
-        body.push((statement_of(kind, alloc)?, NONE))?;
-    }
-    Ok(Block { body })
-}
+#[rattlefmt::skip]
+const EVERY_STEP: [Step; 21] = [
+    Step::Every(0), Step::Every(1), Step::Every(2), Step::Every(3), Step::Every(4), Step::Every(5), Step::Every(6), 
+    Step::Every(7), Step::Every(8), Step::Every(9), Step::Every(10), Step::Every(11), Step::Every(12), Step::Every(13), 
+    Step::Every(14), Step::Every(15), Step::Every(16), Step::Every(17), Step::Every(18), Step::Every(19), Step::Every(20),
+];
 
-/// What stands in that function beside its expressions and statements.
-const EVERY: Shape = Shape {
+/// The function of every kind of expression and of statement.
+pub const EVERY: Shape = Shape {
     argument: Some(0),
     local: Some((0, 0)),
     named: Some(31),
+    parts: &EVERY_PART,
+    steps: &EVERY_STEP,
     ..G
 };
 
-/// Adds a function of every kind of expression and of statement, and what it names.
-pub fn add_every_kind(module: &mut Module, alloc: Global) -> Result<(), AllocError> {
-    fill(module, &[Added::Override, Added::Global], alloc)?;
-    let function = function_with(EVERY, expressions(alloc)?, body(alloc)?, alloc)?;
-    module.functions.append(function, NONE)?;
-    Ok(())
-}
-
-/// Whether a module is taken that a function of every kind is added to.
-fn is_every_kind_taken(module: &mut Module, alloc: Global) -> Result<bool, AllocError> {
-    add_every_kind(module, alloc)?;
-    is_taken(module, "", alloc)
-}
+/// A function of every kind, and what it names.
+#[rattlefmt::skip]
+const EVERY_KIND: [Case; 1] = [
+    (&[Added::Override, Added::Global, Shaped(EVERY)], "", true),
+];
 
 #[test]
 fn every_kind_is_taken(rt: HostRuntime) {
-    let mut module = Module::new(rt.alloc());
-    let taken = is_every_kind_taken(&mut module, rt.alloc());
-    assert!(rt; taken.is_ok_and(|taken| taken));
+    tells(&rt, &EVERY_KIND);
 }
