@@ -474,7 +474,7 @@ fn an_empty_module_is_taken(rt: HostRuntime) {
 const LAST: Added = Entered(Entry { shape: Shape { name: None, ..G }, size: None, output: None, payload: None });
 
 #[rattlefmt::skip]
-const APART: [Case; 3] = [
+static APART: [Case; 3] = [
     (&[Shaped(Shape { name: None, ..G })], "", false),
     (&[Shaped(Shape { name: Some("f"), ..G })], "", false),
     (&[Shaped(Shape { name: Some("g"), ..G })], "", true),
@@ -486,7 +486,7 @@ fn functions_are_named_and_apart(rt: HostRuntime) {
 }
 
 #[rattlefmt::skip]
-const DECORATED: [Case; 3] = [
+static DECORATED: [Case; 3] = [
     (&[Shaped(Shape { name: Some("fX_naga_oil_mod_XMEX"), ..G })], "", true),
     (&[Shaped(Shape { name: Some("fX_naga_oil_mod_XMEX"), ..G })], "X_naga_oil_mod_XMEX", false),
     (&[Shaped(Shape { name: Some("fX_naga_oil_mod_XMEX"), ..G })], "X_naga_oil_mod_XMIX", true),
@@ -498,7 +498,7 @@ fn names_are_decorated(rt: HostRuntime) {
 }
 
 #[rattlefmt::skip]
-const ENTRIES: [Case; 3] = [
+static ENTRIES: [Case; 3] = [
     (&[Added::Global, Entered(Entry { shape: Shape { name: Some("f"), ..G }, size: None, output: None, payload: None }), LAST], "", true),
     (&[Added::Global, Entered(Entry { shape: Shape { name: Some("main"), ..G }, size: None, output: None, payload: None }), LAST], "", false),
     (&[Added::Global, Entered(Entry { shape: Shape { name: None, ..G }, size: None, output: None, payload: None }), LAST], "", false),
@@ -510,7 +510,7 @@ fn entry_points_are_apart(rt: HostRuntime) {
 }
 
 #[rattlefmt::skip]
-const NAMED_BY_ENTRIES: [Case; 4] = [
+static NAMED_BY_ENTRIES: [Case; 4] = [
     (&[Added::Global, Entered(Entry { shape: G, size: Some(0), output: Some(0), payload: Some(0) }), LAST], "", true),
     (&[Added::Global, Entered(Entry { shape: G, size: Some(1), output: Some(0), payload: Some(0) }), LAST], "", false),
     (&[Added::Global, Entered(Entry { shape: G, size: Some(0), output: Some(1), payload: Some(0) }), LAST], "", false),
@@ -523,7 +523,7 @@ fn what_entry_points_name_is_there(rt: HostRuntime) {
 }
 
 #[rattlefmt::skip]
-const NAMED_BY_FUNCTIONS: [Case; 6] = [
+static NAMED_BY_FUNCTIONS: [Case; 6] = [
     (&[Shaped(Shape { argument: Some(0), given: Some(0), local: Some((0, 0)), named: Some(0), parts: &[LITERAL], ..G })], "", true),
     (&[Shaped(Shape { argument: Some(1), given: Some(0), local: Some((0, 0)), named: Some(0), parts: &[LITERAL], ..G })], "", false),
     (&[Shaped(Shape { argument: Some(0), given: Some(1), local: Some((0, 0)), named: Some(0), parts: &[LITERAL], ..G })], "", false),
@@ -538,7 +538,7 @@ fn what_functions_name_is_there(rt: HostRuntime) {
 }
 
 #[rattlefmt::skip]
-const NAMED_BY_EXPRESSIONS: [Case; 8] = [
+static NAMED_BY_EXPRESSIONS: [Case; 8] = [
     (&[Shaped(Shape { parts: &[(ZERO, 0)], ..G })], "", true),
     (&[Shaped(Shape { parts: &[(ZERO, 1)], ..G })], "", false),
     (&[Shaped(Shape { parts: &[(CONSTANT, 0)], ..G })], "", true),
@@ -555,7 +555,7 @@ fn what_expressions_name_is_there(rt: HostRuntime) {
 }
 
 #[rattlefmt::skip]
-const EARLIER_OPERANDS: [Case; 3] = [
+static EARLIER_OPERANDS: [Case; 3] = [
     (&[Shaped(Shape { parts: &[LITERAL, (NEGATION, 0), LITERAL], ..G })], "", true),
     (&[Shaped(Shape { parts: &[LITERAL, (NEGATION, 1), LITERAL], ..G })], "", false),
     (&[Shaped(Shape { parts: &[LITERAL, (NEGATION, 2), LITERAL], ..G })], "", false),
@@ -567,7 +567,7 @@ fn operands_are_earlier(rt: HostRuntime) {
 }
 
 #[rattlefmt::skip]
-const CALLS: [Case; 4] = [
+static CALLS: [Case; 4] = [
     (&[Shaped(Shape { parts: &[(CALL_RESULT, 0)], steps: &[Step::Call(0, 0), HERE, HERE], ..G })], "", true),
     (&[Shaped(Shape { parts: &[(CALL_RESULT, 1)], steps: &[Step::Call(1, 0), HERE, HERE], ..G })], "", false),
     (&[Shaped(Shape { parts: &[(CALL_RESULT, 1)], steps: &[Step::Call(0, 0), HERE, HERE], ..G })], "", false),
@@ -580,7 +580,7 @@ fn calls_go_to_earlier_functions(rt: HostRuntime) {
 }
 
 #[rattlefmt::skip]
-const GIVEN_ONCE: [Case; 4] = [
+static GIVEN_ONCE: [Case; 4] = [
     (&[Shaped(Shape { parts: &[BALLOT], steps: &[Give(0), HERE, HERE], ..G })], "", true),
     (&[Shaped(Shape { parts: &[BALLOT], steps: &[Give(0), HERE, Give(0)], ..G })], "", false),
     (&[Shaped(Shape { parts: &[LITERAL], steps: &[Give(0), HERE, HERE], ..G })], "", false),
@@ -595,7 +595,7 @@ fn results_are_given_once(rt: HostRuntime) {
 const NEGATED: &[Part] = &[LITERAL, (NEGATION, 0), BALLOT];
 
 #[rattlefmt::skip]
-const KNOWN_OPERANDS: [Case; 6] = [
+static KNOWN_OPERANDS: [Case; 6] = [
     (&[Shaped(Shape { parts: NEGATED, steps: &[Emit(1, 2), Store(0, 1), Give(2)], ..G })], "", true),
     (&[Shaped(Shape { parts: NEGATED, steps: &[Give(2), Store(2, 0), Emit(1, 2)], ..G })], "", true),
     (&[Shaped(Shape { parts: NEGATED, steps: &[Give(2), Store(0, 1), Emit(1, 2)], ..G })], "", false),
@@ -612,7 +612,7 @@ fn operands_are_known(rt: HostRuntime) {
 const TWICE_NEGATED: &[Part] = &[LITERAL, (NEGATION, 0), (NEGATION, 1), BALLOT];
 
 #[rattlefmt::skip]
-const EMITTED: [Case; 7] = [
+static EMITTED: [Case; 7] = [
     (&[Shaped(Shape { parts: TWICE_NEGATED, steps: &[HERE, HERE, Emit(1, 3)], ..G })], "", true),
     (&[Shaped(Shape { parts: TWICE_NEGATED, steps: &[HERE, HERE, Emit(4, 4)], ..G })], "", true),
     (&[Shaped(Shape { parts: TWICE_NEGATED, steps: &[HERE, HERE, Emit(0, 1)], ..G })], "", false),
@@ -628,7 +628,7 @@ fn emitted_ranges_are_fine(rt: HostRuntime) {
 }
 
 #[rattlefmt::skip]
-const INITIALISERS: [Case; 2] = [
+static INITIALISERS: [Case; 2] = [
     (&[Shaped(Shape { local: Some((0, 1)), parts: &[LITERAL, (NEGATION, 0)], steps: &[Store(1, 1), HERE, HERE], ..G })], "", true),
     (&[Shaped(Shape { local: Some((0, 1)), parts: &[BALLOT, (NEGATION, 0)], steps: &[Store(1, 1), HERE, HERE], ..G })], "", false),
 ];
@@ -639,7 +639,7 @@ fn initialisers_reach_no_result(rt: HostRuntime) {
 }
 
 #[rattlefmt::skip]
-const SPANS: [Case; 12] = [
+static SPANS: [Case; 12] = [
     (&[Shaped(Shape { steps: &[Kill(0, 0), Kill(0, 0), Kill(0, 0)], ..G })], "", true),
     (&[Shaped(Shape { span: Span { start: 0, end: 0 }, ..G })], "", true),
     (&[Added::Named(0, 0)], "", true),
@@ -660,7 +660,7 @@ fn spans_lie_in_the_text(rt: HostRuntime) {
 }
 
 #[rattlefmt::skip]
-const EARLIER_TYPES: [Case; 4] = [
+static EARLIER_TYPES: [Case; 4] = [
     (&[Array(0, None)], "", true),
     (&[Array(1, None)], "", false),
     (&[Array(2, None)], "", false),
@@ -673,7 +673,7 @@ fn types_name_earlier_types(rt: HostRuntime) {
 }
 
 #[rattlefmt::skip]
-const SIZED_TYPES: [Case; 4] = [
+static SIZED_TYPES: [Case; 4] = [
     (&[Added::Override, Array(0, Some(0)), Array(1, None), Added::Global], "", true),
     (&[Added::Override, Array(0, Some(0)), Array(1, None), Added::Constant(2, 0)], "", false),
     (&[Added::Override, Array(0, Some(0)), Array(1, None), Added::Expression((ZERO, 1))], "", false),
@@ -686,7 +686,7 @@ fn items_name_no_sized_type(rt: HostRuntime) {
 }
 
 #[rattlefmt::skip]
-const GLOBAL_EXPRESSIONS: [Case; 6] = [
+static GLOBAL_EXPRESSIONS: [Case; 6] = [
     (&[Added::Expression((NEGATION, 0))], "", true),
     (&[Added::Expression((NEGATION, 1))], "", false),
     (&[Added::Expression((CONSTANT, 0))], "", true),
@@ -701,7 +701,7 @@ fn global_expressions_are_fine(rt: HostRuntime) {
 }
 
 #[rattlefmt::skip]
-const AFTER_INITIALISERS: [Case; 4] = [
+static AFTER_INITIALISERS: [Case; 4] = [
     (&[Added::Constant(0, 1), Added::Expression(LITERAL), Added::Expression((CONSTANT, 1)), Added::Expression(LITERAL)], "", true),
     (&[Added::Constant(0, 2), Added::Expression(LITERAL), Added::Expression((CONSTANT, 1)), Added::Expression(LITERAL)], "", false),
     (&[Added::Constant(0, 3), Added::Expression(LITERAL), Added::Expression((CONSTANT, 1)), Added::Expression(LITERAL)], "", false),
@@ -714,7 +714,7 @@ fn expressions_stand_after_initialisers(rt: HostRuntime) {
 }
 
 #[rattlefmt::skip]
-const DISTINCT_SPECIAL_TYPES: [Case; 4] = [
+static DISTINCT_SPECIAL_TYPES: [Case; 4] = [
     (&[Array(0, None), Special(0, 0), Special(2, 1)], "", true),
     (&[Array(0, None), Special(0, 0), Special(2, 0)], "", false),
     (&[Array(0, None), Special(0, 0), Special(1, 0)], "", false),
@@ -727,7 +727,7 @@ fn special_types_are_distinct(rt: HostRuntime) {
 }
 
 #[rattlefmt::skip]
-const REACHED_SPECIAL_TYPES: [Case; 2] = [
+static REACHED_SPECIAL_TYPES: [Case; 2] = [
     (&[Added::Named(0, 0), Array(1, None), Special(0, 2), Special(7, 0)], "", false),
     (&[Added::Named(0, 0), Array(1, None), Special(0, 2), Special(7, 1)], "", true),
 ];

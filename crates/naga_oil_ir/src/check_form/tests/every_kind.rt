@@ -317,7 +317,7 @@ pub const EVERY: Shape = Shape {
 
 /// A function of every kind, and what it names.
 #[rattlefmt::skip]
-const EVERY_KIND: [Case; 1] = [
+static EVERY_KIND: [Case; 1] = [
     (&[Added::Override, Added::Global, Shaped(EVERY)], "", true),
 ];
 

@@ -9,7 +9,7 @@ const EVERY_FUNCTION: Added = Shaped(EVERY);
 
 /// Every kind, and what is wrong in the special types, the functions or the entry points; in the last case nothing.
 #[rattlefmt::skip]
-const PARTS: [Case; 6] = [
+static PARTS: [Case; 6] = [
     (&[Added::Override, Added::Global, EVERY_FUNCTION, Special(0, 1)], "", false),
     (&[Added::Override, Added::Global, EVERY_FUNCTION, Shaped(Shape { name: Some("main"), span: Span { start: 2, end: 1 }, ..G })], "", false),
     (&[Added::Override, Added::Global, EVERY_FUNCTION, Shaped(G)], "", false),
