@@ -1,23 +1,177 @@
-ghost use Rattle.std.specs.Prelude.{IsSome, IfOk, OnOk};
+//! Functions that are copied. A test is a case of a table; one driver makes its source, asks, and compares what stands after
+//! each call and in the end.
+ghost use Rattle.std.specs.Prelude.{IfOk};
 ghost use Rattle.naga_oil_ir.specs.ModuleValue.{function_value};
 ghost use Rattle.naga_oil_derive.specs.DerivedFunctions.{CanImport, CanCall};
-ghost use Rattle.naga_oil_derive.specs.DerivedEntries.{CanCopyEntries};
 
 use crate::DerivedModule;
-use crate::derive::tests::set_source;
+use crate::derive::tests::{holds, set};
 use indexmap::IndexMap;
 use naga_oil_ir::{
     Arena, Block, EntryPoint, Expression, FormFault, Function, FunctionArgument, Handle, Index,
     LocalVariable, Module, Range, Span, Statement, Type, TypeInner,
 };
 use std::alloc::{AllocError, Global};
-use std::process::Abort;
 use std::test::Fail;
 
+mod entered;
 mod kinds;
 mod refused;
 
 const NONE: Span = Span::UNDEFINED;
+
+/// What a function is made of.
+#[derive(Clone, Copy)]
+enum Row {
+    /// A local variable.
+    Leaf,
+    /// A call of the first function.
+    Caller,
+    /// A sum that is emitted behind its operands, and a literal that nothing reaches.
+    Summed,
+    /// An emitted range whose first place an initialiser reaches.
+    Initialised,
+    /// Two initialisers that read alike.
+    Merged,
+    /// Sums, each of the one before it with itself.
+    Doubled,
+}
+
+use Row::{Caller, Doubled, Initialised, Leaf, Merged, Summed};
+
+/// What holds of the copy of a function.
+#[derive(Clone, Copy)]
+enum Fact {
+    /// How many expressions it has, and how many names of such.
+    Length(usize),
+    Names(usize),
+    Locals(usize),
+    /// An expression at a place: an argument, a literal, or a sum of two others.
+    Argument(usize, u32),
+    Literal(usize, u64),
+    Sum(usize, usize, usize),
+    /// The first statement emits from a place up to another.
+    Emits(usize, usize),
+    /// The expression at a place has a name.
+    Named(usize, &'static str),
+    /// The first statement calls some function.
+    Calls,
+}
+
+use Fact::{Argument, Calls, Emits, Length, Literal, Locals, Named, Names, Sum};
+
+const LEAF: [Fact; 1] = [Locals(1)];
+
+const CALLER: [Fact; 1] = [Calls];
+
+const SUMMED: [Fact; 7] = [
+    Length(3),
+    Argument(0, 0),
+    Literal(1, 7),
+    Sum(2, 0, 1),
+    Emits(2, 3),
+    Names(1),
+    Named(2, "s"),
+];
+
+const INITIALISED: [Fact; 2] = [Length(3), Emits(2, 3)];
+
+const MERGED: [Fact; 2] = [Length(1), Named(0, "q")];
+
+const DOUBLED: [Fact; 2] = [Length(65), Emits(1, 65)];
+
+fn facts_of(row: Row) -> &'static [Fact] {
+    match row {
+        Leaf => &LEAF,
+        Caller => &CALLER,
+        Summed => &SUMMED,
+        Initialised => &INITIALISED,
+        Merged => &MERGED,
+        Doubled => &DOUBLED,
+    }
+}
+
+/// How a function is asked for: as a copy alone, by its handle, if it is new, or once more.
+#[derive(Clone, Copy)]
+enum Way {
+    Alone,
+    Mapped,
+    IfNew(Span),
+    Again(Span),
+}
+
+use Way::{Again, Alone, IfNew, Mapped};
+
+/// How a function is asked for, its place, and the place of its copy.
+type Call = (Way, usize, usize);
+
+/// The name of a function and its span, where that is asked for.
+type End = (&'static str, Option<Span>);
+
+/// The functions of a source with their names, whether it has an entry point that calls the second, the offset of its text,
+/// what is asked for, and the functions that stand in the end, where those are asked for.
+struct Case {
+    rows: &'static [(Row, &'static str)],
+    is_entered: bool,
+    offset: usize,
+    calls: &'static [Call],
+    ends: Option<&'static [End]>,
+}
+
+const ONE_SUM: Case = Case {
+    rows: &[(Summed, "f")],
+    is_entered: false,
+    offset: 0,
+    calls: &[(Alone, 0, 0)],
+    ends: Some(&[]),
+};
+
+const ONE_INITIALISED: Case = Case {
+    rows: &[(Initialised, "f")],
+    is_entered: false,
+    offset: 0,
+    calls: &[(Alone, 0, 0)],
+    ends: Some(&[]),
+};
+
+const ONE_MERGED: Case = Case {
+    rows: &[(Merged, "f")],
+    is_entered: false,
+    offset: 0,
+    calls: &[(Alone, 0, 0)],
+    ends: Some(&[]),
+};
+
+const ONE_DOUBLED: Case = Case {
+    rows: &[(Doubled, "f")],
+    is_entered: false,
+    offset: 0,
+    calls: &[(Alone, 0, 0)],
+    ends: Some(&[]),
+};
+
+/// The second function calls the first, and comes twice.
+const CALLING: Case = Case {
+    rows: &[(Leaf, "f"), (Caller, "g")],
+    is_entered: true,
+    offset: 100,
+    calls: &[
+        (Mapped, 1, 1),
+        (IfNew(NONE), 1, 1),
+        (Again(Span { start: 5, end: 6 }), 1, 2),
+    ],
+    ends: Some(&[
+        ("f", None),
+        (
+            "g",
+            Some(Span {
+                start: 103,
+                end: 104,
+            }),
+        ),
+        ("g", None),
+    ]),
+};
 
 /// A function of nothing.
 fn function(name: &str, alloc: Global) -> Result<Function, AllocError> {
@@ -54,70 +208,151 @@ fn add_emit(function: &mut Function, start: usize, end: usize) -> Result<(), All
 
 fn add_return(function: &mut Function, place: usize) -> Result<(), AllocError> {
     let value = Some(Index::new(place));
-    function
-        .body
-        .body
-        .push((Statement::Return { value }, NONE))?;
+    let statement = Statement::Return { value };
+    function.body.body.push((statement, NONE))?;
     Ok(())
 }
 
-fn emits(f: &Function, at: usize) -> (usize, usize) {
-    match f.body.body.get(at) {
-        Some((Statement::Emit(range), _)) => (range.start(), range.end()),
-        _ => (1000, 1000),
-    }
+fn add(function: &mut Function, expression: Expression) -> Result<(), AllocError> {
+    function.expressions.append(expression, NONE)?;
+    Ok(())
 }
 
-/// The place of what the first statement calls.
-fn calls(f: &Function) -> Option<usize> {
-    match f.body.body.first() {
-        Some((Statement::Call { function, .. }, _)) => Some(function.index()),
-        _ => None,
-    }
+fn add_local(function: &mut Function, init: Option<usize>) -> Result<(), AllocError> {
+    let init = match init {
+        Some(place) => Some(Index::new(place)),
+        None => None,
+    };
+    let local = LocalVariable {
+        name: None,
+        ty: Index::new(0),
+        init,
+    };
+    function.local_variables.append(local, NONE)?;
+    Ok(())
 }
 
-fn is_at(f: &Function, at: usize, e: Expression) -> bool {
-    match f.expressions.try_get(Index::new(at)) {
-        Some(found) => *found == e,
-        None => false,
-    }
-}
-
-fn is_named(f: &Function, name: &str) -> bool {
-    let own = f.name.as_ref();
-    own.is_some_and(|own| name == own.as_str())
+fn add_name(f: &mut Function, place: usize, name: &str, alloc: Global) -> Result<(), AllocError> {
+    let name = String::from_str(alloc, name)?;
+    f.named_expressions.insert(Index::new(place), name)?;
+    Ok(())
 }
 
 fn literal(bits: u64) -> Expression {
     Expression::Literal { kind: 0, bits }
 }
 
-/// Puts in a type.
-fn add_type(module: &mut Module) -> Result<Handle<Type>, AllocError> {
-    let inner = TypeInner::Scalar(1);
-    module.types.insert(Type { name: None, inner }, NONE)
+fn sum(left: usize, right: usize) -> Expression {
+    Expression::Binary {
+        op: 3,
+        left: Index::new(left),
+        right: Index::new(right),
+    }
 }
 
-/// Puts in a function with a local variable.
-fn add_leaf(module: &mut Module, name: &str, alloc: Global) -> Result<(), AllocError> {
-    let ty = add_type(module)?;
-    let mut leaf = function(name, alloc)?;
-    let local = LocalVariable {
+fn add_sum(f: &mut Function, alloc: Global) -> Result<(), AllocError> {
+    add(f, literal(7))?;
+    add(f, Expression::FunctionArgument(0))?;
+    add(f, sum(1, 0))?;
+    add(f, literal(9))?;
+    add_emit(f, 2, 3)?;
+    add_return(f, 2)?;
+    add_name(f, 2, "s", alloc)?;
+    add_name(f, 3, "t", alloc)
+}
+
+fn add_initialiser(f: &mut Function) -> Result<(), AllocError> {
+    let value = Index::new(0);
+    let expr = Index::new(1);
+    add(f, literal(7))?;
+    add(f, Expression::Splat { size: 2, value })?;
+    add(f, Expression::Unary { op: 1, expr })?;
+    add_local(f, Some(1))?;
+    add_emit(f, 1, 3)?;
+    add_return(f, 2)
+}
+
+fn add_equal_initialisers(f: &mut Function, alloc: Global) -> Result<(), AllocError> {
+    add(f, literal(7))?;
+    add(f, literal(7))?;
+    add_local(f, Some(0))?;
+    add_local(f, Some(1))?;
+    add_name(f, 0, "p", alloc)?;
+    add_name(f, 1, "q", alloc)
+}
+
+fn add_doubled(f: &mut Function) -> Result<(), AllocError> {
+    add(f, literal(7))?;
+    for place in 0..64 {
+        add(f, sum(place, place))?;
+    }
+    add_emit(f, 1, 65)?;
+    add_return(f, 64)
+}
+
+fn add_row(f: &mut Function, row: Row, alloc: Global) -> Result<(), AllocError> {
+    match row {
+        Leaf => add_local(f, None),
+        Caller => add_call(f, 0, alloc),
+        Summed => add_sum(f, alloc),
+        Initialised => add_initialiser(f),
+        Merged => add_equal_initialisers(f, alloc),
+        Doubled => add_doubled(f),
+    }
+}
+
+/// A leaf and a caller have a span, and the others an argument.
+fn span_of(row: Row) -> Span {
+    match row {
+        Leaf => Span::new(1, 2),
+        Caller => Span::new(3, 4),
+        _ => NONE,
+    }
+}
+
+fn add_argument(f: &mut Function, row: Row) -> Result<(), AllocError> {
+    if matches!(row, Leaf | Caller) {
+        return Ok(());
+    }
+    f.arguments.push(FunctionArgument {
         name: None,
-        ty,
-        init: None,
-    };
-    leaf.local_variables.append(local, NONE)?;
-    module.functions.append(leaf, Span::new(1, 2))?;
+        ty: Index::new(0),
+        binding: None,
+    })?;
     Ok(())
 }
 
-/// Puts in a function that calls the first.
-fn add_caller(module: &mut Module, name: &str, alloc: Global) -> Result<(), AllocError> {
-    let mut caller = function(name, alloc)?;
-    add_call(&mut caller, 0, alloc)?;
-    module.functions.append(caller, Span::new(3, 4))?;
+fn draw(f: &mut Function, row: Row, alloc: Global) -> Result<(), AllocError> {
+    add_row(f, row, alloc)?;
+    add_argument(f, row)
+}
+
+fn add_type(module: &mut Module) -> Result<(), AllocError> {
+    let inner = TypeInner::Scalar(1);
+    module.types.insert(Type { name: None, inner }, NONE)?;
     Ok(())
+}
+
+/// Puts in a type and a function.
+fn put(module: &mut Module, row: Row, name: &str, alloc: Global) -> Result<(), AllocError> {
+    add_type(module)?;
+    let mut f = function(name, alloc)?;
+    draw(&mut f, row, alloc)?;
+    module.functions.append(f, span_of(row))?;
+    Ok(())
+}
+
+fn entry(name: String, function: Function) -> EntryPoint {
+    EntryPoint {
+        name,
+        stage: 2,
+        early_depth_test: None,
+        workgroup_size: [1, 2, 3],
+        workgroup_size_overrides: None,
+        function,
+        mesh_info: None,
+        task_payload: None,
+    }
 }
 
 /// Puts in an entry point that calls the second function.
@@ -125,24 +360,18 @@ fn add_entry(module: &mut Module, alloc: Global) -> Result<(), AllocError> {
     let mut main = function("main", alloc)?;
     add_call(&mut main, 1, alloc)?;
     let name = String::from_str(alloc, "start")?;
-    module.entry_points.push(EntryPoint {
-        name,
-        stage: 2,
-        early_depth_test: None,
-        workgroup_size: [1, 2, 3],
-        workgroup_size_overrides: None,
-        function: main,
-        mesh_info: None,
-        task_payload: None,
-    })?;
+    module.entry_points.push(entry(name, main))?;
     Ok(())
 }
 
-/// Puts in f, g that calls f, and an entry point that calls g.
-fn fill_calling(module: &mut Module, alloc: Global) -> Result<(), AllocError> {
-    add_leaf(module, "f", alloc)?;
-    add_caller(module, "g", alloc)?;
-    add_entry(module, alloc)
+fn fill(module: &mut Module, case: &Case, alloc: Global) -> Result<(), AllocError> {
+    if case.is_entered {
+        add_entry(module, alloc)?;
+    }
+    for (row, name) in case.rows {
+        put(module, *row, name, alloc)?;
+    }
+    Ok(())
 }
 
 /// A function of the source, whose form is tested first.
@@ -181,298 +410,324 @@ fn place_of(
     Err(FormFault::WrongForm)
 }
 
-/// Tests the form of the source, whose entry points can be copied then.
-fn ask_entries(derived: &DerivedModule<'_>, alloc: Global) -> Result<(), FormFault>
-    ensures set { OnOk result (IsSome derived.now.source) }
-    ensures entries { OnOk result (CanCopyEntries derived.now) }
-{
-    let Some(source) = derived.shader else {
-        return Err(FormFault::WrongForm);
-    };
-    source.check_form(alloc, "", 1000)?;
-    Ok(())
+fn again(
+    derived: &mut DerivedModule<'_>,
+    place: usize,
+    span: Span,
+    alloc: Global,
+) -> Result<usize, FormFault> {
+    let f = function_at(derived, place, alloc)?;
+    Ok(derived.import_function(f, span)?.index())
+}
+
+fn if_new(
+    derived: &mut DerivedModule<'_>,
+    place: usize,
+    span: Span,
+    alloc: Global,
+) -> Result<usize, FormFault> {
+    let f = function_at(derived, place, alloc)?;
+    Ok(derived.import_function_if_new(f, span)?.index())
 }
 
 /// Copies the function at a place.
-fn copied(
+fn mapped(
     derived: &mut DerivedModule<'_>,
     place: usize,
     alloc: Global,
-) -> Result<Handle<Function>, Fail> {
+) -> Result<usize, FormFault> {
     let place = place_of(derived, place, alloc)?;
-    let handle = derived.map_function_handle(&place)?;
-    Ok(handle)
+    Ok(derived.map_function_handle(&place)?.index())
 }
 
-/// Puts in a type and a function with an argument.
-fn put_function(module: &mut Module, mut f: Function) -> Result<(), AllocError> {
-    let argument = FunctionArgument {
-        name: None,
-        ty: Index::new(0),
-        binding: None,
-    };
-    f.arguments.push(argument)?;
-    module.functions.append(f, NONE)?;
-    add_type(module)?;
-    Ok(())
+fn localized(
+    derived: &mut DerivedModule<'_>,
+    place: usize,
+    alloc: Global,
+) -> Result<Function, FormFault> {
+    let f = function_at(derived, place, alloc)?;
+    Ok(derived.localize_function(f)?)
 }
 
-fn local(init: usize) -> LocalVariable {
-    LocalVariable {
-        name: None,
-        ty: Index::new(0),
-        init: Some(Index::new(init)),
+fn is_argument(f: &Function, at: usize, place: u32) -> bool {
+    match f.expressions.try_get(Index::new(at)) {
+        Some(Expression::FunctionArgument(found)) => *found == place,
+        _ => false,
     }
 }
 
-fn sum(left: usize, right: usize) -> Expression {
-    Expression::Binary {
-        op: 3,
-        left: Index::new(left),
-        right: Index::new(right),
+fn is_literal(f: &Function, at: usize, wanted: u64) -> bool {
+    match f.expressions.try_get(Index::new(at)) {
+        Some(Expression::Literal { kind, bits }) => *kind == 0 && *bits == wanted,
+        _ => false,
     }
 }
 
-fn add_name(f: &mut Function, place: usize, name: &str, alloc: Global) -> Result<(), AllocError> {
-    let name = String::from_str(alloc, name)?;
-    f.named_expressions.insert(Index::new(place), name)?;
-    Ok(())
+fn is_sum(f: &Function, at: usize, first: usize, second: usize) -> bool {
+    match f.expressions.try_get(Index::new(at)) {
+        Some(Expression::Binary { op, left, right }) => {
+            *op == 3 && left.index() == first && right.index() == second
+        }
+        _ => false,
+    }
 }
 
-fn localize<'a>(
+fn emits(f: &Function, start: usize, end: usize) -> bool {
+    match f.body.body.first() {
+        Some((Statement::Emit(range), _)) => range.start() == start && range.end() == end,
+        _ => false,
+    }
+}
+
+fn names_so(f: &Function, at: usize, wanted: &str) -> bool {
+    match f.named_expressions.get(&Index::new(at)) {
+        Some(name) => name.as_str() == wanted,
+        None => false,
+    }
+}
+
+/// The place of what the first statement calls.
+fn calls(f: &Function) -> Option<usize> {
+    match f.body.body.first() {
+        Some((Statement::Call { function, .. }, _)) => Some(function.index()),
+        _ => None,
+    }
+}
+
+fn is_fact(f: &Function, fact: Fact) -> bool {
+    match fact {
+        Length(length) => f.expressions.len() == length,
+        Names(length) => f.named_expressions.len() == length,
+        Locals(length) => f.local_variables.len() == length,
+        Argument(at, place) => is_argument(f, at, place),
+        Literal(at, bits) => is_literal(f, at, bits),
+        Sum(at, left, right) => is_sum(f, at, left, right),
+        Emits(start, end) => emits(f, start, end),
+        Named(at, name) => names_so(f, at, name),
+        Calls => calls(f).is_some(),
+    }
+}
+
+/// Whether the copy of a function is as it should be.
+fn is_row(f: &Function, row: Row) -> bool {
+    for fact in facts_of(row) {
+        if !is_fact(f, *fact) {
+            return false;
+        }
+    }
+    true
+}
+
+fn is_named(f: &Function, wanted: &str) -> bool {
+    match &f.name {
+        Some(name) => name.as_str() == wanted,
+        None => false,
+    }
+}
+
+fn is_named_at(module: &Module, place: usize, wanted: &str) -> bool {
+    match module.functions.try_get(Index::new(place)) {
+        Some(f) => is_named(f, wanted),
+        None => false,
+    }
+}
+
+/// Whether a function that calls another one calls f.
+fn calls_f(module: &Module, f: &Function) -> bool {
+    match calls(f) {
+        Some(place) => is_named_at(module, place, "f"),
+        None => true,
+    }
+}
+
+/// Whether at a place of a module stands the copy of a row of this name.
+fn is_copy(module: &Module, at: usize, row: Row, name: &str) -> bool {
+    match module.functions.try_get(Index::new(at)) {
+        Some(copy) => is_named(copy, name) && calls_f(module, copy) && is_row(copy, row),
+        None => false,
+    }
+}
+
+/// Where the span of a function starts, what it calls first, and how many expressions it has.
+type Noted = Option<(u32, Option<usize>, usize)>;
+
+fn noted(module: &Module, place: usize) -> Noted {
+    let place = Index::new(place);
+    let function = module.functions.try_get(place)?;
+    let start = module.functions.get_span(place).start;
+    Some((start, calls(function), function.expressions.len()))
+}
+
+fn notes_of(module: &Module) -> [Noted; 8] {
+    let mut notes = [None; 8];
+    for place in 0..8 {
+        notes[place] = noted(module, place);
+    }
+    notes
+}
+
+/// Whether what was noted stands as it did.
+fn keeps(module: &Module, notes: &[Noted; 8]) -> bool {
+    for place in 0..8 {
+        if notes[place].is_some() && notes[place] != noted(module, place) {
+            return false;
+        }
+    }
+    true
+}
+
+/// Whether a copy alone is as it should be.
+fn is_alone(copy: &Result<Function, FormFault>, row: Row) -> Option<bool> {
+    match copy {
+        Ok(copy) => Some(is_row(copy, row)),
+        Err(_) => None,
+    }
+}
+
+fn makes_alone(
+    derived: &mut DerivedModule<'_>,
+    row: Row,
+    place: usize,
+    alloc: Global,
+) -> Option<bool> {
+    let copy = localized(derived, place, alloc);
+    is_alone(&copy, row)
+}
+
+fn placed(
+    derived: &mut DerivedModule<'_>,
+    way: Way,
+    place: usize,
+    alloc: Global,
+) -> Result<usize, FormFault> {
+    match way {
+        Again(span) => again(derived, place, span, alloc),
+        IfNew(span) => if_new(derived, place, span, alloc),
+        _ => mapped(derived, place, alloc),
+    }
+}
+
+/// Whether a call makes the copy that it should, at its place, or up to so many places behind it; none where it is refused.
+fn makes(
+    derived: &mut DerivedModule<'_>,
+    case: &Case,
+    call: Call,
+    tries: usize,
+    alloc: Global,
+) -> Option<bool> {
+    let (way, place, wanted) = call;
+    let (row, name) = *case.rows.get(place)?;
+    if matches!(way, Alone) {
+        return makes_alone(derived, row, place, alloc);
+    }
+    let at = placed(derived, way, place, alloc).ok()?;
+    let is_there = wanted <= at && at - wanted < tries;
+    Some(is_there && is_copy(&derived.copying.target, at, row, name))
+}
+
+/// Whether one of so many calls makes the copy, and all leave what stood. A copy whose name found no memory may stand before
+/// it.
+fn is_made(
+    derived: &mut DerivedModule<'_>,
+    case: &Case,
+    call: Call,
+    tries: usize,
+    alloc: Global,
+) -> bool {
+    for _ in 0..tries {
+        let notes = notes_of(&derived.copying.target);
+        let made = makes(derived, case, call, tries, alloc);
+        if !keeps(&derived.copying.target, &notes) {
+            return false;
+        }
+        if let Some(is_made) = made {
+            return is_made;
+        }
+    }
+    false
+}
+
+fn are_made(derived: &mut DerivedModule<'_>, case: &Case, tries: usize, alloc: Global) -> bool {
+    for call in case.calls {
+        if !is_made(derived, case, *call, tries, alloc) {
+            return false;
+        }
+    }
+    true
+}
+
+fn is_set<'a>(
     derived: &mut DerivedModule<'a>,
     source: &'a Module,
-    copy: &mut Function,
+    offset: usize,
+    tries: usize,
     alloc: Global,
-) -> Result<(), Fail> {
-    set_source(derived, source, 0, alloc)?;
-    let f = function_at(derived, 0, alloc)?;
-    *copy = derived.localize_function(f)?;
-    Ok(())
+) -> bool {
+    for _ in 0..tries {
+        if set(derived, source, offset, alloc).is_ok() {
+            return true;
+        }
+    }
+    false
 }
 
-/// Makes a function the copy of the first one of a module, over the handles of the copy's module.
-fn localized(source: &Module, copy: &mut Function, alloc: Global) -> Result<(), Fail> {
+/// Whether a function of a name and, where it is asked for, of a span stands at a place.
+fn is_end(module: &Module, place: usize, end: &End) -> bool {
+    let span = module.functions.get_span(Index::new(place));
+    is_named_at(module, place, end.0) && (end.1.is_none() || end.1 == Some(span))
+}
+
+fn are_ends(module: &Module, ends: &[End]) -> bool {
+    for place in 0..ends.len() {
+        if !is_end(module, place, &ends[place]) {
+            return false;
+        }
+    }
+    module.functions.len() == ends.len()
+}
+
+fn ends_so(module: &Module, case: &Case) -> bool {
+    match case.ends {
+        Some(ends) => are_ends(module, ends),
+        None => true,
+    }
+}
+
+fn derives(source: &Module, case: &Case, tries: usize, alloc: Global) -> bool {
     let mut derived = DerivedModule::new(alloc);
-    localize(&mut derived, source, copy, alloc)
+    is_set(&mut derived, source, case.offset, tries, alloc)
+        && are_made(&mut derived, case, tries, alloc)
+        && ends_so(&derived.copying.target, case)
 }
 
-/// A sum that is emitted behind its operands, and a literal that nothing reaches.
-fn add_sum(f: &mut Function, alloc: Global) -> Result<(), AllocError> {
-    f.expressions.append(literal(7), NONE)?;
-    let argument = Expression::FunctionArgument(0);
-    f.expressions.append(argument, NONE)?;
-    f.expressions.append(sum(1, 0), NONE)?;
-    f.expressions.append(literal(9), NONE)?;
-    add_emit(f, 2, 3)?;
-    add_return(f, 2)?;
-    add_name(f, 2, "s", alloc)?;
-    add_name(f, 3, "t", alloc)
-}
-
-fn put_sum(module: &mut Module, alloc: Global) -> Result<(), AllocError> {
-    let mut f = function("f", alloc)?;
-    add_sum(&mut f, alloc)?;
-    put_function(module, f)
-}
-
-fn is_sum(rt: &(impl Abort + AllocGlobal), g: &Function) {
-    assert_eq!(rt; g.expressions.len(), 3);
-    assert!(rt; is_at(g, 0, Expression::FunctionArgument(0)));
-    assert!(rt; is_at(g, 1, literal(7)));
-    assert!(rt; is_at(g, 2, sum(0, 1)));
-    assert!(rt; emits(g, 0) == (2, 3));
-    assert_eq!(rt; g.named_expressions.len(), 1);
-    let named = g.named_expressions.get(&Index::new(2));
-    assert!(rt; named.is_some_and(|name| name.as_str() == "s"));
-}
-
-fn shows_sum(rt: &(impl Abort + AllocGlobal), source: &Module) -> Result<(), Fail> {
-    let mut g = function("g", rt.alloc())?;
-    localized(source, &mut g, rt.alloc())?;
-    is_sum(rt, &g);
-    Ok(())
+/// Whether a case goes as it should, each of its calls by one of so many.
+fn is_case(case: &Case, tries: usize, alloc: Global) -> Result<bool, AllocError> {
+    let mut source = Module::new(alloc);
+    fill(&mut source, case, alloc)?;
+    Ok(derives(&source, case, tries, alloc))
 }
 
 #[test]
 fn operands_come_first(rt: HostRuntime) -> Result<(), Fail> {
-    let mut source = Module::new(rt.alloc());
-    put_sum(&mut source, rt.alloc())?;
-    shows_sum(&rt, &source)
-}
-
-/// An emitted range whose first place an initialiser reaches.
-fn add_initialiser(f: &mut Function) -> Result<(), AllocError> {
-    let value = Index::new(0);
-    let expr = Index::new(1);
-    f.expressions.append(literal(7), NONE)?;
-    let splat = Expression::Splat { size: 2, value };
-    f.expressions.append(splat, NONE)?;
-    let unary = Expression::Unary { op: 1, expr };
-    f.expressions.append(unary, NONE)?;
-    f.local_variables.append(local(1), NONE)?;
-    add_emit(f, 1, 3)?;
-    add_return(f, 2)
-}
-
-fn put_initialised(module: &mut Module, alloc: Global) -> Result<(), AllocError> {
-    let mut f = function("f", alloc)?;
-    add_initialiser(&mut f)?;
-    put_function(module, f)
-}
-
-fn is_initialised(rt: &(impl Abort + AllocGlobal), g: &Function) {
-    assert_eq!(rt; g.expressions.len(), 3);
-    assert!(rt; emits(g, 0) == (2, 3));
-}
-
-fn shows_initialised(rt: &(impl Abort + AllocGlobal), source: &Module) -> Result<(), Fail> {
-    let mut g = function("g", rt.alloc())?;
-    localized(source, &mut g, rt.alloc())?;
-    is_initialised(rt, &g);
-    Ok(())
+    holds(is_case(&ONE_SUM, 1, rt.alloc())?)
 }
 
 #[test]
 fn initialisers_are_not_emitted(rt: HostRuntime) -> Result<(), Fail> {
-    let mut source = Module::new(rt.alloc());
-    put_initialised(&mut source, rt.alloc())?;
-    shows_initialised(&rt, &source)
-}
-
-/// Two initialisers that read alike.
-fn add_equal_initialisers(f: &mut Function, alloc: Global) -> Result<(), AllocError> {
-    f.expressions.append(literal(7), NONE)?;
-    f.expressions.append(literal(7), NONE)?;
-    f.local_variables.append(local(0), NONE)?;
-    f.local_variables.append(local(1), NONE)?;
-    add_name(f, 0, "p", alloc)?;
-    add_name(f, 1, "q", alloc)
-}
-
-fn put_merged(module: &mut Module, alloc: Global) -> Result<(), AllocError> {
-    let mut f = function("f", alloc)?;
-    add_equal_initialisers(&mut f, alloc)?;
-    put_function(module, f)
-}
-
-fn is_merged(rt: &(impl Abort + AllocGlobal), g: &Function) {
-    assert_eq!(rt; g.expressions.len(), 1);
-    let named = g.named_expressions.get(&Index::new(0));
-    assert!(rt; named.is_some_and(|name| name.as_str() == "q"));
-}
-
-fn shows_merged(rt: &(impl Abort + AllocGlobal), source: &Module) -> Result<(), Fail> {
-    let mut g = function("g", rt.alloc())?;
-    localized(source, &mut g, rt.alloc())?;
-    is_merged(rt, &g);
-    Ok(())
+    holds(is_case(&ONE_INITIALISED, 1, rt.alloc())?)
 }
 
 #[test]
 fn equal_initialisers_merge(rt: HostRuntime) -> Result<(), Fail> {
-    let mut source = Module::new(rt.alloc());
-    put_merged(&mut source, rt.alloc())?;
-    shows_merged(&rt, &source)
-}
-
-/// Sums, each of the one before it with itself.
-fn add_doubled(f: &mut Function) -> Result<(), AllocError> {
-    f.expressions.append(literal(7), NONE)?;
-    for place in 0..64 {
-        f.expressions.append(sum(place, place), NONE)?;
-    }
-    add_emit(f, 1, 65)?;
-    add_return(f, 64)
-}
-
-fn put_doubled(module: &mut Module, alloc: Global) -> Result<(), AllocError> {
-    let mut f = function("f", alloc)?;
-    add_doubled(&mut f)?;
-    put_function(module, f)
-}
-
-fn is_doubled(rt: &(impl Abort + AllocGlobal), g: &Function) {
-    assert_eq!(rt; g.expressions.len(), 65);
-    assert!(rt; emits(g, 0) == (1, 65));
-}
-
-fn shows_doubled(rt: &(impl Abort + AllocGlobal), source: &Module) -> Result<(), Fail> {
-    let mut g = function("g", rt.alloc())?;
-    localized(source, &mut g, rt.alloc())?;
-    is_doubled(rt, &g);
-    Ok(())
+    holds(is_case(&ONE_MERGED, 1, rt.alloc())?)
 }
 
 #[test]
 fn shared_operands_are_walked_once(rt: HostRuntime) -> Result<(), Fail> {
-    let mut source = Module::new(rt.alloc());
-    put_doubled(&mut source, rt.alloc())?;
-    shows_doubled(&rt, &source)
-}
-
-/// What is derived from a module in which the second function calls the first, the second of it twice.
-fn fill_by_name<'a>(
-    derived: &mut DerivedModule<'a>,
-    source: &'a Module,
-    alloc: Global,
-) -> Result<[usize; 3], Fail> {
-    set_source(derived, source, 100, alloc)?;
-    let first = copied(derived, 1, alloc)?;
-    let again = function_at(derived, 1, alloc)?;
-    let known = derived.import_function_if_new(again, NONE)?;
-    let again = function_at(derived, 1, alloc)?;
-    let later = derived.import_function(again, Span::new(5, 6))?;
-    Ok([first.index(), known.index(), later.index()])
-}
-
-fn shows_names<'a>(
-    rt: &(impl Abort + AllocGlobal),
-    derived: &mut DerivedModule<'a>,
-    source: &'a Module,
-) -> Result<(), Fail> {
-    let handles = fill_by_name(derived, source, rt.alloc())?;
-    assert!(rt; handles == [1, 1, 2]);
-    let functions = &derived.copying.target.functions;
-    assert_eq!(rt; functions.len(), 3);
-    assert_eq!(rt; functions.get_span(Index::new(1)), Span::new(103, 104));
-    let f = functions.try_get(Index::new(0));
-    assert!(rt; f.is_some_and(|f| is_named(f, "f")));
-    Ok(())
+    holds(is_case(&ONE_DOUBLED, 1, rt.alloc())?)
 }
 
 #[test]
 fn callees_come_by_name(rt: HostRuntime) -> Result<(), Fail> {
-    let mut source = Module::new(rt.alloc());
-    fill_calling(&mut source, rt.alloc())?;
-    let mut derived = DerivedModule::new(rt.alloc());
-    shows_names(&rt, &mut derived, &source)
-}
-
-fn is_whole(rt: &(impl Abort + AllocGlobal), module: &Module) {
-    assert_eq!(rt; module.functions.len(), 2);
-    let Some(entry) = module.entry_points.first() else {
-        panic!(rt; "no entry point");
-    };
-    assert!(rt; entry.workgroup_size == [1, 2, 3]);
-    assert_eq!(rt; entry.stage, 2);
-    assert!(rt; calls(&entry.function) == Some(1));
-}
-
-fn shows_entries(rt: &(impl Abort + AllocGlobal), source: &Module) -> Result<(), Fail> {
-    let mut derived = DerivedModule::new(rt.alloc());
-    set_source(&mut derived, source, 0, rt.alloc())?;
-    ask_entries(&derived, rt.alloc())?;
-    match derived.into_module_with_entrypoints() {
-        Ok(module) => is_whole(rt, &module),
-        Err(_) => panic!(rt; "no memory"),
-    }
-    Ok(())
-}
-
-#[test]
-fn entry_points_come_with_what_they_call(rt: HostRuntime) -> Result<(), Fail> {
-    let mut source = Module::new(rt.alloc());
-    fill_calling(&mut source, rt.alloc())?;
-    shows_entries(&rt, &source)
+    holds(is_case(&CALLING, 1, rt.alloc())?)
 }

@@ -1,13 +1,12 @@
-use super::{copied, function};
+use super::{function, mapped};
 use crate::DerivedModule;
-use crate::derive::tests::set_source;
+use crate::derive::tests::{holds, set};
 use naga_oil_ir::{
-    Block, Constant, Expression, Function, FunctionArgument, FunctionResult, GlobalVariable,
-    Handle, ImageQuery, Index, LocalVariable, Module, Operand, Override, Range, RayQueryFunction,
-    SampleLevel, Span, Statement, SwitchCase, Token, Type, TypeInner, push_block,
+    Block, Constant, Expression, FormFault, Function, FunctionArgument, FunctionResult,
+    GlobalVariable, Handle, ImageQuery, Index, LocalVariable, Module, Operand, Override, Range,
+    RayQueryFunction, SampleLevel, Span, Statement, SwitchCase, Token, Type, TypeInner, push_block,
 };
 use std::alloc::{AllocError, Global};
-use std::process::Abort;
 use std::test::Fail;
 
 const NONE: Span = Span::UNDEFINED;
@@ -202,157 +201,138 @@ impl Maker {
         Ok(block)
     }
 
-    /// The statements that give results, and one that emits.
-    fn giving(self, body: &mut Vec<(Statement, Span)>) -> Result<(), AllocError> {
+    /// A call, with a list of arguments.
+    fn call(self) -> Result<Statement, AllocError> {
         let arguments = Vec::from_slice(self.alloc, &[self.at(6)])?;
-        let emitted = if self.copied { (14, 33) } else { (13, 32) };
-        body.push((
-            Statement::Call {
-                function: Index::new(0),
-                arguments,
-                result: self.some(7),
+        Ok(Statement::Call {
+            function: Index::new(0),
+            arguments,
+            result: self.some(7),
+        })
+    }
+
+    fn choice(self) -> Result<Statement, AllocError> {
+        let accept = self.one(Statement::ControlBarrier(1))?;
+        let reject = self.one(Statement::MemoryBarrier(2))?;
+        Ok(Statement::If {
+            condition: self.at(26),
+            accept,
+            reject,
+        })
+    }
+
+    fn cases(self) -> Result<Vec<SwitchCase>, AllocError> {
+        let body = self.one(Statement::Break)?;
+        let mut cases = Vec::new(self.alloc);
+        cases.push(SwitchCase {
+            value: 4,
+            body,
+            fall_through: true,
+        })?;
+        Ok(cases)
+    }
+
+    fn switch(self) -> Result<Statement, AllocError> {
+        Ok(Statement::Switch {
+            selector: self.at(27),
+            cases: self.cases()?,
+        })
+    }
+
+    fn repeat(self) -> Result<Statement, AllocError> {
+        Ok(Statement::Loop {
+            body: self.one(Statement::Continue)?,
+            continuing: self.none(),
+            break_if: self.some(24),
+        })
+    }
+
+    /// The statements with a list or a block.
+    fn nested(self, kind: usize) -> Result<Statement, AllocError> {
+        match kind {
+            0 => self.call(),
+            12 => Ok(Statement::Block(self.one(Statement::Kill)?)),
+            13 => self.choice(),
+            14 => self.switch(),
+            _ => self.repeat(),
+        }
+    }
+
+    fn query(self, fun: RayQueryFunction) -> Statement {
+        Statement::RayQuery {
+            query: self.at(5),
+            fun,
+        }
+    }
+
+    fn ray_query(self, kind: usize) -> Statement {
+        self.query(match kind {
+            3 => RayQueryFunction::Initialize {
+                acceleration_structure: self.at(2),
+                descriptor: self.at(3),
             },
-            NONE,
-        ))?;
-        body.push((
-            Statement::Atomic {
+            4 => RayQueryFunction::Proceed {
+                result: self.at(10),
+            },
+            9 => RayQueryFunction::Terminate,
+            10 => RayQueryFunction::GenerateIntersection { hit_t: self.at(23) },
+            _ => RayQueryFunction::ConfirmIntersection,
+        })
+    }
+
+    fn emit(self) -> Statement {
+        let emitted = if self.copied { (14, 33) } else { (13, 32) };
+        Statement::Emit(Range::<Expression>::new(emitted.0, emitted.1))
+    }
+
+    /// The statements that give results, and one that emits.
+    fn giving(self, kind: usize) -> Statement {
+        match kind {
+            1 => Statement::Atomic {
                 pointer: self.at(4),
                 fun: 3,
                 compare: self.some(0),
                 value: self.at(1),
                 result: self.some(8),
             },
-            NONE,
-        ))?;
-        body.push((
-            Statement::WorkGroupUniformLoad {
+            2 => Statement::WorkGroupUniformLoad {
                 pointer: self.at(4),
                 result: self.at(9),
             },
-            NONE,
-        ))?;
-        body.push((
-            Statement::RayQuery {
-                query: self.at(5),
-                fun: RayQueryFunction::Initialize {
-                    acceleration_structure: self.at(2),
-                    descriptor: self.at(3),
-                },
-            },
-            NONE,
-        ))?;
-        body.push((
-            Statement::RayQuery {
-                query: self.at(5),
-                fun: RayQueryFunction::Proceed {
-                    result: self.at(10),
-                },
-            },
-            NONE,
-        ))?;
-        body.push((
-            Statement::SubgroupBallot {
+            5 => Statement::SubgroupBallot {
                 result: self.at(11),
                 predicate: self.some(0),
             },
-            NONE,
-        ))?;
-        body.push((
-            Statement::SubgroupGather {
+            6 => Statement::SubgroupGather {
                 mode: 2,
                 index: self.some(0),
                 argument: self.at(1),
                 result: self.at(12),
             },
-            NONE,
-        ))?;
-        body.push((
-            Statement::SubgroupCollectiveOperation {
+            7 => Statement::SubgroupCollectiveOperation {
                 op: 1,
                 collective: 2,
                 argument: self.at(0),
                 result: self.at(32),
             },
-            NONE,
-        ))?;
-        body.push((
-            Statement::Emit(Range::<Expression>::new(emitted.0, emitted.1)),
-            NONE,
-        ))?;
-        Ok(())
+            _ => self.emit(),
+        }
     }
 
-    /// The other statements.
-    fn using(self, body: &mut Vec<(Statement, Span)>) -> Result<(), AllocError> {
-        let mut cases = Vec::new(self.alloc);
-        cases.push(SwitchCase {
-            value: 4,
-            body: self.one(Statement::Break)?,
-            fall_through: true,
-        })?;
-        body.push((
-            Statement::RayQuery {
-                query: self.at(5),
-                fun: RayQueryFunction::Terminate,
-            },
-            NONE,
-        ))?;
-        body.push((
-            Statement::RayQuery {
-                query: self.at(5),
-                fun: RayQueryFunction::GenerateIntersection { hit_t: self.at(23) },
-            },
-            NONE,
-        ))?;
-        body.push((
-            Statement::RayQuery {
-                query: self.at(5),
-                fun: RayQueryFunction::ConfirmIntersection,
-            },
-            NONE,
-        ))?;
-        body.push((Statement::Block(self.one(Statement::Kill)?), NONE))?;
-        body.push((
-            Statement::If {
-                condition: self.at(26),
-                accept: self.one(Statement::ControlBarrier(1))?,
-                reject: self.one(Statement::MemoryBarrier(2))?,
-            },
-            NONE,
-        ))?;
-        body.push((
-            Statement::Switch {
-                selector: self.at(27),
-                cases,
-            },
-            NONE,
-        ))?;
-        body.push((
-            Statement::Loop {
-                body: self.one(Statement::Continue)?,
-                continuing: self.none(),
-                break_if: self.some(24),
-            },
-            NONE,
-        ))?;
-        body.push((
-            Statement::Store {
+    /// The last statements.
+    fn using(self, kind: usize) -> Statement {
+        match kind {
+            16 => Statement::Store {
                 pointer: self.at(5),
                 value: self.at(18),
             },
-            NONE,
-        ))?;
-        body.push((
-            Statement::ImageStore {
+            17 => Statement::ImageStore {
                 image: self.at(6),
                 coordinate: self.at(0),
                 array_index: self.some(1),
                 value: self.at(19),
             },
-            NONE,
-        ))?;
-        body.push((
-            Statement::ImageAtomic {
+            18 => Statement::ImageAtomic {
                 image: self.at(6),
                 coordinate: self.at(0),
                 array_index: None,
@@ -360,26 +340,38 @@ impl Maker {
                 compare: self.some(20),
                 value: self.at(21),
             },
-            NONE,
-        ))?;
-        body.push((
-            Statement::Return {
+            _ => Statement::Return {
                 value: self.some(31),
             },
-            NONE,
-        ))?;
-        Ok(())
+        }
+    }
+
+    fn statement(self, kind: usize) -> Result<Statement, AllocError> {
+        match kind {
+            0 | 12..=15 => self.nested(kind),
+            3 | 4 | 9..=11 => Ok(self.ray_query(kind)),
+            1..=8 => Ok(self.giving(kind)),
+            _ => Ok(self.using(kind)),
+        }
     }
 
     fn body(self) -> Result<Block, AllocError> {
         let mut block = self.none();
-        self.giving(&mut block.body)?;
-        self.using(&mut block.body)?;
+        for kind in 0..20 {
+            block.body.push((self.statement(kind)?, NONE))?;
+        }
         Ok(block)
     }
 
-    /// Makes a function of nothing one with each kind of expression and statement.
-    fn fill(self, f: &mut Function) -> Result<(), AllocError> {
+    fn add_expressions(self, f: &mut Function) -> Result<(), AllocError> {
+        for kind in 0..33 {
+            f.expressions.append(self.expression(kind)?, NONE)?;
+        }
+        Ok(())
+    }
+
+    /// Gives a function of nothing an argument, a result and a local variable.
+    fn add_head(self, f: &mut Function) -> Result<(), AllocError> {
         f.arguments.push(FunctionArgument {
             name: None,
             ty: self.ty(1),
@@ -395,17 +387,19 @@ impl Maker {
             init: None,
         };
         f.local_variables.append(local, NONE)?;
-        for kind in 0..33 {
-            let expression = self.expression(kind)?;
-            f.expressions.append(expression, NONE)?;
-        }
+        Ok(())
+    }
+
+    /// Makes a function of nothing one with each kind of expression and statement.
+    fn fill(self, f: &mut Function) -> Result<(), AllocError> {
+        self.add_head(f)?;
+        self.add_expressions(f)?;
         f.body = self.body()?;
         Ok(())
     }
 }
 
-/// Puts in an item of each kind.
-fn add_items(m: &mut Module, bits: u64) -> Result<(), AllocError> {
+fn add_constant(m: &mut Module, bits: u64) -> Result<(), AllocError> {
     let literal = Expression::Literal { kind: 1, bits };
     let init = m.global_expressions.append(literal, NONE)?;
     let constant = Constant {
@@ -414,6 +408,10 @@ fn add_items(m: &mut Module, bits: u64) -> Result<(), AllocError> {
         init,
     };
     m.constants.append(constant, NONE)?;
+    Ok(())
+}
+
+fn add_override(m: &mut Module, bits: u64) -> Result<(), AllocError> {
     let size = Override {
         name: None,
         id: Some(bits),
@@ -421,6 +419,10 @@ fn add_items(m: &mut Module, bits: u64) -> Result<(), AllocError> {
         init: None,
     };
     m.overrides.append(size, NONE)?;
+    Ok(())
+}
+
+fn add_global(m: &mut Module, bits: u64) -> Result<(), AllocError> {
     let global = GlobalVariable {
         name: None,
         space: bits,
@@ -432,18 +434,28 @@ fn add_items(m: &mut Module, bits: u64) -> Result<(), AllocError> {
     Ok(())
 }
 
+/// Puts in an item of each kind.
+fn add_items(m: &mut Module, bits: u64) -> Result<(), AllocError> {
+    add_constant(m, bits)?;
+    add_override(m, bits)?;
+    add_global(m, bits)
+}
+
 fn add_type(m: &mut Module, inner: TypeInner) -> Result<(), AllocError> {
     m.types.insert(Type { name: None, inner }, NONE)?;
     Ok(())
 }
 
-/// Puts in two items of each kind, a function that is called, and one with each kind of expression and statement.
-fn fill(m: &mut Module, alloc: Global) -> Result<(), AllocError> {
+/// Puts in two types, and two items of each kind.
+fn add_all(m: &mut Module) -> Result<(), AllocError> {
     add_type(m, TypeInner::Scalar(1))?;
     add_type(m, TypeInner::Vector(2))?;
     add_items(m, 0)?;
-    add_items(m, 1)?;
-    m.functions.append(function("h", alloc)?, Span::new(1, 2))?;
+    add_items(m, 1)
+}
+
+/// Puts in the test's function.
+fn add_whole(m: &mut Module, alloc: Global) -> Result<(), AllocError> {
     let mut whole = function("f", alloc)?;
     let maker = Maker {
         copied: false,
@@ -452,6 +464,13 @@ fn fill(m: &mut Module, alloc: Global) -> Result<(), AllocError> {
     maker.fill(&mut whole)?;
     m.functions.append(whole, Span::new(3, 4))?;
     Ok(())
+}
+
+/// Puts in two items of each kind, a function that is called, and one with each kind of expression and statement.
+fn fill(m: &mut Module, alloc: Global) -> Result<(), AllocError> {
+    add_all(m)?;
+    m.functions.append(function("h", alloc)?, Span::new(1, 2))?;
+    add_whole(m, alloc)
 }
 
 /// A token by numbers.
@@ -482,60 +501,92 @@ fn codes(block: &Block, alloc: Global) -> Result<Vec<[usize; 4]>, AllocError> {
     Ok(list)
 }
 
-/// Whether each expression stands where it does by hand.
+/// Whether an expression stands where it does by hand.
+fn is_by_hand(copy: &Function, kind: usize, by_hand: Maker) -> Result<bool, AllocError> {
+    let expected = by_hand.expression(kind)?;
+    match copy.expressions.try_get(by_hand.at(kind)) {
+        Some(found) => Ok(*found == expected),
+        None => Ok(false),
+    }
+}
+
+/// Whether each expression does.
 fn are_by_hand(copy: &Function, by_hand: Maker) -> Result<bool, AllocError> {
     for kind in 0..33 {
-        let expected = by_hand.expression(kind)?;
-        match copy.expressions.try_get(by_hand.at(kind)) {
-            Some(found) if *found == expected => {}
-            _ => return Ok(false),
+        if !is_by_hand(copy, kind, by_hand)? {
+            return Ok(false);
         }
     }
     Ok(copy.expressions.len() == 33)
 }
 
-fn reads_alike(body: &Block, other: &Block, alloc: Global) -> Result<bool, AllocError> {
-    let found = codes(body, alloc)?;
-    let expected = codes(other, alloc)?;
+fn codes_by_hand(by_hand: Maker) -> Result<Vec<[usize; 4]>, AllocError> {
+    let body = by_hand.body()?;
+    codes(&body, by_hand.alloc)
+}
+
+fn reads_by_hand(body: &Block, by_hand: Maker) -> Result<bool, AllocError> {
+    let found = codes(body, by_hand.alloc)?;
+    let expected = codes_by_hand(by_hand)?;
     Ok(found.as_slice() == expected.as_slice())
 }
 
-/// The copy of the second function of the module with each kind is as it was written by hand.
-fn is_copy(rt: &(impl Abort + AllocGlobal), copy: &Function) -> Result<(), Fail> {
-    let by_hand = Maker {
-        copied: true,
-        alloc: rt.alloc(),
-    };
-    assert!(rt; are_by_hand(copy, by_hand)?);
-    assert!(rt; reads_alike(&copy.body, &by_hand.body()?, rt.alloc())?);
-    assert!(rt; copy.diagnostic_filter_leaf.is_none());
-    Ok(())
+/// Whether a copy is as it was written by hand.
+fn is_copy(copy: &Function, by_hand: Maker) -> Result<bool, AllocError> {
+    if copy.diagnostic_filter_leaf.is_some() || !are_by_hand(copy, by_hand)? {
+        return Ok(false);
+    }
+    reads_by_hand(&copy.body, by_hand)
 }
 
-fn shows_kinds<'a>(
-    rt: &(impl Abort + AllocGlobal),
+fn counts(module: &Module) -> [usize; 4] {
+    [
+        module.types.len(),
+        module.constants.len(),
+        module.overrides.len(),
+        module.global_variables.len(),
+    ]
+}
+
+/// Whether the copy of the second function of the module with each kind stands as it was written by hand.
+fn is_copied(module: &Module, alloc: Global) -> Result<bool, AllocError> {
+    let by_hand = Maker {
+        copied: true,
+        alloc,
+    };
+    let handle = Index::new(1);
+    let span = module.functions.get_span(handle);
+    if span != Span::new(103, 104) || counts(module) != [2, 1, 1, 1] {
+        return Ok(false);
+    }
+    match module.functions.try_get(handle) {
+        Some(copy) => is_copy(copy, by_hand),
+        None => Ok(false),
+    }
+}
+
+fn copies<'a>(
     derived: &mut DerivedModule<'a>,
     source: &'a Module,
-) -> Result<(), Fail> {
-    set_source(derived, source, 100, rt.alloc())?;
-    copied(derived, 1, rt.alloc())?;
-    let target = &derived.copying.target;
-    let handle = Index::new(1);
-    assert_eq!(rt; target.functions.get_span(handle), Span::new(103, 104));
-    let counts = [
-        target.types.len(),
-        target.constants.len(),
-        target.overrides.len(),
-        target.global_variables.len(),
-    ];
-    assert!(rt; counts == [2, 1, 1, 1]);
-    is_copy(rt, target.functions.try_get(handle).ok_or("the copy")?)
+    alloc: Global,
+) -> Result<bool, FormFault> {
+    set(derived, source, 100, alloc)?;
+    mapped(derived, 1, alloc)?;
+    Ok(is_copied(&derived.copying.target, alloc)?)
+}
+
+fn derives(source: &Module, alloc: Global) -> Result<bool, FormFault> {
+    let mut derived = DerivedModule::new(alloc);
+    copies(&mut derived, source, alloc)
+}
+
+fn copies_each_kind(alloc: Global) -> Result<bool, FormFault> {
+    let mut source = Module::new(alloc);
+    fill(&mut source, alloc)?;
+    derives(&source, alloc)
 }
 
 #[test]
 fn each_kind_is_copied(rt: HostRuntime) -> Result<(), Fail> {
-    let mut source = Module::new(rt.alloc());
-    fill(&mut source, rt.alloc())?;
-    let mut derived = DerivedModule::new(rt.alloc());
-    shows_kinds(&rt, &mut derived, &source)
+    holds(copies_each_kind(rt.alloc())?)
 }

@@ -3,7 +3,7 @@ use Rattle.naga_oil_derive.specs.Derived.{Derived}
 use Rattle.naga_oil_derive.specs.DerivedView.{derived_of}
 use Rattle.naga_oil_derive.proofs.DeriveCalls.{Shader}
 use Rattle.naga_oil_derive.proofs.FormEntries.{form_entries}
-use Rattle.naga_oil_derive.proofs.derive.functions.tests.ask_entries.Goals as goal
+use Rattle.naga_oil_derive.proofs.derive.functions.tests.entered.ask_entries.Goals as goal
 
 pub returns-clause-set : goal.returns-clause-set
 returns-clause-set c =
