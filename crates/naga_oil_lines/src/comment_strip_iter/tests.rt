@@ -27,7 +27,7 @@ fn is(told: Result<String, AllocError>, want: &str) -> bool {
 }
 
 // Texts, each with what covering makes of it.
-const COVERED: [(&str, &str); 17] = [
+static COVERED: [(&str, &str); 17] = [
     (
         "1.0 /* block comment with a partial line comment on the end *// 2.0",
         "1.0                                                           / 2.0",

@@ -10,7 +10,7 @@ fn is(told: Result<String, AllocError>, want: &str) -> bool {
 
 // A module, an item, and the item's name. Under an empty item name the code of a module is seen alone: these are the
 // test vectors of RFC 4648 section 10.
-const NAMES: [(Option<&str>, &str, &str); 11] = [
+static NAMES: [(Option<&str>, &str, &str); 11] = [
     (None, "f", "f"),
     (None, "", ""),
     (Some("a"), "f", "fX_naga_oil_mod_XMEX"),
@@ -47,7 +47,7 @@ fn is_module(decoded: Result<Option<String>, AllocError>, want: Option<&str>) ->
 }
 
 // Codes, each with the module of which it is the code.
-const CODES: [(&str, Option<&str>); 12] = [
+static CODES: [(&str, Option<&str>); 12] = [
     ("", Some("")),
     ("ME", Some("a")),
     ("ME5DUYQ", Some("a::b")),
@@ -73,7 +73,7 @@ fn decodes_modules(rt: HostRuntime) -> Result<(), Fail> {
 }
 
 // Texts, each as a reader is shown it.
-const SHOWN: [(&str, &str); 14] = [
+static SHOWN: [(&str, &str); 14] = [
     ("", ""),
     ("f(x)", "f(x)"),
     ("fX_naga_oil_mod_XMEXYZ", "a::fYZ"),

@@ -42,7 +42,7 @@ fn tells(alloc: Global, before: Option<&str>, rows: &[(&str, &str)]) -> Result<(
     Ok(())
 }
 
-const DECLARING: [(&str, &str); 13] = [
+static DECLARING: [(&str, &str); 13] = [
     ("#import a::b", r#"{"b": ["a::b"]}"#),
     ("#import a::{b, c}", r#"{"b": ["a::b"], "c": ["a::c"]}"#),
     (
@@ -89,7 +89,7 @@ fn lines_declare(rt: HostRuntime) -> Result<(), Fail> {
 
 const FIRST: &str = "#import x::{a, b}";
 
-const FAULTY: [(&str, &str); 15] = [
+static FAULTY: [(&str, &str); 15] = [
     (
         "",
         r#"Syntax("expected #import", 0) {"a": ["x::a"], "b": ["x::b"]}"#,

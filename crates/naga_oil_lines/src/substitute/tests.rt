@@ -14,7 +14,7 @@ struct Row {
     want: &'static str,
 }
 
-const ROWS: [Row; 10] = [
+static ROWS: [Row; 10] = [
     Row {
         text: "x.f + x. f",
         offset: 13,

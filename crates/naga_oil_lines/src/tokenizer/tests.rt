@@ -17,7 +17,7 @@ fn is(told: Result<String, AllocError>, want: &str) -> bool {
 const QUOTED: &str = r#"[Identifier("a\"b::c\"d::", 0), Other(':', 10), Identifier("e", 11)]"#;
 
 // A text, whether whitespace is given, and the tokens.
-const CUT: [(&str, bool, &str); 7] = [
+static CUT: [(&str, bool, &str); 7] = [
     ("a\"b::c\"d:::e", false, QUOTED),
     ("a\"b::c\"d:::e", true, QUOTED),
     ("_foo", true, r#"[Other('_', 0), Identifier("foo", 1)]"#),
@@ -50,7 +50,7 @@ fn cuts_texts(rt: HostRuntime) -> Result<(), Fail> {
 }
 
 // Tokens, each with its place, and its text if it is an identifier.
-const TOKENS: [(Token, usize, Option<&str>); 3] = [
+static TOKENS: [(Token, usize, Option<&str>); 3] = [
     (Token::Identifier("a", 3), 3, Some("a")),
     (Token::Other('b', 4), 4, None),
     (Token::Whitespace(" ", 5), 5, None),

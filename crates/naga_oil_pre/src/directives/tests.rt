@@ -36,7 +36,7 @@ fn tells(alloc: Global, rows: &[(&str, &str)]) -> Result<(), Fail> {
     Ok(())
 }
 
-const TAKEN: [(&str, &str); 4] = [
+static TAKEN: [(&str, &str); 4] = [
     (
         "enable f16;\nfn a() {}\n",
         "\"\\nfn a() {}\" [EnableDirective { extensions: [\"f16\"], source_location: 0 }] [] []",
@@ -60,7 +60,7 @@ fn takes_directives_out(rt: HostRuntime) -> Result<(), Fail> {
     tells(rt.alloc(), &TAKEN)
 }
 
-const KEPT: [(&str, &str); 5] = [
+static KEPT: [(&str, &str); 5] = [
     ("", "\"\" [] [] []"),
     ("enable ;", "\"enable ;\" [] [] []"),
     (
@@ -79,7 +79,7 @@ fn keeps_other_lines(rt: HostRuntime) -> Result<(), Fail> {
     tells(rt.alloc(), &KEPT)
 }
 
-const FAULTS: [(&str, &str); 3] = [
+static FAULTS: [(&str, &str); 3] = [
     (
         "diagnostic(of, x);",
         "InvalidWgslDirective { directive: \"diagnostic(of, x);\", position: 0, reason: \"Invalid severity 'of'. Must be one of: off, info, warn, error\" }",

@@ -43,7 +43,7 @@ const OTHERWISE: LineKind = LineKind::Condition {
     condition: Condition::Otherwise,
 };
 
-const KINDS: [(&str, LineKind); 13] = [
+static KINDS: [(&str, LineKind); 13] = [
     (" #version 450", LineKind::Version { is_known: true }),
     ("# version 450", LineKind::Other),
     ("#ifdef é|1 x", DEFINED),

@@ -33,7 +33,7 @@ fn tells(alloc: Global, allow_defines: bool, rows: &[(&str, &str)]) -> Result<()
     Ok(())
 }
 
-const USES: [(&str, &str); 7] = [
+static USES: [(&str, &str); 7] = [
     ("", "None [] {} {}"),
     (
         "#import a::f\n// #C f\n#ifdef D\nf();\n#endif",
@@ -66,7 +66,7 @@ fn reads_names_and_uses(rt: HostRuntime) -> Result<(), Fail> {
     tells(rt.alloc(), false, &USES)
 }
 
-const DEFINES: [(&str, &str); 3] = [
+static DEFINES: [(&str, &str); 3] = [
     (
         "#define A 1\n#define A -2\n#define B",
         "None [] {\"A\": Int(-2), \"B\": Bool(true)} {}",
@@ -86,7 +86,7 @@ fn reads_defines(rt: HostRuntime) -> Result<(), Fail> {
     tells(rt.alloc(), true, &DEFINES)
 }
 
-const FAULTS: [(&str, &str); 5] = [
+static FAULTS: [(&str, &str); 5] = [
     ("#define A", "DefineInModule(0)"),
     ("enable f16;\n#define A x1", "DefineInModule(1)"),
     ("#define A\nenable  ;", "DefineInModule(0)"),

@@ -13,26 +13,26 @@ type Row = (&'static str, &'static str);
 // A text, what it becomes, and what it uses.
 type UsesRow = (&'static str, &'static str, &'static str);
 
-const NONE: &[Definition] = &[];
+static NONE: &[Definition] = &[];
 
-const A: &[Definition] = &[("A", ShaderDefValue::Bool(true))];
+static A: &[Definition] = &[("A", ShaderDefValue::Bool(true))];
 
-const FALSE: &[Definition] = &[("T", ShaderDefValue::Bool(false))];
+static FALSE: &[Definition] = &[("T", ShaderDefValue::Bool(false))];
 
-const TRUE: &[Definition] = &[("T", ShaderDefValue::Bool(true))];
+static TRUE: &[Definition] = &[("T", ShaderDefValue::Bool(true))];
 
-const THREE: &[Definition] = &[("T", ShaderDefValue::Int(3))];
+static THREE: &[Definition] = &[("T", ShaderDefValue::Int(3))];
 
-const SEVEN: &[Definition] = &[("T", ShaderDefValue::Int(7))];
+static SEVEN: &[Definition] = &[("T", ShaderDefValue::Int(7))];
 
-const SECOND: &[Definition] = &[("SECOND", ShaderDefValue::Bool(true))];
+static SECOND: &[Definition] = &[("SECOND", ShaderDefValue::Bool(true))];
 
-const SECOND_THIRD: &[Definition] = &[
+static SECOND_THIRD: &[Definition] = &[
     ("SECOND", ShaderDefValue::Bool(true)),
     ("THIRD", ShaderDefValue::Bool(true)),
 ];
 
-const VALUES: &[Definition] = &[
+static VALUES: &[Definition] = &[
     ("FIRST_VALUE", ShaderDefValue::Int(5)),
     ("SECOND_VALUE", ShaderDefValue::Int(3)),
     ("UINT", ShaderDefValue::UInt(4294967295)),
@@ -95,7 +95,7 @@ fn tells(alloc: Global, definitions: &[Definition], rows: &[Row]) -> Result<(), 
     Ok(())
 }
 
-const PLAIN: &[Row] = &[
+static PLAIN: &[Row] = &[
     ("", ""),
     ("\n", "\n"),
     ("a\r\nb", "a\nb\n"),
@@ -113,7 +113,7 @@ const PLAIN: &[Row] = &[
     ),
 ];
 
-const UNDER_A: &[Row] = &[
+static UNDER_A: &[Row] = &[
     (
         "\n#define A\n#ifdef A\ndefined\n#endif\n",
         "\n~~~~~~~~~\n~~~~~~~~\ndefined\n~~~~~~\n",
@@ -137,12 +137,12 @@ fn shows_the_arms_that_hold(rt: HostRuntime) -> Result<(), Fail> {
 const TEXTURES: &str =
     "#ifdef TEXTURE\na\n#else ifdef SECOND\nb\n#else ifdef THIRD\nc\n#else\nd\n#endif";
 
-const FOURTH_ARM: &[Row] = &[(
+static FOURTH_ARM: &[Row] = &[(
     TEXTURES,
     "~~~~~~~~~~~~~~\n~\n~~~~~~~~~~~~~~~~~~\n~\n~~~~~~~~~~~~~~~~~\n~\n~~~~~\nd\n~~~~~~\n",
 )];
 
-const SECOND_ARM: &[Row] = &[(
+static SECOND_ARM: &[Row] = &[(
     TEXTURES,
     "~~~~~~~~~~~~~~\n~\n~~~~~~~~~~~~~~~~~~\nb\n~~~~~~~~~~~~~~~~~\n~\n~~~~~\n~\n~~~~~~\n",
 )];
@@ -154,16 +154,16 @@ fn shows_the_first_arm_that_holds(rt: HostRuntime) -> Result<(), Fail> {
     tells(rt.alloc(), SECOND_THIRD, SECOND_ARM)
 }
 
-const UNDER_THREE: &[Row] = &[
+static UNDER_THREE: &[Row] = &[
     ("#if T == 3\na\n#endif", "~~~~~~~~~~\na\n~~~~~~\n"),
     ("#if T <= 3\na\n#endif", "~~~~~~~~~~\na\n~~~~~~\n"),
 ];
 
-const UNDER_SEVEN: &[Row] = &[("#if T == 3\na\n#endif", "~~~~~~~~~~\n~\n~~~~~~\n")];
+static UNDER_SEVEN: &[Row] = &[("#if T == 3\na\n#endif", "~~~~~~~~~~\n~\n~~~~~~\n")];
 
-const UNDER_TRUE: &[Row] = &[("#if T != false\na\n#endif", "~~~~~~~~~~~~~~\na\n~~~~~~\n")];
+static UNDER_TRUE: &[Row] = &[("#if T != false\na\n#endif", "~~~~~~~~~~~~~~\na\n~~~~~~\n")];
 
-const UNDER_FALSE: &[Row] = &[("#if T != false\na\n#endif", "~~~~~~~~~~~~~~\n~\n~~~~~~\n")];
+static UNDER_FALSE: &[Row] = &[("#if T != false\na\n#endif", "~~~~~~~~~~~~~~\n~\n~~~~~~\n")];
 
 #[test]
 fn compares_values(rt: HostRuntime) -> Result<(), Fail> {
@@ -173,7 +173,7 @@ fn compares_values(rt: HostRuntime) -> Result<(), Fail> {
     tells(rt.alloc(), FALSE, UNDER_FALSE)
 }
 
-const WITH_VALUES: &[Row] = &[
+static WITH_VALUES: &[Row] = &[
     (
         "    var b: i32 = #FIRST_VALUE * #SECOND_VALUE;",
         "~~~~var~b:~i32~=~5~*~3;~~~~~~~~~~~~~~~~~~~~~~~\n",
@@ -187,7 +187,7 @@ fn writes_values(rt: HostRuntime) -> Result<(), Fail> {
     tells(rt.alloc(), VALUES, WITH_VALUES)
 }
 
-const IMPORTS: &[UsesRow] = &[
+static IMPORTS: &[UsesRow] = &[
     (
         "#import a::f\nx.f + x. f",
         "            \nx.f + x. fX_naga_oil_mod_XMEX\n",
@@ -237,7 +237,7 @@ fn substitutes_what_imports_declare(rt: HostRuntime) -> Result<(), Fail> {
     Ok(())
 }
 
-const FAULTS: &[Row] = &[
+static FAULTS: &[Row] = &[
     (
         "#if FOO",
         "UnknownShaderDef { pos: 0, shader_def_name: \"FO\" }",
@@ -256,9 +256,9 @@ const FAULTS: &[Row] = &[
     ),
 ];
 
-const FAULTS_UNDER_A: &[Row] = &[("#ifdef A\nx\n", "NotEnoughEndIfs(11)")];
+static FAULTS_UNDER_A: &[Row] = &[("#ifdef A\nx\n", "NotEnoughEndIfs(11)")];
 
-const FAULTS_UNDER_TRUE: &[Row] = &[
+static FAULTS_UNDER_TRUE: &[Row] = &[
     (
         "#if T !! true",
         "UnknownShaderDefOperator { pos: 0, operator: \"!!\" }",
@@ -269,12 +269,12 @@ const FAULTS_UNDER_TRUE: &[Row] = &[
     ),
 ];
 
-const FAULTS_UNDER_SEVEN: &[Row] = &[(
+static FAULTS_UNDER_SEVEN: &[Row] = &[(
     "a\n#if T !! true",
     "InvalidShaderDefComparisonValue { pos: 2, shader_def_name: \"T\", expected: \"int\", value: \"true\" }",
 )];
 
-const FAULTS_OF_IMPORTS: &[Row] = &[
+static FAULTS_OF_IMPORTS: &[Row] = &[
     (
         "#import a::{b, b}\nb",
         "ImportParseError(\"Ambiguous import path for item\", 18)",

@@ -1,7 +1,7 @@
 use super::*;
 use std::test::Fail;
 
-const DEFINITIONS: [(&str, ShaderDefValue); 9] = [
+static DEFINITIONS: [(&str, ShaderDefValue); 9] = [
     ("FIRST", ShaderDefValue::Int(5)),
     ("FIRST_VALUE", ShaderDefValue::Int(5)),
     ("SECOND_VALUE", ShaderDefValue::Int(3)),
@@ -13,7 +13,7 @@ const DEFINITIONS: [(&str, ShaderDefValue); 9] = [
     ("true", ShaderDefValue::UInt(1)),
 ];
 
-const REPLACED: [(&str, &str); 11] = [
+static REPLACED: [(&str, &str); 11] = [
     ("#MISSING * #FIRST", "#MISSING * 5"),
     (
         "    var b: i32 = #FIRST_VALUE * #SECOND_VALUE;",

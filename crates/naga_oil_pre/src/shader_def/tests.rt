@@ -2,7 +2,7 @@ use super::*;
 use std::test::Fail;
 
 // The texts behind names, each with the value.
-const VALUES: [(Option<&str>, Option<ShaderDefValue>); 11] = [
+static VALUES: [(Option<&str>, Option<ShaderDefValue>); 11] = [
     (None, Some(ShaderDefValue::Bool(true))),
     (Some("7"), Some(ShaderDefValue::UInt(7))),
     (Some("4294967295"), Some(ShaderDefValue::UInt(4294967295))),
