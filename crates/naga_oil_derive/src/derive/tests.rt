@@ -83,7 +83,7 @@ const SHIFTED: Span = Span {
     end: 2_097_172,
 };
 
-const SPANS: Case = Case {
+static SPANS: Case = Case {
     first: Source {
         parts: &[Scalar(1, TEN), Scalar(2, NONE)],
         offset: 2_097_152,
@@ -100,7 +100,7 @@ const SPANS: Case = Case {
 };
 
 /// The first ray description stands for the second.
-const SPECIAL: Case = Case {
+static SPECIAL: Case = Case {
     first: Source {
         parts: &[Rays(32)],
         offset: 0,
@@ -121,7 +121,7 @@ const SPECIAL: Case = Case {
     counts: [1, 0, 0, 1, 0],
 };
 
-const SIZES: Case = Case {
+static SIZES: Case = Case {
     first: Source {
         parts: &[Scalar(1, NONE), Sized("a")],
         offset: 0,
@@ -144,7 +144,7 @@ const SIZES: Case = Case {
     counts: [2, 0, 2, 0, 0],
 };
 
-const EQUAL: Case = Case {
+static EQUAL: Case = Case {
     first: Source {
         parts: &[Scalar(1, Span { start: 1, end: 2 })],
         offset: 100,
@@ -183,7 +183,7 @@ const EQUAL: Case = Case {
     counts: [1, 0, 0, 0, 0],
 };
 
-const RENAMED: Case = Case {
+static RENAMED: Case = Case {
     first: Source {
         parts: &[Scalar(1, NONE), Scalar(2, NONE)],
         offset: 0,
@@ -203,7 +203,7 @@ const RENAMED: Case = Case {
     counts: [2, 0, 0, 0, 0],
 };
 
-const CONSTANTS: Case = Case {
+static CONSTANTS: Case = Case {
     first: Source {
         parts: &[Scalar(1, NONE), SecondValue],
         offset: 0,

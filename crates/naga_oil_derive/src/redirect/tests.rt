@@ -46,7 +46,7 @@ struct Case {
     order: Order,
 }
 
-const CHAIN: Case = Case {
+static CHAIN: Case = Case {
     functions: &[("f", false, &[]), ("r1", false, &[0]), ("r2", false, &[0])],
     calls: &[0],
     goes: [None, Some((0, 0)), Some((0, 0)), Some((0, 0))],
@@ -76,7 +76,7 @@ const CHAIN: Case = Case {
 };
 
 /// The replacement takes an argument, and a name is of no function.
-const WIDE: Case = Case {
+static WIDE: Case = Case {
     functions: &[("f", false, &[]), ("g", false, &[0]), ("r", true, &[])],
     calls: &[0],
     goes: [None, Some((0, 0)), None, Some((0, 0))],
@@ -105,7 +105,7 @@ const WIDE: Case = Case {
     },
 };
 
-const BEHIND: Case = Case {
+static BEHIND: Case = Case {
     functions: &[
         ("base", false, &[]),
         ("a", false, &[0]),
@@ -128,7 +128,7 @@ const BEHIND: Case = Case {
     },
 };
 
-const CIRCLE: Case = Case {
+static CIRCLE: Case = Case {
     functions: &[("f", false, &[]), ("h", false, &[0]), ("r", false, &[1])],
     calls: &[],
     goes: [None, Some((0, 0)), Some((1, 1)), None],
@@ -493,7 +493,7 @@ fn many_keep_their_order(rt: HostRuntime) -> Result<(), Fail> {
 }
 
 /// The texts of the errors, in the order of `error_at`.
-const TOLD: [&str; 5] = [
+static TOLD: [&str; 5] = [
     "can't find function f for redirection",
     "r cannot override f due to argument mismatch",
     "r cannot override f due to return type mismatch",

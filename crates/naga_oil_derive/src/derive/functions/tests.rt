@@ -60,11 +60,11 @@ enum Fact {
 
 use Fact::{Argument, Calls, Emits, Length, Literal, Locals, Named, Names, Sum};
 
-const LEAF: [Fact; 1] = [Locals(1)];
+static LEAF: [Fact; 1] = [Locals(1)];
 
-const CALLER: [Fact; 1] = [Calls];
+static CALLER: [Fact; 1] = [Calls];
 
-const SUMMED: [Fact; 7] = [
+static SUMMED: [Fact; 7] = [
     Length(3),
     Argument(0, 0),
     Literal(1, 7),
@@ -74,11 +74,11 @@ const SUMMED: [Fact; 7] = [
     Named(2, "s"),
 ];
 
-const INITIALISED: [Fact; 2] = [Length(3), Emits(2, 3)];
+static INITIALISED: [Fact; 2] = [Length(3), Emits(2, 3)];
 
-const MERGED: [Fact; 2] = [Length(1), Named(0, "q")];
+static MERGED: [Fact; 2] = [Length(1), Named(0, "q")];
 
-const DOUBLED: [Fact; 2] = [Length(65), Emits(1, 65)];
+static DOUBLED: [Fact; 2] = [Length(65), Emits(1, 65)];
 
 fn facts_of(row: Row) -> &'static [Fact] {
     match row {
@@ -118,7 +118,7 @@ struct Case {
     ends: Option<&'static [End]>,
 }
 
-const ONE_SUM: Case = Case {
+static ONE_SUM: Case = Case {
     rows: &[(Summed, "f")],
     is_entered: false,
     offset: 0,
@@ -126,7 +126,7 @@ const ONE_SUM: Case = Case {
     ends: Some(&[]),
 };
 
-const ONE_INITIALISED: Case = Case {
+static ONE_INITIALISED: Case = Case {
     rows: &[(Initialised, "f")],
     is_entered: false,
     offset: 0,
@@ -134,7 +134,7 @@ const ONE_INITIALISED: Case = Case {
     ends: Some(&[]),
 };
 
-const ONE_MERGED: Case = Case {
+static ONE_MERGED: Case = Case {
     rows: &[(Merged, "f")],
     is_entered: false,
     offset: 0,
@@ -142,7 +142,7 @@ const ONE_MERGED: Case = Case {
     ends: Some(&[]),
 };
 
-const ONE_DOUBLED: Case = Case {
+static ONE_DOUBLED: Case = Case {
     rows: &[(Doubled, "f")],
     is_entered: false,
     offset: 0,
@@ -151,7 +151,7 @@ const ONE_DOUBLED: Case = Case {
 };
 
 /// The second function calls the first, and comes twice.
-const CALLING: Case = Case {
+static CALLING: Case = Case {
     rows: &[(Leaf, "f"), (Caller, "g")],
     is_entered: true,
     offset: 100,

@@ -4,7 +4,7 @@
 use super::*;
 
 /// Equal items merge, and the first ray description stands for the second.
-const ALL: Case = Case {
+static ALL: Case = Case {
     first: Source {
         parts: &[
             Scalar(1, TEN),

@@ -12,7 +12,7 @@ use std::test::Fail;
 const NONE: Span = Span::UNDEFINED;
 
 /// Where each expression of the test's function goes, by hand: in the order in which its body first reaches them.
-const TO: [usize; 33] = [
+static TO: [usize; 33] = [
     2, 4, 8, 9, 3, 7, 0, 1, 5, 6, 10, 11, 12, 14, 15, 16, 17, 18, 19, 20, 21, 22, 23, 24, 25, 26,
     27, 28, 29, 30, 31, 32, 13,
 ];

@@ -8,7 +8,7 @@ const FIVE: Span = Span { start: 5, end: 6 };
 
 const SEVEN: Span = Span { start: 7, end: 8 };
 
-const ALL: Case = Case {
+static ALL: Case = Case {
     rows: &[
         (Leaf, "f"),
         (Caller, "g"),
