@@ -5,7 +5,7 @@
 root=$(CDPATH='' cd -- "$(dirname -- "$0")/.." && pwd) || exit 1
 program=$root/crates/naga_oil_mini/out/naga_oil_mini
 # A call with no words builds the program, where it isn't built yet.
-"$root/oil" > /dev/null 2>&1
+[ -x "$program" ] || "$root/oil" > /dev/null
 if [ ! -x "$program" ]; then
     "$root/oil"
     exit 1

@@ -6,7 +6,7 @@ use Rattle.std.specs.Str.{bytes_eq}
 use Rattle.naga_oil_lines.specs.DirectivesText.{in_order}
 use Rattle.naga_oil_lines.specs.Uses.{Use}
 use Rattle.naga_oil_pre.specs.Fault.{Fault, import_not_found}
-use Rattle.naga_oil.specs.Added.{Described, all_uses, with_module, imported_among, indexed, definition_over, new_definition, entered, ◌>>=◌}
+use Rattle.naga_oil.specs.Added.{Described, all_uses, with_module, imported_among, indexed, definition_over, new_definition, registry_with, ◌>>=◌}
 use Rattle.naga_oil.specs.Definition.{Definition}
 use Rattle.naga_oil.specs.Descriptor.{ModuleSource}
 use Rattle.naga_oil.specs.Merged.{recorded_names}
@@ -110,7 +110,7 @@ named-registered name (d ∷ ds) = by (bytes_eq d.name name) (named-registered n
 -- what is known once a module is entered in the place of those that go with its name
 pub record IsEntered (ms listed : List Definition) (m : ModuleSource) (d : Described) (new : Definition) : Type 0 where
   pub added : new_definition (removed d.name ms) m d ≡ Ok new
-  pub items : listed ≡ entered ms new
+  pub items : listed ≡ registry_with ms new
   pub registry : IsRegistry listed
 
 pub is_entered : (ms items stay : List Definition) (leaves : List ℕ → Bool) (m : ModuleSource) (d : Described) (new : Definition) → ((other : List ℕ) → leaves other ≡ reaches ms other d.name) → stay ≡ standing leaves ms → new_definition stay m d ≡ Ok new → items ≡ new ∷ standing leaves ms → IsRegistry ms → IsEntered ms items m d new
@@ -126,7 +126,7 @@ is_entered ms items stay leaves m d new same stays e is h =
     }
 
 -- the registry behind an addition
-pub is_registered : (ms items : List Definition) (m : ModuleSource) (d : Described) (new : Definition) → new_definition (removed d.name ms) m d ≡ Ok new → items ≡ entered ms new → IsRegistry ms → IsRegistry items
+pub is_registered : (ms items : List Definition) (m : ModuleSource) (d : Described) (new : Definition) → new_definition (removed d.name ms) m d ≡ Ok new → items ≡ registry_with ms new → IsRegistry ms → IsRegistry items
 is_registered ms items m d new e is h =
     let k = entered-registry ms m d new e h in
     subst IsRegistry (sym (is ∙ ap (λ n. new ∷ removed n ms) k.0)) k.1

@@ -4,7 +4,7 @@ use Rattle.naga_oil_pre.specs.Fault.{Fault}
 use Rattle.naga_oil_pre.specs.View.{fault_of, Fails}
 use Rattle.naga_oil_pre.specs.declared.fault.ComposerErrorInner.{ComposerErrorInner}
 use Rattle.naga_oil.specs.declared.compose.error.ComposerError.{ComposerError}
-use Rattle.naga_oil.specs.Added.{read_source, counter_behind, counter_after, Described, described, new_definition, addition, entered, shown_by, ◌>>=◌}
+use Rattle.naga_oil.specs.Added.{read_source, counter_behind, counter_after, Described, described, new_definition, addition, registry_with, shown_by, ◌>>=◌}
 use Rattle.naga_oil.specs.Definition.{Definition}
 use Rattle.naga_oil.specs.Descriptor.{ModuleSource}
 use Rattle.naga_oil.specs.Refused.{Place, in_text, nowhere, place_of, Refused, refused_of, Tells, placed}
@@ -98,7 +98,7 @@ module _ {B X Y : Type 0} (view : X → Y) (shown : Definition → Y) (old : Sta
           unshown (Err f) r bad = let same : record { fault = f; place = in_text m.file_path text 0 } ≡ r = cc in ap (λ (q : Refused). Err q) same
 
 -- the module is registered
-pub adds-registered : {B X Y : Type 0} (view : X → Y) (shown : Definition → Y) (old : State B) (m : ModuleSource) (text : List ℕ) (counter : ℕ) (d : Described) (new : Definition) (x : X) → read_source old.counter m.source ≡ Ok (text, counter) → described m.as_name text ≡ Ok d → new_definition (removed d.name old.registry) m d ≡ Ok new → view x ≡ shown new → Adds view shown old m (Ok x) (record old { counter = counter; registry = entered old.registry new })
+pub adds-registered : {B X Y : Type 0} (view : X → Y) (shown : Definition → Y) (old : State B) (m : ModuleSource) (text : List ℕ) (counter : ℕ) (d : Described) (new : Definition) (x : X) → read_source old.counter m.source ≡ Ok (text, counter) → described m.as_name text ≡ Ok d → new_definition (removed d.name old.registry) m d ≡ Ok new → view x ≡ shown new → Adds view shown old m (Ok x) (record old { counter = counter; registry = registry_with old.registry new })
 unfolding addition
 adds-registered view shown old m text counter d new x read known added is =
     let whole : addition old.registry old.counter m ≡ Ok new =

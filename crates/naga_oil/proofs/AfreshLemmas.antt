@@ -8,7 +8,7 @@ use Rattle.naga_oil_pre.specs.View.{fault_of}
 use Rattle.naga_oil_pre.specs.declared.fault.ComposerErrorInner.{ComposerErrorInner}
 use Rattle.naga_oil_pre.specs.declared.fault.ComposerErrorInner.TheVariants as code
 use Rattle.naga_oil_pre.specs.Preprocessed.{Output}
-use Rattle.naga_oil.specs.Afresh.{entered}
+use Rattle.naga_oil.specs.Afresh.{builds_with}
 use Rattle.naga_oil.specs.BuiltModule.{BuiltModule, Builds, built_of}
 use Rattle.naga_oil.specs.Built.{ToldAt, build_place}
 use Rattle.naga_oil.specs.Definition.{Definition}
@@ -41,13 +41,13 @@ seen_found E n f (e ∷ es) v =
     found_cond (E e.0) e.1 v (lookup E es) (lookup (bytes_eq n) (seen es)) (seen_found E n f es v) ∙ ap (λ b. unwrap_or (cond b (Some (built_of e.1)) (lookup (bytes_eq n) (seen es))) (built_of v)) (f e.0)
 
 -- a build is entered
-pub seen_entered : (E : String Global → String Global → Bool) → ((a b : String Global) → E a b ≡ bytes_eq (string_bytes a) (string_bytes b)) → (es : List (String Global × ComposableModule)) (k : String Global) (v : ComposableModule) → seen (insert_entry E es k (unwrap_or (lookup (E k) es) v)) ≡ entered (seen es) (string_bytes k) (built_of v)
+pub seen_entered : (E : String Global → String Global → Bool) → ((a b : String Global) → E a b ≡ bytes_eq (string_bytes a) (string_bytes b)) → (es : List (String Global × ComposableModule)) (k : String Global) (v : ComposableModule) → seen (insert_entry E es k (unwrap_or (lookup (E k) es) v)) ≡ builds_with (seen es) (string_bytes k) (built_of v)
 seen_entered E f es k v =
     seen_put E f es k (unwrap_or (lookup (E k) es) v) ∙ ap (λ b. insert_entry bytes_eq (seen es) (string_bytes k) b) (seen_found (E k) (string_bytes k) (f k) es v)
 
 -- entries among which a build was entered
-pub from_entries : (new old : List (String Global × ComposableModule)) (k : String Global) (v : ComposableModule) (name : List ℕ) → string_bytes k ≡ name → new ≡ insert_entry string_eq old k (unwrap_or (lookup (string_eq k) old) v) → seen new ≡ entered (seen old) name (built_of v)
-from_entries new old k v name same h = ap seen h ∙ seen_entered string_eq (λ a b. refl) old k v ∙ ap (λ n. entered (seen old) n (built_of v)) same
+pub from_entries : (new old : List (String Global × ComposableModule)) (k : String Global) (v : ComposableModule) (name : List ℕ) → string_bytes k ≡ name → new ≡ insert_entry string_eq old k (unwrap_or (lookup (string_eq k) old) v) → seen new ≡ builds_with (seen old) name (built_of v)
+from_entries new old k v name same h = ap seen h ∙ seen_entered string_eq (λ a b. refl) old k v ∙ ap (λ n. builds_with (seen old) n (built_of v)) same
 
 -- want of memory is told for nothing
 pub memory_gives : {X : Type 0} (P : X → Type 0) (F : Fault → Type 0) (r : Result X ComposerErrorInner) → IsErrAnd r (λ e. e ≡ code.Memory) → GivesBy P F r

@@ -25,7 +25,7 @@ use Rattle.naga_oil.specs.BuiltModule.{BuiltModule}
 use Rattle.naga_oil.specs.CopiedSteps.{special_names, own_type, own_type_at, owning_types, in_module, in_header, stub_steps, own_types, module_steps, header_steps, IsFilled, IsUnfilled, IsFinished, IsUnfinished, IsCopied, IsUncopied}
 use Rattle.naga_oil.specs.Formed.{IsMisformed, IsUnformed}
 use Rattle.naga_oil.specs.Relations.{GivesBy}
-use Rattle.naga_oil.specs.Owned.{has_mark}
+use Rattle.naga_oil_marks.specs.Marks.{has_module_mark}
 use Rattle.naga_oil.specs.Steps.{Step, Source, TypeNamed, Copy, Taken, Set, TypeStands, FunctionStands, AreTaken, NoStep, OneStep}
 use Rattle.naga_oil.proofs.StepLemmas.{AreTaken-append}
 use Rattle.naga_oil.proofs.NamesLemmas.{among-in_order}
@@ -36,12 +36,12 @@ module _ (m : ModuleValue) (d n : List ℕ) (names : List (List ℕ)) (known : n
   is_special : is_among (special_names m) n ≡ is_among names n
   is_special = sym (ap (λ ns. is_among ns n) known ∙ among-in_order (special_names m) n)
 
-  pub type_kept : (t : Text) → Some n ≡ t → (is_among names n || has_mark n) ≡ true → own_type m d t ≡ None
+  pub type_kept : (t : Text) → Some n ≡ t → (is_among names n || has_module_mark n) ≡ true → own_type m d t ≡ None
   type_kept t e h =
       let here : own_type m d (Some n) ≡ None = rw (is_special, h) refl in
       ap (own_type m d) (sym e) ∙ here
 
-  pub type_owned : (t : Text) → Some n ≡ t → (is_among names n || has_mark n) ≡ false → own_type m d t ≡ Some (n ++ d)
+  pub type_owned : (t : Text) → Some n ≡ t → (is_among names n || has_module_mark n) ≡ false → own_type m d t ≡ Some (n ++ d)
   type_owned t e h =
       let here : own_type m d (Some n) ≡ Some (n ++ d) = rw (is_special, h) refl in
       ap (own_type m d) (sym e) ∙ here

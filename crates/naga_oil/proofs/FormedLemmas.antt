@@ -6,7 +6,8 @@ use Rattle.std.proofs.lemmas.List.Elements.{All-nil}
 use Rattle.naga_oil_ir.specs.BodyForm.{IsSpanFine, operand_links, kinds}
 use Rattle.naga_oil_ir.specs.ItemForm.{ItemForm, NamesThere, NamesWell, StandAfter, IsGlobalKind, ReachPlain, special_types, type_links, types_of, is_sized, is_plain}
 use Rattle.naga_oil_ir.specs.Links.{Links, AreEarlier, AtEach, trail}
-use Rattle.naga_oil_ir.specs.NameForm.{NameForm, decorated, function_name, entry_name}
+use Rattle.naga_oil_ir.specs.NameForm.{NameForm, function_name, entry_name}
+use Rattle.naga_oil_marks.specs.Marks.{with_decoration}
 use Rattle.naga_oil_ir.specs.Rows.{type_row, constant_row, override_row, global_row, expression_row}
 use Rattle.naga_oil_ir.specs.WellFormed.{FunctionForm, EntryForm, FunctionsForm, SpanForm, WellFormed}
 use Rattle.naga_oil_ir.specs.declared.module.EntryPoint.{EntryPoint}
@@ -83,8 +84,8 @@ module _ (m : Module) (h : HasNothing m) where
   unfolding IsDistinct
   names = record {
     named = all_none (λ e. IsSome e.0.name) m.functions h.functions;
-    functions = subst (λ (fs : List (Function × Span)). IsDistinct (pointwise nat_eq) (map (λ e. decorated [] (function_name e.0)) fs)) (sym h.functions) tt;
-    entry_points = subst (λ (es : List EntryPoint). IsDistinct (pointwise nat_eq) (map (λ e. decorated [] (entry_name e.function)) es)) (sym h.entry_points) tt;
+    functions = subst (λ (fs : List (Function × Span)). IsDistinct (pointwise nat_eq) (map (λ e. with_decoration [] (function_name e.0)) fs)) (sym h.functions) tt;
+    entry_points = subst (λ (es : List EntryPoint). IsDistinct (pointwise nat_eq) (map (λ e. with_decoration [] (entry_name e.function)) es)) (sym h.entry_points) tt;
   }
 
   functions : (n : ℕ) → FunctionsForm m n m.functions

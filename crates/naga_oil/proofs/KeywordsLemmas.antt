@@ -8,7 +8,7 @@ use Rattle.std.specs.Str.{chars, IsUtf8, encode_utf8_all}
 use Rattle.std.proofs.lemmas.Bool.{ne_eqb}
 use Rattle.std.proofs.lemmas.Str.{chars-nil, encodes-chars}
 use Rattle.std.proofs.lemmas.List.{nil_from_length, take-append-drop}
-use Rattle.naga_oil_lines.specs.Decorate.{module_mark}
+use Rattle.naga_oil_marks.specs.Marks.{module_mark}
 use Rattle.naga_oil_lines.specs.Text.{past_word}
 use Rattle.naga_oil.specs.Keywords.{after_spaces, past_spaces, is_name_char, name_at_front, marked_name, edited, AreItemAndCode}
 

@@ -19,7 +19,7 @@ use Rattle.naga_oil_pre.specs.View.{fault_of, Gives}
 use Rattle.naga_oil_pre.specs.declared.fault.ComposerErrorInner.{ComposerErrorInner}
 use Rattle.naga_oil.specs.BuiltModule.{BuiltModule, Builds, built_of, builds_of}
 use Rattle.naga_oil.specs.Definition.{texts}
-use Rattle.naga_oil.specs.Linked.{Asked, asked_of, item_steps, link_steps, linked_value, placed_build, is_entered, with_place, entered_after, ImportsLinked, NotBuilt, Known, Entered, WholeLinked}
+use Rattle.naga_oil.specs.Linked.{Asked, asked_of, asked_steps, link_steps, linked_value, placed_build, is_entered, with_place, entered_after, ImportsLinked, NotBuilt, Known, Entered, WholeLinked}
 use Rattle.naga_oil.specs.Relations.{GivesBy}
 use Rattle.naga_oil.specs.Steps.{Source, Set, Left, Taken, AreTaken, OneStep}
 use Rattle.naga_oil.specs.Wanted.{source_steps}
@@ -69,7 +69,7 @@ build_missing es name at = ap (option_and_then (λ k. option_map (λ e. (k, e.1)
 -- ---- one build
 
 -- a module of a build whose source was set, whose items were linked, and whose source was left
-pub source_linked : (b : BuiltModule) (asked : Asked) (m : Module) (d e f g : Derived) → IsSet (value_of m) (b.index * 2097152) d e → KeepsItems d e → AreTaken (item_steps b (module_value m) asked) e f → g ≡ cleared f → AreTaken (source_steps b (module_value m) asked) d g
+pub source_linked : (b : BuiltModule) (asked : Asked) (m : Module) (d e f g : Derived) → IsSet (value_of m) (b.index * 2097152) d e → KeepsItems d e → AreTaken (asked_steps b (module_value m) asked) e f → g ≡ cleared f → AreTaken (source_steps b (module_value m) asked) d g
 unfolding value_of
 source_linked b asked m d e f g set keeps items left = OneStep (Set set keeps) (AreTaken-more items (Left left))
 
@@ -94,21 +94,21 @@ stands_before end k ks h = let before : nat_lt k end ≡ true = grind (arith, na
 
 -- ---- imports
 
-module _ (of_headers : Bool) (builds : Builds) (end : ℕ) (Whole : List ℕ → Derived → Type 0) (i : Import) (is js : List Import) (entered : List ℕ) (d : Derived) (first : js ≡ i ∷ is) (whole : (after : List ℕ) (e : Derived) → ImportsLinked of_headers builds end js entered d after e → Whole after e) where
-  abbrev all : (after : List ℕ) (e : Derived) → ImportsLinked of_headers builds end (i ∷ is) entered d after e → Whole after e
-  all after e h = whole after e (subst (λ (xs : List Import). ImportsLinked of_headers builds end xs entered d after e) (sym first) h)
+module _ (of_headers : Bool) (builds : Builds) (end : ℕ) (Whole : List ℕ → Derived → Type 0) (i : Import) (is js : List Import) (descents : List ℕ) (d : Derived) (first : js ≡ i ∷ is) (whole : (after : List ℕ) (e : Derived) → ImportsLinked of_headers builds end js descents d after e → Whole after e) where
+  abbrev all : (after : List ℕ) (e : Derived) → ImportsLinked of_headers builds end (i ∷ is) descents d after e → Whole after e
+  all after e h = whole after e (subst (λ (xs : List Import). ImportsLinked of_headers builds end xs descents d after e) (sym first) h)
 
   -- the next import isn't built
-  pub import_missing : placed_build builds i.import ≡ None → (after : List ℕ) (e : Derived) → ImportsLinked of_headers builds end is entered d after e → Whole after e
+  pub import_missing : placed_build builds i.import ≡ None → (after : List ℕ) (e : Derived) → ImportsLinked of_headers builds end is descents d after e → Whole after e
   import_missing none after e rest = all after e (NotBuilt none rest)
 
   module _ (k : ℕ) (b : BuiltModule) (found : placed_build builds i.import ≡ Some (k, b)) where
     -- it is linked alone
-    pub import_known : is_entered end entered k ≡ false → (f : Derived) → AreTaken (link_steps of_headers b (asked_of i b)) d f → (after : List ℕ) (e : Derived) → ImportsLinked of_headers builds end is entered f after e → Whole after e
+    pub import_known : is_entered end descents k ≡ false → (f : Derived) → AreTaken (link_steps of_headers b (asked_of i b)) d f → (after : List ℕ) (e : Derived) → ImportsLinked of_headers builds end is descents f after e → Whole after e
     import_known known f own after e rest = all after e (Known found known own rest)
 
     -- it is linked behind what it imports
-    pub import_entered : is_entered end entered k ≡ true → (between : List ℕ) (f g : Derived) → ImportsLinked of_headers builds k b.imports (with_place entered k) d between f → AreTaken (link_steps of_headers b (asked_of i b)) f g → (after : List ℕ) (e : Derived) → ImportsLinked of_headers builds end is between g after e → Whole after e
+    pub import_entered : is_entered end descents k ≡ true → (between : List ℕ) (f g : Derived) → ImportsLinked of_headers builds k b.imports (with_place descents k) d between f → AreTaken (link_steps of_headers b (asked_of i b)) f g → (after : List ℕ) (e : Derived) → ImportsLinked of_headers builds end is between g after e → Whole after e
     import_entered enters between f g before own after e rest = all after e (Entered found enters before own rest)
 
 -- ---- a linker, from one state to the next
@@ -134,11 +134,11 @@ module _ (start : Linker) (end : ℕ) (i : Import) (is js all : List Import) (fi
         let derived : s1.derived ≡ s0.derived = ap (λ (s : Linker). s.derived) rest1 in
         let of_headers : s1.of_headers ≡ start.of_headers = ap (λ (s : Linker). s.of_headers) rest1 ∙ headers in
         let builds : builds_of s1.builds.now ≡ builds_of start.builds.now = ap (λ (s : Linker). builds_of s.builds.now) rest1 ∙ ap (λ (bs : _). builds_of bs.now) builds0 in
-        let entered : s1.descended.keys ≡ with_place s0.descended.keys k = keys1 ∙ ap (λ (x : Bool). if x then with_place s0.descended.keys k else s0.descended.keys) enters in
+        let descents : s1.descended.keys ≡ with_place s0.descended.keys k = keys1 ∙ ap (λ (x : Bool). if x then with_place s0.descended.keys k else s0.descended.keys) enters in
         let keys : s3.descended.keys ≡ s2.descended.keys = ap (λ (s : Linker). s.descended.keys) rest3 in
         let imports : ImportsLinked start.of_headers (builds_of start.builds.now) k b.imports (with_place s0.descended.keys k) s0.derived s2.descended.keys s2.derived =
         subst (λ (d : Derived). ImportsLinked start.of_headers (builds_of start.builds.now) k b.imports (with_place s0.descended.keys k) d s2.descended.keys s2.derived) derived
-        (subst (λ (ks : List ℕ). ImportsLinked start.of_headers (builds_of start.builds.now) k b.imports ks s1.derived s2.descended.keys s2.derived) entered
+        (subst (λ (ks : List ℕ). ImportsLinked start.of_headers (builds_of start.builds.now) k b.imports ks s1.derived s2.descended.keys s2.derived) descents
         (subst (λ (bs : Builds). ImportsLinked start.of_headers bs k b.imports s1.descended.keys s1.derived s2.descended.keys s2.derived) builds
         (subst (λ (h : Bool). ImportsLinked h (builds_of s1.builds.now) k b.imports s1.descended.keys s1.derived s2.descended.keys s2.derived) of_headers before))) in
         let taken : AreTaken (link_steps start.of_headers b (asked_of i b)) s2.derived s3.derived = subst (λ (h : Bool). AreTaken (link_steps h b (asked_of i b)) s2.derived s3.derived) (same ∙ of_headers) own in
@@ -169,11 +169,11 @@ gives_by view (Err e) value Q g k = go (fault_of e) g
     go (Some f) h = k (Err f) h
 
 -- a build whose imports were linked, then its items, and whose source was set again for its entry points
-pub whole_linked : {E : Type 0} (builds : Builds) (b : BuiltModule) (r : Result Module E) (m : Module) (entered : List ℕ) (imported owned from : Derived) → ImportsLinked false builds (length builds) b.imports [] nothing entered imported → AreTaken (link_steps false b None) imported owned → module_value m ≡ b.value → IsSet (value_of m) 0 owned from → KeepsItems owned from → IfOk r (λ whole. IsMadeWith from (value_of whole)) → IfOk r (λ whole. WholeLinked builds b (module_value whole))
+pub whole_linked : {E : Type 0} (builds : Builds) (b : BuiltModule) (r : Result Module E) (m : Module) (descents : List ℕ) (imported owned from : Derived) → ImportsLinked false builds (length builds) b.imports [] nothing descents imported → AreTaken (link_steps false b None) imported owned → module_value m ≡ b.value → IsSet (value_of m) 0 owned from → KeepsItems owned from → IfOk r (λ whole. IsMadeWith from (value_of whole)) → IfOk r (λ whole. WholeLinked builds b (module_value whole))
 unfolding value_of
-whole_linked builds b (Ok whole) m entered imported owned from linked own same set keeps made = record {
+whole_linked builds b (Ok whole) m descents imported owned from linked own same set keeps made = record {
   imported = imported;
-  entered = entered;
+  descents = descents;
   linked = linked;
   owned = owned;
   own = own;
@@ -181,4 +181,4 @@ whole_linked builds b (Ok whole) m entered imported owned from linked own same s
   set = subst (λ (v : ModuleValue). Taken (Source v 0) owned from) same (Set set keeps);
   made = made;
 }
-whole_linked builds b (Err e) m entered imported owned from linked own same set keeps made = tt
+whole_linked builds b (Err e) m descents imported owned from linked own same set keeps made = tt

@@ -14,7 +14,7 @@ use Rattle.naga_oil_pre.specs.declared.shader_def.ShaderDefValue.TheVariants as 
 use Rattle.naga_oil_pre.specs.contracts.shader_def.ShaderDefValuePartialEq.TheImpl.{ghosts}
 use Rattle.naga_oil.specs.Definition.{Defs}
 use Rattle.naga_oil.specs.Merged.{with_def}
-use Rattle.naga_oil.specs.Merging.{value_of, same_value, has_value, agrees, joined}
+use Rattle.naga_oil.specs.Merging.{value_of, same_value, has_value, agrees, defs_union}
 use Rattle.naga_oil.proofs.MergedLemmas.{named}
 
 -- what a map holds under a name
@@ -25,10 +25,10 @@ value-named (e ∷ es) name =
     ∙ ap (λ o. cond (bytes_eq (string_bytes name) (string_bytes e.0)) (Some e.1) o) (value-named es name)
 
 -- a definition more that agrees, or doesn't
-pub joined_more : (defs : Defs) (d : List ℕ × ShaderDefValue) (more : Defs) → agrees d.1 (value_of defs d.0) ≡ true → joined defs (d ∷ more) ≡ joined (with_def defs d) more
+pub joined_more : (defs : Defs) (d : List ℕ × ShaderDefValue) (more : Defs) → agrees d.1 (value_of defs d.0) ≡ true → defs_union defs (d ∷ more) ≡ defs_union (with_def defs d) more
 joined_more defs d more e = rw e refl
 
-pub joined_not : (defs : Defs) (d : List ℕ × ShaderDefValue) (more : Defs) → agrees d.1 (value_of defs d.0) ≡ false → joined defs (d ∷ more) ≡ Err (inconsistent_def d.0)
+pub joined_not : (defs : Defs) (d : List ℕ × ShaderDefValue) (more : Defs) → agrees d.1 (value_of defs d.0) ≡ false → defs_union defs (d ∷ more) ≡ Err (inconsistent_def d.0)
 joined_not defs d more e = rw e refl
 
 -- whether a name has a value, as the code compares

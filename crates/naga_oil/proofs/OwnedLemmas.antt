@@ -1,15 +1,13 @@
 -- The names that a parsed module's own items get, and its entry points as functions.
-use Rattle.std.proofs.Common.{◌≡◌, ℕ, zero, suc, ◌+◌, ◌<◌, Bool, true, false, ◌||◌, eqb, List, [], ◌∷◌, ◌++◌, length, map, fold, cond, append_assoc, append-nil, take, drop, get_or, set, refl, sym, ap, ◌∙◌, ◌↔◌, Option, Some, None, option_map, String, Global, string_bytes, add-one, arith}
-use Rattle.std.proofs.lemmas.Bool.Decides.{Decides-eqb}
-use Rattle.std.proofs.lemmas.Slice.Eq.{starts_is}
+use Rattle.std.proofs.Common.{◌≡◌, ℕ, zero, suc, ◌+◌, ◌<◌, Bool, true, false, not, List, [], ◌∷◌, ◌++◌, length, map, fold, cond, append_assoc, append-nil, take, drop, get_or, set, refl, sym, ap, ◌∙◌, ◌↔◌, Option, Some, None, option_map, String, Global, string_bytes, add-one, arith}
+use Rattle.std.proofs.lemmas.Bool.{false≢true}
 use Rattle.std.specs.BTreeMap.{is_at}
 use Rattle.std.specs.BTreeSet.{insert_key}
 use Rattle.std.specs.Cmp.Lexicographic.{slice_cmp}
 use Rattle.std.specs.Ordering.{nat_cmp}
 use Rattle.std.proofs.lemmas.List.Elements.{filter_map-append}
 use Rattle.std.proofs.lemmas.List.Sums.{fold-append}
-use Rattle.std.specs.List.{starts_with, flat_map, cons_option, list_any}
-use Rattle.std.specs.Str.Iter.{HasSubslice}
+use Rattle.std.specs.List.{flat_map, cons_option, list_any}
 use Rattle.std.specs.String.{string_cmp}
 use Rattle.naga_oil_ir.specs.ModuleValue.{FunctionValue, EntryValue, function_value}
 use Rattle.naga_oil_ir.specs.Rows.{Text, ConstantKind, OverrideKind, GlobalKind, row, constant_row, override_row, global_row}
@@ -19,51 +17,21 @@ use Rattle.naga_oil_ir.specs.declared.span.Span.{Span}
 use Rattle.naga_oil_ir.specs.declared.types.Constant.{Constant}
 use Rattle.naga_oil_ir.specs.declared.types.GlobalVariable.{GlobalVariable}
 use Rattle.naga_oil_ir.specs.declared.types.Override.{Override}
-use Rattle.naga_oil_lines.specs.Decorate.{module_mark}
+use Rattle.naga_oil_marks.specs.Marks.{has_module_mark, with_decoration}
 use Rattle.naga_oil_lines.specs.DirectivesText.{with_name, in_order}
 use Rattle.naga_oil_pre.specs.Recorded.{is_among}
 use Rattle.naga_oil.specs.Definition.{texts}
-use Rattle.naga_oil.specs.Owned.{holds, has_mark, owned_name, with_owned_name, owned_item, owned_function, with_text, function_names, demoted_name, demoted_function, demoted}
+use Rattle.naga_oil.specs.Owned.{with_owned_name, owned_item, owned_function, with_text, function_names, demoted_name, demoted_function, demoted}
 use Rattle.naga_oil.proofs.MergedLemmas.{bytes-insert}
 use Rattle.naga_oil.proofs.NamesLemmas.{among-in_order, among_texts}
 
--- ---- a mark in a text
-
-or_true : (b c : Bool) → c ≡ true → (b || c) ≡ true
-or_true true c e = refl
-or_true false c e = e
-
-holds-found : (mark text : List ℕ) → holds mark text ≡ true → HasSubslice text mark
-holds-found mark [] e = absurd cc
-holds-found mark (c ∷ more) e = by (starts_with eqb (c ∷ more) mark) refl e (holds-found mark more)
-  where
-    by : (b : Bool) → starts_with eqb (c ∷ more) mark ≡ b → (b || holds mark more) ≡ true → (holds mark more ≡ true → HasSubslice more mark) → HasSubslice (c ∷ more) mark
-    by true s e later = ([], drop (length mark) (c ∷ more), (starts_is Decides-eqb (c ∷ more) mark (starts_with eqb (c ∷ more) mark) refl).0 s)
-    by false s e later = (c ∷ (later e).0, (later e).1, ap (λ t. c ∷ t) (later e).2)
-
-found-holds : (m : ℕ) (ms a b text : List ℕ) → text ≡ a ++ ((m ∷ ms) ++ b) → holds (m ∷ ms) text ≡ true
-found-holds m ms [] b [] e = absurd cc
-found-holds m ms [] b (c ∷ more) e = ap (λ s. s || holds (m ∷ ms) more) ((starts_is Decides-eqb (c ∷ more) (m ∷ ms) (starts_with eqb (c ∷ more) (m ∷ ms)) refl).1 b e)
-found-holds m ms (x ∷ a) b [] e = absurd cc
-found-holds m ms (x ∷ a) b (c ∷ more) e =
-    let rest : more ≡ a ++ ((m ∷ ms) ++ b) = cc in
-    or_true (starts_with eqb (c ∷ more) (m ∷ ms)) (holds (m ∷ ms) more) (found-holds m ms a b more rest)
-
-found : (mark text : List ℕ) → 0 < length mark → HasSubslice text mark → holds mark text ≡ true
-found [] text h s = absurd (omega arith)
-found (m ∷ ms) text h s = found-holds m ms s.0 s.1 text s.2
-
-same_by : (a b : Bool) → (a ≡ true → b ≡ true) → (b ≡ true → a ≡ true) → a ≡ b
-same_by true b f g = sym (f refl)
-same_by false true f g = g refl
-same_by false false f g = refl
-
-pub mark_is : (r : Bool) (text : List ℕ) → (r ≡ true) ↔ HasSubslice text module_mark → r ≡ has_mark text
-unfolding has_mark
-mark_is r text h = same_by r (holds module_mark text) (λ e. found module_mark text (omega arith) (h.0 e)) (λ e. h.1 (holds-found module_mark text e))
+-- what is told of a name without a mark
+pub of_not : (b c : Bool) → c ≡ not b → c ≡ true → b ≡ false
+of_not true c e h = absurd (false≢true (sym e ∙ h))
+of_not false c e h = refl
 
 -- an owned name is noted
-pub owned-noted : (d n : List ℕ) (keys more : List (String Global)) (s : String Global) → has_mark n ≡ false → string_bytes s ≡ n ++ d → more ≡ insert_key string_cmp keys s → texts more ≡ with_owned_name d (texts keys) n
+pub owned-noted : (d n : List ℕ) (keys more : List (String Global)) (s : String Global) → has_module_mark n ≡ false → string_bytes s ≡ n ++ d → more ≡ insert_key string_cmp keys s → texts more ≡ with_owned_name d (texts keys) n
 owned-noted d n keys more s u e k = rw u (ap texts k ∙ bytes-insert keys s ∙ ap (with_name (texts keys)) e)
 
 -- ---- each item of a list is changed
@@ -91,7 +59,7 @@ module _ {T V N A : Type 0} (v : T → V) (n : V → N) (f : A → N → A) wher
 -- ---- an item with a name
 
 abbrev IsOwned : (d : List ℕ) → (old new : Option (String Global)) → Type 0
-IsOwned d old new = option_map string_bytes new ≡ option_map (owned_name d) (option_map string_bytes old)
+IsOwned d old new = option_map string_bytes new ≡ option_map (with_decoration d) (option_map string_bytes old)
 
 pub constant_owned : (d : List ℕ) (x : Constant × Span) (n : Option (String Global)) → IsOwned d x.0.name n → (constant_row (record x.0 { name = n }), x.1) ≡ owned_item d (constant_row x.0, x.1)
 constant_owned d x n e = ap (λ t. (row ConstantKind t [] [] (constant_row x.0).names, x.1)) e

@@ -14,7 +14,7 @@ use Rattle.naga_oil_pre.specs.Preprocessed.{Output}
 use Rattle.naga_oil_pre.specs.View.{Gives}
 use Rattle.naga_oil_pre.specs.declared.fault.ComposerErrorInner.{ComposerErrorInner}
 use Rattle.naga_oil_pre.specs.declared.shader_def.ShaderDefValue.{ShaderDefValue}
-use Rattle.naga_oil.specs.Afresh.{Setting, Unbuilt, not_importable, refused, Reach, Chosen, EachReached, OneUnreached, Reached, Unreached, Unless, UnlessBuilt, BuiltOver, NotBuiltOver, Reaching, ToldFor, Building, defined, is_built, may_import, entered}
+use Rattle.naga_oil.specs.Afresh.{Setting, Unbuilt, not_importable, refused, Reach, Chosen, EachReached, OneUnreached, Reached, Unreached, Unless, UnlessBuilt, BuiltOver, NotBuiltOver, Reaching, ToldFor, Building, defined, is_built, may_import, builds_with}
 use Rattle.naga_oil.specs.Built.{ToldAt, build_place, preprocessed_of}
 use Rattle.naga_oil.specs.BuiltModule.{Builds, BuiltModule}
 use Rattle.naga_oil.specs.Definition.{Definition, Defs, defs_of, definition_of}
@@ -241,7 +241,7 @@ module _ (K : Building) (s : Setting) (bs : Builds) (name : List ℕ) (xs : List
       not_built Q e y = reaching_refused Q (K.refuses t (definition_of x) out mid) (UnlessBuilt (Unreached K s (map definition_of xs)) name bs) e y (λ r h. unreached_at (refused r) (inr (out, pre, inr (mid, imported, (r, subst (λ (z : Setting). K.refuses z (definition_of x) out mid r) alike h, refl)))))
 
       -- it is built over that
-      pub is_reached : (cs : Builds) → ((b : BuiltModule) × K.makes t (definition_of x) out mid b × (cs ≡ entered mid (definition_of x).name b)) → Unless (Reached K s (map definition_of xs)) name bs cs
+      pub is_reached : (cs : Builds) → ((b : BuiltModule) × K.makes t (definition_of x) out mid b × (cs ≡ builds_with mid (definition_of x).name b)) → Unless (Reached K s (map definition_of xs)) name bs cs
       is_reached cs h = reached_at cs (out, pre, (mid, imported, (h.0, subst (λ (z : Setting). K.makes z (definition_of x) out mid h.0) alike h.1, h.2)))
 
 -- ---- one use after another

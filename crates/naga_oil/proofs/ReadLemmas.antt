@@ -20,7 +20,7 @@ use Rattle.naga_oil.specs.Definition.{Definition, Defs, texts}
 use Rattle.naga_oil.specs.Descriptor.{ShaderSource}
 use Rattle.naga_oil.specs.Made.{Unread, here, there, UnreadFor, Reading, OneUnread, any_use, may_use}
 use Rattle.naga_oil.specs.Merged.{recorded_names}
-use Rattle.naga_oil.specs.Merging.{shader_definition, joined_over}
+use Rattle.naga_oil.specs.Merging.{shader_definition, defs_union_over}
 use Rattle.naga_oil.specs.Read.{IsShader, FirstRead, NotFirstRead, NotJoined, NotReached, SecondRead, NotSecondRead, NotReachedAgain, with_own, IsUnread, NotFirst, NotSecond}
 use Rattle.naga_oil.specs.Refused.{Refused, refused_of, place_of, nowhere, in_text}
 use Rattle.naga_oil.specs.Shader.{ShaderAnswers}
@@ -79,14 +79,14 @@ is_shader m text found own recorded d says defines order names is =
 -- ---- the two readings
 
 module _ (s : Setting) (ds : List Definition) (d : Definition) (bs : Builds) (out : Output) (becomes : preprocessed_of (defined s.defs) d ≡ Ok out) (us : List Use) (same : us ≡ out.uses) where
-  joins_same : joined_over ds s.defs out.uses ≡ joined_over ds s.defs us
-  joins_same = ap (λ ws. joined_over ds s.defs ws) (sym same)
+  joins_same : defs_union_over ds s.defs out.uses ≡ defs_union_over ds s.defs us
+  joins_same = ap (λ ws. defs_union_over ds s.defs ws) (sym same)
 
   -- definitions differ
-  pub not_joined : (f : Fault) → joined_over ds s.defs us ≡ Err f → NotFirstRead s ds d bs (here f)
+  pub not_joined : (f : Fault) → defs_union_over ds s.defs us ≡ Err f → NotFirstRead s ds d bs (here f)
   not_joined f h = NotJoined out becomes (joins_same ∙ h)
 
-  module _ (more : Defs) (joins : joined_over ds s.defs us ≡ Ok more) (vs : List Use) (again : vs ≡ out.uses) where
+  module _ (more : Defs) (joins : defs_union_over ds s.defs us ≡ Ok more) (vs : List Use) (again : vs ≡ out.uses) where
     -- what it imports is built
     pub first_read : (defs : Defs) (cs : Builds) → defs ≡ more → EachReached any_use (Unless (Reached by_steps (record s { defs = more }) ds)) vs bs cs → FirstRead s ds d bs defs cs
     first_read defs cs e h =

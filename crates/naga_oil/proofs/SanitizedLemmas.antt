@@ -5,7 +5,7 @@ use Rattle.std.proofs.lemmas.Bool.Decides.{Decides-eqb}
 use Rattle.std.specs.List.{starts_with, ends_with, onto_first}
 use Rattle.std.specs.Str.Pattern.{FindsText, LacksTextAt, MatchBeginsAt, SplitsAroundMatch}
 use Rattle.std.proofs.lemmas.Slice.Eq.{starts_is}
-use Rattle.naga_oil.specs.Sanitized.{earlier, first_of, line_feeds, ended, parts_behind, parts_around, numbered, binding, within}
+use Rattle.naga_oil.specs.Sanitized.{earlier, first_of, line_feeds, end_last_line, parts_behind, parts_around, numbered, binding, within}
 
 -- a byte that is no carriage return stays
 not_return : (a : ℕ) (more : List ℕ) → a ≢ 13 → line_feeds (a ∷ more) ≡ a ∷ line_feeds more
@@ -160,10 +160,10 @@ pub out_of_reach : (counter : ℕ) (parts : List (List ℕ)) → 4294967295 + 1 
 out_of_reach counter parts past some = rw (lt-ltb 4294967295 (counter + (length parts - 1)) (omega arith)) refl
 
 -- the last line end
-pub ended_already : (text : List ℕ) → ends_with eqb text (10 ∷ []) ≡ true → text ≡ ended text
+pub ended_already : (text : List ℕ) → ends_with eqb text (10 ∷ []) ≡ true → text ≡ end_last_line text
 ended_already text e = rw e refl
 
-pub ended_now : (text : List ℕ) → ends_with eqb text (10 ∷ []) ≡ false → text ++ 10 ∷ [] ≡ ended text
+pub ended_now : (text : List ℕ) → ends_with eqb text (10 ∷ []) ≡ false → text ++ 10 ∷ [] ≡ end_last_line text
 ended_now text e = rw e refl
 
 -- a mark stands within its text

@@ -2,9 +2,9 @@
 use Rattle.std.proofs.Common.{◌≡◌, ℕ, List, [], ◌∷◌, map, length, Option, Some, None, MatchOption, Result, Ok, Err, String, Global, Vec, string_bytes, refl, sym, ap, subst, ◌∙◌}
 use Rattle.std.proofs.lemmas.List.{length-map, nil_from_length}
 use Rattle.naga_oil_ir.specs.ModuleValue.{ModuleValue}
-use Rattle.naga_oil_derive.specs.RedirectFault.{RedirectFault, redirect_fault}
-use Rattle.naga_oil_derive.specs.declared.redirect_error.RedirectError.{RedirectError}
-use Rattle.naga_oil_derive.specs.declared.redirect_error.RedirectError.TheVariants as code
+use Rattle.naga_oil_ir.specs.RedirectFault.{RedirectFault, redirect_fault}
+use Rattle.naga_oil_ir.specs.declared.redirect_error.RedirectError.{RedirectError}
+use Rattle.naga_oil_ir.specs.declared.redirect_error.RedirectError.TheVariants as code
 use Rattle.naga_oil_pre.specs.Fault.{Fault, redirection}
 use Rattle.naga_oil_pre.specs.View.{fault_of, redirect_error}
 use Rattle.naga_oil_pre.specs.declared.fault.ComposerErrorInner.{ComposerErrorInner}

@@ -8,7 +8,8 @@ use Rattle.std.proofs.lemmas.Slice.Eq.{ends_is}
 use Rattle.std.specs.List.{starts_with, ends_with}
 use Rattle.std.specs.Option.{option_or}
 use Rattle.std.specs.Str.Pattern.{RFindsText, FindsTextSuffix, LacksTextAt, SplitsAroundMatch, StripsSuffix}
-use Rattle.naga_oil_lines.specs.Decorate.{module_mark, decoded}
+use Rattle.naga_oil_lines.specs.Decorate.{decoded}
+use Rattle.naga_oil_marks.specs.Marks.{module_mark}
 use Rattle.naga_oil_lines.specs.Text.{◌>>=◌}
 use Rattle.naga_oil_lines.specs.Uses.{Import}
 use Rattle.naga_oil_pre.specs.Fault.{Fault}

@@ -101,12 +101,12 @@ addition ds counter m = do
   placed (in_text m.file_path read.0 0) (new_definition (removed d.name ds) m d)
 
 -- a registry in which a module is entered, in the place of the one of its name and of all that reach that
-abbrev pub entered : List Definition → Definition → List Definition
-entered ds d = d ∷ removed d.name ds
+abbrev pub registry_with : List Definition → Definition → List Definition
+registry_with ds d = d ∷ removed d.name ds
 
 -- the definition that is given is entered
 abbrev pub Enters : {F : Type 0} → (old : List Definition) → Result Definition F → (new : List Definition) → Type 0
-Enters old value new = (d : Definition) × (value ≡ Ok d) × (new ≡ entered old d)
+Enters old value new = (d : Definition) × (value ≡ Ok d) × (new ≡ registry_with old d)
 
 -- what is shown of a definition
 abbrev pub shown_by : {Y F : Type 0} → (Definition → Y) → Result Definition F → Result Y F

@@ -77,8 +77,8 @@ abbrev pub is_built : Builds → List ℕ → Bool
 is_built bs name = list_any (λ b. bytes_eq name b.0) bs
 
 -- a build under its name; one that is there stays
-abbrev pub entered : Builds → List ℕ → BuiltModule → Builds
-entered bs name b = insert_entry bytes_eq bs name (unwrap_or (lookup (bytes_eq name) bs) b)
+abbrev pub builds_with : Builds → List ℕ → BuiltModule → Builds
+builds_with bs name b = insert_entry bytes_eq bs name (unwrap_or (lookup (bytes_eq name) bs) b)
 
 -- a module that is built changes nothing
 abbrev pub Unless : Reach Builds → Reach Builds
@@ -105,7 +105,7 @@ may_import d u = list_any (λ i. bytes_eq i.import.import u.import.import) d.imp
 -- a module is preprocessed, what it imports is reached, and it is built over that
 abbrev pub BuiltOver : Building → Setting → Definition → Reach Builds → Builds → Builds → Type 0
 BuiltOver K s d reached bs cs =
-    (out : Output) × (preprocessed_of (defined s.defs) d ≡ Ok out) × ((mid : Builds) × EachReached (may_import d) reached out.uses bs mid × ((b : BuiltModule) × K.makes s d out mid b × (cs ≡ entered mid d.name b)))
+    (out : Output) × (preprocessed_of (defined s.defs) d ≡ Ok out) × ((mid : Builds) × EachReached (may_import d) reached out.uses bs mid × ((b : BuiltModule) × K.makes s d out mid b × (cs ≡ builds_with mid d.name b)))
 
 -- one of these steps is refused
 abbrev pub NotBuiltOver : Building → Setting → Definition → Reach Builds → Reach Unbuilt → Builds → Unbuilt → Type 0

@@ -18,7 +18,7 @@ pub record WholeText (s : Setting) (d : Definition) (bs : Builds) (text : List �
   pub read : functions_in bs b.imports b.decoration b.overriding text ≡ Ok functions
   pub heading : List ℕ
   pub headed : HeadingAnswers s.front s.capabilities d bs b.imports (Ok heading)
-  pub joined : whole ≡ heading ++ functions.text
+  pub concatenation : whole ≡ heading ++ functions.text
   pub held : c ≡ record b { virtuals = functions.virtuals; overriding = functions.overriding; offset = length heading }
 
 -- why there is none: a function can't override another, or there is no heading

@@ -2,7 +2,7 @@
 use Rattle.std.specs.Prelude.{ℕ, List, [], ◌∷◌, map, Result, Ok, Err}
 use Rattle.naga_oil_ir.specs.ModuleValue.{ModuleValue, EntryValue}
 use Rattle.naga_oil_derive.specs.Redirected.{matched, redirected}
-use Rattle.naga_oil_derive.specs.RedirectFault.{RedirectFault}
+use Rattle.naga_oil_ir.specs.RedirectFault.{RedirectFault}
 use Rattle.naga_oil_pre.specs.Fault.{Fault, redirection}
 use Rattle.naga_oil_pre.specs.Recorded.{is_among}
 use Rattle.naga_oil.specs.Added.{◌>>=◌}

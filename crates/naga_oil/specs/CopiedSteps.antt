@@ -15,7 +15,7 @@ use Rattle.naga_oil_derive.specs.World.{special_entries}
 use Rattle.naga_oil.specs.BuiltModule.{BuiltModule, owns}
 use Rattle.naga_oil.specs.CopySources.{stub_of}
 use Rattle.naga_oil.specs.Formed.{IsUnformed}
-use Rattle.naga_oil.specs.Owned.{has_mark}
+use Rattle.naga_oil_marks.specs.Marks.{has_module_mark}
 use Rattle.naga_oil.specs.Places.{name_at, name_in, places_of}
 use Rattle.naga_oil.specs.Steps.{Step, Source, Item, TypeNamed, Copy, AreTaken}
 
@@ -26,7 +26,7 @@ special_names m = filter_map (λ e. name_in m.types e.1) (special_entries m.spec
 -- the decorated name of a type that is owned: its name has no mark, and no special type has it
 abbrev pub own_type : ModuleValue → (decoration : List ℕ) → Text → Text
 own_type m d None = None
-own_type m d (Some n) = if is_among (special_names m) n || has_mark n then None else Some (n ++ d)
+own_type m d (Some n) = if is_among (special_names m) n || has_module_mark n then None else Some (n ++ d)
 
 -- the same of the item at a place
 abbrev pub own_type_at : ModuleValue → (decoration : List ℕ) → ItemPlace → Text

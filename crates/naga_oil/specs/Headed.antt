@@ -17,12 +17,13 @@ abbrev pub first_lines : ShaderLanguage → Directives → List ℕ
 first_lines language.Wgsl directives = directives_text directives
 first_lines language.Glsl directives = codes "#version 450" ++ 10 ∷ []
 
-abbrev pub behind : List ℕ → Result (List ℕ) Fault → Result (List ℕ) Fault
-behind lines (Ok header) = Ok (lines ++ header)
-behind lines (Err f) = Err f
+-- a header behind first lines, or why there is none
+abbrev pub with_first_lines : List ℕ → Result (List ℕ) Fault → Result (List ℕ) Fault
+with_first_lines lines (Ok header) = Ok (lines ++ header)
+with_first_lines lines (Err f) = Err f
 
 -- the header of imports behind a module's first lines, or why there is none
 pub record HeadingAnswers (front : FrontEnd) (capabilities : Capabilities) (d : Definition) (builds : Builds) (imports : List Import) (answer : Result (List ℕ) Fault) : Type 0 where
   pub header : Result (List ℕ) Fault
   pub answers : HeaderAnswers front capabilities d.language builds imports header
-  pub headed : behind (first_lines d.language d.directives) header ≡ answer
+  pub headed : with_first_lines (first_lines d.language d.directives) header ≡ answer

@@ -5,16 +5,14 @@ use Rattle.std.specs.List.{flat_map, prefix_len, starts_with}
 use Rattle.std.specs.Str.{chars, encode_utf8_all}
 use Rattle.std.specs.Str.Lines.{lines}
 use Rattle.naga_oil_lines.specs.CoveredLines.{covered_lines}
-use Rattle.naga_oil_lines.specs.Decorate.{module_mark}
+use Rattle.naga_oil_marks.specs.Marks.{module_mark}
 use Rattle.naga_oil_lines.specs.Text.{past_word, ◌>>=◌}
 use Rattle.naga_oil_lines.specs.declared.comment_strip_iter.CommentState.TheVariants.{Code}
-
-abbrev pub ended : List ℕ → List ℕ
-ended line = line ++ 10 ∷ []
+use Rattle.naga_oil.specs.Sanitized.{end_line}
 
 -- a text with its comments covered, each line ended
 abbrev pub covered_text : List ℕ → List ℕ
-covered_text text = flat_map ended (covered_lines Code (lines text))
+covered_text text = flat_map end_line (covered_lines Code (lines text))
 
 -- what follows the white space at the front
 abbrev pub after_spaces : List ℕ → List ℕ

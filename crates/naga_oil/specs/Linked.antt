@@ -63,8 +63,9 @@ place_steps b m asked = map Item (filter (links_place b m asked) (places_of m))
 abbrev pub function_steps : BuiltModule → ModuleValue → Asked → List Step
 function_steps b m asked = map (λ f. CopyIfNew f.0 f.1) (filter (λ f. links_function b asked f.0) m.functions)
 
-abbrev pub item_steps : BuiltModule → ModuleValue → Asked → List Step
-item_steps b m asked = place_steps b m asked ++ function_steps b m asked
+-- the steps that link what is asked for of it: the items, then the functions
+abbrev pub asked_steps : BuiltModule → ModuleValue → Asked → List Step
+asked_steps b m asked = place_steps b m asked ++ function_steps b m asked
 
 -- what is linked of a build: its header, or the whole
 abbrev pub linked_value : (of_headers : Bool) → BuiltModule → ModuleValue
@@ -72,7 +73,7 @@ linked_value of_headers b = if of_headers then b.header else b.value
 
 -- the steps that link a build, whose spans are those of the texts of all modules one behind another
 abbrev pub link_steps : (of_headers : Bool) → BuiltModule → Asked → List Step
-link_steps of_headers b asked = Source (linked_value of_headers b) (b.index * 2097152) ∷ (item_steps b (linked_value of_headers b) asked ++ NoSource ∷ [])
+link_steps of_headers b asked = Source (linked_value of_headers b) (b.index * 2097152) ∷ (asked_steps b (linked_value of_headers b) asked ++ NoSource ∷ [])
 
 -- ---- imports
 
@@ -86,40 +87,40 @@ placed_build builds name = option_and_then (λ k. option_map (λ e. (k, e.1)) (s
 
 -- whether the imports of a build are linked: it stands before an end, and they were not
 abbrev pub is_entered : (end : ℕ) → List ℕ → ℕ → Bool
-is_entered end entered k = nat_lt k end && not (list_any (nat_eq k) entered)
+is_entered end descents k = nat_lt k end && not (list_any (nat_eq k) descents)
 
 -- the places of the builds whose imports were linked, with that of one more
 abbrev pub with_place : List ℕ → ℕ → List ℕ
-with_place entered k = insert_key nat_cmp entered k
+with_place descents k = insert_key nat_cmp descents k
 
 -- the same, if its imports are linked
 abbrev pub entered_after : (end : ℕ) → List ℕ → ℕ → List ℕ
-entered_after end entered k = if is_entered end entered k then with_place entered k else entered
+entered_after end descents k = if is_entered end descents k then with_place descents k else descents
 
 -- imports are linked one after another: one that isn't built is left out; of a build before the end whose imports were not linked these
 -- come first; then come its own items that are asked for
 pub data ImportsLinked (of_headers : Bool) (builds : Builds) : ℕ → List Import → List ℕ → Derived → List ℕ → Derived → Type 0 where
-  NoImports : {end : ℕ} {entered : List ℕ} {d : Derived} → ImportsLinked of_headers builds end [] entered d entered d
-  NotBuilt : {end : ℕ} {i : Import} {is : List Import} {entered after : List ℕ} {d e : Derived}
-      → placed_build builds i.import ≡ None → ImportsLinked of_headers builds end is entered d after e
-      → ImportsLinked of_headers builds end (i ∷ is) entered d after e
-  Known : {end k : ℕ} {b : BuiltModule} {i : Import} {is : List Import} {entered after : List ℕ} {d e f : Derived}
-      → placed_build builds i.import ≡ Some (k, b) → is_entered end entered k ≡ false
-      → AreTaken (link_steps of_headers b (asked_of i b)) d e → ImportsLinked of_headers builds end is entered e after f
-      → ImportsLinked of_headers builds end (i ∷ is) entered d after f
-  Entered : {end k : ℕ} {b : BuiltModule} {i : Import} {is : List Import} {entered between after : List ℕ} {d e f g : Derived}
-      → placed_build builds i.import ≡ Some (k, b) → is_entered end entered k ≡ true
-      → ImportsLinked of_headers builds k b.imports (with_place entered k) d between e
+  NoImports : {end : ℕ} {descents : List ℕ} {d : Derived} → ImportsLinked of_headers builds end [] descents d descents d
+  NotBuilt : {end : ℕ} {i : Import} {is : List Import} {descents after : List ℕ} {d e : Derived}
+      → placed_build builds i.import ≡ None → ImportsLinked of_headers builds end is descents d after e
+      → ImportsLinked of_headers builds end (i ∷ is) descents d after e
+  Known : {end k : ℕ} {b : BuiltModule} {i : Import} {is : List Import} {descents after : List ℕ} {d e f : Derived}
+      → placed_build builds i.import ≡ Some (k, b) → is_entered end descents k ≡ false
+      → AreTaken (link_steps of_headers b (asked_of i b)) d e → ImportsLinked of_headers builds end is descents e after f
+      → ImportsLinked of_headers builds end (i ∷ is) descents d after f
+  Entered : {end k : ℕ} {b : BuiltModule} {i : Import} {is : List Import} {descents between after : List ℕ} {d e f g : Derived}
+      → placed_build builds i.import ≡ Some (k, b) → is_entered end descents k ≡ true
+      → ImportsLinked of_headers builds k b.imports (with_place descents k) d between e
       → AreTaken (link_steps of_headers b (asked_of i b)) e f → ImportsLinked of_headers builds end is between f after g
-      → ImportsLinked of_headers builds end (i ∷ is) entered d after g
+      → ImportsLinked of_headers builds end (i ∷ is) descents d after g
 
 -- ---- what is made of builds
 
 -- the header of imports: what is linked of the headers of their builds
 pub record HeaderLinked (builds : Builds) (imports : List Import) (header : ModuleValue) : Type 0 where
   pub derived : Derived
-  pub entered : List ℕ
-  pub linked : ImportsLinked true builds (length builds) imports [] nothing entered derived
+  pub descents : List ℕ
+  pub linked : ImportsLinked true builds (length builds) imports [] nothing descents derived
   pub value : header ≡ derived.target
 
 -- what a front end writes for the header of imports, or why it doesn't
@@ -131,8 +132,8 @@ pub record HeaderAnswers (front : FrontEnd) (capabilities : Capabilities) (in_la
 -- the whole of a build: behind what it imports, all that it owns, with its entry points, whose spans are those of its own text
 pub record WholeLinked (builds : Builds) (b : BuiltModule) (whole : ModuleValue) : Type 0 where
   pub imported : Derived
-  pub entered : List ℕ
-  pub linked : ImportsLinked false builds (length builds) b.imports [] nothing entered imported
+  pub descents : List ℕ
+  pub linked : ImportsLinked false builds (length builds) b.imports [] nothing descents imported
   pub owned : Derived
   pub own : AreTaken (link_steps false b None) imported owned
   pub from : Derived

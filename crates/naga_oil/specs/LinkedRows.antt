@@ -9,11 +9,12 @@ use Rattle.naga_oil.specs.BuiltModule.{BuiltModule}
 use Rattle.naga_oil.specs.Linked.{asked_of, link_steps, is_entered}
 use Rattle.naga_oil.specs.Steps.{Source, NoSource, Item, CopyIfNew}
 
-abbrev nowhere : Span
-nowhere = record { start = 0; end = 0 }
+-- the span of what stands in no text
+abbrev no_span : Span
+no_span = record { start = 0; end = 0 }
 
 abbrev constant : List ℕ → Row × Span
-constant name = (row ConstantKind (Some name) [] [] [], nowhere)
+constant name = (row ConstantKind (Some name) [] [] [], no_span)
 
 abbrev function : List ℕ → FunctionValue
 function name = record {
@@ -31,7 +32,7 @@ function name = record {
 abbrev value : ModuleValue
 value = record no_items {
   constants = constant (codes "c") ∷ constant (codes "aM") ∷ constant (codes "bM") ∷ [];
-  functions = (function (codes "f"), nowhere) ∷ (function (codes "gM"), nowhere) ∷ [];
+  functions = (function (codes "f"), no_span) ∷ (function (codes "gM"), no_span) ∷ [];
 }
 
 -- the build of a module of index 2, whose function f overrides another
@@ -53,12 +54,12 @@ build = record {
 }
 
 -- what is asked for, and the function that overrides another
-asked : link_steps false build (asked_of (record { import = codes "m"; items = codes "c" ∷ codes "b" ∷ [] }) build) ≡ Source value 4194304 ∷ Item (ConstantItem 2) ∷ CopyIfNew (function (codes "f")) nowhere ∷ NoSource ∷ []
+asked : link_steps false build (asked_of (record { import = codes "m"; items = codes "c" ∷ codes "b" ∷ [] }) build) ≡ Source value 4194304 ∷ Item (ConstantItem 2) ∷ CopyIfNew (function (codes "f")) no_span ∷ NoSource ∷ []
 unfolding in_order
 asked = refl
 
 -- all that is owned
-all_owned : link_steps false build None ≡ Source value 4194304 ∷ Item (ConstantItem 1) ∷ Item (ConstantItem 2) ∷ CopyIfNew (function (codes "f")) nowhere ∷ CopyIfNew (function (codes "gM")) nowhere ∷ NoSource ∷ []
+all_owned : link_steps false build None ≡ Source value 4194304 ∷ Item (ConstantItem 1) ∷ Item (ConstantItem 2) ∷ CopyIfNew (function (codes "f")) no_span ∷ CopyIfNew (function (codes "gM")) no_span ∷ NoSource ∷ []
 all_owned = refl
 
 entered_once : is_entered 3 (1 ∷ []) 1 ≡ false

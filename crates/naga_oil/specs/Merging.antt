@@ -60,14 +60,14 @@ agrees value None = true
 agrees value (Some known) = same_value known value
 
 -- definitions with others in turn, or the first name of two values
-abbrev pub joined : Defs → Defs → Result Defs Fault
-joined defs [] = Ok defs
-joined defs (d ∷ more) = if agrees d.1 (value_of defs d.0) then joined (with_def defs d) more else Err (inconsistent_def d.0)
+abbrev pub defs_union : Defs → Defs → Result Defs Fault
+defs_union defs [] = Ok defs
+defs_union defs (d ∷ more) = if agrees d.1 (value_of defs d.0) then defs_union (with_def defs d) more else Err (inconsistent_def d.0)
 
 -- the same of the definitions of each module that is imported
-abbrev pub joined_over : List Definition → Defs → List Use → Result Defs Fault
-joined_over ds defs [] = Ok defs
-joined_over ds defs (u ∷ more) = imported ds u >>= λ d. joined defs d.defs >>= λ defs. joined_over ds defs more
+abbrev pub defs_union_over : List Definition → Defs → List Use → Result Defs Fault
+defs_union_over ds defs [] = Ok defs
+defs_union_over ds defs (u ∷ more) = imported ds u >>= λ d. defs_union defs d.defs >>= λ defs. defs_union_over ds defs more
 
 -- whether definitions are among others
 abbrev pub are_among : Defs → Defs → Bool

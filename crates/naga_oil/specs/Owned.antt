@@ -1,6 +1,6 @@
 -- The items that a parsed module owns, and the names that they get.
-use Rattle.std.specs.Prelude.{ℕ, nat_eq, ◌||◌, if◌then◌else◌, Bool, false, Some, None, option_map, unwrap_or, List, [], ◌∷◌, ◌++◌, fold, map, codes}
-use Rattle.std.specs.List.{starts_with, flat_map, filter_map}
+use Rattle.std.specs.Prelude.{ℕ, if◌then◌else◌, Some, None, option_map, unwrap_or, List, [], ◌∷◌, ◌++◌, fold, map, codes}
+use Rattle.std.specs.List.{flat_map, filter_map}
 use Rattle.naga_oil_ir.specs.ModuleValue.{ModuleValue, FunctionValue, EntryValue, ArgumentValue, function_value}
 use Rattle.naga_oil_ir.specs.Rows.{Row, Text, constant_row, override_row, global_row}
 use Rattle.naga_oil_ir.specs.Spans.{undefined}
@@ -10,29 +10,16 @@ use Rattle.naga_oil_ir.specs.declared.span.Span.{Span}
 use Rattle.naga_oil_ir.specs.declared.types.Constant.{Constant}
 use Rattle.naga_oil_ir.specs.declared.types.GlobalVariable.{GlobalVariable}
 use Rattle.naga_oil_ir.specs.declared.types.Override.{Override}
-use Rattle.naga_oil_lines.specs.Decorate.{module_mark}
+use Rattle.naga_oil_marks.specs.Marks.{has_module_mark, with_decoration}
 use Rattle.naga_oil_lines.specs.DirectivesText.{with_name}
 use Rattle.naga_oil_pre.specs.Recorded.{is_among}
 use Rattle.naga_oil.specs.BuiltModule.{BuiltModule}
 
 -- ---- names
 
--- a mark stands somewhere in a text
-abbrev pub holds : (mark text : List ℕ) → Bool
-holds mark [] = false
-holds mark (c ∷ more) = starts_with nat_eq (c ∷ more) mark || holds mark more
-
--- a name has the mark of a module
-unfoldable pub has_mark : List ℕ → Bool
-has_mark name = holds module_mark name
-
--- an owned name gets the decoration, another stays
-abbrev pub owned_name : (decoration : List ℕ) → List ℕ → List ℕ
-owned_name d n = if has_mark n then n else n ++ d
-
 -- names with one more, decorated, if it is owned
 abbrev pub with_owned_name : (decoration : List ℕ) → List (List ℕ) → List ℕ → List (List ℕ)
-with_owned_name d names n = if has_mark n then names else with_name names (n ++ d)
+with_owned_name d names n = if has_module_mark n then names else with_name names (n ++ d)
 
 -- the same of a name that may be absent
 abbrev pub with_owned : (decoration : List ℕ) → List (List ℕ) → Text → List (List ℕ)
@@ -61,11 +48,11 @@ function_values es = map (λ e. (function_value e.0, e.1)) es
 
 -- an item with its name decorated, if it is owned
 abbrev pub owned_item : (decoration : List ℕ) → Row × Span → Row × Span
-owned_item d e = (record e.0 { label = record e.0.label { name = option_map (owned_name d) e.0.label.name } }, e.1)
+owned_item d e = (record e.0 { label = record e.0.label { name = option_map (with_decoration d) e.0.label.name } }, e.1)
 
 -- a function with its name decorated, if it is owned
 abbrev pub owned_function : (decoration : List ℕ) → FunctionValue × Span → FunctionValue × Span
-owned_function d e = (record e.0 { name = option_map (owned_name d) e.0.name }, e.1)
+owned_function d e = (record e.0 { name = option_map (with_decoration d) e.0.name }, e.1)
 
 -- the names of items, and of functions
 abbrev pub item_names : List (Row × Span) → List Text

@@ -15,7 +15,7 @@ use Rattle.naga_oil.specs.Definition.{Definition, Defs}
 use Rattle.naga_oil.specs.Descriptor.{ShaderSource}
 use Rattle.naga_oil.specs.Made.{Unread, here, OneUnread, any_use, may_use}
 use Rattle.naga_oil.specs.Merged.{overwritten, recorded_names}
-use Rattle.naga_oil.specs.Merging.{shader_definition, joined_over}
+use Rattle.naga_oil.specs.Merging.{shader_definition, defs_union_over}
 
 -- what a shader's text says of it: its metadata, with the defines as a list in the order of their names, each once
 pub record IsShader (m : ShaderSource) (text : List ℕ) (d : Definition) : Type 0 where
@@ -30,14 +30,14 @@ pub record IsShader (m : ShaderSource) (text : List ℕ) (d : Definition) : Type
 pub record FirstRead (s : Setting) (ds : List Definition) (d : Definition) (bs : Builds) (defs : Defs) (cs : Builds) : Type 0 where
   pub out : Output
   pub becomes : preprocessed_of (defined s.defs) d ≡ Ok out
-  pub joins : joined_over ds s.defs out.uses ≡ Ok defs
+  pub joins : defs_union_over ds s.defs out.uses ≡ Ok defs
   pub reaches : EachReached any_use (Unless (Reached by_steps (record s { defs = defs }) ds)) out.uses bs cs
 
 -- why there is none
 pub data NotFirstRead (s : Setting) (ds : List Definition) (d : Definition) (bs : Builds) : Unread → Type 0 where
   NotPreprocessed : {f : Fault} → preprocessed_of (defined s.defs) d ≡ Err f → NotFirstRead s ds d bs (here f)
-  NotJoined : {f : Fault} (out : Output) → preprocessed_of (defined s.defs) d ≡ Ok out → joined_over ds s.defs out.uses ≡ Err f → NotFirstRead s ds d bs (here f)
-  NotReached : {w : Unread} (out : Output) (defs : Defs) → preprocessed_of (defined s.defs) d ≡ Ok out → joined_over ds s.defs out.uses ≡ Ok defs
+  NotJoined : {f : Fault} (out : Output) → preprocessed_of (defined s.defs) d ≡ Ok out → defs_union_over ds s.defs out.uses ≡ Err f → NotFirstRead s ds d bs (here f)
+  NotReached : {w : Unread} (out : Output) (defs : Defs) → preprocessed_of (defined s.defs) d ≡ Ok out → defs_union_over ds s.defs out.uses ≡ Ok defs
       → OneUnread any_use (Unless (Reached by_steps (record s { defs = defs }) ds)) (UnlessBuilt (Unreached by_steps (record s { defs = defs }) ds)) out.uses bs w → NotFirstRead s ds d bs w
 
 -- the second reading, under the joined definitions, to which it may add none: what it imports has its own among them

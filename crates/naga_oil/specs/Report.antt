@@ -2,11 +2,12 @@
 use Rattle.std.specs.Prelude.{ℕ, ◌+◌, ◌-◌, ◌%◌, ◌==◌, not, if◌then◌else◌, Option, Some, None, List, [], ◌∷◌, ◌++◌, length, take, count_by, codes}
 use Rattle.std.specs.Fmt.{decimal}
 use Rattle.std.specs.List.{flat_map, suffix_len}
-use Rattle.naga_oil_derive.specs.RedirectFault.{RedirectFault, not_found, argument_mismatch, return_type_mismatch, circular_reference}
+use Rattle.naga_oil_ir.specs.RedirectFault.{RedirectFault, not_found, argument_mismatch, return_type_mismatch, circular_reference}
 use Rattle.naga_oil_ir.specs.declared.span.Span.{Span}
-use Rattle.naga_oil_lines.specs.Undecorate.{undecorated}
+use Rattle.naga_oil_lines.specs.Undecorate.{undecoration}
 use Rattle.naga_oil_pre.specs.Fault as fault
 use Rattle.naga_oil_pre.specs.Fault.{Fault}
+use Rattle.naga_oil.specs.Sanitized.{end_line}
 
 -- ---- what is wrong
 abbrev pub redirection_message : RedirectFault → List ℕ
@@ -49,7 +50,8 @@ message None = codes "out of memory"
 
 -- ---- where it is wrong
 pub data Places : Type 0 where
-  nowhere : Places
+  -- in the text as a whole
+  no_place : Places
   byte : ℕ → Places
   -- the start of the line with this index
   line : ℕ → Places
@@ -80,15 +82,15 @@ fault_places (Some (fault.invalid_identifier original at)) = item at
 fault_places (Some (fault.invalid_definition at name value)) = byte at
 fault_places (Some (fault.define_in_module at)) = byte at
 fault_places (Some (fault.invalid_directive text index reason)) = line index
-fault_places (Some (fault.wgsl_back f)) = nowhere
-fault_places (Some (fault.glsl_back f)) = nowhere
-fault_places (Some (fault.inconsistent_def name)) = nowhere
-fault_places (Some fault.no_module_name) = nowhere
-fault_places (Some fault.too_many_modules) = nowhere
-fault_places (Some fault.bindings_exhausted) = nowhere
-fault_places (Some fault.text_too_large) = nowhere
-fault_places (Some fault.wrong_form) = nowhere
-fault_places None = nowhere
+fault_places (Some (fault.wgsl_back f)) = no_place
+fault_places (Some (fault.glsl_back f)) = no_place
+fault_places (Some (fault.inconsistent_def name)) = no_place
+fault_places (Some fault.no_module_name) = no_place
+fault_places (Some fault.too_many_modules) = no_place
+fault_places (Some fault.bindings_exhausted) = no_place
+fault_places (Some fault.text_too_large) = no_place
+fault_places (Some fault.wrong_form) = no_place
+fault_places None = no_place
 
 -- ---- what is noted
 abbrev pub fault_notes : Option Fault → List (List ℕ)
@@ -103,8 +105,6 @@ fault_notes (Some fault.redirection_memory) = codes "override error" ∷ []
 fault_notes _ = []
 
 -- ---- in a text
-abbrev pub ended : List ℕ → List ℕ
-ended text = text ++ 10 ∷ []
 
 -- the line and the column of a place, from 1: how many line ends are before it, and how many bytes are between the last of them and it;
 -- a place past the end counts as the end
@@ -116,33 +116,33 @@ abbrev pub span_place : ℕ → Span → ℕ
 span_place offset s = s.start % 2097152 - offset
 
 abbrev pub said_behind : List ℕ → List ℕ
-said_behind said = ended (if length said == 0 then [] else codes ": " ++ said)
+said_behind said = end_line (if length said == 0 then [] else codes ": " ++ said)
 
 abbrev pub place_line : (path : List ℕ) → ℕ × ℕ → (said : List ℕ) → List ℕ
 place_line path place said = codes "  at " ++ path ++ codes ":" ++ decimal place.0 ++ codes ":" ++ decimal place.1 ++ said_behind said
 
 abbrev pub no_place_line : (path : List ℕ) → List ℕ
-no_place_line path = ended (codes "  in " ++ path)
+no_place_line path = end_line (codes "  in " ++ path)
 
 abbrev pub span_lines : (path text : List ℕ) → ℕ → List (Span × List ℕ) → List ℕ
 span_lines path text offset [] = no_place_line path
 span_lines path text offset (s ∷ more) = flat_map (λ s. place_line path (line_column text (span_place offset s.0)) s.1) (s ∷ more)
 
 abbrev pub place_lines : (path text : List ℕ) → ℕ → (message : List ℕ) → Places → List ℕ
-place_lines path text offset message nowhere = no_place_line path
+place_lines path text offset message no_place = no_place_line path
 place_lines path text offset message (byte place) = place_line path (line_column text place) []
 place_lines path text offset message (line index) = place_line path (index + 1, 1) []
 place_lines path text offset message (item s) = place_line path (line_column text (span_place offset s)) message
 place_lines path text offset message (spans ss) = span_lines path text offset ss
 
 abbrev pub note_line : List ℕ → List ℕ
-note_line note = ended (codes "  note: " ++ note)
+note_line note = end_line (codes "  note: " ++ note)
 
 -- the whole, with decorated names as they stand
 unfoldable pub report_text : (path text : List ℕ) → ℕ → Option Fault → List ℕ
 report_text path text offset f =
-    ended (codes "error: " ++ message f) ++ place_lines path text offset (message f) (fault_places f) ++ flat_map note_line (fault_notes f)
+    end_line (codes "error: " ++ message f) ++ place_lines path text offset (message f) (fault_places f) ++ flat_map note_line (fault_notes f)
 
 -- the same with decorated names as a reader knows them
 unfoldable pub report : (path text : List ℕ) → ℕ → Option Fault → List ℕ
-report path text offset f = undecorated (report_text path text offset f)
+report path text offset f = undecoration (report_text path text offset f)

@@ -3,14 +3,15 @@ use Rattle.std.specs.Prelude.{ℕ, ◌+◌, ◌==◌, if◌then◌else◌, List,
 use Rattle.naga_oil_ir.specs.Backend.{labels}
 use Rattle.naga_oil.specs.declared.compose.report.Places as code
 use Rattle.naga_oil.specs.declared.compose.report.Places.TheVariants as c
-use Rattle.naga_oil.specs.Report.{Places, nowhere, byte, line, item, spans}
+use Rattle.naga_oil.specs.Report.{Places, no_place, byte, line, item, spans}
 
-abbrev pub places_of : code.Places → Places
-places_of c.Nowhere = nowhere
-places_of (c.Byte place) = byte place
-places_of (c.Line index) = line index
-places_of (c.Item at) = item at
-places_of (c.Spans said) = spans (labels said.now)
+-- the places of a fault, as a report has them
+abbrev pub report_places : code.Places → Places
+report_places c.Nowhere = no_place
+report_places (c.Byte place) = byte place
+report_places (c.Line index) = line index
+report_places (c.Item at) = item at
+report_places (c.Spans said) = spans (labels said.now)
 
 -- where the lines begin that follow line ends, of a text that begins at the place
 abbrev pub starts_behind : ℕ → List ℕ → List ℕ

@@ -2,7 +2,7 @@
 use Rattle.std.specs.Prelude.{ℕ, zero, suc, ◌+◌, ◌-◌, ◌==◌, ◌&&◌, ◌||◌, nat_eq, nat_lt, if◌then◌else◌, Option, Some, None, option_map, min, List, [], ◌∷◌, ◌++◌, length, map, codes}
 use Rattle.std.specs.List.{onto_first, starts_with, ends_with}
 use Rattle.std.specs.Fmt.{decimal}
-use Rattle.naga_oil_lines.specs.Decorate.{module_mark, override_mark}
+use Rattle.naga_oil_marks.specs.Marks.{module_mark, override_mark}
 
 -- the earlier of two places, if they are there
 abbrev pub earlier : Option ℕ → Option ℕ → Option ℕ
@@ -29,9 +29,13 @@ without_pairs (a ∷ b ∷ more) = if (a == 13) && (b == 10) then without_pairs 
 abbrev pub line_feeds : List ℕ → List ℕ
 line_feeds text = map (λ c. if c == 13 then 10 else c) (without_pairs text)
 
+-- a line with its line feed
+abbrev pub end_line : List ℕ → List ℕ
+end_line line = line ++ 10 ∷ []
+
 -- the last line ends in a line feed too
-abbrev pub ended : List ℕ → List ℕ
-ended text = if ends_with nat_eq text (10 ∷ []) then text else text ++ 10 ∷ []
+abbrev pub end_last_line : List ℕ → List ℕ
+end_last_line text = if ends_with nat_eq text (10 ∷ []) then text else text ++ 10 ∷ []
 
 -- the parts of a text around each place where a mark stands, from the left; the first bytes may belong to a mark before them
 abbrev pub parts_behind : (left : ℕ) → (mark text : List ℕ) → List (List ℕ)
@@ -61,4 +65,4 @@ within counter parts = if nat_lt 4294967295 (counter + (length parts - 1)) then 
 
 -- a source as it is read under the counter, and the counter behind it; nothing where no number is left
 unfoldable pub sanitized : (counter : ℕ) → (source : List ℕ) → Option (List ℕ × ℕ)
-sanitized counter source = within counter (parts_around auto_binding (ended (line_feeds source)))
+sanitized counter source = within counter (parts_around auto_binding (end_last_line (line_feeds source)))

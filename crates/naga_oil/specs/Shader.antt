@@ -5,7 +5,7 @@ use Rattle.naga_oil_ir.specs.ModuleValue.{ModuleValue}
 use Rattle.naga_oil_ir.specs.declared.backend.Capabilities.{Capabilities}
 use Rattle.naga_oil_derive.specs.Ordered.{ordered}
 use Rattle.naga_oil_derive.specs.PutInOrder.{IsInOrder}
-use Rattle.naga_oil_derive.specs.RedirectFault.{RedirectFault}
+use Rattle.naga_oil_ir.specs.RedirectFault.{RedirectFault}
 use Rattle.naga_oil_pre.specs.Fault.{Fault, redirection}
 use Rattle.naga_oil.specs.BuiltModule.{BuiltModule, Builds, Overriding}
 use Rattle.naga_oil.specs.Chains.{all_sent_down, with_stages}

@@ -4,7 +4,8 @@ use Rattle.std.specs.List.{list_any, list_all, starts_with, ends_with}
 use Rattle.std.specs.Option.{option_or}
 use Rattle.std.specs.Str.{chars}
 use Rattle.ucd_perl.specs.Perl.{is_word_char}
-use Rattle.naga_oil_lines.specs.Decorate.{module_mark, override_mark, decoded}
+use Rattle.naga_oil_lines.specs.Decorate.{decoded}
+use Rattle.naga_oil_marks.specs.Marks.{module_mark, override_mark}
 use Rattle.naga_oil_lines.specs.DirectivesText.{with_name}
 use Rattle.naga_oil_lines.specs.Text.{◌>>=◌}
 use Rattle.naga_oil_lines.specs.Uses.{Import}

@@ -8,7 +8,7 @@ use Rattle.naga_oil_pre.specs.Recorded.{is_among}
 use Rattle.naga_oil.specs.BuiltModule.{BuiltModule}
 use Rattle.naga_oil.specs.ByName.{ByName, IsIndexOf, places_where}
 use Rattle.naga_oil.specs.CopiedSteps.{owns_named, owns_function}
-use Rattle.naga_oil.specs.Linked.{Asked, passes, overriding_names, item_steps}
+use Rattle.naga_oil.specs.Linked.{Asked, passes, overriding_names, asked_steps}
 use Rattle.naga_oil.specs.Places.{name_at}
 use Rattle.naga_oil.specs.Steps.{Step, Source, NoSource, Item, CopyIfNew}
 
@@ -40,4 +40,4 @@ owned_function_steps b f = step_if (λ f. owns_function b f.0.name) (λ f. CopyI
 
 -- the steps that link a module of a build: its source is set, its items are linked, and its source is left
 abbrev pub source_steps : BuiltModule → ModuleValue → Asked → List Step
-source_steps b m asked = Source m (b.index * 2097152) ∷ (item_steps b m asked ++ NoSource ∷ [])
+source_steps b m asked = Source m (b.index * 2097152) ∷ (asked_steps b m asked ++ NoSource ∷ [])

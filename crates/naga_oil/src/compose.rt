@@ -60,13 +60,15 @@ use naga_oil_ir::{
     Handle, Index, ItemPlace, Module, Override, Span, StructMember, Type, TypeInner, UniqueArena,
 };
 pub use naga_oil_lines::decorate::{decode, decorated_name, undecorate};
-use naga_oil_lines::decorate::{DECORATION_OVERRIDE_PRE, DECORATION_POST, DECORATION_PRE};
 pub use naga_oil_lines::wgsl_directives::{
     DiagnosticDirective, EnableDirective, RequiresDirective, WgslDirectives,
 };
 pub use naga_oil_lines::{
     ImportDefWithOffset, ImportDefinition, comment_strip_iter, decorate, parse_imports, tokenizer,
     wgsl_directives,
+};
+use naga_oil_marks::{
+    DECORATION_OVERRIDE_PRE, DECORATION_POST, DECORATION_PRE, add_decoration, has_module_mark,
 };
 pub use naga_oil_pre as preprocess;
 pub use naga_oil_pre::{ShaderDefValue, get_preprocessor_data};

@@ -11,7 +11,7 @@ use Rattle.naga_oil_ir.specs.ModuleValue.{expression_values}
 use Rattle.naga_oil_ir.specs.declared.expression.Expression.{Expression}
 use Rattle.naga_oil_ir.specs.declared.span.Span.{Span}
 use Rattle.naga_oil_derive.specs.Renames.{Renames}
-use Rattle.naga_oil_derive.specs.Walk.{IsReady, Holds}
+use Rattle.naga_oil_derive.specs.Walk.{IsReachOrder, Holds}
 use Rattle.naga_oil_derive.specs.Copies.{Values, Table, place_under, copied, AreCopies, IsPut, IsStep, AreApart, Placed, value_links}
 use Rattle.naga_oil_derive.proofs.WalkLemmas.{closed, has_take, run-last}
 use Rattle.naga_oil_derive.proofs.CopySteps.{Meets, merge_one, append_one, apart_one, under_same, map_other}
@@ -24,8 +24,8 @@ get-take (suc i) [] m k e = absurd (none-some k e)
 get-take (suc i) (x ∷ o) zero k e = (omega arith, e)
 get-take (suc i) (x ∷ o) (suc m) k e = let r = get-take i o m k e in let l = r.0 in (omega arith, r.1)
 
-pub IsReady-take : (ls : Links) (o : List ℕ) (i : ℕ) → IsReady ls o → IsReady ls (take i o)
-IsReady-take ls o i r = record {
+pub IsReachOrder-take : (ls : Links) (o : List ℕ) (i : ℕ) → IsReachOrder ls o → IsReachOrder ls (take i o)
+IsReachOrder-take ls o i r = record {
   once = λ m k e. let g = get-take i o m k e in let l = g.0 in ap (λ xs. has xs k) (take-take m i o (omega arith)) ∙ r.once m k g.1;
   after = λ m k x e h. let g = get-take i o m k e in let l = g.0 in ap (λ xs. has xs x) (take-take m i o (omega arith)) ∙ r.after m k x g.1 h;
 }
@@ -39,14 +39,14 @@ there [] k h = absurd (omega arith)
 there (e ∷ es) zero h = ((parts e.0, e.1), refl)
 there (e ∷ es) (suc k) h = there es k (omega arith)
 
-meets : (r : Renames) (es : List (Expression × Span)) (o : List ℕ) (i : ℕ) (s : List ℕ) (t : Table) (v : Values) (a : Parts × Span) → IsReady (operand_links es) o → i < length o → AreCopies r (expression_values es) s (take i o) t v → get_or o i 0 < length t → slice_get (expression_values es) (get_or o i 0) ≡ Some a → Meets r (expression_values es) s (take i o) t v (get_or o i 0) a
+meets : (r : Renames) (es : List (Expression × Span)) (o : List ℕ) (i : ℕ) (s : List ℕ) (t : Table) (v : Values) (a : Parts × Span) → IsReachOrder (operand_links es) o → i < length o → AreCopies r (expression_values es) s (take i o) t v → get_or o i 0 < length t → slice_get (expression_values es) (get_or o i 0) ≡ Some a → Meets r (expression_values es) s (take i o) t v (get_or o i 0) a
 meets r es o i s t v a ready l c room at =
-    let q : IsReady (value_links (expression_values es)) o = subst (λ ls. IsReady ls o) (sym (links_of_values es)) ready in
+    let q : IsReachOrder (value_links (expression_values es)) o = subst (λ ls. IsReachOrder ls o) (sym (links_of_values es)) ready in
     let g : slice_get o i ≡ Some (get_or o i 0) = slice_get-get_or o i 0 l in
     record {
       copies = c;
       fresh = q.once i (get_or o i 0) g;
-      closed_links = λ j h. closed (value_links (expression_values es)) (take i o) (IsReady-take (value_links (expression_values es)) o i q) j h;
+      closed_links = λ j h. closed (value_links (expression_values es)) (take i o) (IsReachOrder-take (value_links (expression_values es)) o i q) j h;
       after_links = λ x h. q.after i (get_or o i 0) x g h;
       room = room;
       at_place = at;
@@ -58,7 +58,7 @@ pub record Merged (r : Renames) (es : Values) (o : List ℕ) (t : Table) (v : Va
   pub copies : AreCopies r es o o t v
   pub apart : AreApart v
 
-pub merge_step : (r : Renames) (es : List (Expression × Span)) (o : List ℕ) (i : ℕ) (t u : Table) (v w : Values) → IsReady (operand_links es) o → i < length o → get_or o i 0 < length es → length t ≡ length es → AreCopies r (expression_values es) (take i o) (take i o) t v → AreApart v → IsStep r (expression_values es) true (get_or o i 0) t v u w → Merged r (expression_values es) (take (i + 1) o) u w
+pub merge_step : (r : Renames) (es : List (Expression × Span)) (o : List ℕ) (i : ℕ) (t u : Table) (v w : Values) → IsReachOrder (operand_links es) o → i < length o → get_or o i 0 < length es → length t ≡ length es → AreCopies r (expression_values es) (take i o) (take i o) t v → AreApart v → IsStep r (expression_values es) true (get_or o i 0) t v u w → Merged r (expression_values es) (take (i + 1) o) u w
 merge_step r es o i t u v w ready l within room c a step =
     let k = get_or o i 0 in
     let at = there es k within in
@@ -85,7 +85,7 @@ last_put : (v : Values) (c : Parts × Span) (h : ℕ) (w : Values) → IsPut fal
 last_put v c h w (inl (u, f, e)) = absurd (false≢true u)
 last_put v c h w (inr (u, e, f)) = (e, ap length f ∙ length_push v c)
 
-pub append_step : (r : Renames) (es : List (Expression × Span)) (o : List ℕ) (b i : ℕ) (t0 t u : Table) (v w : Values) (m : ℕ) → IsReady (operand_links es) o → b ≤ i → i < length o → get_or o i 0 < length es → length t ≡ length es → AreCopies r (expression_values es) (take b o) (take i o) t v → map (place_under t) (take i o) ≡ map (place_under t0) (take b o) ++ run m (i - b) → length v ≡ m + (i - b) → IsStep r (expression_values es) false (get_or o i 0) t v u w → Appended r (expression_values es) (take b o) (take (i + 1) o) t0 m (i + 1 - b) u w
+pub append_step : (r : Renames) (es : List (Expression × Span)) (o : List ℕ) (b i : ℕ) (t0 t u : Table) (v w : Values) (m : ℕ) → IsReachOrder (operand_links es) o → b ≤ i → i < length o → get_or o i 0 < length es → length t ≡ length es → AreCopies r (expression_values es) (take b o) (take i o) t v → map (place_under t) (take i o) ≡ map (place_under t0) (take b o) ++ run m (i - b) → length v ≡ m + (i - b) → IsStep r (expression_values es) false (get_or o i 0) t v u w → Appended r (expression_values es) (take b o) (take (i + 1) o) t0 m (i + 1 - b) u w
 append_step r es o b i t0 t u v w m ready le l within room c follow count step =
     let k = get_or o i 0 in
     let vs = expression_values es in
@@ -115,7 +115,7 @@ pub placed_start : (r : Renames) (es : Values) (o : List ℕ) (b : ℕ) (u : Boo
 placed_start r es o b true t v c a = record { copies = c; apart = λ e. a; follow = λ e. absurd (true≢false e); count = λ e. absurd (true≢false e) }
 placed_start r es o b false t v c a = record { copies = c; apart = λ e. a; follow = λ e. start_follow t o b (length v); count = λ e. omega arith }
 
-pub place_step : (r : Renames) (es : List (Expression × Span)) (o : List ℕ) (b i : ℕ) (u : Bool) (t0 : Table) (m : ℕ) (t x : Table) (v w : Values) → IsReady (operand_links es) o → b ≤ i → i < length o → get_or o i 0 < length es → length t ≡ length es → Placed r (expression_values es) o b i u t0 m t v → IsStep r (expression_values es) u (get_or o i 0) t v x w → Placed r (expression_values es) o b (i + 1) u t0 m x w
+pub place_step : (r : Renames) (es : List (Expression × Span)) (o : List ℕ) (b i : ℕ) (u : Bool) (t0 : Table) (m : ℕ) (t x : Table) (v w : Values) → IsReachOrder (operand_links es) o → b ≤ i → i < length o → get_or o i 0 < length es → length t ≡ length es → Placed r (expression_values es) o b i u t0 m t v → IsStep r (expression_values es) u (get_or o i 0) t v x w → Placed r (expression_values es) o b (i + 1) u t0 m x w
 place_step r es o b i true t0 m t x v w ready le l within room p step =
     let q = merge_step r es o i t x v w ready l within room p.copies (p.apart refl) step in
     record { copies = q.copies; apart = λ e. q.apart; follow = λ e. absurd (true≢false e); count = λ e. absurd (true≢false e) }
@@ -140,7 +140,7 @@ so_far_start r es o b t v c a =
     let p : Placed r es o 0 0 true [] 0 t v = record { copies = c; apart = λ e. a; follow = λ e. absurd (true≢false e); count = λ e. absurd (true≢false e) } in
     record { merged = λ h. p; single = λ h. turned r es o b 0 t v (omega (arith, h)) p }
 
-pub so_far_step : (r : Renames) (es : List (Expression × Span)) (o : List ℕ) (b i : ℕ) (u : Bool) (t x : Table) (v w : Values) → IsReady (operand_links es) o → i < length o → get_or o i 0 < length es → length t ≡ length es → (u ≡ true → i < b) → (u ≡ false → b ≤ i) → PlacedSoFar r (expression_values es) o b i t v → IsStep r (expression_values es) u (get_or o i 0) t v x w → PlacedSoFar r (expression_values es) o b (i + 1) x w
+pub so_far_step : (r : Renames) (es : List (Expression × Span)) (o : List ℕ) (b i : ℕ) (u : Bool) (t x : Table) (v w : Values) → IsReachOrder (operand_links es) o → i < length o → get_or o i 0 < length es → length t ≡ length es → (u ≡ true → i < b) → (u ≡ false → b ≤ i) → PlacedSoFar r (expression_values es) o b i t v → IsStep r (expression_values es) u (get_or o i 0) t v x w → PlacedSoFar r (expression_values es) o b (i + 1) x w
 so_far_step r es o b i true t x v w ready l within room early late p step =
     let less = early refl in
     let q = place_step r es o 0 i true [] 0 t x v w ready (omega arith) l within room (p.merged (omega (arith, less))) step in

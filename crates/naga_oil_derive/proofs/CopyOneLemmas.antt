@@ -5,7 +5,7 @@ use Rattle.std.specs.Option.{option_flatten, option_copied}
 use Rattle.std.specs.Borrow.{Bor}
 use Rattle.std.specs.Vec.{vec_len}
 use Rattle.naga_oil_ir.specs.Parts.{Parts}
-use Rattle.naga_oil_ir.specs.Places.{place_of, fetched}
+use Rattle.naga_oil_ir.specs.Places.{place_of, with_element}
 use Rattle.naga_oil_ir.specs.Rows.{Row, Text, ExpressionKind, row, type_row, constant_row, override_row, global_row, expression_row, parts_row, named_place, named_rest}
 use Rattle.naga_oil_ir.specs.Spans.{undefined}
 use Rattle.naga_oil_ir.specs.declared.module.Module.{Module}
@@ -28,7 +28,7 @@ use Rattle.naga_oil_ir.proofs.LinkLemmas.{slice_get-set_same, slice_get-set_othe
 use Rattle.naga_oil_derive.specs.declared.maps.Maps.{Maps}
 use Rattle.naga_oil_derive.specs.Renames.{Renames, rename, rename_named, rename_place, rename_row}
 use Rattle.naga_oil_derive.specs.World.{value_of, world, goes, shifted, under_name}
-use Rattle.naga_oil_derive.specs.Copying.{Goes, IsCopyOf, Puts, IsThere, IsLast, IsReady, AreLong, places_of, goes_under, renames_under, copied_span, CopiesOne, WentSomewhere}
+use Rattle.naga_oil_derive.specs.Copying.{Goes, IsCopyOf, Puts, IsThere, IsLast, NamesWent, AreLong, places_of, goes_under, renames_under, copied_span, CopiesOne, WentSomewhere}
 use Rattle.naga_oil_derive.proofs.WorldLemmas.{world_type, world_constant, world_override, world_global, world_expression, span_type, span_constant, span_override, span_global, span_expression}
 use Rattle.naga_oil_derive.proofs.FetchLemmas.{type_fetched, constant_fetched, override_fetched, global_fetched, expression_fetched}
 use Rattle.naga_oil_derive.proofs.CopyLemmas.{IsCopyOf-rename, same_rows}
@@ -159,7 +159,7 @@ type_slot : (m : Maps) → IsSlot TypeItem (λ xs. goes (record (places_of m) { 
 unfolding goes
 type_slot m = record { at = λ xs k. refl; split = type_slots m }
 
-pub type_made : (source t : Module) (m : Maps) (k : ℕ) (x copy : TypeOfShader) (o : Option Text) (sp : Span) (h : ℕ) (ys : List (TypeOfShader × Span)) (v : Vec (Option ℕ) Global) → IsThere source (TypeItem k) → AreLong m source → IsReady source m (TypeItem k) → option_map (λ e. e.0) (slice_get source.types k) ≡ Some x → type_row copy ≡ under_name o (rename_row (renames_under m) (type_row x)) → sp ≡ shifted m.offset (unwrap_or (option_map (λ e. e.1) (slice_get source.types k)) undefined) → h ≡ place_of (λ e. type_ghosts.eq copy e.0) t.types → ys ≡ fetched (λ e. type_ghosts.eq copy e.0) t.types (copy, sp) → v.items ≡ slice_set m.types.items k (Some h) → (r : Row) → world (value_of source) (TypeItem k) ≡ Some r → CopiesOne source t (record t { types = ys }) m (record m { types = v }) (TypeItem k) (under_name o r)
+pub type_made : (source t : Module) (m : Maps) (k : ℕ) (x copy : TypeOfShader) (o : Option Text) (sp : Span) (h : ℕ) (ys : List (TypeOfShader × Span)) (v : Vec (Option ℕ) Global) → IsThere source (TypeItem k) → AreLong m source → NamesWent source m (TypeItem k) → option_map (λ e. e.0) (slice_get source.types k) ≡ Some x → type_row copy ≡ under_name o (rename_row (renames_under m) (type_row x)) → sp ≡ shifted m.offset (unwrap_or (option_map (λ e. e.1) (slice_get source.types k)) undefined) → h ≡ place_of (λ e. type_ghosts.eq copy e.0) t.types → ys ≡ with_element (λ e. type_ghosts.eq copy e.0) t.types (copy, sp) → v.items ≡ slice_set m.types.items k (Some h) → (r : Row) → world (value_of source) (TypeItem k) ≡ Some r → CopiesOne source t (record t { types = ys }) m (record m { types = v }) (TypeItem k) (under_name o r)
 unfolding goes_under copied_span
 type_made source t m k x copy o sp h ys v there long ready at is spanned placed added put r here =
     let w = type_fetched t ys copy sp h placed added in
@@ -204,7 +204,7 @@ constant_slot : (m : Maps) → IsSlot ConstantItem (λ xs. goes (record (places_
 unfolding goes
 constant_slot m = record { at = λ xs k. refl; split = constant_slots m }
 
-pub constant_made : (source t : Module) (m : Maps) (k : ℕ) (x copy : ConstantItself) (o : Option Text) (sp : Span) (h : ℕ) (ys : List (ConstantItself × Span)) (v : Vec (Option ℕ) Global) → IsThere source (ConstantItem k) → AreLong m source → IsReady source m (ConstantItem k) → option_map (λ e. e.0) (slice_get source.constants k) ≡ Some x → constant_row copy ≡ under_name o (rename_row (renames_under m) (constant_row x)) → sp ≡ shifted m.offset (unwrap_or (option_map (λ e. e.1) (slice_get source.constants k)) undefined) → h ≡ place_of (λ e. constant_ghosts.eq copy e.0) t.constants → ys ≡ fetched (λ e. constant_ghosts.eq copy e.0) t.constants (copy, sp) → v.items ≡ slice_set m.constants.items k (Some h) → (r : Row) → world (value_of source) (ConstantItem k) ≡ Some r → CopiesOne source t (record t { constants = ys }) m (record m { constants = v }) (ConstantItem k) (under_name o r)
+pub constant_made : (source t : Module) (m : Maps) (k : ℕ) (x copy : ConstantItself) (o : Option Text) (sp : Span) (h : ℕ) (ys : List (ConstantItself × Span)) (v : Vec (Option ℕ) Global) → IsThere source (ConstantItem k) → AreLong m source → NamesWent source m (ConstantItem k) → option_map (λ e. e.0) (slice_get source.constants k) ≡ Some x → constant_row copy ≡ under_name o (rename_row (renames_under m) (constant_row x)) → sp ≡ shifted m.offset (unwrap_or (option_map (λ e. e.1) (slice_get source.constants k)) undefined) → h ≡ place_of (λ e. constant_ghosts.eq copy e.0) t.constants → ys ≡ with_element (λ e. constant_ghosts.eq copy e.0) t.constants (copy, sp) → v.items ≡ slice_set m.constants.items k (Some h) → (r : Row) → world (value_of source) (ConstantItem k) ≡ Some r → CopiesOne source t (record t { constants = ys }) m (record m { constants = v }) (ConstantItem k) (under_name o r)
 unfolding goes_under copied_span
 constant_made source t m k x copy o sp h ys v there long ready at is spanned placed added put r here =
     let w = constant_fetched t ys copy sp h placed added in
@@ -249,7 +249,7 @@ override_slot : (m : Maps) → IsSlot OverrideItem (λ xs. goes (record (places_
 unfolding goes
 override_slot m = record { at = λ xs k. refl; split = override_slots m }
 
-pub override_made : (source t : Module) (m : Maps) (k : ℕ) (x copy : OverrideItself) (o : Option Text) (sp : Span) (h : ℕ) (ys : List (OverrideItself × Span)) (v : Vec (Option ℕ) Global) → IsThere source (OverrideItem k) → AreLong m source → IsReady source m (OverrideItem k) → option_map (λ e. e.0) (slice_get source.overrides k) ≡ Some x → override_row copy ≡ under_name o (rename_row (renames_under m) (override_row x)) → sp ≡ shifted m.offset (unwrap_or (option_map (λ e. e.1) (slice_get source.overrides k)) undefined) → h ≡ place_of (λ e. override_ghosts.eq copy e.0) t.overrides → ys ≡ fetched (λ e. override_ghosts.eq copy e.0) t.overrides (copy, sp) → v.items ≡ slice_set m.overrides.items k (Some h) → (r : Row) → world (value_of source) (OverrideItem k) ≡ Some r → CopiesOne source t (record t { overrides = ys }) m (record m { overrides = v }) (OverrideItem k) (under_name o r)
+pub override_made : (source t : Module) (m : Maps) (k : ℕ) (x copy : OverrideItself) (o : Option Text) (sp : Span) (h : ℕ) (ys : List (OverrideItself × Span)) (v : Vec (Option ℕ) Global) → IsThere source (OverrideItem k) → AreLong m source → NamesWent source m (OverrideItem k) → option_map (λ e. e.0) (slice_get source.overrides k) ≡ Some x → override_row copy ≡ under_name o (rename_row (renames_under m) (override_row x)) → sp ≡ shifted m.offset (unwrap_or (option_map (λ e. e.1) (slice_get source.overrides k)) undefined) → h ≡ place_of (λ e. override_ghosts.eq copy e.0) t.overrides → ys ≡ with_element (λ e. override_ghosts.eq copy e.0) t.overrides (copy, sp) → v.items ≡ slice_set m.overrides.items k (Some h) → (r : Row) → world (value_of source) (OverrideItem k) ≡ Some r → CopiesOne source t (record t { overrides = ys }) m (record m { overrides = v }) (OverrideItem k) (under_name o r)
 unfolding goes_under copied_span
 override_made source t m k x copy o sp h ys v there long ready at is spanned placed added put r here =
     let w = override_fetched t ys copy sp h placed added in
@@ -294,7 +294,7 @@ global_slot : (m : Maps) → IsSlot GlobalItem (λ xs. goes (record (places_of m
 unfolding goes
 global_slot m = record { at = λ xs k. refl; split = global_slots m }
 
-pub global_made : (source t : Module) (m : Maps) (k : ℕ) (x copy : GlobalItself) (o : Option Text) (sp : Span) (h : ℕ) (ys : List (GlobalItself × Span)) (v : Vec (Option ℕ) Global) → IsThere source (GlobalItem k) → AreLong m source → IsReady source m (GlobalItem k) → option_map (λ e. e.0) (slice_get source.global_variables k) ≡ Some x → global_row copy ≡ under_name o (rename_row (renames_under m) (global_row x)) → sp ≡ shifted m.offset (unwrap_or (option_map (λ e. e.1) (slice_get source.global_variables k)) undefined) → h ≡ place_of (λ e. global_ghosts.eq copy e.0) t.global_variables → ys ≡ fetched (λ e. global_ghosts.eq copy e.0) t.global_variables (copy, sp) → v.items ≡ slice_set m.global_variables.items k (Some h) → (r : Row) → world (value_of source) (GlobalItem k) ≡ Some r → CopiesOne source t (record t { global_variables = ys }) m (record m { global_variables = v }) (GlobalItem k) (under_name o r)
+pub global_made : (source t : Module) (m : Maps) (k : ℕ) (x copy : GlobalItself) (o : Option Text) (sp : Span) (h : ℕ) (ys : List (GlobalItself × Span)) (v : Vec (Option ℕ) Global) → IsThere source (GlobalItem k) → AreLong m source → NamesWent source m (GlobalItem k) → option_map (λ e. e.0) (slice_get source.global_variables k) ≡ Some x → global_row copy ≡ under_name o (rename_row (renames_under m) (global_row x)) → sp ≡ shifted m.offset (unwrap_or (option_map (λ e. e.1) (slice_get source.global_variables k)) undefined) → h ≡ place_of (λ e. global_ghosts.eq copy e.0) t.global_variables → ys ≡ with_element (λ e. global_ghosts.eq copy e.0) t.global_variables (copy, sp) → v.items ≡ slice_set m.global_variables.items k (Some h) → (r : Row) → world (value_of source) (GlobalItem k) ≡ Some r → CopiesOne source t (record t { global_variables = ys }) m (record m { global_variables = v }) (GlobalItem k) (under_name o r)
 unfolding goes_under copied_span
 global_made source t m k x copy o sp h ys v there long ready at is spanned placed added put r here =
     let w = global_fetched t ys copy sp h placed added in
@@ -339,7 +339,7 @@ expression_slot : (m : Maps) → IsSlot ExpressionItem (λ xs. goes (record (pla
 unfolding goes
 expression_slot m = record { at = λ xs k. refl; split = expression_slots m }
 
-pub expression_made : (source t : Module) (m : Maps) (k : ℕ) (x copy : Expression) (o : Option Text) (sp : Span) (h : ℕ) (ys : List (Expression × Span)) (v : Vec (Option ℕ) Global) → IsThere source (ExpressionItem k) → AreLong m source → IsReady source m (ExpressionItem k) → option_map (λ e. e.0) (slice_get source.global_expressions k) ≡ Some x → expression_row copy ≡ under_name o (rename_row (renames_under m) (expression_row x)) → sp ≡ shifted m.offset (unwrap_or (option_map (λ e. e.1) (slice_get source.global_expressions k)) undefined) → h ≡ place_of (λ e. expression_ghosts.eq copy e.0) t.global_expressions → ys ≡ fetched (λ e. expression_ghosts.eq copy e.0) t.global_expressions (copy, sp) → v.items ≡ slice_set m.global_expressions.items k (Some h) → (r : Row) → world (value_of source) (ExpressionItem k) ≡ Some r → CopiesOne source t (record t { global_expressions = ys }) m (record m { global_expressions = v }) (ExpressionItem k) (under_name o r)
+pub expression_made : (source t : Module) (m : Maps) (k : ℕ) (x copy : Expression) (o : Option Text) (sp : Span) (h : ℕ) (ys : List (Expression × Span)) (v : Vec (Option ℕ) Global) → IsThere source (ExpressionItem k) → AreLong m source → NamesWent source m (ExpressionItem k) → option_map (λ e. e.0) (slice_get source.global_expressions k) ≡ Some x → expression_row copy ≡ under_name o (rename_row (renames_under m) (expression_row x)) → sp ≡ shifted m.offset (unwrap_or (option_map (λ e. e.1) (slice_get source.global_expressions k)) undefined) → h ≡ place_of (λ e. expression_ghosts.eq copy e.0) t.global_expressions → ys ≡ with_element (λ e. expression_ghosts.eq copy e.0) t.global_expressions (copy, sp) → v.items ≡ slice_set m.global_expressions.items k (Some h) → (r : Row) → world (value_of source) (ExpressionItem k) ≡ Some r → CopiesOne source t (record t { global_expressions = ys }) m (record m { global_expressions = v }) (ExpressionItem k) (under_name o r)
 unfolding goes_under copied_span
 expression_made source t m k x copy o sp h ys v there long ready at is spanned placed added put r here =
     let w = expression_fetched t ys copy sp h placed added in

@@ -6,13 +6,13 @@ use Rattle.std.proofs.lemmas.List.{map-append, length-map}
 use Rattle.std.proofs.lemmas.List.Quantifiers.{position-Some}
 use Rattle.std.proofs.lemmas.Option.{none-some, same_Some, slice_get-map, slice_get-get_or}
 use Rattle.naga_oil_ir.specs.Parts.{Parts, parts}
-use Rattle.naga_oil_ir.specs.Places.{place_of, fetched}
+use Rattle.naga_oil_ir.specs.Places.{place_of, with_element}
 use Rattle.naga_oil_ir.specs.ModuleValue.{expression_values}
 use Rattle.naga_oil_ir.specs.declared.expression.Expression.{Expression}
 use Rattle.naga_oil_ir.specs.declared.span.Span.{Span}
 use Rattle.naga_oil_ir.specs.contracts.expression.ExpressionPartialEq.TheImpl.{ghosts}
 use Rattle.naga_oil_ir.proofs.ExpressionEquality.{same, back}
-use Rattle.naga_oil_ir.proofs.PlaceLemmas.{place_of-found, place_of-absent, fetched-found, fetched-absent}
+use Rattle.naga_oil_ir.proofs.PlaceLemmas.{place_of-found, place_of-absent, with_element-found, with_element-absent}
 use Rattle.naga_oil_derive.specs.Copies.{Values, Table, copied, IsPut, IsStep, LacksBefore}
 use Rattle.naga_oil_derive.specs.Renames.{Renames}
 use Rattle.naga_oil_derive.specs.Expressions.{IsCopyAt}
@@ -31,21 +31,21 @@ lacks es x n k a l h e =
     let v = value_at es k a h in
     false≢true (sym (fails (λ (y : Expression × Span). ghosts.eq x y.0) es n k v.0 v.1) ∙ back x v.0.0 (sym (ap (λ (z : Parts × Span). z.0) v.2 ∙ e)))
 
-put_at : (es fs : List (Expression × Span)) (x : Expression) (s : Span) (h : ℕ) (o : Option ℕ) → position (λ (e : Expression × Span). ghosts.eq x e.0) es ≡ o → h ≡ place_of (λ (e : Expression × Span). ghosts.eq x e.0) es → fs ≡ fetched (λ (e : Expression × Span). ghosts.eq x e.0) es (x, s) → IsPut true (expression_values es) (parts x, s) h (expression_values fs)
+put_at : (es fs : List (Expression × Span)) (x : Expression) (s : Span) (h : ℕ) (o : Option ℕ) → position (λ (e : Expression × Span). ghosts.eq x e.0) es ≡ o → h ≡ place_of (λ (e : Expression × Span). ghosts.eq x e.0) es → fs ≡ with_element (λ (e : Expression × Span). ghosts.eq x e.0) es (x, s) → IsPut true (expression_values es) (parts x, s) h (expression_values fs)
 put_at es fs x s h None p a b =
     let q = λ (e : Expression × Span). ghosts.eq x e.0 in
-    inr (λ u. lacks es x p, a ∙ place_of-absent q es p ∙ sym (length-map es (λ (e : Expression × Span). (parts e.0, e.1))), ap expression_values (b ∙ fetched-absent q es (x, s) p) ∙ map-append (λ (e : Expression × Span). (parts e.0, e.1)) es ((x, s) ∷ []))
+    inr (λ u. lacks es x p, a ∙ place_of-absent q es p ∙ sym (length-map es (λ (e : Expression × Span). (parts e.0, e.1))), ap expression_values (b ∙ with_element-absent q es (x, s) p) ∙ map-append (λ (e : Expression × Span). (parts e.0, e.1)) es ((x, s) ∷ []))
 put_at es fs x s h (Some i) p a b =
     let q = λ (e : Expression × Span). ghosts.eq x e.0 in
     let f = position-Some q es i (x, s) p in
     let y = get_or es i (x, s) in
     let here : slice_get (expression_values es) h ≡ Some (parts y.0, y.1) = ap (slice_get (expression_values es)) (a ∙ place_of-found q es i p) ∙ slice_get-map (λ (e : Expression × Span). (parts e.0, e.1)) es i ∙ ap (option_map (λ (e : Expression × Span). (parts e.0, e.1))) (slice_get-get_or es i (x, s) f.0) in
-    inl (refl, ((parts y.0, y.1), here, sym (same x y.0 f.1)), ap expression_values (b ∙ fetched-found q es (x, s) i p))
+    inl (refl, ((parts y.0, y.1), here, sym (same x y.0 f.1)), ap expression_values (b ∙ with_element-found q es (x, s) i p))
 
-pub fetched_put : (es fs : List (Expression × Span)) (x : Expression) (s : Span) (h : ℕ) → h ≡ place_of (λ (e : Expression × Span). ghosts.eq x e.0) es → fs ≡ fetched (λ (e : Expression × Span). ghosts.eq x e.0) es (x, s) → IsPut true (expression_values es) (parts x, s) h (expression_values fs)
+pub fetched_put : (es fs : List (Expression × Span)) (x : Expression) (s : Span) (h : ℕ) → h ≡ place_of (λ (e : Expression × Span). ghosts.eq x e.0) es → fs ≡ with_element (λ (e : Expression × Span). ghosts.eq x e.0) es (x, s) → IsPut true (expression_values es) (parts x, s) h (expression_values fs)
 fetched_put es fs x s h a b = put_at es fs x s h (position (λ (e : Expression × Span). ghosts.eq x e.0) es) refl a b
 
-pub put_fetched : (es fs : List (Expression × Span)) (x : Expression) (s : Span) (u : Bool) (r : Result ℕ AllocError) → u ≡ true → IfOk r (λ h. h ≡ place_of (λ (e : Expression × Span). ghosts.eq x e.0) es) → OnOk r (fs ≡ fetched (λ (e : Expression × Span). ghosts.eq x e.0) es (x, s)) → IfOk r (λ h. IsPut u (expression_values es) (parts x, s) h (expression_values fs))
+pub put_fetched : (es fs : List (Expression × Span)) (x : Expression) (s : Span) (u : Bool) (r : Result ℕ AllocError) → u ≡ true → IfOk r (λ h. h ≡ place_of (λ (e : Expression × Span). ghosts.eq x e.0) es) → OnOk r (fs ≡ with_element (λ (e : Expression × Span). ghosts.eq x e.0) es (x, s)) → IfOk r (λ h. IsPut u (expression_values es) (parts x, s) h (expression_values fs))
 put_fetched es fs x s u (Ok h) e a b = subst (λ v. IsPut v (expression_values es) (parts x, s) h (expression_values fs)) (sym e) (fetched_put es fs x s h a b)
 put_fetched es fs x s u (Err f) e a b = tt
 

@@ -5,7 +5,7 @@ use Rattle.std.proofs.lemmas.Bool.{false≢true}
 use Rattle.std.proofs.lemmas.Option.{get_or_from_slice_get, slice_get_within}
 use Rattle.std.proofs.lemmas.List.Quantifiers.{position-Some}
 use Rattle.std.proofs.lemmas.List.Sums.{fails_before_first}
-use Rattle.naga_oil_ir.specs.Places.{place_of, fetched}
+use Rattle.naga_oil_ir.specs.Places.{place_of, with_element}
 use Rattle.naga_oil_ir.specs.Rows.{Row, type_row, constant_row, override_row, global_row, expression_row}
 use Rattle.naga_oil_ir.specs.Parts.{parts}
 use Rattle.naga_oil_ir.specs.declared.module.Module.{Module}
@@ -103,7 +103,7 @@ from_position E f d xs ys x sp h None at p q = (
   inr (p, q),
 )
 
-fetches_list : {X : Type 0} (E : X → X → Bool) (f : X → Row) → ((a b : X) → Decides (E a b) (f a ≡ f b)) → (xs ys : List (X × Span)) (x : X) (sp : Span) (h : ℕ) → h ≡ place_of (λ e. E x e.0) xs → ys ≡ fetched (λ e. E x e.0) xs (x, sp) → FetchesList f xs ys (f x) h × IsNew xs ys (x, sp) h
+fetches_list : {X : Type 0} (E : X → X → Bool) (f : X → Row) → ((a b : X) → Decides (E a b) (f a ≡ f b)) → (xs ys : List (X × Span)) (x : X) (sp : Span) (h : ℕ) → h ≡ place_of (λ e. E x e.0) xs → ys ≡ with_element (λ e. E x e.0) xs (x, sp) → FetchesList f xs ys (f x) h × IsNew xs ys (x, sp) h
 fetches_list E f d xs ys x sp h p q = from_position E f d xs ys x sp h (position (λ e. E x e.0) xs) refl p q
 
 -- ---- a module, of which one arena changes
@@ -115,7 +115,7 @@ pub record IsArena {X : Type 0} (C : ℕ → ItemPlace) (f : X → Row) (set : L
   pub split : (p : ItemPlace) → ((k : ℕ) × (p ≡ C k)) ⊎ (((xs ys : List (X × Span)) → world (value_of (set ys)) p ≡ world (value_of (set xs)) p) × ((xs : List (X × Span)) (x : X) → world (value_of (set xs)) p ≡ Some (f x) → ⊥))
   pub more : (xs zs : List (X × Span)) → Extends (value_of (set xs)) (value_of (set (xs ++ zs)))
 
--- what is known of a module with an item fetched
+-- what is known of a module with an item with_element
 pub record Fetched (t u : Module) (s : Row) (q : ItemPlace) (sp : Span) : Type 0 where
   pub fetches : Fetches (world (value_of t)) (world (value_of u)) s q
   pub last : IsLast t u q (Some sp)
@@ -137,7 +137,7 @@ more_at : {X : Type 0} (C : ℕ → ItemPlace) (f : X → Row) (set : List (X ×
 more_at C f set a xs ys x h (inl e) = subst (λ v. Extends (value_of (set xs)) (value_of (set v))) (sym e) (Extends-refl (value_of (set xs)))
 more_at C f set a xs ys x h (inr e) = subst (λ v. Extends (value_of (set xs)) (value_of (set v))) (sym e.1) (a.more xs (x ∷ []))
 
-fetched_in : {X : Type 0} (E : X → X → Bool) (C : ℕ → ItemPlace) (f : X → Row) (set : List (X × Span) → Module) → IsArena C f set → ((a b : X) → Decides (E a b) (f a ≡ f b)) → (xs ys : List (X × Span)) (x : X) (sp : Span) (h : ℕ) → h ≡ place_of (λ e. E x e.0) xs → ys ≡ fetched (λ e. E x e.0) xs (x, sp) → Fetched (set xs) (set ys) (f x) (C h) sp
+fetched_in : {X : Type 0} (E : X → X → Bool) (C : ℕ → ItemPlace) (f : X → Row) (set : List (X × Span) → Module) → IsArena C f set → ((a b : X) → Decides (E a b) (f a ≡ f b)) → (xs ys : List (X × Span)) (x : X) (sp : Span) (h : ℕ) → h ≡ place_of (λ e. E x e.0) xs → ys ≡ with_element (λ e. E x e.0) xs (x, sp) → Fetched (set xs) (set ys) (f x) (C h) sp
 fetched_in E C f set a d xs ys x sp h p q =
     let l = fetches_list E f d xs ys x sp h p q in
     record { fetches = fetched_at C f set a xs ys x h l.0; last = last_at C f set a xs ys x sp h l.1; extends = more_at C f set a xs ys (x, sp) h l.1 }
@@ -175,7 +175,7 @@ type_arena t = record {
   more = type_more t;
 }
 
-pub type_fetched : (t : Module) (ys : List (TypeOfShader × Span)) (x : TypeOfShader) (sp : Span) (h : ℕ) → h ≡ place_of (λ e. type_ghosts.eq x e.0) t.types → ys ≡ fetched (λ e. type_ghosts.eq x e.0) t.types (x, sp) → Fetched t (record t { types = ys }) (type_row x) (TypeItem h) sp
+pub type_fetched : (t : Module) (ys : List (TypeOfShader × Span)) (x : TypeOfShader) (sp : Span) (h : ℕ) → h ≡ place_of (λ e. type_ghosts.eq x e.0) t.types → ys ≡ with_element (λ e. type_ghosts.eq x e.0) t.types (x, sp) → Fetched t (record t { types = ys }) (type_row x) (TypeItem h) sp
 type_fetched t ys x sp h p q = fetched_in type_ghosts.eq TypeItem type_row (λ xs. record t { types = xs }) (type_arena t) type_decides t.types ys x sp h p q
 
 constant_others : (m : Module) (x : ConstantItself) (p : ItemPlace) → (place_code p ≡ 1 → ⊥) → world (value_of m) p ≡ Some (constant_row x) → ⊥
@@ -208,7 +208,7 @@ constant_arena t = record {
   more = constant_more t;
 }
 
-pub constant_fetched : (t : Module) (ys : List (ConstantItself × Span)) (x : ConstantItself) (sp : Span) (h : ℕ) → h ≡ place_of (λ e. constant_ghosts.eq x e.0) t.constants → ys ≡ fetched (λ e. constant_ghosts.eq x e.0) t.constants (x, sp) → Fetched t (record t { constants = ys }) (constant_row x) (ConstantItem h) sp
+pub constant_fetched : (t : Module) (ys : List (ConstantItself × Span)) (x : ConstantItself) (sp : Span) (h : ℕ) → h ≡ place_of (λ e. constant_ghosts.eq x e.0) t.constants → ys ≡ with_element (λ e. constant_ghosts.eq x e.0) t.constants (x, sp) → Fetched t (record t { constants = ys }) (constant_row x) (ConstantItem h) sp
 constant_fetched t ys x sp h p q = fetched_in constant_ghosts.eq ConstantItem constant_row (λ xs. record t { constants = xs }) (constant_arena t) constant_decides t.constants ys x sp h p q
 
 override_others : (m : Module) (x : OverrideItself) (p : ItemPlace) → (place_code p ≡ 2 → ⊥) → world (value_of m) p ≡ Some (override_row x) → ⊥
@@ -241,7 +241,7 @@ override_arena t = record {
   more = override_more t;
 }
 
-pub override_fetched : (t : Module) (ys : List (OverrideItself × Span)) (x : OverrideItself) (sp : Span) (h : ℕ) → h ≡ place_of (λ e. override_ghosts.eq x e.0) t.overrides → ys ≡ fetched (λ e. override_ghosts.eq x e.0) t.overrides (x, sp) → Fetched t (record t { overrides = ys }) (override_row x) (OverrideItem h) sp
+pub override_fetched : (t : Module) (ys : List (OverrideItself × Span)) (x : OverrideItself) (sp : Span) (h : ℕ) → h ≡ place_of (λ e. override_ghosts.eq x e.0) t.overrides → ys ≡ with_element (λ e. override_ghosts.eq x e.0) t.overrides (x, sp) → Fetched t (record t { overrides = ys }) (override_row x) (OverrideItem h) sp
 override_fetched t ys x sp h p q = fetched_in override_ghosts.eq OverrideItem override_row (λ xs. record t { overrides = xs }) (override_arena t) override_decides t.overrides ys x sp h p q
 
 global_others : (m : Module) (x : GlobalItself) (p : ItemPlace) → (place_code p ≡ 3 → ⊥) → world (value_of m) p ≡ Some (global_row x) → ⊥
@@ -274,7 +274,7 @@ global_arena t = record {
   more = global_more t;
 }
 
-pub global_fetched : (t : Module) (ys : List (GlobalItself × Span)) (x : GlobalItself) (sp : Span) (h : ℕ) → h ≡ place_of (λ e. global_ghosts.eq x e.0) t.global_variables → ys ≡ fetched (λ e. global_ghosts.eq x e.0) t.global_variables (x, sp) → Fetched t (record t { global_variables = ys }) (global_row x) (GlobalItem h) sp
+pub global_fetched : (t : Module) (ys : List (GlobalItself × Span)) (x : GlobalItself) (sp : Span) (h : ℕ) → h ≡ place_of (λ e. global_ghosts.eq x e.0) t.global_variables → ys ≡ with_element (λ e. global_ghosts.eq x e.0) t.global_variables (x, sp) → Fetched t (record t { global_variables = ys }) (global_row x) (GlobalItem h) sp
 global_fetched t ys x sp h p q = fetched_in global_ghosts.eq GlobalItem global_row (λ xs. record t { global_variables = xs }) (global_arena t) global_decides t.global_variables ys x sp h p q
 
 expression_others : (m : Module) (x : Expression) (p : ItemPlace) → (place_code p ≡ 4 → ⊥) → world (value_of m) p ≡ Some (expression_row x) → ⊥
@@ -307,5 +307,5 @@ expression_arena t = record {
   more = expression_more t;
 }
 
-pub expression_fetched : (t : Module) (ys : List (Expression × Span)) (x : Expression) (sp : Span) (h : ℕ) → h ≡ place_of (λ e. expression_ghosts.eq x e.0) t.global_expressions → ys ≡ fetched (λ e. expression_ghosts.eq x e.0) t.global_expressions (x, sp) → Fetched t (record t { global_expressions = ys }) (expression_row x) (ExpressionItem h) sp
+pub expression_fetched : (t : Module) (ys : List (Expression × Span)) (x : Expression) (sp : Span) (h : ℕ) → h ≡ place_of (λ e. expression_ghosts.eq x e.0) t.global_expressions → ys ≡ with_element (λ e. expression_ghosts.eq x e.0) t.global_expressions (x, sp) → Fetched t (record t { global_expressions = ys }) (expression_row x) (ExpressionItem h) sp
 expression_fetched t ys x sp h p q = fetched_in expression_ghosts.eq ExpressionItem expression_row (λ xs. record t { global_expressions = xs }) (expression_arena t) expression_decides t.global_expressions ys x sp h p q

@@ -30,7 +30,7 @@ use Rattle.naga_oil_derive.specs.DerivedView.{derived_of}
 use Rattle.naga_oil_derive.specs.Imported.{meanings, Asks}
 use Rattle.naga_oil_derive.specs.declared.maps.Maps.{Maps}
 use Rattle.naga_oil_derive.specs.Walk.{brief}
-use Rattle.naga_oil_derive.specs.Naming.{item_of, requested, name_at, naming, names_from, local_names, token_names, signature_names, function_names}
+use Rattle.naga_oil_derive.specs.Naming.{item_of, requested, requests_at, naming, names_from, local_names, token_names, signature_names, function_names}
 use Rattle.naga_oil_derive.specs.DerivedFunctions.{Meanings, CanImport, CanCall, MayAsk, MayCopy, MayCall}
 use Rattle.naga_oil_derive.proofs.FunctionValues.{seen, requests_same, stands_value, functions_length, functions_at}
 use Rattle.naga_oil_derive.proofs.RankLemmas.{place_there}
@@ -78,12 +78,12 @@ found_there m P f ns k (Some n) e a =
     let same : get_or ns k n ≡ n = same_Some (get_or ns k n) n (sym (slice_get-get_or ns k n l) ∙ e) in
     item_there m P f n (subst (NamedThere m f) same (a k n l))
 
-name_there : (m : Module) (P : ℕ → Type 0) (f : Function) (ns : List Named) → All (NamedThere m f) ns → (k : ℕ) → All (Asks m P) (name_at ns k)
+name_there : (m : Module) (P : ℕ → Type 0) (f : Function) (ns : List Named) → All (NamedThere m f) ns → (k : ℕ) → All (Asks m P) (requests_at ns k)
 name_there m P f ns a k = found_there m P f ns k (slice_get ns k) refl a
 
 naming_there : (m : Module) (P : ℕ → Type 0) (f : Function) (ns : List Named) (ls : Links) → All (NamedThere m f) ns → (n k : ℕ) → All (Asks m P) (naming n ns ls k)
 naming_there m P f ns ls a zero k = All-nil (Asks m P)
-naming_there m P f ns ls a (suc n) k = All-append (Asks m P) (name_at ns k) (flat_map (naming n ns ls) (linked ls k)) (name_there m P f ns a k) (flat_each (Asks m P) (naming n ns ls) (naming_there m P f ns ls a n) (linked ls k))
+naming_there m P f ns ls a (suc n) k = All-append (Asks m P) (requests_at ns k) (flat_map (naming n ns ls) (linked ls k)) (name_there m P f ns a k) (flat_each (Asks m P) (naming n ns ls) (naming_there m P f ns ls a n) (linked ls k))
 
 names_there : (m : Module) (P : ℕ → Type 0) (f : Function) (ns : List Named) (ls : Links) → All (NamedThere m f) ns → (k : ℕ) → All (Asks m P) (names_from ns ls k)
 unfolding names_from
@@ -94,8 +94,8 @@ names_there m P f ns ls a k = naming_there m P f ns ls a (suc k) k
 local_there : (m : Module) (P : ℕ → Type 0) (f : Function) (ns : List Named) (ls : Links) → All (NamedThere m f) ns → (l : LocalVariable × Span) → l.0.ty < length m.types → All (Asks m P) (local_names ns ls l)
 local_there m P f ns ls a l h = All-cons (Asks m P) (Item (TypeItem l.0.ty)) (flat_map (names_from ns ls) (option_to_list l.0.init)) (place_there m (TypeItem l.0.ty) h) (flat_each (Asks m P) (names_from ns ls) (names_there m P f ns ls a) (option_to_list l.0.init))
 
-brief_there : (m : Module) (P : ℕ → Type 0) (f : Function) (ns : List Named) → All (NamedThere m f) ns → (ks : List ℕ) → All (Asks m P) (flat_map (name_at ns) ks)
-brief_there m P f ns a ks = flat_each (Asks m P) (name_at ns) (name_there m P f ns a) ks
+brief_there : (m : Module) (P : ℕ → Type 0) (f : Function) (ns : List Named) → All (NamedThere m f) ns → (ks : List ℕ) → All (Asks m P) (flat_map (requests_at ns) ks)
+brief_there m P f ns a ks = flat_each (Asks m P) (requests_at ns) (name_there m P f ns a) ks
 
 token_there : (m : Module) (P : ℕ → Type 0) (f : Function) (ks : List ℕ) (ns : List Named) (ls : Links) → All (NamedThere m f) ns → (t : Token) → CallsIn m P t → All (Asks m P) (token_names ks ns ls t)
 token_there m P f ks ns ls a (Callee g) h = All-cons (Asks m P) (Call g) [] h (All-nil (Asks m P))

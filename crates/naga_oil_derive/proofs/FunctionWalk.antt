@@ -19,7 +19,7 @@ use Rattle.naga_oil_ir.specs.declared.span.Span.{Span}
 use Rattle.naga_oil_ir.specs.declared.tokens.Token.{Token}
 use Rattle.naga_oil_ir.specs.declared.tokens.Token.TheVariants.{Use, Give, GiveCall, Emitted}
 use Rattle.naga_oil_ir.proofs.LinkLemmas.{All-from_has, All-has, has-append, marked_within}
-use Rattle.naga_oil_derive.specs.Walk.{IsReady, IsWithin, brief, walked, Notes, notes_after, AreWithin, AreNoted}
+use Rattle.naga_oil_derive.specs.Walk.{IsReachOrder, IsWithin, brief, walked, Notes, notes_after, AreWithin, AreNoted}
 use Rattle.naga_oil_derive.specs.Walks.{IsWalkOf}
 use Rattle.naga_oil_derive.proofs.WalkLemmas.{added-append}
 use Rattle.naga_oil_derive.proofs.WalkForm.{IsPlain, IsUnder, Follows, follows, under_start}
@@ -101,10 +101,10 @@ init_at P ls i l h is a = All-from_has P (option_to_list l.0.init) (λ k e. All-
 
 -- ---- the whole
 
-pub walk_of : (ks : List ℕ) (fs : List (Option ℕ)) (ls : Links) (is : List ℕ) (ts : Tokens) → IsPlain ks ls → MayStand ks fs ls is ts → (began o : List ℕ) (n m : ℕ) (none es : Notes) (marks : List Bool) → began ≡ started ls is → IsReady ls began → n ≡ length began → m ≡ length ls → none ≡ replicate m None → o ≡ added began (flat_map (brief ks ls) ts) → es ≡ notes_after ks ls began none ts → AreMarks marks o → length marks ≡ length ls → IsWalkOf ks ls is ts o n es
+pub walk_of : (ks : List ℕ) (fs : List (Option ℕ)) (ls : Links) (is : List ℕ) (ts : Tokens) → IsPlain ks ls → MayStand ks fs ls is ts → (began o : List ℕ) (n m : ℕ) (none es : Notes) (marks : List Bool) → began ≡ started ls is → IsReachOrder ls began → n ≡ length began → m ≡ length ls → none ≡ replicate m None → o ≡ added began (flat_map (brief ks ls) ts) → es ≡ notes_after ks ls began none ts → AreMarks marks o → length marks ≡ length ls → IsWalkOf ks ls is ts o n es
 walk_of ks fs ls is ts p f began o n m none es marks start ready count long empty order emitted marked room =
     let s = started ls is in
-    let r : IsReady ls s = subst (IsReady ls) start ready in
+    let r : IsReachOrder ls s = subst (IsReachOrder ls) start ready in
     let u : IsUnder ks ls s [] s = under_start ks ls s r in
     let h : Follows ks ls s [] s ts = follows ks ls p f.earlier (length ls) fs s ts [] s u f.body in
     let le : length none ≡ length ls = ap length empty ∙ length-replicate m None ∙ long in
@@ -115,7 +115,7 @@ walk_of ks fs ls is ts p f began o n m none es marks start ready count long empt
       order = sym eo ∙ h.same;
       began = count ∙ ap length start;
       within = All-from_has (λ k. k < length ls) o (λ k i. let q : k < length marks = marked_within marks k (marked k ∙ i) in omega arith);
-      ready = subst (IsReady ls) eo h.under.ready;
+      ready = subst (IsReachOrder ls) eo h.under.ready;
       noted = subst (λ q. AreNoted s q es ts) eo (subst (λ (q : Notes). AreNoted s (added s (flat_map (brief ks ls) ts)) q ts) ee b.stand);
       notes = subst (λ q. AreWithin (length s) q es) eo (subst (λ (q : Notes). AreWithin (length s) (added s (flat_map (brief ks ls) ts)) q) ee b.at.within);
     }

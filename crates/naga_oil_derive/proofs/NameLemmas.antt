@@ -8,11 +8,11 @@ use Rattle.std.proofs.lemmas.Option.{slice_get-map, slice_get_read}
 use Rattle.naga_oil_ir.specs.ModuleValue.{FunctionValue, function_value}
 use Rattle.naga_oil_ir.specs.declared.module.Function.{Function}
 use Rattle.naga_oil_ir.specs.declared.span.Span.{Span}
-use Rattle.naga_oil_derive.specs.Ordered.{name_at}
+use Rattle.naga_oil_derive.specs.Ordered.{function_name_at}
 use Rattle.naga_oil_derive.specs.Redirected.{function_values}
 
 -- the name of a function that stands at a place
-pub name_here : (fs : List (Function × Span)) (k : ℕ) (x : Function × Span) → k < length fs → x ≡ get_or fs k x → unwrap_or (option_map string_bytes x.0.name) [] ≡ name_at (function_values fs) k
+pub name_here : (fs : List (Function × Span)) (k : ℕ) (x : Function × Span) → k < length fs → x ≡ get_or fs k x → unwrap_or (option_map string_bytes x.0.name) [] ≡ function_name_at (function_values fs) k
 name_here fs k x h e =
     let value : Function × Span → FunctionValue × Span = λ f. (function_value f.0, f.1) in
     sym (ap (λ o. unwrap_or (option_flatten (option_map (λ (f : FunctionValue × Span). f.0.name) o)) []) (slice_get-map value fs k ∙ ap (option_map value) (slice_get_read fs (length fs) k x refl h e)))

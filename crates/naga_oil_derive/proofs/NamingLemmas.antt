@@ -9,12 +9,12 @@ use Rattle.std.proofs.lemmas.Option.{slice_get_within, none-some, same_Some}
 use Rattle.naga_oil_ir.specs.Links.{Links, linked, AreEarlier, has, added}
 use Rattle.naga_oil_ir.specs.declared.parts.Named.{Named}
 use Rattle.naga_oil_ir.proofs.LinkLemmas.{slice_get-append_within, slice_get-append_at, has-added, only, eq_eqb}
-use Rattle.naga_oil_derive.specs.Walk.{IsReady}
+use Rattle.naga_oil_derive.specs.Walk.{IsReachOrder}
 use Rattle.naga_oil_derive.proofs.WalkLemmas.{closed}
 use Rattle.naga_oil_ir.specs.declared.names.ItemPlace.{ItemPlace}
 use Rattle.naga_oil_derive.specs.declared.walk.Request.{Request}
 use Rattle.naga_oil_derive.specs.declared.walk.Request.TheVariants.{Item}
-use Rattle.naga_oil_derive.specs.Naming.{requested, item_of, name_at, naming, names_from, IsAmong, Thins, Ends, Keeps, Drops, Adds}
+use Rattle.naga_oil_derive.specs.Naming.{requested, item_of, requests_at, naming, names_from, IsAmong, Thins, Ends, Keeps, Drops, Adds}
 
 -- ---- among
 
@@ -78,10 +78,10 @@ each_among s f (x ∷ xs) g = AllAmong-append s (f x) (flat_map f xs) (g x (or_l
 naming_among : (ns : List Named) (ls : Links) (o : List ℕ) (s : List Request) → ((k x : ℕ) → has o k ≡ true → has (linked ls k) x ≡ true → has o x ≡ true) → Covers ns o s → (n k : ℕ) → has o k ≡ true → AllAmong s (naming n ns ls k)
 naming_among ns ls o s closed covers zero k h = tt
 naming_among ns ls o s closed covers (suc n) k h =
-    AllAmong-append s (name_at ns k) (flat_map (naming n ns ls) (linked ls k)) (one_among s (item_of (slice_get ns k)) (λ p e. covers k p h e)) (each_among s (naming n ns ls) (linked ls k) (λ y i. naming_among ns ls o s closed covers n y (closed k y h i)))
+    AllAmong-append s (requests_at ns k) (flat_map (naming n ns ls) (linked ls k)) (one_among s (item_of (slice_get ns k)) (λ p e. covers k p h e)) (each_among s (naming n ns ls) (linked ls k) (λ y i. naming_among ns ls o s closed covers n y (closed k y h i)))
 
 -- what a listed place and all that it reaches name was requested
-pub known_names : (ns : List Named) (ls : Links) (o : List ℕ) (s : List Request) → IsReady ls o → Covers ns o s → (k : ℕ) → has o k ≡ true → Adds s (names_from ns ls k) s
+pub known_names : (ns : List Named) (ls : Links) (o : List ℕ) (s : List Request) → IsReachOrder ls o → Covers ns o s → (k : ℕ) → has o k ≡ true → Adds s (names_from ns ls k) s
 unfolding names_from
 known_names ns ls o s r covers k h = Adds-known s (naming (suc k) ns ls k) (naming_among ns ls o s (λ j x i. closed ls o r j i x) covers (suc k) k h)
 
@@ -93,13 +93,13 @@ naming-enough : (ns : List Named) (ls : Links) → AreEarlier ls → (n m k : �
 naming-enough ns ls a zero m k h i = absurd (omega arith)
 naming-enough ns ls a (suc n) zero k h i = absurd (omega arith)
 naming-enough ns ls a (suc n) (suc m) k h i =
-    ap (λ xs. name_at ns k ++ xs) (naming-same (naming n ns ls) (naming m ns ls) (linked ls k) (All-weaker (λ x. x < k) (λ x. naming n ns ls x ≡ naming m ns ls x) (λ x l. naming-enough ns ls a n m x (omega arith) (omega arith)) (linked ls k) (a k)))
+    ap (λ xs. requests_at ns k ++ xs) (naming-same (naming n ns ls) (naming m ns ls) (linked ls k) (All-weaker (λ x. x < k) (λ x. naming n ns ls x ≡ naming m ns ls x) (λ x l. naming-enough ns ls a n m x (omega arith) (omega arith)) (linked ls k) (a k)))
 
 -- what a place names, and then what its links do
-pub names-step : (ns : List Named) (ls : Links) → AreEarlier ls → (k : ℕ) → names_from ns ls k ≡ name_at ns k ++ flat_map (names_from ns ls) (linked ls k)
+pub names-step : (ns : List Named) (ls : Links) → AreEarlier ls → (k : ℕ) → names_from ns ls k ≡ requests_at ns k ++ flat_map (names_from ns ls) (linked ls k)
 unfolding names_from
 names-step ns ls a k =
-    ap (λ xs. name_at ns k ++ xs) (naming-same (naming k ns ls) (names_from ns ls) (linked ls k) (All-weaker (λ x. x < k) (λ x. naming k ns ls x ≡ names_from ns ls x) (λ x l. naming-enough ns ls a k (suc x) x l (omega arith)) (linked ls k) (a k)))
+    ap (λ xs. requests_at ns k ++ xs) (naming-same (naming k ns ls) (names_from ns ls) (linked ls k) (All-weaker (λ x. x < k) (λ x. naming k ns ls x ≡ names_from ns ls x) (λ x l. naming-enough ns ls a k (suc x) x l (omega arith)) (linked ls k) (a k)))
 
 -- ---- one place more
 
@@ -107,8 +107,8 @@ pub covers_add : (ns : List Named) (o : List ℕ) (s t : List Request) (k : ℕ)
 covers_add ns o s t k c f g j p h e =
     ⊎_elim (λ l. f (Item p) (c j p l e)) (λ r. g p (ap (λ i. item_of (slice_get ns i)) (only k j r) ∙ e)) (or_cases (has o j) (has (k ∷ []) j) (sym (has-added o (k ∷ []) j) ∙ h))
 
-pub name_known : (ns : List Named) (o : List ℕ) (s : List Request) (k : ℕ) → Covers ns o s → has o k ≡ true → Adds s (name_at ns k) s
-name_known ns o s k c h = Adds-known s (name_at ns k) (one_among s (item_of (slice_get ns k)) (λ p e. c k p h e))
+pub name_known : (ns : List Named) (o : List ℕ) (s : List Request) (k : ℕ) → Covers ns o s → has o k ≡ true → Adds s (requests_at ns k) s
+name_known ns o s k c h = Adds-known s (requests_at ns k) (one_among s (item_of (slice_get ns k)) (λ p e. c k p h e))
 
 -- a request that is there after it was added
 pub request_among : (s t : List Request) (o : Option ItemPlace) (p : ItemPlace) → t ≡ s ++ requested o → o ≡ Some p → IsAmong t (Item p)

@@ -9,7 +9,7 @@ use Rattle.std.proofs.lemmas.Option.{slice_get-map, slice_get_within}
 use Rattle.naga_oil_ir.specs.BodyForm.{operand_links, kinds}
 use Rattle.naga_oil_ir.specs.Parts.{Parts, parts}
 use Rattle.naga_oil_ir.specs.Rows.{Row, Text, inner_row, type_row, constant_row, override_row, global_row, expression_row, member_type, size_name, named_place}
-use Rattle.naga_oil_ir.specs.Links.{Links, AreEarlier, AtEach, linked, trail, has, marked, reaches}
+use Rattle.naga_oil_ir.specs.Links.{Links, AreEarlier, AtEach, linked, trail, has, is_marked, reaches}
 use Rattle.naga_oil_ir.specs.ItemForm.{IsThere as IsPlaceThere, NamesThere, NamesWell, type_at, types_named, types_of, type_links, is_override, pending, is_sized, initialiser, init_of_constant, init_of_override, ItemForm, IsGlobalKind, NamesForm, ExpressionForm}
 use Rattle.naga_oil_ir.specs.declared.module.Module.{Module}
 use Rattle.naga_oil_ir.specs.declared.span.Span.{Span}
@@ -31,7 +31,7 @@ use Rattle.naga_oil_ir.specs.declared.names.ItemPlace.TheVariants.{TypeItem, Con
 use Rattle.naga_oil_ir.proofs.LinkLemmas.{or_left, or_right, or_false, eqb_eq, has-append, in_all, All-has, All-from_has, trail-step, linked-map, marked-map}
 use Rattle.naga_oil_derive.specs.World.{value_of, world}
 use Rattle.naga_oil_derive.specs.Collected.{depth}
-use Rattle.naga_oil_derive.specs.Copying.{IsThere, behind, rank, IsBelowItem, AreRanked}
+use Rattle.naga_oil_derive.specs.Copying.{IsThere, rank_behind, rank, IsBelowItem, AreRanked}
 use Rattle.naga_oil_derive.specs.Copyable.{CopyableItems}
 use Rattle.naga_oil_derive.proofs.WorldLemmas.{rows, world_type, world_constant, world_override, world_global, world_expression}
 
@@ -44,11 +44,11 @@ up_flat p f (x ∷ xs) j h i =
 
 reaches_up : (ls : Links) (fs : List Bool) → AreEarlier ls → (k j : ℕ) → has (linked ls k) j ≡ true → reaches ls fs j ≡ true → reaches ls fs k ≡ true
 reaches_up ls fs a k j h i =
-    ap (list_any (marked fs)) (trail-step ls a k) ∙ list_any-append (marked fs) (flat_map (trail ls) (linked ls k)) (k ∷ []) ∙ or_left (list_any (marked fs) (flat_map (trail ls) (linked ls k))) (list_any (marked fs) (k ∷ [])) (up_flat (marked fs) (trail ls) (linked ls k) j h i)
+    ap (list_any (is_marked fs)) (trail-step ls a k) ∙ list_any-append (is_marked fs) (flat_map (trail ls) (linked ls k)) (k ∷ []) ∙ or_left (list_any (is_marked fs) (flat_map (trail ls) (linked ls k))) (list_any (is_marked fs) (k ∷ [])) (up_flat (is_marked fs) (trail ls) (linked ls k) j h i)
 
-reaches_itself : (ls : Links) (fs : List Bool) → AreEarlier ls → (k : ℕ) → marked fs k ≡ true → reaches ls fs k ≡ true
+reaches_itself : (ls : Links) (fs : List Bool) → AreEarlier ls → (k : ℕ) → is_marked fs k ≡ true → reaches ls fs k ≡ true
 reaches_itself ls fs a k h =
-    ap (list_any (marked fs)) (trail-step ls a k) ∙ list_any-append (marked fs) (flat_map (trail ls) (linked ls k)) (k ∷ []) ∙ or_right (list_any (marked fs) (flat_map (trail ls) (linked ls k))) (list_any (marked fs) (k ∷ [])) (or_left (marked fs k) false h)
+    ap (list_any (is_marked fs)) (trail-step ls a k) ∙ list_any-append (is_marked fs) (flat_map (trail ls) (linked ls k)) (k ∷ []) ∙ or_right (list_any (is_marked fs) (flat_map (trail ls) (linked ls k))) (list_any (is_marked fs) (k ∷ [])) (or_left (is_marked fs k) false h)
 
 -- ---- what is there
 
@@ -96,17 +96,17 @@ rank_below : (m : Module) (j k : ℕ) → j < k → (is_sized m j ≡ true → i
 rank_below m j k l up =
     ⊎_elim (λ e. let h = rank_sized m k e in let i = rank_type m j in omega (arith, h, i)) (λ e. ⊎_elim (λ s. absurd (false≢true (sym e ∙ up s))) (λ s. let h = rank_unsized m k e in let i = rank_unsized m j s in omega (arith, h, i)) (sized_or_not (is_sized m j))) (sized_or_not (is_sized m k))
 
-behind_bound : (n b : ℕ) (o : Option ℕ) → IfSome o (λ i. i < b) → (n ≤ behind n o) × (behind n o ≤ n + 2 * b)
+behind_bound : (n b : ℕ) (o : Option ℕ) → IfSome o (λ i. i < b) → (n ≤ rank_behind n o) × (rank_behind n o ≤ n + 2 * b)
 behind_bound n b None h = (omega arith, omega arith)
 behind_bound n b (Some i) h = (omega arith, omega arith)
 
-rank_constant : (m : Module) (k : ℕ) (e : ConstantItself × Span) → slice_get m.constants k ≡ Some e → rank m (ConstantItem k) ≡ behind (length m.types) (Some e.0.init)
+rank_constant : (m : Module) (k : ℕ) (e : ConstantItself × Span) → slice_get m.constants k ≡ Some e → rank m (ConstantItem k) ≡ rank_behind (length m.types) (Some e.0.init)
 unfolding rank
-rank_constant m k e h = ap (λ o. behind (length m.types) (option_map (λ x. x.0.init) o)) h
+rank_constant m k e h = ap (λ o. rank_behind (length m.types) (option_map (λ x. x.0.init) o)) h
 
-rank_override : (m : Module) (k : ℕ) (e : OverrideItself × Span) → slice_get m.overrides k ≡ Some e → rank m (OverrideItem k) ≡ behind (length m.types) e.0.init
+rank_override : (m : Module) (k : ℕ) (e : OverrideItself × Span) → slice_get m.overrides k ≡ Some e → rank m (OverrideItem k) ≡ rank_behind (length m.types) e.0.init
 unfolding rank
-rank_override m k e h = ap (λ o. behind (length m.types) (option_flatten (option_map (λ x. x.0.init) o))) h
+rank_override m k e h = ap (λ o. rank_behind (length m.types) (option_flatten (option_map (λ x. x.0.init) o))) h
 
 rank_expression : (m : Module) (k : ℕ) → rank m (ExpressionItem k) ≡ length m.types + 2 * k + 1
 unfolding rank
@@ -217,7 +217,7 @@ types_below m i k t at =
     let ls = type_links (types_of m) in
     let is : linked ls k ≡ types_named (type_row t) = linked-map (λ x. types_named (type_row x)) (types_of m) k t at in
     let lower : All (Lower m k) (types_named (type_row t)) = subst (All (Lower m k)) is (All-from_has (Lower m k) (linked ls k) (λ j h. (All-has (λ x. x < k) (linked ls k) j (i.earlier_types k) h, reaches_up ls (pending (types_of m)) i.earlier_types k j h))) in
-    let marks : marked (pending (types_of m)) k ≡ list_any is_override (type_row t).names = marked-map (λ x. list_any is_override (type_row x).names) (types_of m) k t at in
+    let marks : is_marked (pending (types_of m)) k ≡ list_any is_override (type_row t).names = marked-map (λ x. list_any is_override (type_row x).names) (types_of m) k t at in
     let others = inner_names (is_sized m k ≡ true) _ t.inner (λ h. reaches_itself ls (pending (types_of m)) i.earlier_types k (marks ∙ h)) in
     all_names m (λ q. IsThere m q × (rank m q < rank m (TypeItem k))) (IsTypeOr (is_sized m k ≡ true)) (Lower m k) (λ j h l. (place_there m (TypeItem j) h, rank_below m j k l.0 l.1)) (other_name m i.names k) (type_row t).names (i.names.types k t at) others lower
 
@@ -236,8 +236,8 @@ type_first m t ns a h =
     omega (arith, l, r)
 
 -- an initialiser stands below what it initialises
-init_below : (n j : ℕ) (o : Option ℕ) → o ≡ Some j → n + 2 * j + 1 < behind n o
-init_below n j o e = subst (λ v. n + 2 * j + 1 < behind n v) (sym e) (omega arith)
+init_below : (n j : ℕ) (o : Option ℕ) → o ≡ Some j → n + 2 * j + 1 < rank_behind n o
+init_below n j o e = subst (λ v. n + 2 * j + 1 < rank_behind n v) (sym e) (omega arith)
 
 constants_below : (m : Module) → NamesForm m → (k : ℕ) (e : ConstantItself × Span) → slice_get m.constants k ≡ Some e → All (IsBelowItem m (ConstantItem k)) (constant_row e.0).names
 constants_below m n k e at =

@@ -18,9 +18,9 @@ use Rattle.naga_oil_ir.specs.declared.parts.Named.TheVariants.{Nothing, TypeOf, 
 use Rattle.naga_oil_ir.specs.declared.span.Span.{Span}
 use Rattle.naga_oil_ir.specs.declared.tokens.Token.{Token}
 use Rattle.naga_oil_ir.specs.declared.tokens.Token.TheVariants.{At, Head, Plain, Flag, Absent, Open, Close, Use, Give, GiveCall, Emitted, Callee}
-use Rattle.naga_oil_derive.specs.Walk.{IsReady, Notes, externals, brief, notes_of}
+use Rattle.naga_oil_derive.specs.Walk.{IsReachOrder, Notes, externals, brief, notes_of}
 use Rattle.naga_oil_derive.specs.Walks.{IsOver}
-use Rattle.naga_oil_derive.specs.Naming.{item_of, asked, requested, name_at, names_from, local_names, token_names, signature_names, function_names, IsAmong, Thins, Adds}
+use Rattle.naga_oil_derive.specs.Naming.{item_of, asked, requested, requests_at, names_from, local_names, token_names, signature_names, function_names, IsAmong, Thins, Adds}
 use Rattle.naga_oil_derive.specs.declared.walk.Request.{Request}
 use Rattle.naga_oil_derive.specs.declared.walk.Request.TheVariants.{Item}
 use Rattle.naga_oil_derive.specs.declared.walk.Walk.{Walk}
@@ -52,25 +52,25 @@ over_list of v w k o p m q f = record {
 }
 
 -- a place is asked and listed
-pub over_add : (of : Reading) (v w : Walk) (k : ℕ) → IsOver of v → w.places.items ≡ added v.places.items (k ∷ []) → length w.marks.items ≡ length v.marks.items → w.requests.items ≡ v.requests.items ++ name_at of.named.items k → IsOver of w
+pub over_add : (of : Reading) (v w : Walk) (k : ℕ) → IsOver of v → w.places.items ≡ added v.places.items (k ∷ []) → length w.marks.items ≡ length v.marks.items → w.requests.items ≡ v.requests.items ++ requests_at of.named.items k → IsOver of w
 over_add of v w k o p m q = record {
   earlier = o.earlier;
   named = o.named;
   marks = m ∙ o.marks;
-  covers = λ j x h e. covers_add of.named.items v.places.items v.requests.items w.requests.items k o.covers (λ y a. subst (λ (rs : List Request). IsAmong rs y) (sym q) (among_left v.requests.items (name_at of.named.items k) y a)) (λ y i. request_among v.requests.items w.requests.items (item_of (slice_get of.named.items k)) y q i) j x (ap (λ ps. has ps j) (sym p) ∙ h) e;
+  covers = λ j x h e. covers_add of.named.items v.places.items v.requests.items w.requests.items k o.covers (λ y a. subst (λ (rs : List Request). IsAmong rs y) (sym q) (among_left v.requests.items (requests_at of.named.items k) y a)) (λ y i. request_among v.requests.items w.requests.items (item_of (slice_get of.named.items k)) y q i) j x (ap (λ ps. has ps j) (sym p) ∙ h) e;
 }
 
 pub adds_all : (s t xs : List Request) → t ≡ s ++ xs → Adds s xs t
 adds_all s t xs e = subst (λ (q : List Request). Adds s xs q) (sym e) (Adds-all s xs)
 
 -- a place is asked, then what it links, and it is listed
-pub reach_requests : (ns : List Named) (ls : Links) → AreEarlier ls → (k : ℕ) (s t u w : List Request) (xs : List ℕ) (i : ℕ) → t ≡ s ++ name_at ns k → take i xs ≡ linked ls k → Adds t (flat_map (names_from ns ls) (take i xs)) u → w ≡ u → Adds s (names_from ns ls k) w
+pub reach_requests : (ns : List Named) (ls : Links) → AreEarlier ls → (k : ℕ) (s t u w : List Request) (xs : List ℕ) (i : ℕ) → t ≡ s ++ requests_at ns k → take i xs ≡ linked ls k → Adds t (flat_map (names_from ns ls) (take i xs)) u → w ≡ u → Adds s (names_from ns ls k) w
 reach_requests ns ls a k s t u w xs i e all b f =
     let rest : Adds t (flat_map (names_from ns ls) (linked ls k)) u = subst (λ ys. Adds t (flat_map (names_from ns ls) ys) u) all b in
-    subst (λ (q : List Request). Adds s (names_from ns ls k) q) (sym f) (subst (λ (rs : List Request). Adds s rs u) (sym (names-step ns ls a k)) (Adds-append s t u (name_at ns k) (flat_map (names_from ns ls) (linked ls k)) (adds_all s t (name_at ns k) e) rest))
+    subst (λ (q : List Request). Adds s (names_from ns ls k) q) (sym f) (subst (λ (rs : List Request). Adds s rs u) (sym (names-step ns ls a k)) (Adds-append s t u (requests_at ns k) (flat_map (names_from ns ls) (linked ls k)) (adds_all s t (requests_at ns k) e) rest))
 
 -- the item of a place that was asked is still among the requests
-pub asked_before : (ns : List Named) (k : ℕ) (s t u xs : List Request) → t ≡ s ++ name_at ns k → Adds t xs u → (x : ItemPlace) → item_of (slice_get ns k) ≡ Some x → IsAmong u (Item x)
+pub asked_before : (ns : List Named) (k : ℕ) (s t u xs : List Request) → t ≡ s ++ requests_at ns k → Adds t xs u → (x : ItemPlace) → item_of (slice_get ns k) ≡ Some x → IsAmong u (Item x)
 asked_before ns k s t u xs e a x i = Adds-keeps t u xs (Item x) a (request_among s t (item_of (slice_get ns k)) x e i)
 
 -- ---- external places
@@ -152,11 +152,11 @@ asked_named (LocalAt k) h = refl
 asked_named (ArgumentAt k) h = refl
 asked_named (FunctionAt k) h = absurd (false≢true h)
 
-pub item_at : (ns : List Named) (k : ℕ) (n : Named) → Some n ≡ slice_get ns k → name_at ns k ≡ requested (named_place n)
+pub item_at : (ns : List Named) (k : ℕ) (n : Named) → Some n ≡ slice_get ns k → requests_at ns k ≡ requested (named_place n)
 item_at ns k n e = ap (λ (o : Option Named). requested (item_of o)) (sym e)
 
 -- nothing is asked where no item is named
-pub none_asked : (s : List Request) (ns : List Named) (k : ℕ) → item_of (slice_get ns k) ≡ None → s ≡ s ++ name_at ns k
+pub none_asked : (s : List Request) (ns : List Named) (k : ℕ) → item_of (slice_get ns k) ≡ None → s ≡ s ++ requests_at ns k
 none_asked s ns k e = sym (ap (λ (o : Option ItemPlace). s ++ requested o) e ∙ append-nil s)
 
 pub none_if : {A : Type 0} (o : Option A) → ((x : A) → o ≡ Some x → ⊥) → o ≡ None

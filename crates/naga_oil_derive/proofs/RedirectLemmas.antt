@@ -9,7 +9,7 @@ use Rattle.naga_oil_ir.specs.ModuleValue.{ArgumentValue, argument_value, Functio
 use Rattle.naga_oil_ir.specs.declared.module.Function.{Function}
 use Rattle.naga_oil_ir.specs.declared.module.FunctionArgument.{FunctionArgument}
 use Rattle.naga_oil_ir.specs.declared.span.Span.{Span}
-use Rattle.naga_oil_derive.specs.RedirectFault.{RedirectFault, not_found, argument_mismatch, return_type_mismatch}
+use Rattle.naga_oil_ir.specs.RedirectFault.{RedirectFault, not_found, argument_mismatch, return_type_mismatch}
 use Rattle.naga_oil_derive.specs.Redirected.{function_values, is_named, found, found_from, matched, matching, compared, same_arguments, same_results, send, send_at}
 use Rattle.naga_oil_derive.proofs.CountLemmas.{differs}
 use Rattle.naga_oil_ir.proofs.LinkLemmas.{eq_eqb}

@@ -13,7 +13,8 @@ use Rattle.naga_oil_ir.specs.Links.{Links}
 use Rattle.naga_oil_ir.specs.Rows.{Text}
 use Rattle.naga_oil_ir.specs.Body.{Tokens, block_tokens}
 use Rattle.naga_oil_ir.specs.BodyForm.{kinds, callee, named_of, callees, operand_links, made, IsFine, AreFine, MayStand, IsSpanFine, IsTokenFine}
-use Rattle.naga_oil_ir.specs.NameForm.{Name, decorated, entry_name, function_name}
+use Rattle.naga_oil_ir.specs.NameForm.{Name, entry_name, function_name}
+use Rattle.naga_oil_marks.specs.Marks.{with_decoration}
 use Rattle.naga_oil_ir.specs.WellFormed.{NamedThere, initialisers, FunctionForm, MeshForm, IsExpressionThere, EntryForm}
 use Rattle.naga_oil_ir.specs.ModuleValue.{ArgumentValue, argument_value, LocalValue, local_value, FunctionValue, function_value, EntryValue, entry_value}
 use Rattle.naga_oil_ir.specs.declared.expression.Expression.{Expression}
@@ -361,8 +362,8 @@ redirectable-sent m fs es f t o i h e g =
       };
       names = record {
         named = named-sent m.functions fs (names_as (λ x. x) m.functions fs f t o e) h.names.named;
-        functions = subst (IsDistinct (pointwise nat_eq)) (names_as (λ x. decorated [] (unwrap_or x [])) m.functions fs f t o e) h.names.functions;
-        entry_points = subst (IsDistinct (pointwise nat_eq)) (entry_names_as (λ x. decorated [] (unwrap_or x (codes "main"))) m.entry_points.items es.items f t g) h.names.entry_points;
+        functions = subst (IsDistinct (pointwise nat_eq)) (names_as (λ x. with_decoration [] (unwrap_or x [])) m.functions fs f t o e) h.names.functions;
+        entry_points = subst (IsDistinct (pointwise nat_eq)) (entry_names_as (λ x. with_decoration [] (unwrap_or x (codes "main"))) m.entry_points.items es.items f t g) h.names.entry_points;
       };
       functions = functions-sent m fs es f t 4294967295 o i c h.functions e;
       entry_points = entries-sent m fs es f t 4294967295 i c h.entry_points g;

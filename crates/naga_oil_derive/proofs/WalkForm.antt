@@ -10,8 +10,8 @@ use Rattle.naga_oil_ir.specs.declared.tokens.Token.TheVariants.{Use, Give, GiveC
 use Rattle.naga_oil_ir.specs.BodyForm.{places, is_external, is_result, is_known, AreEmitted, made, IsFine, AreFine}
 use Rattle.naga_oil_ir.specs.Links.{Links, linked, AreEarlier, trail, has, added}
 use Rattle.naga_oil_ir.proofs.LinkLemmas.{has-append, has-added, only, itself, trail-step, All-has}
-use Rattle.naga_oil_derive.specs.Walk.{IsReady, Holds, externals, others, listed, brief}
-use Rattle.naga_oil_derive.proofs.WalkLemmas.{Holds-append, Holds-left, Holds-right, Holds-head, Holds-one, added-append, added-known, added-keeps, added-holds, added-externals, IsReady-add, trail_in}
+use Rattle.naga_oil_derive.specs.Walk.{IsReachOrder, Holds, externals, others, listed, brief}
+use Rattle.naga_oil_derive.proofs.WalkLemmas.{Holds-append, Holds-left, Holds-right, Holds-head, Holds-one, added-append, added-known, added-keeps, added-holds, added-externals, IsReachOrder-add, trail_in}
 
 -- external expressions and results name nothing
 pub record IsPlain (ks : List ℕ) (ls : Links) : Type 0 where
@@ -23,7 +23,7 @@ pub record IsUnder (ks : List ℕ) (ls : Links) (s d o : List ℕ) : Type 0 wher
   pub began : Holds o s
   pub kept : Holds o d
   pub only_known : (k : ℕ) → has o k ≡ true → is_known ks s d k ≡ true
-  pub ready : IsReady ls o
+  pub ready : IsReachOrder ls o
 
 -- ---- known places
 
@@ -59,7 +59,7 @@ under_add ks ls s d e o k u w f g h = record {
   began = λ x i. added-keeps o (k ∷ []) x (u.began x i);
   kept = λ x i. ⊎_elim (λ l. added-keeps o (k ∷ []) x (u.kept x l)) (λ m. subst (λ v. has (added o (k ∷ [])) v ≡ true) m (added-holds o (k ∷ []) k (itself k))) (g x i);
   only_known = λ x i. ⊎_elim (λ l. known_more ks s d e x f (u.only_known x l)) (λ r. subst (λ v. is_known ks s e v ≡ true) (only k x r) h) (or_cases (has o x) (has (k ∷ []) x) (sym (has-added o (k ∷ []) x) ∙ i));
-  ready = IsReady-add ls o k u.ready w;
+  ready = IsReachOrder-add ls o k u.ready w;
 }
 
 pub under_external : (ks : List ℕ) (ls : Links) → IsPlain ks ls → (s d o : List ℕ) (k : ℕ) → IsUnder ks ls s d o → is_external ks k ≡ true → IsUnder ks ls s d (added o (k ∷ []))
@@ -246,7 +246,7 @@ follows ks ls p a n fs s (t ∷ ts) d o u f =
       under = subst (IsUnder ks ls s (d ++ (made t ++ flat_map made ts))) (sym (added-append o (brief ks ls t) (flat_map (brief ks ls) ts))) (subst (λ e. IsUnder ks ls s e (added (added o (brief ks ls t)) (flat_map (brief ks ls) ts))) (append_assoc d (made t) (flat_map made ts)) r.under);
     }
 
-pub under_start : (ks : List ℕ) (ls : Links) (s : List ℕ) → IsReady ls s → IsUnder ks ls s [] s
+pub under_start : (ks : List ℕ) (ls : Links) (s : List ℕ) → IsReachOrder ls s → IsUnder ks ls s [] s
 under_start ks ls s r = record {
   began = λ k h. h;
   kept = λ k h. absurd (false≢true h);

@@ -10,9 +10,9 @@ use Rattle.std.proofs.lemmas.List.Elements.{filter-append}
 use Rattle.naga_oil_ir.specs.Body.{Tokens}
 use Rattle.naga_oil_ir.specs.declared.tokens.Token.{Token}
 use Rattle.naga_oil_ir.specs.BodyForm.{run, places, is_external}
-use Rattle.naga_oil_ir.specs.Links.{Links, linked, AreEarlier, reached, trail, has, added, started, AreMarks}
+use Rattle.naga_oil_ir.specs.Links.{Links, linked, AreEarlier, reach, trail, has, added, started, AreMarks}
 use Rattle.naga_oil_ir.proofs.LinkLemmas.{has-append, has-added, marked-set, or_false, only, itself, in_one, in_all, slice_get-append_within, slice_get-append_at, trail-step, eq_eqb}
-use Rattle.naga_oil_derive.specs.Walk.{IsReady, Holds, externals, Notes, noted, notes_of, notes_after, brief}
+use Rattle.naga_oil_derive.specs.Walk.{IsReachOrder, Holds, externals, Notes, noted, notes_of, notes_after, brief}
 
 -- ---- lists
 
@@ -74,18 +74,18 @@ pub push_each : (P : List ℕ → ℕ → Type 0) (o : List ℕ) (k : ℕ) → (
 push_each P o k f p i j e =
     ⊎_elim (λ q. subst (λ t. P t j) (sym (take_last o k i q)) (subst (P o) (at_last o k i j q e) p)) (⊎_elim (λ q. subst (λ t. P t j) (sym (take-append-le i o (k ∷ []) (omega arith))) (f i j (sym (slice_get-append_within o (k ∷ []) i q) ∙ e))) (λ q. let l : i < length (o ++ k ∷ []) = slice_get_within (o ++ k ∷ []) i j e in absurd (omega (arith, length_push {X = ℕ})))) (cases_order i (length o))
 
-pub IsReady-nil : (ls : Links) → IsReady ls []
-IsReady-nil ls = record { once = λ i k e. absurd (none-some k e); after = λ i k x e h. absurd (none-some k e) }
+pub IsReachOrder-nil : (ls : Links) → IsReachOrder ls []
+IsReachOrder-nil ls = record { once = λ i k e. absurd (none-some k e); after = λ i k x e h. absurd (none-some k e) }
 
-pub IsReady-push : (ls : Links) (o : List ℕ) (k : ℕ) → IsReady ls o → has o k ≡ false → Holds o (linked ls k) → IsReady ls (o ++ k ∷ [])
-IsReady-push ls o k r f w = record {
+pub IsReachOrder-push : (ls : Links) (o : List ℕ) (k : ℕ) → IsReachOrder ls o → has o k ≡ false → Holds o (linked ls k) → IsReachOrder ls (o ++ k ∷ [])
+IsReachOrder-push ls o k r f w = record {
   once = push_each (λ t j. has t j ≡ false) o k r.once f;
   after = λ i j x e. push_each (λ t j. (x : ℕ) → has (linked ls j) x ≡ true → has t x ≡ true) o k (λ i j e x. r.after i j x e) w i j e x;
 }
 
-pub IsReady-add : (ls : Links) (o : List ℕ) (k : ℕ) → IsReady ls o → Holds o (linked ls k) → IsReady ls (added o (k ∷ []))
-IsReady-add ls o k r w =
-    ⊎_elim (λ h. rw h r) (λ h. rw h (IsReady-push ls o k r h w)) (cases_Bool (has o k))
+pub IsReachOrder-add : (ls : Links) (o : List ℕ) (k : ℕ) → IsReachOrder ls o → Holds o (linked ls k) → IsReachOrder ls (added o (k ∷ []))
+IsReachOrder-add ls o k r w =
+    ⊎_elim (λ h. rw h r) (λ h. rw h (IsReachOrder-push ls o k r h w)) (cases_Bool (has o k))
 
 -- what an order has stands somewhere in it
 pub place_at : (o : List ℕ) (k : ℕ) → has o k ≡ true → (i : ℕ) × (slice_get o i ≡ Some k)
@@ -105,21 +105,21 @@ has_take (suc i) [] x h = h
 has_take (suc i) (y ∷ o) x h =
     ⊎_elim (λ e. or_left (y == x) (has o x) e) (λ e. or_right (y == x) (has o x) (has_take i o x e)) (or_cases (y == x) (has (take i o) x) h)
 
-pub closed : (ls : Links) (o : List ℕ) → IsReady ls o → (k : ℕ) → has o k ≡ true → Holds o (linked ls k)
+pub closed : (ls : Links) (o : List ℕ) → IsReachOrder ls o → (k : ℕ) → has o k ≡ true → Holds o (linked ls k)
 closed ls o r k h = λ x i. let p = place_at o k h in has_take p.0 o x (r.after p.0 k x p.1 i)
 
-reached_in : (ls : Links) (o : List ℕ) → ((k x : ℕ) → has o k ≡ true → has (linked ls k) x ≡ true → has o x ≡ true) → (n r k : ℕ) → has o r ≡ true → has (reached n ls r) k ≡ true → has o k ≡ true
+reached_in : (ls : Links) (o : List ℕ) → ((k x : ℕ) → has o k ≡ true → has (linked ls k) x ≡ true → has o x ≡ true) → (n r k : ℕ) → has o r ≡ true → has (reach n ls r) k ≡ true → has o k ≡ true
 reached_in ls o c zero r k h i = absurd (false≢true i)
 reached_in ls o c (suc n) r k h i =
-    ⊎_elim (λ e. let y = in_one (reached n ls) (linked ls r) k e in reached_in ls o c n y.0 k (c r y.0 h y.1) y.2) (λ e. subst (λ v. has o v ≡ true) (only r k e) h) (or_cases (has (flat_map (reached n ls) (linked ls r)) k) (has (r ∷ []) k) (sym (has-append (flat_map (reached n ls) (linked ls r)) (r ∷ []) k) ∙ i))
+    ⊎_elim (λ e. let y = in_one (reach n ls) (linked ls r) k e in reached_in ls o c n y.0 k (c r y.0 h y.1) y.2) (λ e. subst (λ v. has o v ≡ true) (only r k e) h) (or_cases (has (flat_map (reach n ls) (linked ls r)) k) (has (r ∷ []) k) (sym (has-append (flat_map (reach n ls) (linked ls r)) (r ∷ []) k) ∙ i))
 
 -- all that a place reaches is there with it
-pub trail_in : (ls : Links) (o : List ℕ) → IsReady ls o → (k : ℕ) → has o k ≡ true → Holds o (trail ls k)
+pub trail_in : (ls : Links) (o : List ℕ) → IsReachOrder ls o → (k : ℕ) → has o k ≡ true → Holds o (trail ls k)
 unfolding trail
 trail_in ls o r k h = λ x i. reached_in ls o (λ k x a b. closed ls o r k a x b) (suc k) k x h i
 
 -- a place that is there adds nothing
-pub trail-known : (ls : Links) (o : List ℕ) (k : ℕ) → IsReady ls o → has o k ≡ true → o ≡ added o (trail ls k)
+pub trail-known : (ls : Links) (o : List ℕ) (k : ℕ) → IsReachOrder ls o → has o k ≡ true → o ≡ added o (trail ls k)
 trail-known ls o k r h = sym (added-known o (trail ls k) (trail_in ls o r k h))
 
 -- a place comes behind what its links reach

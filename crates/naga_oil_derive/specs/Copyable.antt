@@ -1,3 +1,4 @@
+-- When the items of a module can be copied.
 use Rattle.std.specs.Prelude.{◌<◌, length, All}
 use Rattle.naga_oil_ir.specs.Links.{AreEarlier}
 use Rattle.naga_oil_ir.specs.ItemForm.{NamesForm, ExpressionForm, type_links, types_of, special_types}

@@ -74,16 +74,16 @@ abbrev pub IsThere : Module → ItemPlace → Type 0
 IsThere m p = (r : Row) × (world (value_of m) p ≡ Some r)
 
 -- behind the initialiser
-abbrev pub behind : ℕ → Option ℕ → ℕ
-behind n None = n
-behind n (Some e) = n + 2 * e + 2
+abbrev pub rank_behind : ℕ → Option ℕ → ℕ
+rank_behind n None = n
+rank_behind n (Some e) = n + 2 * e + 2
 
 -- a number that falls along what an item names: types without sizes, then constants, overrides and expressions, then the types
 -- with sizes, then globals
 unfoldable pub rank : Module → ItemPlace → ℕ
 rank m (TypeItem k) = if is_sized m k then length m.types + 2 * length m.global_expressions + 1 + k else k
-rank m (ConstantItem k) = behind (length m.types) (option_map (λ e. e.0.init) (slice_get m.constants k))
-rank m (OverrideItem k) = behind (length m.types) (option_flatten (option_map (λ e. e.0.init) (slice_get m.overrides k)))
+rank m (ConstantItem k) = rank_behind (length m.types) (option_map (λ e. e.0.init) (slice_get m.constants k))
+rank m (OverrideItem k) = rank_behind (length m.types) (option_flatten (option_map (λ e. e.0.init) (slice_get m.overrides k)))
 rank m (GlobalItem k) = 2 * length m.types + 2 * length m.global_expressions + 1
 rank m (ExpressionItem k) = length m.types + 2 * k + 1
 
@@ -176,8 +176,8 @@ abbrev pub AreNames : Option Row → List (Option ItemPlace) → Type 0
 AreNames o ns = IfSome o (λ r. ns ≡ r.names)
 
 -- what the item at a place names went somewhere
-abbrev pub IsReady : Module → Maps → ItemPlace → Type 0
-IsReady source m p = (r : Row) → world (value_of source) p ≡ Some r → All (WentSomewhere (goes_under m)) r.names
+abbrev pub NamesWent : Module → Maps → ItemPlace → Type 0
+NamesWent source m p = (r : Row) → world (value_of source) p ≡ Some r → All (WentSomewhere (goes_under m)) r.names
 
 -- the item was not there, or is the last of its arena
 abbrev pub IsLast : Module → Module → ItemPlace → Option Span → Type 0

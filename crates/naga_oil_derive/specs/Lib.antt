@@ -1,3 +1,4 @@
+-- The definitions that the contracts of this crate cite.
 pub mod Renames
 pub mod Tree
 pub mod World
@@ -5,7 +6,6 @@ pub mod Collected
 pub mod Copying
 pub mod Walk
 pub mod Walks
-pub mod RedirectFault
 pub mod Count
 pub mod Level
 pub mod Redirected

@@ -32,14 +32,14 @@ item_of (Some n) = named_place n
 abbrev pub asked : Named → List Request
 asked n = option_to_list (option_map Call (callee n)) ++ requested (named_place n)
 
--- the item that the expression at a place names
-abbrev pub name_at : List Named → ℕ → List Request
-name_at ns k = requested (item_of (slice_get ns k))
+-- what is asked for the item that the expression at a place names
+abbrev pub requests_at : List Named → ℕ → List Request
+requests_at ns k = requested (item_of (slice_get ns k))
 
 -- the items that an expression and all that it reaches name; n is more than its place
 abbrev pub naming : ℕ → List Named → Links → ℕ → List Request
 naming zero ns ls k = []
-naming (suc n) ns ls k = name_at ns k ++ flat_map (naming n ns ls) (linked ls k)
+naming (suc n) ns ls k = requests_at ns k ++ flat_map (naming n ns ls) (linked ls k)
 
 unfoldable pub names_from : List Named → Links → ℕ → List Request
 names_from ns ls k = naming (suc k) ns ls k
@@ -51,7 +51,7 @@ local_names ns ls l = Item (TypeItem l.0.ty) ∷ flat_map (names_from ns ls) (op
 -- what a part of a body names: the function that is called, or the items that the expressions which it lists name
 abbrev pub token_names : List ℕ → List Named → Links → Token → List Request
 token_names ks ns ls (Callee f) = Call f ∷ []
-token_names ks ns ls t = flat_map (name_at ns) (brief ks ls t)
+token_names ks ns ls t = flat_map (requests_at ns) (brief ks ls t)
 
 -- the types of arguments and of the result
 abbrev pub signature_names : Function → List Request

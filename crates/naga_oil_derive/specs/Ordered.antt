@@ -10,7 +10,7 @@ use Rattle.naga_oil_ir.specs.declared.span.Span.{Span}
 use Rattle.naga_oil_ir.specs.declared.tokens.Token.{Token}
 use Rattle.naga_oil_ir.specs.declared.tokens.Token.TheVariants.{Callee}
 use Rattle.naga_oil_derive.specs.Level.{levels, without_level, by_level}
-use Rattle.naga_oil_derive.specs.RedirectFault.{RedirectFault, circular_reference}
+use Rattle.naga_oil_ir.specs.RedirectFault.{RedirectFault, circular_reference}
 
 abbrev pub callee_of : Token → Option ℕ
 callee_of (Callee f) = Some f
@@ -25,12 +25,12 @@ abbrev pub calls_of : List (FunctionValue × Span) → Links
 calls_of fs = map (λ f. callees_of f.0.body) fs
 
 -- the name of the function at a place
-abbrev pub name_at : List (FunctionValue × Span) → ℕ → Name
-name_at fs k = unwrap_or (option_flatten (option_map (λ f. f.0.name) (slice_get fs k))) []
+abbrev pub function_name_at : List (FunctionValue × Span) → ℕ → Name
+function_name_at fs k = unwrap_or (option_flatten (option_map (λ f. f.0.name) (slice_get fs k))) []
 
 -- the names of functions at some places
 abbrev pub names_at : List (FunctionValue × Span) → List ℕ → Name
-names_at fs ks = join_by (name_at fs) (codes ", ") ks
+names_at fs ks = join_by (function_name_at fs) (codes ", ") ks
 
 -- the order by levels, if each function has one
 abbrev pub ordering : List (FunctionValue × Span) → List (Option ℕ) → List ℕ → Result (List ℕ) RedirectFault

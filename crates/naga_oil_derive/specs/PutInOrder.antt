@@ -8,8 +8,8 @@ use Rattle.naga_oil_derive.specs.Derived.{Derived, nothing, IsSet}
 use Rattle.naga_oil_derive.specs.DerivedFunctions.{KeepsFunctions, IsFunctionImported}
 use Rattle.naga_oil_derive.specs.DerivedEntries.{IsMadeWith}
 use Rattle.naga_oil_derive.specs.Ordered.{ordered}
-use Rattle.naga_oil_derive.specs.RedirectFault.{redirect_fault}
-use Rattle.naga_oil_derive.specs.declared.redirect_error.RedirectError.{RedirectError}
+use Rattle.naga_oil_ir.specs.RedirectFault.{redirect_fault}
+use Rattle.naga_oil_ir.specs.declared.redirect_error.RedirectError.{RedirectError}
 
 -- the functions of v at some places were imported one after another
 pub data InTurn (v : ModuleValue) : Derived → List ℕ → Derived → Type 0 where

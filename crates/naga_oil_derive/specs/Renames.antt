@@ -1,3 +1,4 @@
+-- Where handles, ranges and spans go, and what has them renamed.
 use Rattle.std.specs.Prelude.{ℕ, map, option_map}
 use Rattle.naga_oil_ir.specs.Parts.{Parts}
 use Rattle.naga_oil_ir.specs.Rows.{Row}

@@ -48,7 +48,7 @@ IsWithin n (Emitted r) = (r.0 ≤ r.1) × (r.1 ≤ n)
 IsWithin n _ = Unit {0}
 
 -- each place stands once, behind the places that it names
-pub record IsReady (ls : Links) (o : List ℕ) : Type 0 where
+pub record IsReachOrder (ls : Links) (o : List ℕ) : Type 0 where
   pub once : (i k : ℕ) → slice_get o i ≡ Some k → has (take i o) k ≡ false
   pub after : (i k x : ℕ) → slice_get o i ≡ Some k → has (linked ls k) x ≡ true → has (take i o) x ≡ true
 

@@ -6,7 +6,7 @@ use Rattle.naga_oil_ir.specs.BodyForm.{kinds, operand_links}
 use Rattle.naga_oil_ir.specs.WellFormed.{initialisers}
 use Rattle.naga_oil_ir.specs.declared.form.Reading.{Reading}
 use Rattle.naga_oil_ir.specs.declared.module.Function.{Function}
-use Rattle.naga_oil_derive.specs.Walk.{walked, Notes, IsReady, AreNoted, AreWithin}
+use Rattle.naga_oil_derive.specs.Walk.{walked, Notes, IsReachOrder, AreNoted, AreWithin}
 use Rattle.naga_oil_ir.specs.declared.names.ItemPlace.{ItemPlace}
 use Rattle.naga_oil_derive.specs.declared.walk.Request.TheVariants.{Item}
 use Rattle.naga_oil_derive.specs.Naming.{item_of, IsAmong, Thins, function_names}
@@ -26,7 +26,7 @@ pub record IsWalkOf (ks : List ℕ) (ls : Links) (is : List ℕ) (ts : Tokens) (
   pub order : o ≡ walked ks ls is ts
   pub began : n ≡ length (started ls is)
   pub within : All (λ k. k < length ls) o
-  pub ready : IsReady ls o
+  pub ready : IsReachOrder ls o
   pub noted : AreNoted (started ls is) o es ts
   pub notes : AreWithin (length (started ls is)) o es
 

@@ -1,3 +1,4 @@
+-- What stands in a module, where the items of a source went, and its special types.
 use Rattle.std.specs.Prelude.{ℕ, ◌+◌, ◌≡◌, ◌==◌, ◌&&◌, List, [], ◌∷◌, ◌++◌, map, min, nat_eq, Option, Some, None, option_map, slice_get, is_some, if◌then◌else◌}
 use Rattle.std.specs.Option.{option_flatten}
 use Rattle.std.specs.Map.{lookup}
@@ -75,6 +76,7 @@ abbrev pub under_name : Option Text → Row → Row
 under_name None r = r
 under_name (Some n) r = record { label = record { kind = r.label.kind; name = n; plain = r.label.plain; members = r.label.members }; names = r.names }
 
+-- the name of what stands at a place, if one is given and something stands there
 abbrev pub name_at : World → Option ItemPlace → Option Text
 name_at v None = None
 name_at v (Some q) = option_map (λ r. r.label.name) (v q)

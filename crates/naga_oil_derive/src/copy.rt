@@ -1,7 +1,8 @@
+//! Items that are copied with what they name.
 ghost use Rattle.std.specs.Prelude.{◌≡◌, ◌≤◌, ◌+◌, All, Some, None, IfOk, OnOk, OnErr, option_map, option_copied, string_bytes};
 ghost use Rattle.naga_oil_ir.specs.Rows.{Row};
 ghost use Rattle.naga_oil_derive.specs.World.{value_of, world, under_name, renamed_at};
-ghost use Rattle.naga_oil_derive.specs.Copying.{IsThere, AreRanked, IsBelowItem, AreLong, IsCopying, Grows, IsSameFrom, WentSomewhere, AreNames, IsReady, CopiesOne, CollectsItem, CollectsNames, CollectsNamed, special_names, goes_under, source_world, rank};
+ghost use Rattle.naga_oil_derive.specs.Copying.{IsThere, AreRanked, IsBelowItem, AreLong, IsCopying, Grows, IsSameFrom, WentSomewhere, AreNames, NamesWent, CopiesOne, CollectsItem, CollectsNames, CollectsNamed, special_names, goes_under, source_world, rank};
 
 use super::*;
 
@@ -54,7 +55,7 @@ impl Copying {
     fn copy_type(&mut self, source: &Module, handle: Handle<Type>, name: Name) -> Tried
         requires there { IsThere source.now (ItemPlace.TypeItem handle) }
         requires long { AreLong self.old.maps source.now }
-        requires ready { IsReady source.now self.old.maps (ItemPlace.TypeItem handle) }
+        requires ready { NamesWent source.now self.old.maps (ItemPlace.TypeItem handle) }
         ensures copies { OnOk result ((r : Row) → world (value_of source.now) (ItemPlace.TypeItem handle) ≡ Some r → CopiesOne source.now self.old.target self.new.target self.old.maps self.new.maps (ItemPlace.TypeItem handle) (under_name (option_map (λ n. Some (string_bytes n)) name) r)) }
         ensures err { OnErr result ((self.new.target ≡ self.old.target) × (self.new.maps ≡ self.old.maps)) }
     {
@@ -73,7 +74,7 @@ impl Copying {
     fn copy_alone(&mut self, source: &Module, item: ItemPlace) -> Tried
         requires there { IsThere source.now item }
         requires long { AreLong self.old.maps source.now }
-        requires ready { IsReady source.now self.old.maps item }
+        requires ready { NamesWent source.now self.old.maps item }
         ensures copies { OnOk result ((r : Row) → world (value_of source.now) item ≡ Some r → CopiesOne source.now self.old.target self.new.target self.old.maps self.new.maps item r) }
         ensures err { OnErr result ((self.new.target ≡ self.old.target) × (self.new.maps ≡ self.old.maps)) }
     {

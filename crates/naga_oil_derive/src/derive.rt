@@ -1,3 +1,4 @@
+//! The module that is put together, and the items that are copied into it.
 ghost use Rattle.std.specs.Prelude.{◌≡◌, ◌<◌, ◌↔◌, Some, IsTrue, IfOk, OnOk, OnErr, length, option_map, string_bytes};
 ghost use Rattle.naga_oil_ir.specs.declared.names.ItemPlace.{ItemPlace};
 ghost use Rattle.naga_oil_derive.specs.World.{value_of, special_entries};

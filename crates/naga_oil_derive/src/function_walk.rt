@@ -1,10 +1,11 @@
+//! The walk over a function, in the order of copying.
 ghost use Rattle.std.specs.Prelude.{◌≡◌, ◌<◌, ◌≤◌, ◌∷◌, ◌++◌, ℕ, [], length, OnOk, All, IfOk, option_to_list};
 ghost use Rattle.std.specs.List.{flat_map};
 ghost use Rattle.naga_oil_ir.specs.Links.{lists, linked, added, trail};
 ghost use Rattle.naga_oil_ir.specs.BodyForm.{places, kinds, callees, operand_links, MayStand};
-ghost use Rattle.naga_oil_derive.specs.Walk.{IsReady, externals, brief, IsWithin, notes_of, notes_after};
+ghost use Rattle.naga_oil_derive.specs.Walk.{IsReachOrder, externals, brief, IsWithin, notes_of, notes_after};
 ghost use Rattle.naga_oil_derive.specs.Walks.{IsOver, Walks};
-ghost use Rattle.naga_oil_derive.specs.Naming.{names_from, name_at, asked, token_names, Adds, local_names, signature_names};
+ghost use Rattle.naga_oil_derive.specs.Naming.{names_from, requests_at, asked, token_names, Adds, local_names, signature_names};
 ghost use Rattle.naga_oil_ir.specs.Body.{block_tokens};
 ghost use Rattle.naga_oil_ir.specs.WellFormed.{initialisers, initialisers_of};
 
@@ -24,7 +25,7 @@ fn ask(named: Named, requests: &mut Vec<Request>) -> Tried
 
 /// Requests the item that the expression at a place names, if it names one.
 fn request(of: &Reading, place: usize, requests: &mut Vec<Request>) -> Tried
-    ensures { OnOk result (requests.new.items ≡ requests.old.items ++ name_at of.now.named.items place) }
+    ensures { OnOk result (requests.new.items ≡ requests.old.items ++ requests_at of.now.named.items place) }
 {
     match of.named.get(place) {
         Some(named) if named_item(*named).is_some() => ask(*named, requests),
@@ -36,10 +37,10 @@ fn request(of: &Reading, place: usize, requests: &mut Vec<Request>) -> Tried
 pub fn reach(of: &Reading, place: usize, walk: &mut Walk) -> Tried
     requires in_range { place < length of.now.links.items }
     requires over { IsOver of.now walk.old }
-    requires ready { IsReady (lists of.now.links.items) walk.old.places.items }
+    requires ready { IsReachOrder (lists of.now.links.items) walk.old.places.items }
     ensures order { OnOk result (walk.new.places.items ≡ added walk.old.places.items (trail (lists of.now.links.items) place)) }
     ensures emitted { walk.new.emitted ≡ walk.old.emitted }
-    ensures ready { OnOk result (IsReady (lists of.now.links.items) walk.new.places.items) }
+    ensures ready { OnOk result (IsReachOrder (lists of.now.links.items) walk.new.places.items) }
     ensures requests { OnOk result (Adds walk.old.requests.items (names_from of.now.named.items (lists of.now.links.items) place) walk.new.requests.items) }
     ensures over { OnOk result (IsOver of.now walk.new) }
 {
@@ -60,7 +61,7 @@ fn add(of: &Reading, place: usize, walk: &mut Walk) -> Tried
     requires over { IsOver of.now walk.old }
     ensures order { OnOk result (walk.new.places.items ≡ added walk.old.places.items (place ∷ [])) }
     ensures emitted { walk.new.emitted ≡ walk.old.emitted }
-    ensures requests { OnOk result (Adds walk.old.requests.items (name_at of.now.named.items place) walk.new.requests.items) }
+    ensures requests { OnOk result (Adds walk.old.requests.items (requests_at of.now.named.items place) walk.new.requests.items) }
     ensures over { OnOk result (IsOver of.now walk.new) }
 {
     if walk.has(place) {
@@ -77,7 +78,7 @@ fn add_externals(of: &Reading, place: usize, walk: &mut Walk) -> Tried
     requires over { IsOver of.now walk.old }
     ensures order { OnOk result (walk.new.places.items ≡ added walk.old.places.items (externals of.now.kinds.items (linked (lists of.now.links.items) place))) }
     ensures emitted { walk.new.emitted ≡ walk.old.emitted }
-    ensures requests { OnOk result (Adds walk.old.requests.items (flat_map (name_at of.now.named.items) (externals of.now.kinds.items (linked (lists of.now.links.items) place))) walk.new.requests.items) }
+    ensures requests { OnOk result (Adds walk.old.requests.items (flat_map (requests_at of.now.named.items) (externals of.now.kinds.items (linked (lists of.now.links.items) place))) walk.new.requests.items) }
     ensures over { OnOk result (IsOver of.now walk.new) }
 {
     for operand in &of.links[place] {
@@ -94,7 +95,7 @@ fn add_all_externals(of: &Reading, range: Range<Expression>, walk: &mut Walk) ->
     requires over { IsOver of.now walk.old }
     ensures order { OnOk result (walk.new.places.items ≡ added walk.old.places.items (externals of.now.kinds.items (flat_map (linked (lists of.now.links.items)) (places range)))) }
     ensures emitted { walk.new.emitted ≡ walk.old.emitted }
-    ensures requests { OnOk result (Adds walk.old.requests.items (flat_map (name_at of.now.named.items) (externals of.now.kinds.items (flat_map (linked (lists of.now.links.items)) (places range)))) walk.new.requests.items) }
+    ensures requests { OnOk result (Adds walk.old.requests.items (flat_map (requests_at of.now.named.items) (externals of.now.kinds.items (flat_map (linked (lists of.now.links.items)) (places range)))) walk.new.requests.items) }
     ensures over { OnOk result (IsOver of.now walk.new) }
 {
     for place in range.start()..range.end() {
@@ -109,7 +110,7 @@ fn add_emitted(of: &Reading, range: Range<Expression>, walk: &mut Walk) -> Tried
     requires over { IsOver of.now walk.old }
     ensures order { OnOk result (walk.new.places.items ≡ added walk.old.places.items (brief of.now.kinds.items (lists of.now.links.items) (Token.Emitted range))) }
     ensures emitted { OnOk result (walk.new.emitted.items ≡ notes_of of.now.kinds.items (lists of.now.links.items) walk.old.places.items walk.old.emitted.items (Token.Emitted range)) }
-    ensures requests { OnOk result (Adds walk.old.requests.items (flat_map (name_at of.now.named.items) (brief of.now.kinds.items (lists of.now.links.items) (Token.Emitted range))) walk.new.requests.items) }
+    ensures requests { OnOk result (Adds walk.old.requests.items (flat_map (requests_at of.now.named.items) (brief of.now.kinds.items (lists of.now.links.items) (Token.Emitted range))) walk.new.requests.items) }
     ensures over { OnOk result (IsOver of.now walk.new) }
 {
     add_all_externals(of, range, walk)?;
@@ -171,10 +172,10 @@ fn request_types(function: &Function, requests: &mut Vec<Request>) -> Tried
 fn reach_locals(of: &Reading, locals: &[(LocalVariable, Span)], walk: &mut Walk) -> Tried
     requires there { All (λ h. h < length of.now.links.items) (initialisers_of locals.now) }
     requires over { IsOver of.now walk.old }
-    requires ready { IsReady (lists of.now.links.items) walk.old.places.items }
+    requires ready { IsReachOrder (lists of.now.links.items) walk.old.places.items }
     ensures order { OnOk result (walk.new.places.items ≡ added walk.old.places.items (flat_map (trail (lists of.now.links.items)) (initialisers_of locals.now))) }
     ensures emitted { walk.new.emitted ≡ walk.old.emitted }
-    ensures ready { OnOk result (IsReady (lists of.now.links.items) walk.new.places.items) }
+    ensures ready { OnOk result (IsReachOrder (lists of.now.links.items) walk.new.places.items) }
     ensures requests { OnOk result (Adds walk.old.requests.items (flat_map (local_names of.now.named.items (lists of.now.links.items)) locals.now) walk.new.requests.items) }
     ensures over { OnOk result (IsOver of.now walk.new) }
 {

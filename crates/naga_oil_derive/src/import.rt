@@ -1,3 +1,4 @@
+//! Functions that are copied with those that they call.
 ghost use Rattle.std.specs.Prelude.{◌≡◌, ◌∷◌, [], Some, IsSome, All, OnOk, IfOk};
 ghost use Rattle.naga_oil_ir.specs.ModuleValue.{function_value};
 ghost use Rattle.naga_oil_derive.specs.Callees.{known_as, callee_at};

@@ -16,7 +16,6 @@ pub mod localized;
 pub mod maps;
 mod order;
 pub mod redirect;
-pub mod redirect_error;
 pub mod renamed_items;
 pub mod renaming;
 pub mod same;
@@ -37,8 +36,7 @@ use naga_oil_ir::links::{is_marked, no_marks};
 use naga_oil_ir::names::named_item;
 use naga_oil_ir::*;
 use order::ordered;
-pub use redirect::Redirector;
-pub use redirect_error::RedirectError;
+pub use redirect::{RedirectError, Redirector};
 use renamed_items::Name;
 pub use renamed_items::{
     copied_name, renamed_constant, renamed_global, renamed_override, renamed_type,

@@ -1,3 +1,4 @@
+//! A function, copied with its expressions in the order of a walk.
 ghost use Rattle.std.specs.Prelude.{◌≡◌, ◌<◌, ◌-◌, length, OnOk, IfOk, slice_get, [], map, option_map, string_bytes};
 ghost use Rattle.std.specs.Option.{option_flatten};
 ghost use Rattle.naga_oil_ir.specs.Parts.{parts};

@@ -1,3 +1,4 @@
+//! Where the items of a source went.
 ghost use Rattle.std.specs.Prelude.{◌≡◌, ℕ, List, replicate, is_some, slice_get, IfOk, None};
 ghost use Rattle.std.specs.Option.{option_flatten};
 ghost use Rattle.naga_oil_derive.specs.World.{moved};

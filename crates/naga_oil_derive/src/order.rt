@@ -7,7 +7,7 @@ ghost use Rattle.naga_oil_derive.specs.Level.{StayWithin, above, known, levels, 
 ghost use Rattle.naga_oil_ir.specs.Body.{block_tokens};
 ghost use Rattle.naga_oil_derive.specs.Ordered.{callee_of, callees_of, calls_of, names_at, ordered};
 ghost use Rattle.naga_oil_derive.specs.Redirected.{function_values};
-ghost use Rattle.naga_oil_derive.specs.RedirectFault.{Gives};
+ghost use Rattle.naga_oil_ir.specs.RedirectFault.{Gives};
 
 use super::*;
 

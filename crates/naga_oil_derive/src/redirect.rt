@@ -5,7 +5,7 @@ ghost use Rattle.std.specs.BTreeSet.{contains_text};
 ghost use Rattle.std.specs.Cmp.Lexicographic.{pointwise};
 ghost use Rattle.naga_oil_ir.specs.ModuleValue.{module_value, function_value, entry_value};
 ghost use Rattle.naga_oil_derive.specs.Redirectable.{Redirectable};
-ghost use Rattle.naga_oil_derive.specs.RedirectFault.{Gives};
+ghost use Rattle.naga_oil_ir.specs.RedirectFault.{Gives};
 ghost use Rattle.naga_oil_derive.specs.Level.{HasCycle};
 ghost use Rattle.naga_oil_derive.specs.Ordered.{calls_of, ordered};
 ghost use Rattle.naga_oil_derive.specs.World.{value_of};
@@ -14,6 +14,7 @@ ghost use Rattle.naga_oil_derive.specs.PutInOrder.{IsImportedInTurn, IsInOrder, 
 ghost use Rattle.naga_oil_derive.specs.Redirected.{function_values, is_named, same_results, found, matched, send_at, send_entry, redirected};
 
 use super::*;
+pub use naga_oil_ir::RedirectError;
 
 /// The handles of a function and its replacement.
 pub type Pair = (Handle<Function>, Handle<Function>);

@@ -1,3 +1,4 @@
+//! Items, made anew with their handles renamed.
 ghost use Rattle.std.specs.Prelude.{◌≡◌, Some, IfOk, map, option_map, string_bytes};
 ghost use Rattle.naga_oil_ir.specs.Rows.{Text, inner_row, type_row, constant_row, override_row, global_row, size_plain, size_name, member_label, member_type};
 ghost use Rattle.naga_oil_derive.specs.Renames.{rename_row, rename_place};

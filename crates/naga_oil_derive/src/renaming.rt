@@ -1,3 +1,4 @@
+//! Expressions and bodies, made anew with their handles renamed.
 ghost use Rattle.std.specs.Prelude.{◌≡◌, ℕ, IfOk, map, option_map};
 ghost use Rattle.naga_oil_ir.specs.Parts.{parts, level_code, level_x, level_y, query_code, query_level};
 ghost use Rattle.naga_oil_ir.specs.Body.{used, given, given_by, block_tokens, statement_tokens, case_tokens, ray_query_tokens};
@@ -223,8 +224,8 @@ fn renamed_statement<R: Renaming>(names: &R, statement: &Statement, alloc: Globa
         Statement::Break => Statement::Break;
         Statement::Continue => Statement::Continue;
         Statement::Kill => Statement::Kill;
-        Statement::Call { function, arguments, result } => Statement::Call {
-            function: names.function(*function),
+        Statement::Call { callee, arguments, result } => Statement::Call {
+            callee: names.function(*callee),
             arguments: renamed_list(names, arguments, alloc)?, result: renamed_option(names, *result),
         };
         Statement::RayQuery { query, fun } =>

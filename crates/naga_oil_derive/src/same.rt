@@ -1,3 +1,4 @@
+//! Whether items read alike.
 ghost use Rattle.std.specs.Prelude.{◌≡◌, ◌↔◌, IsTrue};
 ghost use Rattle.naga_oil_ir.specs.Parts.{parts};
 ghost use Rattle.naga_oil_ir.specs.Rows.{type_row, constant_row, override_row, global_row};

@@ -48,9 +48,9 @@ fn send_statement(statement: &mut Statement, from: Callee, to: Callee)
     ensures { statement_tokens statement.new ≡ rename_tokens (sent from to) (statement_tokens statement.old) }
 {
     match mem::replace(statement, Statement::Break) {
-        Statement::Call { mut function, arguments, result } => {
-            send_callee(&mut function, from, to);
-            *statement = Statement::Call { function, arguments, result };
+        Statement::Call { mut callee, arguments, result } => {
+            send_callee(&mut callee, from, to);
+            *statement = Statement::Call { callee, arguments, result };
         }
         Statement::Block(mut block) => {
             send_block(&mut block, from, to);

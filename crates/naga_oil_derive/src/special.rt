@@ -1,3 +1,4 @@
+//! Special types: what they are for, and which stand for those of a source.
 ghost use Rattle.std.specs.Prelude.{◌≡◌, ◌<◌, ◌++◌, ℕ, length, take, All, Option, Some, None, OnOk, OnErr, IfOk};
 ghost use Rattle.naga_oil_ir.specs.ModuleValue.{special_value};
 ghost use Rattle.naga_oil_derive.specs.World.{special_entry, special_entries, special_at as special_at_key, with_special, with_specials, HaveDistinctKeys};

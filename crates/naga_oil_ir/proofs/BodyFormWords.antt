@@ -1,7 +1,7 @@
 use Rattle.std.proofs.Common.{Option, ◌≡◌, ℕ, zero, suc, ◌+◌, ◌-◌, ◌<◌, ◌≤◌, Bool, true, ◌||◌, ◌==◌, List, [], ◌∷◌, ◌++◌, length, slice_set, All, ap, sym, ◌∙◌, subst, arith, length-set, append-nil, append_assoc}
 use Rattle.std.proofs.lemmas.List.Elements.{All-head, All-tail, All-nil, All-cons, All-weaker}
 use Rattle.naga_oil_ir.specs.Body.{Tokens}
-use Rattle.naga_oil_ir.specs.Links.{Links, linked, marked, has, AreMarks}
+use Rattle.naga_oil_ir.specs.Links.{Links, linked, is_marked, has, AreMarks}
 use Rattle.naga_oil_ir.specs.BodyForm.{run, places, made, is_external, is_known, known_by, AreEmitted, AreEmittedBy, marks_after, IsFine, IsFineBy, AreFine, AreFineBy}
 use Rattle.naga_oil_ir.specs.declared.tokens.Token.{Token}
 use Rattle.naga_oil_ir.specs.declared.tokens.Token.TheVariants.{Use, Give, GiveCall, Emitted}
@@ -12,7 +12,7 @@ use Rattle.naga_oil_ir.proofs.BodyFormLemmas.{length-marks_after}
 
 known_same : (ks : List ℕ) (ss gs : List Bool) (s d : List ℕ) → AreMarks ss s → AreMarks gs d → (h : ℕ) → known_by ks ss gs h ≡ is_known ks s d h
 known_same ks ss gs s d m n h =
-    ap (λ b. is_external ks h || (b || marked gs h)) (m h) ∙ ap (λ b. is_external ks h || (has s h || b)) (n h)
+    ap (λ b. is_external ks h || (b || is_marked gs h)) (m h) ∙ ap (λ b. is_external ks h || (has s h || b)) (n h)
 
 all_known : (ks : List ℕ) (ss gs : List Bool) (s d : List ℕ) → AreMarks ss s → AreMarks gs d → (xs : List ℕ) → (All (λ h. known_by ks ss gs h ≡ true) xs → All (λ h. is_known ks s d h ≡ true) xs) × (All (λ h. is_known ks s d h ≡ true) xs → All (λ h. known_by ks ss gs h ≡ true) xs)
 all_known ks ss gs s d m n xs =

@@ -6,7 +6,7 @@ use Rattle.std.proofs.lemmas.List.Elements.{All-nil, All-cons, All-weaker}
 use Rattle.std.proofs.lemmas.List.Folds.{list_any_none}
 use Rattle.std.proofs.lemmas.List.Concat.{flat_map-append}
 use Rattle.std.proofs.lemmas.Option.{slice_get_within, slice_get_read, same_Some}
-use Rattle.naga_oil_ir.specs.Links.{AtEach, lists, marked}
+use Rattle.naga_oil_ir.specs.Links.{AtEach, lists, is_marked}
 use Rattle.naga_oil_ir.proofs.LinkLemmas.{marked_past}
 use Rattle.naga_oil_ir.specs.Rows.{Row}
 use Rattle.naga_oil_ir.specs.ItemForm.{NamesThere, NamesWell, types_named, types_of, type_links}
@@ -93,11 +93,11 @@ pub well_same : {A : Type 0} (m : Module) (row : A → Row) (p q : ℕ → Bool)
 well_same m row p q e xs b d =
     decides_same b (λ a k x at. ((a k x at).0, sym (any_same p q e (types_named (row x))) ∙ (a k x at).1)) (λ a k x at. ((a k x at).0, any_same p q e (types_named (row x)) ∙ (a k x at).1)) d
 
-none_marked : (fs : List Bool) → fs ≡ [] → (xs : List ℕ) → list_any (marked fs) xs ≡ false
+none_marked : (fs : List Bool) → fs ≡ [] → (xs : List ℕ) → list_any (is_marked fs) xs ≡ false
 none_marked fs e [] = refl
-none_marked fs e (x ∷ xs) = let h = marked_past [] x (omega arith) in let t = none_marked fs e xs in let f = ap (λ gs. marked gs x) e in cc
+none_marked fs e (x ∷ xs) = let h = marked_past [] x (omega arith) in let t = none_marked fs e xs in let f = ap (λ gs. is_marked gs x) e in cc
 
 -- where nothing is marked, what is named need only be there
-pub well_there : {A : Type 0} (m : Module) (row : A → Row) (fs : List Bool) → fs ≡ [] → (xs : List A) (b : Bool) → Decides b (AtEach (λ x. NamesWell m (marked fs) (row x)) xs) → Decides b (AtEach (λ x. NamesThere m (row x)) xs)
+pub well_there : {A : Type 0} (m : Module) (row : A → Row) (fs : List Bool) → fs ≡ [] → (xs : List A) (b : Bool) → Decides b (AtEach (λ x. NamesWell m (is_marked fs) (row x)) xs) → Decides b (AtEach (λ x. NamesThere m (row x)) xs)
 well_there m row fs e xs b d =
     decides_same b (λ a k x at. (a k x at).0) (λ a k x at. (a k x at, none_marked fs e (types_named (row x)))) d

@@ -2,14 +2,14 @@ use Rattle.std.proofs.Common.{◌≡◌, Decides, ⊎_elim, ℕ, ◌+◌, ◌<�
 use Rattle.std.proofs.lemmas.List.Elements.{All-nil, All-cons, All-head, All-tail, All-map}
 use Rattle.std.proofs.lemmas.Bool.{cases_order}
 use Rattle.std.proofs.lemmas.Option.{slice_get_within, same_Some}
-use Rattle.naga_oil_ir.specs.Links.{marked, AreMarks}
+use Rattle.naga_oil_ir.specs.Links.{is_marked, AreMarks}
 use Rattle.naga_oil_ir.proofs.FormLemmas.{at_place, decides_same}
 use Rattle.naga_oil_ir.proofs.LinkLemmas.{All-has, All-from_has}
 
 -- ---- marks and the places that they stand for
 
 -- a test of each marked place tests the places of the list
-pub unmarked_decides : (fs : List Bool) (r : ℕ → Bool) (o : List ℕ) (b : Bool) → AreMarks fs o → Decides b ((k : ℕ) → marked fs k ≡ true → r k ≡ false) → Decides b (All (λ h. r h ≡ false) o)
+pub unmarked_decides : (fs : List Bool) (r : ℕ → Bool) (o : List ℕ) (b : Bool) → AreMarks fs o → Decides b ((k : ℕ) → is_marked fs k ≡ true → r k ≡ false) → Decides b (All (λ h. r h ≡ false) o)
 unmarked_decides fs r o b m d =
     decides_same b (λ f. All-from_has (λ k. r k ≡ false) o (λ k t. f k (m k ∙ t))) (λ a k t. All-has (λ h. r h ≡ false) o k a (sym (m k) ∙ t)) d
 

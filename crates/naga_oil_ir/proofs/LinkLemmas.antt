@@ -5,7 +5,7 @@ use Rattle.std.proofs.lemmas.List.Elements.{All-head, All-tail, All-nil, All-con
 use Rattle.std.proofs.lemmas.List.Folds.{list_any-append, list_any_more}
 use Rattle.std.proofs.lemmas.Option.{slice_get-map, slice_get_past, slice_get_read}
 use Rattle.std.proofs.Math.Bool.{or_assoc}
-use Rattle.naga_oil_ir.specs.Links.{Links, lists, linked, AreEarlier, reached, trail, has, added, started, marked, AreMarks, reaches}
+use Rattle.naga_oil_ir.specs.Links.{Links, lists, linked, AreEarlier, reach, trail, has, added, started, is_marked, AreMarks, reaches}
 
 -- ---- tests
 
@@ -101,29 +101,29 @@ slice_get-append_at (x ∷ xs) e = slice_get-append_at xs e
 
 -- ---- marks
 
-set_at : (fs : List Bool) (j k : ℕ) (b : Bool) → (j == k) ≡ b → j < length fs → marked (slice_set fs j true) k ≡ (marked fs k || b)
+set_at : (fs : List Bool) (j k : ℕ) (b : Bool) → (j == k) ≡ b → j < length fs → is_marked (slice_set fs j true) k ≡ (is_marked fs k || b)
 set_at fs j k true e h =
-    ap (λ i. marked (slice_set fs j true) i) (sym (eqb_eq j k e)) ∙ ap (λ o. unwrap_or o false) (slice_get-set_same fs j true h) ∙ sym (or_true (marked fs k))
+    ap (λ i. is_marked (slice_set fs j true) i) (sym (eqb_eq j k e)) ∙ ap (λ o. unwrap_or o false) (slice_get-set_same fs j true h) ∙ sym (or_true (is_marked fs k))
 set_at fs j k false e h =
-    ap (λ o. unwrap_or o false) (slice_get-set_other fs j k true (λ q. false≢true (sym e ∙ eq_eqb j k (sym q)))) ∙ sym (or_false (marked fs k))
+    ap (λ o. unwrap_or o false) (slice_get-set_other fs j k true (λ q. false≢true (sym e ∙ eq_eqb j k (sym q)))) ∙ sym (or_false (is_marked fs k))
 
-pub marked-set : (fs : List Bool) (j k : ℕ) → j < length fs → marked (slice_set fs j true) k ≡ (marked fs k || (j == k))
+pub marked-set : (fs : List Bool) (j k : ℕ) → j < length fs → is_marked (slice_set fs j true) k ≡ (is_marked fs k || (j == k))
 marked-set fs j k h = set_at fs j k (j == k) refl h
 
 -- one mark more
-pub mark_more : (old now : List Bool) (xs : List ℕ) (i : ℕ) → i < length xs → All (λ x. x < length old) xs → length now ≡ length old → ((k : ℕ) → marked now k ≡ (marked old k || has (take i xs) k)) → (k : ℕ) → marked (slice_set now (get_or xs i 0) true) k ≡ (marked old k || has (take (i + 1) xs) k)
+pub mark_more : (old now : List Bool) (xs : List ℕ) (i : ℕ) → i < length xs → All (λ x. x < length old) xs → length now ≡ length old → ((k : ℕ) → is_marked now k ≡ (is_marked old k || has (take i xs) k)) → (k : ℕ) → is_marked (slice_set now (get_or xs i 0) true) k ≡ (is_marked old k || has (take (i + 1) xs) k)
 mark_more old now xs i lt a e m k =
     let within : get_or xs i 0 < length old = a i 0 lt in
-    marked-set now (get_or xs i 0) k (omega arith) ∙ ap (λ b. b || (get_or xs i 0 == k)) (m k) ∙ or_assoc (marked old k) (has (take i xs) k) (get_or xs i 0 == k) ∙ ap (λ b. marked old k || b) (sym (list_any_more (λ y. y == k) xs i 0 lt))
+    marked-set now (get_or xs i 0) k (omega arith) ∙ ap (λ b. b || (get_or xs i 0 == k)) (m k) ∙ or_assoc (is_marked old k) (has (take i xs) k) (get_or xs i 0 == k) ∙ ap (λ b. is_marked old k || b) (sym (list_any_more (λ y. y == k) xs i 0 lt))
 
 -- no mark stands behind the last place
-pub marked_past : (fs : List Bool) (k : ℕ) → length fs ≤ k → marked fs k ≡ false
+pub marked_past : (fs : List Bool) (k : ℕ) → length fs ≤ k → is_marked fs k ≡ false
 marked_past fs k h = ap (λ o. unwrap_or o false) (slice_get_past fs k h)
 
-pub marked_within : (fs : List Bool) (k : ℕ) → marked fs k ≡ true → k < length fs
+pub marked_within : (fs : List Bool) (k : ℕ) → is_marked fs k ≡ true → k < length fs
 marked_within fs k h = ⊎_elim (λ l. l) (λ g. absurd (false≢true (sym (marked_past fs k g) ∙ h))) (cases_lt k (length fs))
 
-pub marked-none : (n k : ℕ) → marked (replicate n false) k ≡ false
+pub marked-none : (n k : ℕ) → is_marked (replicate n false) k ≡ false
 marked-none zero k = refl
 marked-none (suc n) zero = refl
 marked-none (suc n) (suc k) = marked-none n k
@@ -172,21 +172,21 @@ earlier_all vs p f h =
 
 -- ---- what is reached
 
-last_reached : (n : ℕ) (ls : Links) (k : ℕ) → 0 < n → has (reached n ls k) k ≡ true
+last_reached : (n : ℕ) (ls : Links) (k : ℕ) → 0 < n → has (reach n ls k) k ≡ true
 last_reached zero ls k h = absurd (omega arith)
-last_reached (suc n) ls k h = has-append (flat_map (reached n ls) (linked ls k)) (k ∷ []) k ∙ or_right (has (flat_map (reached n ls) (linked ls k)) k) (has (k ∷ []) k) (itself k)
+last_reached (suc n) ls k h = has-append (flat_map (reach n ls) (linked ls k)) (k ∷ []) k ∙ or_right (has (flat_map (reach n ls) (linked ls k)) k) (has (k ∷ []) k) (itself k)
 
 -- what a reached place names is reached
-pub reached-closed : (ls : Links) → AreEarlier ls → (n k p x : ℕ) → k < n → has (reached n ls k) p ≡ true → has (linked ls p) x ≡ true → has (reached n ls k) x ≡ true
+pub reached-closed : (ls : Links) → AreEarlier ls → (n k p x : ℕ) → k < n → has (reach n ls k) p ≡ true → has (linked ls p) x ≡ true → has (reach n ls k) x ≡ true
 reached-closed ls a zero k p x h i j = absurd (omega arith)
 reached-closed ls a (suc n) k p x h i j =
-    has-append (flat_map (reached n ls) (linked ls k)) (k ∷ []) x ∙ or_left (has (flat_map (reached n ls) (linked ls k)) x) (has (k ∷ []) x) (⊎_elim (λ e. let r = in_one (reached n ls) (linked ls k) p e in let b = named_below ls a k r.0 r.1 in in_all (reached n ls) (linked ls k) r.0 x r.1 (reached-closed ls a n r.0 p x (omega arith) r.2 j)) (λ e. let q : k ≡ p = only k p e in let m = subst (λ v. has (linked ls v) x ≡ true) (sym q) j in let b = named_below ls a k x m in in_all (reached n ls) (linked ls k) x x m (last_reached n ls x (omega arith))) (or_cases (has (flat_map (reached n ls) (linked ls k)) p) (has (k ∷ []) p) (sym (has-append (flat_map (reached n ls) (linked ls k)) (k ∷ []) p) ∙ i)))
+    has-append (flat_map (reach n ls) (linked ls k)) (k ∷ []) x ∙ or_left (has (flat_map (reach n ls) (linked ls k)) x) (has (k ∷ []) x) (⊎_elim (λ e. let r = in_one (reach n ls) (linked ls k) p e in let b = named_below ls a k r.0 r.1 in in_all (reach n ls) (linked ls k) r.0 x r.1 (reached-closed ls a n r.0 p x (omega arith) r.2 j)) (λ e. let q : k ≡ p = only k p e in let m = subst (λ v. has (linked ls v) x ≡ true) (sym q) j in let b = named_below ls a k x m in in_all (reach n ls) (linked ls k) x x m (last_reached n ls x (omega arith))) (or_cases (has (flat_map (reach n ls) (linked ls k)) p) (has (k ∷ []) p) (sym (has-append (flat_map (reach n ls) (linked ls k)) (k ∷ []) p) ∙ i)))
 
 -- marks that spread along the links reach all that a marked place reaches
-reached-marked : (ls : Links) (fs : List Bool) → ((k x : ℕ) → marked fs k ≡ true → has (linked ls k) x ≡ true → marked fs x ≡ true) → (n r k : ℕ) → marked fs r ≡ true → has (reached n ls r) k ≡ true → marked fs k ≡ true
+reached-marked : (ls : Links) (fs : List Bool) → ((k x : ℕ) → is_marked fs k ≡ true → has (linked ls k) x ≡ true → is_marked fs x ≡ true) → (n r k : ℕ) → is_marked fs r ≡ true → has (reach n ls r) k ≡ true → is_marked fs k ≡ true
 reached-marked ls fs c zero r k h i = absurd (false≢true i)
 reached-marked ls fs c (suc n) r k h i =
-    ⊎_elim (λ e. let y = in_one (reached n ls) (linked ls r) k e in reached-marked ls fs c n y.0 k (c r y.0 h y.1) y.2) (λ e. subst (λ v. marked fs v ≡ true) (only r k e) h) (or_cases (has (flat_map (reached n ls) (linked ls r)) k) (has (r ∷ []) k) (sym (has-append (flat_map (reached n ls) (linked ls r)) (r ∷ []) k) ∙ i))
+    ⊎_elim (λ e. let y = in_one (reach n ls) (linked ls r) k e in reached-marked ls fs c n y.0 k (c r y.0 h y.1) y.2) (λ e. subst (λ v. is_marked fs v ≡ true) (only r k e) h) (or_cases (has (flat_map (reach n ls) (linked ls r)) k) (has (r ∷ []) k) (sym (has-append (flat_map (reach n ls) (linked ls r)) (r ∷ []) k) ∙ i))
 
 -- ---- what some places reach, each once
 
@@ -213,7 +213,7 @@ started-closed ls a rs p x h i =
     let r = in_one (trail ls) rs p (sym (has-started ls rs p) ∙ h) in
     has-started ls rs x ∙ in_all (trail ls) rs r.0 x r.1 (reached-closed ls a (suc r.0) r.0 p x (omega arith) r.2 i)
 
-started-marked : (ls : Links) (fs : List Bool) (rs : List ℕ) → ((k : ℕ) → has rs k ≡ true → marked fs k ≡ true) → ((k x : ℕ) → marked fs k ≡ true → has (linked ls k) x ≡ true → marked fs x ≡ true) → (k : ℕ) → has (started ls rs) k ≡ true → marked fs k ≡ true
+started-marked : (ls : Links) (fs : List Bool) (rs : List ℕ) → ((k : ℕ) → has rs k ≡ true → is_marked fs k ≡ true) → ((k x : ℕ) → is_marked fs k ≡ true → has (linked ls k) x ≡ true → is_marked fs x ≡ true) → (k : ℕ) → has (started ls rs) k ≡ true → is_marked fs k ≡ true
 unfolding trail
 started-marked ls fs rs f c k h =
     let r = in_one (trail ls) rs k (sym (has-started ls rs k) ∙ h) in
@@ -222,32 +222,32 @@ started-marked ls fs rs f c k h =
 -- ---- the marks as far as a walk from the last place on has come
 
 pub record IsSpread (ls : Links) (rs : List ℕ) (n i : ℕ) (fs : List Bool) : Type 0 where
-  pub sound : (k : ℕ) → marked fs k ≡ true → has (started ls rs) k ≡ true
-  pub roots : (k : ℕ) → has rs k ≡ true → marked fs k ≡ true
-  pub closed : (k x : ℕ) → n ≤ k + i → marked fs k ≡ true → has (linked ls k) x ≡ true → marked fs x ≡ true
+  pub sound : (k : ℕ) → is_marked fs k ≡ true → has (started ls rs) k ≡ true
+  pub roots : (k : ℕ) → has rs k ≡ true → is_marked fs k ≡ true
+  pub closed : (k x : ℕ) → n ≤ k + i → is_marked fs k ≡ true → has (linked ls k) x ≡ true → is_marked fs x ≡ true
 
-pub IsSpread-start : (vs : List (Vec ℕ Global)) (rs : List ℕ) (fs : List Bool) → ((k : ℕ) → marked fs k ≡ has rs k) → IsSpread (lists vs) rs (length vs) 0 fs
+pub IsSpread-start : (vs : List (Vec ℕ Global)) (rs : List ℕ) (fs : List Bool) → ((k : ℕ) → is_marked fs k ≡ has rs k) → IsSpread (lists vs) rs (length vs) 0 fs
 IsSpread-start vs rs fs m = record {
   sound = λ k h. root_started (lists vs) rs k (sym (m k) ∙ h);
   roots = λ k h. m k ∙ h;
   closed = λ k x h i j. absurd (false≢true (sym (ap (λ xs. has xs x) (linked_past vs k (omega arith))) ∙ j));
 }
 
-spread_closed : (ls : Links) → AreEarlier ls → (rs : List ℕ) (n i p : ℕ) (fs gs : List Bool) → IsSpread ls rs n i fs → p + 1 + i ≡ n → ((k : ℕ) → marked gs k ≡ (marked fs k || (marked fs p && has (linked ls p) k))) → (k x : ℕ) → n ≤ k + (i + 1) → marked gs k ≡ true → has (linked ls k) x ≡ true → marked gs x ≡ true
+spread_closed : (ls : Links) → AreEarlier ls → (rs : List ℕ) (n i p : ℕ) (fs gs : List Bool) → IsSpread ls rs n i fs → p + 1 + i ≡ n → ((k : ℕ) → is_marked gs k ≡ (is_marked fs k || (is_marked fs p && has (linked ls p) k))) → (k x : ℕ) → n ≤ k + (i + 1) → is_marked gs k ≡ true → has (linked ls k) x ≡ true → is_marked gs x ≡ true
 spread_closed ls a rs n i p fs gs s e m k x h j l =
-    let here : marked fs k ≡ true → marked gs x ≡ true = λ q. ⊎_elim (λ w. m x ∙ or_right (marked fs x) (marked fs p && has (linked ls p) x) (and_both (marked fs p) (has (linked ls p) x) (subst (λ v. marked fs v ≡ true) w q) (subst (λ v. has (linked ls v) x ≡ true) w l))) (λ w. m x ∙ or_left (marked fs x) (marked fs p && has (linked ls p) x) (s.closed k x (⊎_elim (λ u. omega arith) (λ u. omega arith) w) q l)) (cases_order k p) in
-    ⊎_elim here (λ q. let below = named_below ls a p k (both (marked fs p) (has (linked ls p) k) q).1 in absurd (omega arith)) (or_cases (marked fs k) (marked fs p && has (linked ls p) k) (sym (m k) ∙ j))
+    let here : is_marked fs k ≡ true → is_marked gs x ≡ true = λ q. ⊎_elim (λ w. m x ∙ or_right (is_marked fs x) (is_marked fs p && has (linked ls p) x) (and_both (is_marked fs p) (has (linked ls p) x) (subst (λ v. is_marked fs v ≡ true) w q) (subst (λ v. has (linked ls v) x ≡ true) w l))) (λ w. m x ∙ or_left (is_marked fs x) (is_marked fs p && has (linked ls p) x) (s.closed k x (⊎_elim (λ u. omega arith) (λ u. omega arith) w) q l)) (cases_order k p) in
+    ⊎_elim here (λ q. let below = named_below ls a p k (both (is_marked fs p) (has (linked ls p) k) q).1 in absurd (omega arith)) (or_cases (is_marked fs k) (is_marked fs p && has (linked ls p) k) (sym (m k) ∙ j))
 
-pub IsSpread-step : (ls : Links) → AreEarlier ls → (rs : List ℕ) (n i p : ℕ) (fs gs : List Bool) → IsSpread ls rs n i fs → p + 1 + i ≡ n → ((k : ℕ) → marked gs k ≡ (marked fs k || (marked fs p && has (linked ls p) k))) → IsSpread ls rs n (i + 1) gs
+pub IsSpread-step : (ls : Links) → AreEarlier ls → (rs : List ℕ) (n i p : ℕ) (fs gs : List Bool) → IsSpread ls rs n i fs → p + 1 + i ≡ n → ((k : ℕ) → is_marked gs k ≡ (is_marked fs k || (is_marked fs p && has (linked ls p) k))) → IsSpread ls rs n (i + 1) gs
 IsSpread-step ls a rs n i p fs gs s e m = record {
-  sound = λ k h. ⊎_elim (λ q. s.sound k q) (λ q. let w = both (marked fs p) (has (linked ls p) k) q in started-closed ls a rs p k (s.sound p w.0) w.1) (or_cases (marked fs k) (marked fs p && has (linked ls p) k) (sym (m k) ∙ h));
-  roots = λ k h. m k ∙ or_left (marked fs k) (marked fs p && has (linked ls p) k) (s.roots k h);
+  sound = λ k h. ⊎_elim (λ q. s.sound k q) (λ q. let w = both (is_marked fs p) (has (linked ls p) k) q in started-closed ls a rs p k (s.sound p w.0) w.1) (or_cases (is_marked fs k) (is_marked fs p && has (linked ls p) k) (sym (m k) ∙ h));
+  roots = λ k h. m k ∙ or_left (is_marked fs k) (is_marked fs p && has (linked ls p) k) (s.roots k h);
   closed = spread_closed ls a rs n i p fs gs s e m;
 }
 
 pub IsSpread-end : (ls : Links) (rs : List ℕ) (n : ℕ) (fs : List Bool) → IsSpread ls rs n n fs → AreMarks fs (started ls rs)
 IsSpread-end ls rs n fs s =
-    λ k. same_bool (marked fs k) (has (started ls rs) k) (s.sound k) (λ h. started-marked ls fs rs s.roots (λ j x. s.closed j x (omega arith)) k h)
+    λ k. same_bool (is_marked fs k) (has (started ls rs) k) (s.sound k) (λ h. started-marked ls fs rs s.roots (λ j x. s.closed j x (omega arith)) k h)
 
 -- ---- whether a place reaches a marked one
 
@@ -264,17 +264,17 @@ flat_map-same f g [] a = refl
 flat_map-same f g (x ∷ xs) a = let h : f x ≡ g x = All-head (λ y. f y ≡ g y) x xs a in let t = flat_map-same f g xs (All-tail (λ y. f y ≡ g y) x xs a) in cc
 
 -- any number that is more than the place gives the same
-pub reached-enough : (ls : Links) → AreEarlier ls → (n m k : ℕ) → k < n → k < m → reached n ls k ≡ reached m ls k
+pub reached-enough : (ls : Links) → AreEarlier ls → (n m k : ℕ) → k < n → k < m → reach n ls k ≡ reach m ls k
 reached-enough ls a zero m k h i = absurd (omega arith)
 reached-enough ls a (suc n) zero k h i = absurd (omega arith)
 reached-enough ls a (suc n) (suc m) k h i =
-    ap (λ xs. xs ++ k ∷ []) (flat_map-same (reached n ls) (reached m ls) (linked ls k) (All-weaker (λ x. x < k) (λ x. reached n ls x ≡ reached m ls x) (λ x l. reached-enough ls a n m x (omega arith) (omega arith)) (linked ls k) (a k)))
+    ap (λ xs. xs ++ k ∷ []) (flat_map-same (reach n ls) (reach m ls) (linked ls k) (All-weaker (λ x. x < k) (λ x. reach n ls x ≡ reach m ls x) (λ x l. reached-enough ls a n m x (omega arith) (omega arith)) (linked ls k) (a k)))
 
 -- what a place reaches, by what it names
 pub trail-step : (ls : Links) → AreEarlier ls → (k : ℕ) → trail ls k ≡ flat_map (trail ls) (linked ls k) ++ k ∷ []
 unfolding trail
 trail-step ls a k =
-    ap (λ xs. xs ++ k ∷ []) (flat_map-same (reached k ls) (trail ls) (linked ls k) (All-weaker (λ x. x < k) (λ x. reached k ls x ≡ trail ls x) (λ x l. reached-enough ls a k (suc x) x l (omega arith)) (linked ls k) (a k)))
+    ap (λ xs. xs ++ k ∷ []) (flat_map-same (reach k ls) (trail ls) (linked ls k) (All-weaker (λ x. x < k) (λ x. reach k ls x ≡ trail ls x) (λ x l. reached-enough ls a k (suc x) x l (omega arith)) (linked ls k) (a k)))
 
 or_turned : (a b : Bool) → (a || b) ≡ (b || (a || false))
 or_turned true true = refl
@@ -282,36 +282,36 @@ or_turned true false = refl
 or_turned false true = refl
 or_turned false false = refl
 
-pub reaches-step : (ls : Links) → AreEarlier ls → (fs gs : List Bool) (k : ℕ) → ((x : ℕ) → x < k → marked gs x ≡ reaches ls fs x) → (marked fs k || list_any (marked gs) (linked ls k)) ≡ reaches ls fs k
+pub reaches-step : (ls : Links) → AreEarlier ls → (fs gs : List Bool) (k : ℕ) → ((x : ℕ) → x < k → is_marked gs x ≡ reaches ls fs x) → (is_marked fs k || list_any (is_marked gs) (linked ls k)) ≡ reaches ls fs k
 reaches-step ls a fs gs k m =
-    or_turned (marked fs k) (list_any (marked gs) (linked ls k)) ∙ ap (λ b. b || (marked fs k || false)) (list_any-same (marked gs) (reaches ls fs) (linked ls k) (All-weaker (λ x. x < k) (λ x. marked gs x ≡ reaches ls fs x) m (linked ls k) (a k)) ∙ sym (list_any-flat_map (marked fs) (trail ls) (linked ls k))) ∙ sym (list_any-append (marked fs) (flat_map (trail ls) (linked ls k)) (k ∷ [])) ∙ ap (list_any (marked fs)) (sym (trail-step ls a k))
+    or_turned (is_marked fs k) (list_any (is_marked gs) (linked ls k)) ∙ ap (λ b. b || (is_marked fs k || false)) (list_any-same (is_marked gs) (reaches ls fs) (linked ls k) (All-weaker (λ x. x < k) (λ x. is_marked gs x ≡ reaches ls fs x) m (linked ls k) (a k)) ∙ sym (list_any-flat_map (is_marked fs) (trail ls) (linked ls k))) ∙ sym (list_any-append (is_marked fs) (flat_map (trail ls) (linked ls k)) (k ∷ [])) ∙ ap (list_any (is_marked fs)) (sym (trail-step ls a k))
 
-marked-push_at : (gs : List Bool) (b : Bool) (k : ℕ) → k ≡ length gs → marked (gs ++ b ∷ []) k ≡ b
-marked-push_at gs b k e = ap (λ i. marked (gs ++ b ∷ []) i) e ∙ ap (λ o. unwrap_or o false) (slice_get-append_at gs b)
+marked-push_at : (gs : List Bool) (b : Bool) (k : ℕ) → k ≡ length gs → is_marked (gs ++ b ∷ []) k ≡ b
+marked-push_at gs b k e = ap (λ i. is_marked (gs ++ b ∷ []) i) e ∙ ap (λ o. unwrap_or o false) (slice_get-append_at gs b)
 
 -- one place more
-pub reaches-push : (ls : Links) → AreEarlier ls → (fs gs : List Bool) (p : ℕ) (b : Bool) (xs : List ℕ) → length gs ≡ p → linked ls p ≡ xs → b ≡ (marked fs p || list_any (marked gs) xs) → ((x : ℕ) → x < p → marked gs x ≡ reaches ls fs x) → (k : ℕ) → k < p + 1 → marked (gs ++ b ∷ []) k ≡ reaches ls fs k
+pub reaches-push : (ls : Links) → AreEarlier ls → (fs gs : List Bool) (p : ℕ) (b : Bool) (xs : List ℕ) → length gs ≡ p → linked ls p ≡ xs → b ≡ (is_marked fs p || list_any (is_marked gs) xs) → ((x : ℕ) → x < p → is_marked gs x ≡ reaches ls fs x) → (k : ℕ) → k < p + 1 → is_marked (gs ++ b ∷ []) k ≡ reaches ls fs k
 reaches-push ls a fs gs p b xs long named is m k h =
-    ⊎_elim (λ e. marked-push_at gs b k (omega arith) ∙ is ∙ ap (λ ys. marked fs p || list_any (marked gs) ys) (sym named) ∙ reaches-step ls a fs gs p m ∙ ap (reaches ls fs) (sym e)) (⊎_elim (λ l. ap (λ o. unwrap_or o false) (slice_get-append_within gs (b ∷ []) k (omega arith)) ∙ m k l) (λ l. absurd (omega arith))) (cases_order k p)
+    ⊎_elim (λ e. marked-push_at gs b k (omega arith) ∙ is ∙ ap (λ ys. is_marked fs p || list_any (is_marked gs) ys) (sym named) ∙ reaches-step ls a fs gs p m ∙ ap (reaches ls fs) (sym e)) (⊎_elim (λ l. ap (λ o. unwrap_or o false) (slice_get-append_within gs (b ∷ []) k (omega arith)) ∙ m k l) (λ l. absurd (omega arith))) (cases_order k p)
 
 -- behind the last place nothing is reached but the place itself, which isn't marked
 pub reaches-past : (ls : Links) → AreEarlier ls → (fs : List Bool) → length fs ≤ length ls → (k : ℕ) → length ls ≤ k → reaches ls fs k ≡ false
 reaches-past ls a fs h k g =
-    ap (list_any (marked fs)) (trail-step ls a k ∙ ap (λ o. flat_map (trail ls) (unwrap_or o []) ++ k ∷ []) (slice_get_past ls k g)) ∙ or_false (marked fs k) ∙ marked_past fs k (omega arith)
+    ap (list_any (is_marked fs)) (trail-step ls a k ∙ ap (λ o. flat_map (trail ls) (unwrap_or o []) ++ k ∷ []) (slice_get_past ls k g)) ∙ or_false (is_marked fs k) ∙ marked_past fs k (omega arith)
 
 -- what a place names, where links were made element by element
 pub linked-map : {A : Type 0} (f : A → List ℕ) (xs : List A) (k : ℕ) (x : A) → slice_get xs k ≡ Some x → linked (map f xs) k ≡ f x
 linked-map f xs k x h = ap (λ o. unwrap_or o []) (slice_get-map f xs k ∙ ap (option_map f) h)
 
-pub marked-map : {A : Type 0} (f : A → Bool) (xs : List A) (k : ℕ) (x : A) → slice_get xs k ≡ Some x → marked (map f xs) k ≡ f x
+pub marked-map : {A : Type 0} (f : A → Bool) (xs : List A) (k : ℕ) (x : A) → slice_get xs k ≡ Some x → is_marked (map f xs) k ≡ f x
 marked-map f xs k x h = ap (λ o. unwrap_or o false) (slice_get-map f xs k ∙ ap (option_map f) h)
 
 -- what holds of each marked place holds of all that is reached
-pub reached_each : (ls : Links) (rs : List ℕ) (fs : List Bool) (P : ℕ → Type 0) → AreMarks fs (started ls rs) → ((k : ℕ) → marked fs k ≡ true → P k) → All (λ k. All P (trail ls k)) rs
+pub reached_each : (ls : Links) (rs : List ℕ) (fs : List Bool) (P : ℕ → Type 0) → AreMarks fs (started ls rs) → ((k : ℕ) → is_marked fs k ≡ true → P k) → All (λ k. All P (trail ls k)) rs
 reached_each ls rs fs P m f =
     All-from_has (λ k. All P (trail ls k)) rs (λ r h. All-from_has P (trail ls r) (λ j i. f j (m j ∙ has-started ls rs j ∙ in_all (trail ls) rs r j h i)))
 
-pub each_reached : (ls : Links) (rs : List ℕ) (fs : List Bool) (P : ℕ → Type 0) → AreMarks fs (started ls rs) → All (λ k. All P (trail ls k)) rs → (k : ℕ) → marked fs k ≡ true → P k
+pub each_reached : (ls : Links) (rs : List ℕ) (fs : List Bool) (P : ℕ → Type 0) → AreMarks fs (started ls rs) → All (λ k. All P (trail ls k)) rs → (k : ℕ) → is_marked fs k ≡ true → P k
 each_reached ls rs fs P m a k h =
     let r = in_one (trail ls) rs k (sym (has-started ls rs k) ∙ sym (m k) ∙ h) in
     All-has P (trail ls r.0) k (All-has (λ i. All P (trail ls i)) rs r.0 a r.1) r.2

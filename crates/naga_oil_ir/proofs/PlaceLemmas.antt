@@ -1,7 +1,7 @@
 use Rattle.std.proofs.Common.{◌≡◌, ℕ, suc, ◌+◌, Bool, not, cond, List, [], ◌∷◌, ◌++◌, length, position, nat_lt, unwrap_or, Option, Some, None, refl, ap, sym, ◌∙◌, is_some, true≢false, if◌then◌else◌}
 use Rattle.std.specs.Map.{keys_of}
 use Rattle.std.specs.List.{position_or_len}
-use Rattle.naga_oil_ir.specs.Places.{place_of, fetched}
+use Rattle.naga_oil_ir.specs.Places.{place_of, with_element}
 
 -- to look among the entries for a key is to look among the keys
 first-keys : {K X : Type 0} (p : K → Bool) (es : List (K × X)) → position_or_len (λ e. p e.0) es ≡ position_or_len p (keys_of es)
@@ -22,11 +22,11 @@ place_of-found p xs i h = ap (λ o. unwrap_or o (length xs)) h
 pub place_of-absent : {A : Type 0} (p : A → Bool) (xs : List A) → position p xs ≡ None → place_of p xs ≡ length xs
 place_of-absent p xs h = ap (λ o. unwrap_or o (length xs)) h
 
-pub fetched-found : {A : Type 0} (p : A → Bool) (xs : List A) (x : A) (i : ℕ) → position p xs ≡ Some i → fetched p xs x ≡ xs
-fetched-found p xs x i h = ap (λ o. if is_some o then xs else xs ++ x ∷ []) h
+pub with_element-found : {A : Type 0} (p : A → Bool) (xs : List A) (x : A) (i : ℕ) → position p xs ≡ Some i → with_element p xs x ≡ xs
+with_element-found p xs x i h = ap (λ o. if is_some o then xs else xs ++ x ∷ []) h
 
-pub fetched-absent : {A : Type 0} (p : A → Bool) (xs : List A) (x : A) → position p xs ≡ None → fetched p xs x ≡ xs ++ x ∷ []
-fetched-absent p xs x h = ap (λ o. if is_some o then xs else xs ++ x ∷ []) h
+pub with_element-absent : {A : Type 0} (p : A → Bool) (xs : List A) (x : A) → position p xs ≡ None → with_element p xs x ≡ xs ++ x ∷ []
+with_element-absent p xs x h = ap (λ o. if is_some o then xs else xs ++ x ∷ []) h
 
 -- of two options that are there together, with one the other lacks
 pub none_both : {A B : Type 0} (r : Option A) (s : Option B) → is_some r ≡ is_some s → r ≡ None → s ≡ None

@@ -1,5 +1,5 @@
 -- What a front end answers.
-use Rattle.std.specs.Prelude.{◌≡◌, ℕ, List, map, Result, Ok, Err, String, string_bytes}
+use Rattle.std.specs.Prelude.{◌≡◌, ℕ, List, map, Result, Ok, Err, String, Vec, string_bytes}
 use Rattle.std.specs.declared.alloc.Global.{Global}
 use Rattle.naga_oil_ir.specs.ModuleValue.{ModuleValue}
 use Rattle.naga_oil_ir.specs.declared.backend.Capabilities.{Capabilities}
@@ -21,19 +21,25 @@ pub record FaultValue : Type 0 where
 abbrev pub labels : List (Span × String Global) → List (Span × List ℕ)
 labels spans = map (λ s. (s.0, string_bytes s.1)) spans
 
+-- a fault of these fields as plain data
+abbrev pub fault_value : String Global → Vec (Span × String Global) Global → Vec (String Global) Global → FaultValue
+fault_value message spans notes = record { message = string_bytes message; spans = labels spans.items; notes = map string_bytes notes.items }
+
+-- the faults of the three calls
 abbrev pub parse_fault : ParseFault → FaultValue
-parse_fault f = record { message = string_bytes f.message; spans = labels f.spans.items; notes = map string_bytes f.notes.items }
+parse_fault f = fault_value f.message f.spans f.notes
 
 abbrev pub write_fault : WriteFault → FaultValue
-write_fault f = record { message = string_bytes f.message; spans = labels f.spans.items; notes = map string_bytes f.notes.items }
+write_fault f = fault_value f.message f.spans f.notes
 
 abbrev pub valid_fault : ValidFault → FaultValue
-valid_fault f = record { message = string_bytes f.message; spans = labels f.spans.items; notes = map string_bytes f.notes.items }
+valid_fault f = fault_value f.message f.spans f.notes
 
 -- the bytes of a text
 abbrev pub text : String Global → List ℕ
 text s = string_bytes s
 
+-- an answer that holds nothing
 abbrev pub nothing : Unit {0} → Unit {0}
 nothing x = x
 

@@ -1,3 +1,4 @@
+-- A body as one list of tokens.
 use Rattle.std.specs.Prelude.{ℕ, List, [], ◌∷◌, ◌++◌, map, Option, Some, None}
 use Rattle.std.specs.List.{flat_map}
 use Rattle.naga_oil_ir.specs.declared.span.Span.{Span}

@@ -1,8 +1,9 @@
+-- Which bodies may stand: what their statements use, emit and give.
 use Rattle.std.specs.List.{flat_map}
 use Rattle.std.specs.Prelude.{option_to_list, length, ◌≡◌, ◌<◌, ◌≤◌, ◌-◌, ℕ, zero, suc, Bool, true, false, List, [], ◌∷◌, ◌++◌, map, slice_get, slice_set, Option, Some, None, All, nat_lt, ◌||◌, ◌&&◌}
 use Rattle.naga_oil_ir.specs.Parts.{parts}
 use Rattle.naga_oil_ir.specs.Body.{Tokens}
-use Rattle.naga_oil_ir.specs.Links.{Links, lists, linked, has, marked, started, AreEarlier}
+use Rattle.naga_oil_ir.specs.Links.{Links, lists, linked, has, is_marked, started, AreEarlier}
 use Rattle.naga_oil_ir.specs.declared.form.Reading.{Reading}
 use Rattle.naga_oil_ir.specs.declared.parts.Named.{Named}
 use Rattle.naga_oil_ir.specs.declared.parts.Named.TheVariants.{Nothing, TypeOf, ConstantAt, OverrideAt, GlobalAt, LocalAt, ArgumentAt, FunctionAt}
@@ -128,11 +129,11 @@ pub record IsReading (es : List (Expression × Span)) (r : Reading) : Type 0 whe
 
 -- an operand may be used
 abbrev pub known_by : List ℕ → List Bool → List Bool → ℕ → Bool
-known_by ks fs gs h = is_external ks h || (marked fs h || marked gs h)
+known_by ks fs gs h = is_external ks h || (is_marked fs h || is_marked gs h)
 
 -- a place that names xs may be emitted
 abbrev pub MayBeEmitted : List ℕ → List Bool → List Bool → List ℕ → ℕ → Type 0
-MayBeEmitted ks fs gs xs k = (is_external ks k ≡ false) × ((is_result ks k ≡ false) × ((marked gs k ≡ false) × All (λ h. known_by ks fs gs h ≡ true) xs))
+MayBeEmitted ks fs gs xs k = (is_external ks k ≡ false) × ((is_result ks k ≡ false) × ((is_marked gs k ≡ false) × All (λ h. known_by ks fs gs h ≡ true) xs))
 
 -- the marks once places are marked too
 abbrev pub marks_after : List Bool → List ℕ → List Bool
@@ -146,7 +147,7 @@ AreEmittedBy ks ls fs gs (k ∷ es) = MayBeEmitted ks fs gs (linked ls k) k × A
 
 -- a result may be given
 abbrev pub MayBeGivenBy : ℕ → List ℕ → List (Option ℕ) → List Bool → Option ℕ → ℕ → Type 0
-MayBeGivenBy n ks fs gs o h = (h < n) × ((is_result ks h ≡ true) × ((slice_get fs h ≡ Some o) × (marked gs h ≡ false)))
+MayBeGivenBy n ks fs gs o h = (h < n) × ((is_result ks h ≡ true) × ((slice_get fs h ≡ Some o) × (is_marked gs h ≡ false)))
 
 -- a part of a body may stand
 abbrev pub IsFineBy : ℕ → List ℕ → List (Option ℕ) → Links → List Bool → List Bool → Token → Type 0

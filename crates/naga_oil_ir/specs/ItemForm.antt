@@ -1,3 +1,4 @@
+-- Which items may stand: what they name, and the order and kinds of global expressions.
 use Rattle.std.specs.Prelude.{◌≡◌, ◌<◌, ◌⊎◌, ℕ, Bool, true, false, List, ◌++◌, length, map, slice_get, Option, Some, None, option_to_list, is_none, All, IfSome, nat_eq, ◌||◌}
 use Rattle.std.specs.List.{filter_map, list_any, IsDistinct}
 use Rattle.naga_oil_ir.specs.BodyForm.{kinds, operand_links}
@@ -81,6 +82,7 @@ pub record NamesForm (m : Module) : Type 0 where
 
 -- ---- global expressions
 
+-- the initialiser of a constant, and of an override
 abbrev pub init_of_constant : Option (Constant × Span) → Option ℕ
 init_of_constant None = None
 init_of_constant (Some e) = Some e.0.init
@@ -118,6 +120,7 @@ pub record ExpressionForm (m : Module) : Type 0 where
 abbrev pub special_types : SpecialTypes → List ℕ
 special_types s = option_to_list s.ray_desc ++ option_to_list s.ray_intersection ++ option_to_list s.ray_vertex_return ++ map (λ e. e.1) s.predeclared_types.entries
 
+-- a type has no name
 abbrev pub is_unnamed : Option TypeOfShader → Bool
 is_unnamed None = false
 is_unnamed (Some t) = is_none t.name

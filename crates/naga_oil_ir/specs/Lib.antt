@@ -10,3 +10,4 @@ pub mod NameForm
 pub mod WellFormed
 pub mod ModuleValue
 pub mod Backend
+pub mod RedirectFault

@@ -1,3 +1,4 @@
+-- What places name and reach.
 use Rattle.std.specs.Prelude.{ℕ, zero, suc, ◌<◌, ◌≡◌, List, [], ◌∷◌, ◌++◌, map, Vec, unwrap_or, slice_get, Some, Bool, false, ◌==◌, if◌then◌else◌, All}
 use Rattle.std.specs.Global.{Global}
 use Rattle.std.specs.List.{flat_map, list_any}
@@ -19,13 +20,15 @@ abbrev pub AreEarlier : Links → Type 0
 AreEarlier ls = (k : ℕ) → All (λ x. x < k) (linked ls k)
 
 -- what a place reaches, in order and with repeats, and last itself; n is more than the place
-abbrev pub reached : ℕ → Links → ℕ → List ℕ
-reached zero ls k = []
-reached (suc n) ls k = flat_map (reached n ls) (linked ls k) ++ k ∷ []
+abbrev pub reach : ℕ → Links → ℕ → List ℕ
+reach zero ls k = []
+reach (suc n) ls k = flat_map (reach n ls) (linked ls k) ++ k ∷ []
 
+-- what a place reaches
 unfoldable pub trail : Links → ℕ → List ℕ
-trail ls k = reached (suc k) ls k
+trail ls k = reach (suc k) ls k
 
+-- a place is in a list
 abbrev pub has : List ℕ → ℕ → Bool
 has o x = list_any (λ y. y == x) o
 
@@ -44,16 +47,16 @@ Each P [] = Unit {0}
 Each P (x ∷ xs) = P x × Each P xs
 
 -- whether a place is marked
-abbrev pub marked : List Bool → ℕ → Bool
-marked fs k = unwrap_or (slice_get fs k) false
+abbrev pub is_marked : List Bool → ℕ → Bool
+is_marked fs k = unwrap_or (slice_get fs k) false
 
 -- the marks are those of the places of a list
 abbrev pub AreMarks : List Bool → List ℕ → Type 0
-AreMarks fs o = (k : ℕ) → marked fs k ≡ has o k
+AreMarks fs o = (k : ℕ) → is_marked fs k ≡ has o k
 
 -- whether a place is, or reaches, a marked one
 abbrev pub reaches : Links → List Bool → ℕ → Bool
-reaches ls fs k = list_any (marked fs) (trail ls k)
+reaches ls fs k = list_any (is_marked fs) (trail ls k)
 
 -- each element, by its place
 abbrev pub AtEach : {A : Type 0} → (A → Type 0) → List A → Type 0

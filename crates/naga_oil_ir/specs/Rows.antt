@@ -1,3 +1,4 @@
+-- An item as one row: its kind, its label, its members and what it names.
 use Rattle.std.specs.Prelude.{ℕ, List, [], ◌∷◌, map, Option, Some, None, option_map, string_bytes}
 use Rattle.naga_oil_ir.specs.Parts.{parts, Parts}
 use Rattle.naga_oil_ir.specs.declared.parts.Named.{Named}

@@ -1,3 +1,4 @@
+-- Where in a text something stands.
 use Rattle.std.specs.Prelude.{ℕ, Option, Some, None, ◌==◌, ◌&&◌, if◌then◌else◌}
 use Rattle.std.specs.declared.ops.Range.{Range}
 use Rattle.naga_oil_ir.specs.declared.span.Span.{Span}

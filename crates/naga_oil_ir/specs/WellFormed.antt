@@ -1,3 +1,4 @@
+-- Which modules are well formed.
 use Rattle.std.specs.Prelude.{◌≡◌, ◌<◌, ℕ, List, length, slice_get, Option, Some, option_to_list, All, IfSome}
 use Rattle.std.specs.List.{flat_map}
 use Rattle.naga_oil_ir.specs.Body.{block_tokens}

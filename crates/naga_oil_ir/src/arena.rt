@@ -1,6 +1,8 @@
+// Arenas: items with spans, named by their places.
 ghost use Rattle.std.specs.Prelude.{◌≡◌, ℕ, ◌+◌, ◌<◌, ◌++◌, ◌∷◌, [], List, length, map, Option, IfOk, OnOk, OnErr, position, slice_get, option_map, option_copied, unwrap_or};
+ghost use Rattle.std.specs.List.{IsDistinct};
 ghost use Rattle.std.specs.Slice.Iter.{iter_rest};
-ghost use Rattle.naga_oil_ir.specs.Places.{place_of, fetched};
+ghost use Rattle.naga_oil_ir.specs.Places.{place_of, with_element};
 ghost use Rattle.naga_oil_ir.specs.Spans.{undefined};
 
 use super::{Handle, Index, Item, Span};
@@ -99,7 +101,7 @@ impl<T: Item> Arena<T> {
     where
         T: PartialEq + Drop,
         ensures place { IfOk result (λ h. h ≡ place_of (λ e. T.eq item e.0) self.old) }
-        ensures items { OnOk result (self.new ≡ fetched (λ e. T.eq item e.0) self.old (item, span)) }
+        ensures items { OnOk result (self.new ≡ with_element (λ e. T.eq item e.0) self.old (item, span)) }
         ensures err { OnErr result (self.new ≡ self.old) }
     {
         match position_of(self.as_slice(), &item) {
@@ -160,7 +162,8 @@ impl<T: Item + Eq + Hash> UniqueArena<T> {
 
     /// The items, in order.
     pub fn items(&self) -> &[T]
-        ensures { result.now ≡ map (λ e. e.0) self.now }
+        ensures items { result.now ≡ map (λ e. e.0) self.now }
+        ensures distinct { IsDistinct T.eq (map (λ e. e.0) self.now) }
     {
         self.0.keys().as_slice()
     }
@@ -177,7 +180,7 @@ impl<T: Item + Eq + Hash> UniqueArena<T> {
     where
         T: Drop,
         ensures place { IfOk result (λ h. h ≡ place_of (λ e. T.eq item e.0) self.old) }
-        ensures items { OnOk result (self.new ≡ fetched (λ e. T.eq item e.0) self.old (item, span)) }
+        ensures items { OnOk result (self.new ≡ with_element (λ e. T.eq item e.0) self.old (item, span)) }
         ensures err { OnErr result (self.new ≡ self.old) }
     {
         match self.0.get_index_of(&item) {

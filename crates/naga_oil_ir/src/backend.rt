@@ -1,3 +1,4 @@
+// What a front end answers: modules, texts, and why it gives none.
 ghost use Rattle.naga_oil_ir.specs.Backend.{FrontEnd, Answers, parse_fault, write_fault, valid_fault, text, nothing};
 ghost use Rattle.naga_oil_ir.specs.ModuleValue.{module_value};
 

@@ -1,5 +1,6 @@
+// The test of form of a body: what its statements may use, emit and give.
 ghost use Rattle.std.specs.Prelude.{[], IfOk, ◌≡◌, ◌↔◌, ◌<◌, ◌≤◌, ℕ, List, IsTrue, All, length, map, slice_get, slice_set, Some, None, true, false};
-ghost use Rattle.naga_oil_ir.specs.Links.{lists, marked, AreMarks};
+ghost use Rattle.naga_oil_ir.specs.Links.{lists, is_marked, AreMarks};
 ghost use Rattle.naga_oil_ir.specs.BodyForm.{callee, MayStand, known_by, MayBeEmitted, AreEmittedBy, marks_after, places, made, is_result, MayBeGivenBy, IsFineBy, AreFineBy, AreFine};
 
 use super::Token;
@@ -85,7 +86,7 @@ fn take_token(of: &Known<'_>, done: &mut Vec<bool>, token: Token) -> bool
 
 /// Whether no marked place is a result.
 fn no_result_is_marked(kinds: &[u64], marks: &[bool]) -> bool
-    ensures { IsTrue result ↔ ((k : ℕ) → marked marks.now k ≡ true → is_result kinds.now k ≡ false) }
+    ensures { IsTrue result ↔ ((k : ℕ) → is_marked marks.now k ≡ true → is_result kinds.now k ≡ false) }
 {
     let mut places = marks.iter().enumerate();
     places.all(|(place, mark)| !*mark || !is_result(kinds, place))

@@ -1,3 +1,4 @@
+// The expressions of functions and of a module.
 use super::types::{Constant, GlobalVariable, LocalVariable, Override, Type};
 use super::{Function, Handle, Item, kind};
 

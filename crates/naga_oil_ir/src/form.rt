@@ -1,3 +1,4 @@
+// What the tests of form share: what expressions name, by their kinds.
 ghost use Rattle.std.specs.Prelude.{◌≡◌, ◌↔◌, ◌<◌, ℕ, IsTrue, IfOk, IfSome, All, map, slice_get, option_to_list};
 ghost use Rattle.std.specs.List.{flat_map};
 ghost use Rattle.naga_oil_ir.specs.BodyForm.{IsSpanFine, IsTokenFine, IsReading, is_external, is_result, callee};

@@ -1,3 +1,4 @@
+// The test of form of functions and entry points.
 ghost use Rattle.std.specs.Prelude.{◌≡◌, ◌↔◌, ◌<◌, ℕ, IsTrue, IsSome, IfOk, IfSome, All, length, slice_get, Some};
 ghost use Rattle.naga_oil_ir.specs.Body.{block_tokens};
 ghost use Rattle.naga_oil_ir.specs.BodyForm.{MayStand, kinds, callees, named_of, operand_links};

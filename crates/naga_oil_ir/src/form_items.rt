@@ -1,7 +1,8 @@
+// The test of form of types, constants, overrides, globals and global expressions.
 ghost use Rattle.std.specs.Prelude.{◌≡◌, ◌↔◌, ◌<◌, ◌||◌, ℕ, Some, true, false, IsTrue, IfOk, IfSome, All, map, length, nat_eq};
 ghost use Rattle.std.specs.Option.{option_copied};
 ghost use Rattle.std.specs.List.{filter_map, list_any, IsDistinct};
-ghost use Rattle.naga_oil_ir.specs.Links.{lists, marked, reaches, AreEarlier, AreMarks, AtEach};
+ghost use Rattle.naga_oil_ir.specs.Links.{lists, is_marked, reaches, AreEarlier, AreMarks, AtEach};
 ghost use Rattle.naga_oil_ir.specs.Rows.{type_row, expression_row};
 ghost use Rattle.naga_oil_ir.specs.BodyForm.{IsSpanFine};
 ghost use Rattle.naga_oil_ir.specs.WellFormed.{SpanForm};
@@ -57,7 +58,7 @@ fn names_override(names: &[Option<ItemPlace>]) -> bool
 
 /// Whether all that items name is there, and none of it is a marked type.
 fn items_name_well<T: Names>(of: &Module, marks: &[bool], items: &[T], alloc: Global) -> Tested
-    ensures { IfOk result (λ b. IsTrue b ↔ AtEach (λ e. NamesWell of.now (marked marks.now) (T.row_of e)) items.now) }
+    ensures { IfOk result (λ b. IsTrue b ↔ AtEach (λ e. NamesWell of.now (is_marked marks.now) (T.row_of e)) items.now) }
 {
     for (place, item) in items.iter().enumerate() {
         let names = item.names(alloc)?;
@@ -71,7 +72,7 @@ fn items_name_well<T: Names>(of: &Module, marks: &[bool], items: &[T], alloc: Gl
 
 /// Whether all that the items name is there, and constants, overrides and global expressions name no sized type.
 fn all_items_name_well(of: &Module, sized: &[bool], alloc: Global) -> Tested
-    requires { (k : ℕ) → marked sized.now k ≡ is_sized of.now k }
+    requires { (k : ℕ) → is_marked sized.now k ≡ is_sized of.now k }
     ensures { IfOk result (λ b. IsTrue b ↔ NamesForm of.now) }
 {
     let types = items_name_well(of, &[], of.types.items(), alloc)?;
@@ -98,7 +99,7 @@ fn type_links(types: &[Type], alloc: Global) -> Result<Vec<Vec<usize>>, AllocErr
 /// Marks the sized types.
 fn sized_types(types: &[Type], alloc: Global) -> Result<Vec<bool>, AllocError>
     requires { AreEarlier (type_links types.now) }
-    ensures { IfOk result (λ v. (k : ℕ) → marked v.items k ≡ reaches (type_links types.now) (pending types.now) k) }
+    ensures { IfOk result (λ v. (k : ℕ) → is_marked v.items k ≡ reaches (type_links types.now) (pending types.now) k) }
 {
     let mut sized = Vec::new(alloc);
     for ty in types {
@@ -187,7 +188,7 @@ fn is_plain(of: &Module, special: &[bool], place: usize) -> bool
 /// Whether marked types are unnamed or special.
 fn are_plain(of: &Module, special: &[bool], reached: &[bool]) -> bool
     requires { AreMarks special.now (special_types of.now.special_types) }
-    ensures { IsTrue result ↔ ((k : ℕ) → marked reached.now k ≡ true → is_plain of.now k ≡ true) }
+    ensures { IsTrue result ↔ ((k : ℕ) → is_marked reached.now k ≡ true → is_plain of.now k ≡ true) }
 {
     let mut marks = reached.iter().enumerate();
     marks.all(|(place, mark)| !*mark || is_plain(of, special, place))
@@ -202,7 +203,7 @@ fn special_types_are_fine(
 ) -> Tested
     requires links { lists links.now ≡ type_links (types_of of.now) }
     requires earlier { AreEarlier (lists links.now) }
-    requires sized { (k : ℕ) → marked sized.now k ≡ is_sized of.now k }
+    requires sized { (k : ℕ) → is_marked sized.now k ≡ is_sized of.now k }
     ensures { IfOk result (λ b. IsTrue b ↔ SpecialForm of.now) }
 {
     let places = special_types(&of.special_types, alloc)?;

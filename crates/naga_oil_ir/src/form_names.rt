@@ -2,30 +2,22 @@
 ghost use Rattle.std.specs.Prelude.{◌≡◌, ◌↔◌, IsTrue, IfOk, map, nat_eq, option_map, unwrap_or, string_bytes};
 ghost use Rattle.std.specs.List.{IsDistinct};
 ghost use Rattle.std.specs.Cmp.Lexicographic.{pointwise};
-ghost use Rattle.naga_oil_ir.specs.NameForm.{is_within, module_mark, decorated, function_name, entry_name, NameForm};
+ghost use Rattle.naga_oil_ir.specs.NameForm.{function_name, entry_name, NameForm};
+ghost use Rattle.naga_oil_marks.specs.Marks.{with_decoration};
 
 use super::form::Tested;
 use super::form_function::functions_are_named;
 use super::{Function, Module, Span};
+use naga_oil_marks::add_decoration;
 use std::alloc::{AllocError, Global};
 use std::collections::HashSet;
 
-/// What stands between an item and the code of its module.
-const MODULE_MARK: &str = "X_naga_oil_mod_X";
-
-fn has_module_mark(name: &str) -> bool
-    ensures { result ≡ is_within module_mark name.now }
-{
-    name.contains(MODULE_MARK)
-}
-
-fn decorated(name: &str, decoration: &str, alloc: Global) -> Result<String, AllocError>
-    ensures { IfOk result (λ s. string_bytes s ≡ decorated decoration.now name.now) }
+/// A name with a decoration, unless it has the mark of a module.
+fn with_decoration(name: &str, decoration: &str, alloc: Global) -> Result<String, AllocError>
+    ensures { IfOk result (λ s. string_bytes s ≡ with_decoration decoration.now name.now) }
 {
     let mut text = String::from_str(alloc, name)?;
-    if !has_module_mark(name) {
-        text.push_str(decoration)?;
-    }
+    add_decoration(&mut text, decoration)?;
     Ok(text)
 }
 
@@ -36,21 +28,21 @@ fn name_or<'a>(function: &'a Function, other: &'a str) -> &'a str
 }
 
 fn function_names(of: &Module, decoration: &str, alloc: Global) -> Result<Vec<String>, AllocError>
-    ensures { IfOk result (λ v. map string_bytes v.items ≡ map (λ e. decorated decoration.now (function_name e.0)) of.now.functions) }
+    ensures { IfOk result (λ v. map string_bytes v.items ≡ map (λ e. with_decoration decoration.now (function_name e.0)) of.now.functions) }
 {
     let mut names = Vec::new(alloc);
     for entry in of.functions.as_slice() {
-        names.push(decorated(name_or(&entry.0, ""), decoration, alloc)?)?;
+        names.push(with_decoration(name_or(&entry.0, ""), decoration, alloc)?)?;
     }
     Ok(names)
 }
 
 fn entry_names(of: &Module, decoration: &str, alloc: Global) -> Result<Vec<String>, AllocError>
-    ensures { IfOk result (λ v. map string_bytes v.items ≡ map (λ e. decorated decoration.now (entry_name e.function)) of.now.entry_points.items) }
+    ensures { IfOk result (λ v. map string_bytes v.items ≡ map (λ e. with_decoration decoration.now (entry_name e.function)) of.now.entry_points.items) }
 {
     let mut names = Vec::new(alloc);
     for entry in &of.entry_points {
-        names.push(decorated(name_or(&entry.function, "main"), decoration, alloc)?)?;
+        names.push(with_decoration(name_or(&entry.function, "main"), decoration, alloc)?)?;
     }
     Ok(names)
 }

@@ -1,3 +1,4 @@
+// Handles: the places of items in arenas, and ranges of places.
 ghost use Rattle.std.specs.Prelude.{◌≡◌, ◌+◌, ◌-◌, ◌≤◌, ◌↔◌, IsTrue, Option, None, Some};
 
 use std::marker::{Model, PhantomData};

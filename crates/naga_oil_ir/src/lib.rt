@@ -25,6 +25,7 @@ pub mod links;
 pub mod module;
 pub mod names;
 pub mod parts;
+pub mod redirect_error;
 pub mod span;
 pub mod statement;
 #[cfg(test)]
@@ -43,6 +44,7 @@ pub use module::{
 };
 pub use names::{ItemPlace, NameList, Names};
 pub use parts::{ExpressionParts, Named};
+pub use redirect_error::RedirectError;
 pub use span::Span;
 pub use statement::{Block, RayQueryFunction, Statement, SwitchCase};
 pub use tokens::{Token, push_block};

@@ -1,12 +1,13 @@
+// What places name and reach.
 ghost use Rattle.std.specs.Prelude.{[], ◌≡◌, ◌↔◌, ◌<◌, ◌||◌, ◌&&◌, ℕ, IsTrue, IfOk, All, length};
 ghost use Rattle.std.specs.List.{list_any};
-ghost use Rattle.naga_oil_ir.specs.Links.{lists, linked, AreEarlier, has, started, marked, AreMarks};
+ghost use Rattle.naga_oil_ir.specs.Links.{lists, linked, AreEarlier, has, started, is_marked, AreMarks};
 
 use std::alloc::{AllocError, Global};
 
 /// Whether a place is marked; behind the last mark none is.
 pub fn is_marked(marks: &[bool], place: usize) -> bool
-    ensures { result ≡ marked marks.now place }
+    ensures { result ≡ is_marked marks.now place }
 {
     marks.get(place).copied().unwrap_or(false)
 }
@@ -34,7 +35,7 @@ pub fn are_earlier(links: &[Vec<usize>]) -> bool
 fn mark_all(marks: &mut Vec<bool>, places: &[usize])
     requires { All (λ x. x < length marks.old.items) places.now }
     ensures long { length marks.new.items ≡ length marks.old.items }
-    ensures marked { (k : ℕ) → marked marks.new.items k ≡ (marked marks.old.items k || has places.now k) }
+    ensures marked { (k : ℕ) → is_marked marks.new.items k ≡ (is_marked marks.old.items k || has places.now k) }
 {
     for place in places {
         marks[*place] = true;
@@ -83,7 +84,7 @@ pub fn reached_from(
 
 /// Whether one of some places is marked.
 pub fn any_marked(marks: &[bool], places: &[usize]) -> bool
-    ensures { result ≡ list_any (marked marks.now) places.now }
+    ensures { result ≡ list_any (is_marked marks.now) places.now }
 {
     places.iter().any(|place| is_marked(marks, *place))
 }

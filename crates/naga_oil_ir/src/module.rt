@@ -1,3 +1,4 @@
+// A module, its functions and its entry points.
 ghost use Rattle.std.specs.Prelude.{◌≡◌, [], None};
 
 use super::types::{Constant, GlobalVariable, LocalVariable, Override, Type};

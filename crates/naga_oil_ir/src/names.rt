@@ -1,3 +1,4 @@
+// What an item names, in the order of copying.
 ghost use Rattle.std.specs.Prelude.{◌≡◌, ◌∷◌, [], Some, IfOk, map, option_map};
 ghost use Rattle.naga_oil_ir.specs.Rows.{Row, size_name as size_name_of, member_type, named_place, type_row, constant_row, override_row, global_row, expression_row};
 

@@ -1,3 +1,4 @@
+// An expression as its kind, its data, what it names and its operands.
 ghost use Rattle.std.specs.Prelude.{◌≡◌, IfOk, length, map, Some};
 ghost use Rattle.naga_oil_ir.specs.Parts.{parts, ReadsAs, level_x, level_y};
 

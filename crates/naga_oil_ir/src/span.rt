@@ -1,3 +1,4 @@
+// Spans: where in a text something stands.
 ghost use Rattle.std.specs.Prelude.{◌≡◌, Option, option_map};
 ghost use Rattle.naga_oil_ir.specs.Spans.{undefined, bounds_of};
 

@@ -1,3 +1,4 @@
+// The statements of a body.
 use super::{Expression, Function, Handle, Operand, Range, Span};
 
 /// A list of statements with spans.
@@ -50,7 +51,7 @@ pub enum Statement {
         image: Operand, coordinate: Operand, array_index: Option<Operand>, fun: u64, compare: Option<Operand>, value: Operand,
     },
     WorkGroupUniformLoad { pointer: Operand, result: Operand },
-    Call { function: Handle<Function>, arguments: Vec<Operand>, result: Option<Operand> },
+    Call { callee: Handle<Function>, arguments: Vec<Operand>, result: Option<Operand> },
     RayQuery { query: Operand, fun: RayQueryFunction },
     SubgroupBallot { result: Operand, predicate: Option<Operand> },
     SubgroupGather { mode: u64, index: Option<Operand>, argument: Operand, result: Operand },

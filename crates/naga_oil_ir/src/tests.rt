@@ -1,3 +1,4 @@
+// Tests of arenas, spans and names.
 use super::*;
 use std::alloc::{AllocError, Global};
 

@@ -1,3 +1,4 @@
+// A body as one list of tokens.
 ghost use Rattle.std.specs.Prelude.{◌≡◌, ◌++◌, MatchResult, length, map, take};
 ghost use Rattle.naga_oil_ir.specs.Body.{block_tokens, statement_tokens, case_tokens, ray_query_tokens, inside, used, given, given_by};
 
@@ -149,10 +150,10 @@ fn push_statement(statement: &Statement, out: &mut Vec<Token>) -> Result<(), All
         Statement::ImageAtomic { image, coordinate, array_index, fun, compare, value } =>
             push!(out; Head(14), Plain(*fun), used(*compare), Use(*image), Use(*coordinate), used(*array_index), Use(*value)),
         Statement::WorkGroupUniformLoad { pointer, result } => push!(out; Head(15), Use(*pointer), Give(*result)),
-        Statement::Call { function, arguments, result } => {
-            push!(out; Head(16), Callee(*function))?;
+        Statement::Call { callee, arguments, result } => {
+            push!(out; Head(16), Callee(*callee))?;
             push_uses(arguments, out)?;
-            push!(out; given_by(*function, *result))
+            push!(out; given_by(*callee, *result))
         }
         Statement::RayQuery { query, fun } => {
             push!(out; Head(17), Use(*query))?;

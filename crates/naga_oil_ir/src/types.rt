@@ -1,3 +1,4 @@
+// Types, constants, overrides and variables.
 use super::{Expression, Handle, Item, kind};
 
 /// How many elements an array has.

@@ -15,7 +15,7 @@ use Rattle.naga_oil_lines.specs.Leaves.{Leaf, SyntaxFault, with_leaves}
 use Rattle.naga_oil_lines.specs.declared.parse_imports.Leaf as code
 use Rattle.naga_oil_lines.specs.declared.parse_imports.ImportFault.{ImportFault}
 use Rattle.naga_oil_lines.specs.declared.parse_imports.ImportFault.TheVariants.{Syntax, Memory}
-use Rattle.naga_oil_lines.specs.ImportView.{leaf_of, Refuses}
+use Rattle.naga_oil_lines.specs.ImportView.{leaf_of, RefusesImport}
 use Rattle.naga_oil_lines.specs.ImportReader.{without_path}
 
 abbrev pub Paths : Type 0
@@ -232,6 +232,6 @@ all_back before n es kept rest long none cut same =
     ∙ ap (λ ls. take n (with_leaves before (map leaf_of ls))) (nil_from_length rest none) ∙ take_all n before (omega arith)
 
 -- a refusal of a part of a reading is one of the whole
-pub refuses_by : {X Y : Type 0} (e : ImportFault) (x : Result X SyntaxFault) (y : Result Y SyntaxFault) → ((f : SyntaxFault) → x ≡ Err f → y ≡ Err f) → Refuses e x → Refuses e y
+pub refuses_by : {X Y : Type 0} (e : ImportFault) (x : Result X SyntaxFault) (y : Result Y SyntaxFault) → ((f : SyntaxFault) → x ≡ Err f → y ≡ Err f) → RefusesImport e x → RefusesImport e y
 refuses_by (Syntax text at) x y by h = by (text.now, at) h
 refuses_by Memory x y by h = tt

@@ -11,7 +11,8 @@ use Rattle.std.proofs.lemmas.List.{append_cancel_right}
 use Rattle.std.proofs.lemmas.List.Elements.{All-nil, All-cons, All-head, All-tail, All-append}
 use Rattle.std.proofs.lemmas.Slice.Eq.{bytes_eq-Decides}
 use Rattle.std.proofs.lemmas.Str.{IsUtf8-from_is_utf8, is_utf8-from_IsUtf8}
-use Rattle.naga_oil_lines.specs.Decorate.{bits, number, letter, letters, base32, value_of, bytes_of, decoded, module_mark, decorated_name}
+use Rattle.naga_oil_lines.specs.Decorate.{bits, number, letter, letters, base32, value_of, bytes_of, decoded, decorated_name}
+use Rattle.naga_oil_marks.specs.Marks.{module_mark}
 
 -- ---- the bits of letters
 abbrev AreBits : List ℕ → Type 0

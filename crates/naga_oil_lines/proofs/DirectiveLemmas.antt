@@ -14,7 +14,7 @@ use Rattle.naga_oil_lines.specs.declared.wgsl_directives.EnableDirective.{Enable
 use Rattle.naga_oil_lines.specs.declared.wgsl_directives.RequiresDirective.{RequiresDirective}
 use Rattle.naga_oil_lines.specs.declared.wgsl_directives.DiagnosticDirective.{DiagnosticDirective}
 use Rattle.naga_oil_lines.specs.Directives.{Diagnostic, Directives, enable_of, requires_of, diagnostic_of}
-use Rattle.naga_oil_lines.specs.DirectivesText.{with_name, in_order, named, names_line, diagnostic_line, with_empty_line, directive_lines, directives_text, SaysNothing}
+use Rattle.naga_oil_lines.specs.DirectivesText.{with_name, in_order, names_of, names_line, diagnostic_line, with_empty_line, directive_lines, directives_text, SaysNothing}
 use Rattle.naga_oil_lines.proofs.UsesLemmas.{texts_again}
 
 -- ---- copies
@@ -98,12 +98,12 @@ empty_line_some [] some = absurd (some refl)
 empty_line_some (c ∷ text) some = refl
 
 -- the lines one after another
-pub text_written : (d : Directives) (enabled required : List (List ℕ)) (none first second third text : List ℕ) → none ≡ [] → enabled ≡ in_order (named d.enables) → required ≡ in_order (named d.requires)
+pub text_written : (d : Directives) (enabled required : List (List ℕ)) (none first second third text : List ℕ) → none ≡ [] → enabled ≡ in_order (names_of d.enables) → required ≡ in_order (names_of d.requires)
     → first ≡ none ++ names_line (codes "enable") enabled → second ≡ first ++ names_line (codes "requires") required → third ≡ second ++ flat_map diagnostic_line d.diagnostics
     → text ≡ with_empty_line third → text ≡ directives_text d
 text_written d enabled required none first second third text z e r f s t l =
-    let one : first ≡ names_line (codes "enable") (in_order (named d.enables)) = f ∙ (λ i. z i ++ names_line (codes "enable") (e i)) in
-    let two : second ≡ names_line (codes "enable") (in_order (named d.enables)) ++ names_line (codes "requires") (in_order (named d.requires)) = s ∙ (λ i. one i ++ names_line (codes "requires") (r i)) in
+    let one : first ≡ names_line (codes "enable") (in_order (names_of d.enables)) = f ∙ (λ i. z i ++ names_line (codes "enable") (e i)) in
+    let two : second ≡ names_line (codes "enable") (in_order (names_of d.enables)) ++ names_line (codes "requires") (in_order (names_of d.requires)) = s ∙ (λ i. one i ++ names_line (codes "requires") (r i)) in
     l ∙ ap with_empty_line (t ∙ ap (λ x. x ++ flat_map diagnostic_line d.diagnostics) two)
 
 -- ---- where nothing is written
@@ -144,10 +144,10 @@ ended_none (c ∷ text) e = cc
 says_nothing : (d : Directives) → directives_text d ≡ [] → SaysNothing d
 says_nothing d e =
     let lines : directive_lines d ≡ [] = ended_none (directive_lines d) e in
-    let last = append_none (names_line (codes "enable") (in_order (named d.enables)) ++ names_line (codes "requires") (in_order (named d.requires))) (flat_map diagnostic_line d.diagnostics) lines in
-    let first = append_none (names_line (codes "enable") (in_order (named d.enables))) (names_line (codes "requires") (in_order (named d.requires))) last.0 in (
-      in_order-none (named d.enables) (line_none 101 (codes "nable") (in_order (named d.enables)) first.0),
-      in_order-none (named d.requires) (line_none 114 (codes "equires") (in_order (named d.requires)) first.1),
+    let last = append_none (names_line (codes "enable") (in_order (names_of d.enables)) ++ names_line (codes "requires") (in_order (names_of d.requires))) (flat_map diagnostic_line d.diagnostics) lines in
+    let first = append_none (names_line (codes "enable") (in_order (names_of d.enables))) (names_line (codes "requires") (in_order (names_of d.requires))) last.0 in (
+      in_order-none (names_of d.enables) (line_none 101 (codes "nable") (in_order (names_of d.enables)) first.0),
+      in_order-none (names_of d.requires) (line_none 114 (codes "equires") (in_order (names_of d.requires)) first.1),
       diagnostics_none d.diagnostics last.1,
     )
 

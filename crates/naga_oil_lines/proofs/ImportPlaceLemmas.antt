@@ -6,10 +6,11 @@ use Rattle.std.specs.Char.{len_utf8, is_whitespace, encode_utf8}
 use Rattle.std.specs.Str.{chars, encode_utf8_all, IsUtf8}
 use Rattle.std.proofs.lemmas.Str.{length-encode, encodes-chars}
 use Rattle.std.proofs.lemmas.List.Elements.{All-cons, All-nil, All-head, All-tail, All-drop, All-filter}
-use Rattle.naga_oil_lines.specs.Tokens.{Lexeme, identifier, other, whitespace, starts_identifier, more_in_token, lexeme_at, lexemes, is_whitespace_lexeme, shown}
-use Rattle.naga_oil_lines.specs.Leaves.{SyntaxFault, Alias, no_alias, as_name, lacking, alias_behind_as, alias_after, alias_len, Part, head, leaf, close, nothing, wrong, before_brace, unit_part, unit_len, key_of, place_of, at_semicolon, mark_part, parts, open_heads, Leaf, added, at_end, then_leaves, leaves_of, is_old_head, behind_hash, behind_import, line_leaves, import_leaves}
+use Rattle.naga_oil_lines.specs.Tokens.{Lexeme, identifier, other, whitespace, place_of, starts_identifier, more_in_token, lexeme_at, lexemes, is_whitespace_lexeme, emit}
+use Rattle.naga_oil_lines.specs.Leaves.{SyntaxFault, Alias, no_alias, as_name, lacking, alias_behind_as, alias_after, alias_len, Part, head, leaf, close, nothing, wrong, before_brace, unit_part, unit_len, key_of, at_semicolon, mark_part, parts, open_heads, Leaf, part_leaves, at_end, then_leaves, leaves_of, is_old_head, behind_hash, behind_import, line_leaves, import_leaves}
 
-abbrev Within : ℕ → Lexeme → Type 0
+-- the token begins at the place or before it
+abbrev pub Within : ℕ → Lexeme → Type 0
 Within end t = place_of t ≤ end
 
 placed_at : (at c : ℕ) (text : List ℕ) → place_of (lexeme_at at c text) ≡ at
@@ -20,7 +21,7 @@ placed_at at c text = go (starts_identifier c) (is_whitespace c)
     go false true = refl
     go false false = refl
 
-lexemes_within : (told at end : ℕ) (cs : List ℕ) → at + length (encode_utf8_all cs) ≤ end → All (Within end) (lexemes told at cs)
+pub lexemes_within : (told at end : ℕ) (cs : List ℕ) → at + length (encode_utf8_all cs) ≤ end → All (Within end) (lexemes told at cs)
 unfolding lexemes
 lexemes_within told at end [] h = All-nil (Within end)
 lexemes_within (suc told) at end (c ∷ cs) h = lexemes_within told (at + len_utf8 c) end cs (omega (arith, h, length-append (encode_utf8 c) (encode_utf8_all cs), length-encode c))
@@ -29,7 +30,7 @@ lexemes_within zero at end (c ∷ cs) h =
     (lexemes_within (more_in_token c cs) (at + len_utf8 c) end cs (omega (arith, h, length-append (encode_utf8 c) (encode_utf8_all cs), length-encode c)))
 
 -- the tokens of a text have their places in it
-tokens_within : (text : List ℕ) → IsUtf8 text → All (Within (length text)) (shown false (lexemes 0 0 (chars text)))
+tokens_within : (text : List ℕ) → IsUtf8 text → All (Within (length text)) (emit false (lexemes 0 0 (chars text)))
 tokens_within text u = All-filter (λ t. not (is_whitespace_lexeme t)) (Within (length text)) _ (lexemes_within 0 0 (length text) (chars text) (omega (arith, ap length (encodes-chars text u))))
 
 -- ---- parts
@@ -120,7 +121,7 @@ closed_within : (end at : ℕ) (heads : List (List ℕ)) → at ≤ end → (let
 closed_within end at [] p = p
 closed_within end at (h ∷ hs) p = tt
 
-added_within : (end : ℕ) (before : List Part) (p : Part) → FaultWithin end p → Answers end (added before p)
+added_within : (end : ℕ) (before : List Part) (p : Part) → FaultWithin end p → Answers end (part_leaves before p)
 added_within end before (head is_old text) h = tt
 added_within end before (leaf key name) h = tt
 added_within end before (close at) h = closed_within end at (open_heads before) h
@@ -138,7 +139,7 @@ leaves_within : (end : ℕ) (before ps : List Part) → All (FaultWithin end) ps
 unfolding leaves_of
 leaves_within end before [] h = end_within end before
 leaves_within end before (p ∷ ps) h =
-    then_within end (added before p) (leaves_of end (before ++ p ∷ []) ps) (added_within end before p (All-head (FaultWithin end) _ _ h)) (leaves_within end (before ++ p ∷ []) ps (All-tail (FaultWithin end) _ _ h))
+    then_within end (part_leaves before p) (leaves_of end (before ++ p ∷ []) ps) (added_within end before p (All-head (FaultWithin end) _ _ h)) (leaves_within end (before ++ p ∷ []) ps (All-tail (FaultWithin end) _ _ h))
 
 hash_within : (end : ℕ) (ts : List Lexeme) → All (Within end) ts → Answers end (behind_hash end ts) × ((rest : List Lexeme) → behind_hash end ts ≡ Ok rest → All (Within end) rest)
 hash_within end [] h = (omega arith, λ rest e. cc)
@@ -169,6 +170,6 @@ behind_within end (Err f) h k = h
 pub fault_within : (text : List ℕ) (f : SyntaxFault) → IsUtf8 text → import_leaves text ≡ Err f → f.1 ≤ length text
 unfolding line_leaves
 fault_within text f u e =
-    let ts : List Lexeme = shown false (lexemes 0 0 (chars text)) in
+    let ts : List Lexeme = emit false (lexemes 0 0 (chars text)) in
     let h = import_within (length text) ts (tokens_within text u) in
     subst (Answers (length text)) e (behind_within (length text) (behind_import (length text) ts) h.0 h.1)

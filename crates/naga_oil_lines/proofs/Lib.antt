@@ -1,9 +1,11 @@
 pub mod TextLemmas
 pub mod UsesLemmas
 pub mod SiteLemmas
+pub mod SitePlaceLemmas
 pub mod SettledLemmas
 pub mod SubstituteLemmas
 pub mod CoverLemmas
+pub mod CoverLengthLemmas
 pub mod LineLemmas
 pub mod CoveredLinesLemmas
 pub mod TokenLemmas
@@ -24,3 +26,4 @@ pub mod WritingLemmas
 pub mod WordLemmas
 pub mod PlainLemmas
 pub mod UndecorateLemmas
+pub mod MarkLemmas

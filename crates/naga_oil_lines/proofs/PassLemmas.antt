@@ -6,7 +6,7 @@ use Rattle.std.specs.List.{prefix_len}
 use Rattle.std.specs.Str.{IsUtf8, chars, encode_utf8_all}
 use Rattle.naga_oil_lines.specs.Declarations.{Declared}
 use Rattle.naga_oil_lines.specs.Sites.{Passes}
-use Rattle.naga_oil_lines.specs.Substituted.{keeps_next, written_token, site_at, sites_from, substituted_from}
+use Rattle.naga_oil_lines.specs.Substituted.{keeps_next, token_text, site_at, sites_from, substituted_from}
 use Rattle.naga_oil_lines.specs.Text.{BeginsWithChar}
 use Rattle.naga_oil_lines.specs.Tokens.{Lexeme, identifier, other, whitespace, starts_identifier, more_in_token, lexeme_at, lexemes}
 use Rattle.naga_oil_lines.proofs.TokenLemmas.{after, lexemes_first, lexemes_step, more_in_identifier, more_in_whitespace, more_in_other, lexeme_identifier, lexeme_whitespace, lexeme_other}
@@ -40,7 +40,7 @@ passes_more kept mid next text middle rest p q =
 -- a token that is not substituted
 token_passes : (kept next : Bool) (text front rest : List ℕ) (t : ℕ → Lexeme) → text ≡ front ++ rest → IsUtf8 rest
     → ((at : ℕ) → lexemes 0 at (chars text) ≡ t at ∷ lexemes 0 (at + length front) (chars rest)) → ((at : ℕ) → keeps_next (t at) ≡ next)
-    → ((declared : Declared) (at : ℕ) → written_token declared kept (t at) ≡ front) → ((offset at : ℕ) → site_at offset kept (t at) ≡ []) → Passes kept text next rest
+    → ((declared : Declared) (at : ℕ) → token_text declared kept (t at) ≡ front) → ((offset at : ℕ) → site_at offset kept (t at) ≡ []) → Passes kept text next rest
 token_passes kept next text front rest t whole u cut keeps writes none = record {
   front = front;
   whole = whole;

@@ -5,9 +5,9 @@ use Rattle.std.specs.List.{flat_map}
 use Rattle.std.specs.Str.{IsUtf8, chars, encode_utf8_all}
 use Rattle.std.specs.Str.Pattern.{LacksTextAt}
 use Rattle.std.proofs.lemmas.Grind.{flat_map-append}
-use Rattle.std.proofs.lemmas.List.{take-append-drop}
+use Rattle.std.proofs.lemmas.List.{take-append-drop, map-append}
 use Rattle.std.proofs.lemmas.Str.{encodes-append, encodes-chars}
-use Rattle.naga_oil_lines.specs.Substituted.{cut_at_first, mentions_of, mentioned, mentions_at, written, Site, first_ambiguous, keeps_next, site_at, sites_from, written_token, substituted_from}
+use Rattle.naga_oil_lines.specs.Substituted.{cut_at_first, mentions_of, mentions_in, mentions_at, path_text, Site, first_ambiguous, keeps_next, site_at, sites_from, usize_place, usize_site, usize_sites, token_text, substituted_from}
 use Rattle.naga_oil_lines.specs.Tokens.{Lexeme, identifier, starts_identifier, more_in_token, lexeme_at, lexemes}
 use Rattle.naga_oil_lines.proofs.SettledLemmas.{none_behind, settled_one, one_path, mentions_one}
 use Rattle.naga_oil_lines.proofs.SubstituteLemmas.{first_none}
@@ -31,13 +31,13 @@ back_uncut (a ∷ xs) ys e = back_uncut xs ys (tail_uncut a (xs ++ ys) e)
 -- ---- tokens that stand as they are
 pub record Plain (kept : Bool) (ts : List Lexeme) (text : List ℕ) : Type 0 where
   pub written : substituted_from [] kept ts ≡ text
-  pub unused : (offset : ℕ) → mentioned [] (sites_from offset kept ts) ≡ []
-  pub allowed : (allow : Bool) (offset : ℕ) → first_ambiguous [] allow (sites_from offset kept ts) ≡ None
+  pub unused : (offset : ℕ) → mentions_in [] (usize_sites (sites_from offset kept ts)) ≡ []
+  pub allowed : (allow : Bool) (offset : ℕ) → first_ambiguous [] allow (usize_sites (sites_from offset kept ts)) ≡ None
 
 record PlainToken (kept : Bool) (t : Lexeme) (text : List ℕ) : Type 0 where
-  written : written_token [] kept t ≡ text
-  unused : (offset : ℕ) → mentioned [] (site_at offset kept t) ≡ []
-  allowed : (allow : Bool) (offset : ℕ) → first_ambiguous [] allow (site_at offset kept t) ≡ None
+  written : token_text [] kept t ≡ text
+  unused : (offset : ℕ) → mentions_in [] (usize_sites (site_at offset kept t)) ≡ []
+  allowed : (allow : Bool) (offset : ℕ) → first_ambiguous [] allow (usize_sites (site_at offset kept t)) ≡ None
 
 plain_none : (kept : Bool) → Plain kept [] []
 plain_none kept = record { written = refl; unused = λ offset. refl; allowed = λ allow offset. refl }
@@ -46,19 +46,21 @@ plain_more : (kept : Bool) (t : Lexeme) (ts : List Lexeme) (front text : List �
 plain_more kept t ts front text one more = record {
   written = λ i. one.written i ++ more.written i;
   unused = λ offset.
-      flat_map-append (mentions_of []) (site_at offset kept t) (sites_from offset (keeps_next t) ts) ∙ (λ i. one.unused offset i ++ more.unused offset i);
+      ap (mentions_in []) (map-append usize_site (site_at offset kept t) (sites_from offset (keeps_next t) ts))
+      ∙ flat_map-append (mentions_of []) (usize_sites (site_at offset kept t)) (usize_sites (sites_from offset (keeps_next t) ts)) ∙ (λ i. one.unused offset i ++ more.unused offset i);
   allowed = λ allow offset.
-      (none_behind [] allow (site_at offset kept t) (sites_from offset (keeps_next t) ts) (one.allowed allow offset)).0 ∙ more.allowed allow offset;
+      ap (first_ambiguous [] allow) (map-append usize_site (site_at offset kept t) (sites_from offset (keeps_next t) ts))
+      ∙ (none_behind [] allow (usize_sites (site_at offset kept t)) (usize_sites (sites_from offset (keeps_next t) ts)) (one.allowed allow offset)).0 ∙ more.allowed allow offset;
 }
 
 plain_identifier : (kept : Bool) (at : ℕ) (text : List ℕ) → cut_at_first text ≡ None → PlainToken kept (identifier text at) text
 plain_identifier true at text e = record { written = refl; unused = λ offset. refl; allowed = λ allow offset. refl }
 plain_identifier false at text e =
     let own = own_without_cut [] text e refl in
-    let site : ℕ → Site = λ offset. record { name = text; place = offset + at } in
+    let site : ℕ → Site = λ offset. record { name = text; place = usize_place (offset + at) } in
     record {
-      written = ap (flat_map (written text)) own.paths ∙ append-nil (written text text) ∙ own.text;
-      unused = λ offset. mentions_one [] (site offset) (text ∷ []) own.paths ∙ append-nil (mentions_at (offset + at) text) ∙ own.unused (offset + at);
+      written = ap (flat_map (path_text text)) own.paths ∙ append-nil (path_text text text) ∙ own.text;
+      unused = λ offset. mentions_one [] (site offset) (text ∷ []) own.paths ∙ append-nil (mentions_at (usize_place (offset + at)) text) ∙ own.unused (usize_place (offset + at));
       allowed = λ allow offset. settled_one [] allow (site offset) (one_path [] allow (site offset) text own.paths);
     }
 

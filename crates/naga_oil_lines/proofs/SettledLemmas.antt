@@ -11,10 +11,10 @@ use Rattle.std.proofs.lemmas.List.{length-map}
 use Rattle.naga_oil_lines.specs.declared.substitute.SubstituteFault.{SubstituteFault}
 use Rattle.naga_oil_lines.specs.declared.substitute.SubstituteFault.TheVariants.{Ambiguous, Memory}
 use Rattle.naga_oil_lines.specs.Declarations.{Declared, paths_of}
-use Rattle.naga_oil_lines.specs.SubstituteFault.{Refuses}
-use Rattle.naga_oil_lines.specs.Substituted.{cut_at_first, first_part, behind_first, extended, all_extended, paths_or, paths_for, mentions_at, Mention, recorded, Site, mentions_of, mentioned, is_refused, first_ambiguous, before_ambiguous, BeginsUses}
+use Rattle.naga_oil_lines.specs.SubstituteFault.{RefusesUses}
+use Rattle.naga_oil_lines.specs.Substituted.{cut_at_first, first_part, behind_first, longer_path, longer_paths, paths_or, paths_for, mentions_at, Mention, with_mentions, Site, mentions_of, mentions_in, is_refused, first_ambiguous, before_ambiguous, BeginsUses}
 use Rattle.naga_oil_lines.specs.Uses.{Uses}
-use Rattle.naga_oil_lines.proofs.SiteLemmas.{recorded-append, begins_later}
+use Rattle.naga_oil_lines.proofs.SiteLemmas.{with_mentions-append, begins_later}
 
 -- ---- the paths of an identifier
 -- what the code's map holds at a key
@@ -32,7 +32,7 @@ paths_of_map key (e ∷ es) =
 
 -- the path of an identifier that is not declared
 abbrev pub own_path : List ℕ → List ℕ
-own_path name = extended (first_part name) (behind_first name)
+own_path name = longer_path (first_part name) (behind_first name)
 
 -- an identifier is its first part, `::` and what follows that
 abbrev pub Parts : List ℕ → Option (List ℕ × List ℕ) → Type 0
@@ -57,23 +57,23 @@ parts_of (a ∷ b ∷ more) = by (eqb a 58) (eqb b 58) refl refl (cut_at_first (
 pub own_whole : (name : List ℕ) → 0 < length (behind_first name) → name ≡ own_path name
 own_whole name h = by (cut_at_first name) (parts_of name) h
   where
-    by : (r : Option (List ℕ × List ℕ)) → Parts name r → 0 < length (option_map_or (λ p. p.1) r []) → name ≡ extended (option_map_or (λ p. p.0) r name) (option_map_or (λ p. p.1) r [])
+    by : (r : Option (List ℕ × List ℕ)) → Parts name r → 0 < length (option_map_or (λ p. p.1) r []) → name ≡ longer_path (option_map_or (λ p. p.0) r name) (option_map_or (λ p. p.1) r [])
     by None g k = absurd (omega (arith, k))
     by (Some (front, [])) g k = absurd (omega (arith, k))
     by (Some (front, c ∷ behind)) g k = g
 
 pub own_first : (name : List ℕ) → behind_first name ≡ [] → first_part name ≡ own_path name
-own_first name e = ap (extended (first_part name)) (sym e)
+own_first name e = ap (longer_path (first_part name)) (sym e)
 
 pub paths_for_own : (declared : Declared) (name : List ℕ) → paths_of declared (first_part name) ≡ [] → paths_for declared name ≡ own_path name ∷ []
 unfolding paths_for
-paths_for_own declared name e = ap (λ ps. all_extended (paths_or ps (first_part name)) (behind_first name)) e
+paths_for_own declared name e = ap (λ ps. longer_paths (paths_or ps (first_part name)) (behind_first name)) e
 
 pub paths_for_declared : (declared : Declared) (name : List ℕ) (paths : List (List ℕ)) → paths ≡ paths_of declared (first_part name) → 0 < length paths
-    → paths_for declared name ≡ all_extended paths (behind_first name)
+    → paths_for declared name ≡ longer_paths paths (behind_first name)
 unfolding paths_for
 paths_for_declared declared name [] e h = absurd (omega arith)
-paths_for_declared declared name (p ∷ ps) e h = ap (λ qs. all_extended (paths_or qs (first_part name)) (behind_first name)) (sym e)
+paths_for_declared declared name (p ∷ ps) e h = ap (λ qs. longer_paths (paths_or qs (first_part name)) (behind_first name)) (sym e)
 
 -- ---- one identifier
 pub one_path : (declared : Declared) (allowed : Bool) (s : Site) (path : List ℕ) → paths_for declared s.name ≡ path ∷ [] → is_refused declared allowed s ≡ false
@@ -84,24 +84,24 @@ one_path declared allowed s path e =
 pub refused_one : (declared : Declared) (allowed : Bool) (s : Site) → is_refused declared allowed s ≡ true → first_ambiguous declared allowed (s ∷ []) ≡ Some s.place
 refused_one declared allowed s e = ap (λ b. cond b (Some s.place) None) e
 
-pub refused_none : (declared : Declared) (allowed : Bool) (s : Site) → is_refused declared allowed s ≡ true → mentioned declared (before_ambiguous declared allowed (s ∷ [])) ≡ []
-refused_none declared allowed s e = ap (λ b. mentioned declared (cond b [] (s ∷ []))) e
+pub refused_none : (declared : Declared) (allowed : Bool) (s : Site) → is_refused declared allowed s ≡ true → mentions_in declared (before_ambiguous declared allowed (s ∷ [])) ≡ []
+refused_none declared allowed s e = ap (λ b. mentions_in declared (cond b [] (s ∷ []))) e
 
 pub settled_one : (declared : Declared) (allowed : Bool) (s : Site) → is_refused declared allowed s ≡ false → first_ambiguous declared allowed (s ∷ []) ≡ None
 settled_one declared allowed s e = ap (λ b. cond b (Some s.place) None) e
 
 -- want of memory at an identifier that is not refused
-pub memory_one : (declared : Declared) (allowed : Bool) (s : Site) (mentions : List Mention) (old new : Uses) → is_refused declared allowed s ≡ false → mentioned declared (s ∷ []) ≡ mentions
-    → BeginsUses mentions old new → Refuses declared allowed (s ∷ []) old new Memory
+pub memory_one : (declared : Declared) (allowed : Bool) (s : Site) (mentions : List Mention) (old new : Uses) → is_refused declared allowed s ≡ false → mentions_in declared (s ∷ []) ≡ mentions
+    → BeginsUses mentions old new → RefusesUses declared allowed (s ∷ []) old new Memory
 memory_one declared allowed s mentions old new e m b = record {
   done = b.done;
   left = b.left;
-  whole = b.whole ∙ sym m ∙ ap (λ x. mentioned declared (cond x [] (s ∷ []))) (sym e);
+  whole = b.whole ∙ sym m ∙ ap (λ x. mentions_in declared (cond x [] (s ∷ []))) (sym e);
   now = b.now;
 }
 
 -- the uses of one identifier are those of its paths
-pub mentions_one : (declared : Declared) (s : Site) (paths : List (List ℕ)) → paths_for declared s.name ≡ paths → mentioned declared (s ∷ []) ≡ flat_map (mentions_at s.place) paths
+pub mentions_one : (declared : Declared) (s : Site) (paths : List (List ℕ)) → paths_for declared s.name ≡ paths → mentions_in declared (s ∷ []) ≡ flat_map (mentions_at s.place) paths
 mentions_one declared s paths e = append-nil (mentions_of declared s) ∙ ap (flat_map (mentions_at s.place)) e
 
 -- ---- one after another
@@ -145,57 +145,57 @@ before_none declared allowed xs e =
 pub record Settled (declared : Declared) (allowed : Bool) (all : List Site) (old now : Uses) (left : List Site) : Type 0 where
   pub done : List Site
   pub none : first_ambiguous declared allowed done ≡ None
-  pub uses : now ≡ recorded old (mentioned declared done)
+  pub uses : now ≡ with_mentions old (mentions_in declared done)
   pub whole : done ++ left ≡ all
 
 pub settled_start : (declared : Declared) (allowed : Bool) (all : List Site) (old now : Uses) → now ≡ old → Settled declared allowed all old now all
 settled_start declared allowed all old now e = record { done = []; none = refl; uses = e; whole = refl }
 
 pub settled_more : (declared : Declared) (allowed : Bool) (all : List Site) (old mid new : Uses) (one rest : List Site) → Settled declared allowed all old mid (one ++ rest)
-    → first_ambiguous declared allowed one ≡ None → new ≡ recorded mid (mentioned declared one) → Settled declared allowed all old new rest
+    → first_ambiguous declared allowed one ≡ None → new ≡ with_mentions mid (mentions_in declared one) → Settled declared allowed all old new rest
 settled_more declared allowed all old mid new one rest s none now = record {
   done = s.done ++ one;
   none = (none_behind declared allowed s.done one s.none).0 ∙ none;
   uses =
-      now ∙ ap (λ u. recorded u (mentioned declared one)) s.uses ∙ sym (recorded-append old (mentioned declared s.done) (mentioned declared one))
-      ∙ ap (recorded old) (sym (flat_map-append (mentions_of declared) s.done one));
+      now ∙ ap (λ u. with_mentions u (mentions_in declared one)) s.uses ∙ sym (with_mentions-append old (mentions_in declared s.done) (mentions_in declared one))
+      ∙ ap (with_mentions old) (sym (flat_map-append (mentions_of declared) s.done one));
   whole = append_assoc s.done one rest ∙ s.whole;
 }
 
 pub settled_none : (declared : Declared) (allowed : Bool) (all : List Site) (old now : Uses) → Settled declared allowed all old now [] → first_ambiguous declared allowed all ≡ None
 settled_none declared allowed all old now s = ap (first_ambiguous declared allowed) (sym s.whole ∙ append-nil s.done) ∙ s.none
 
-pub settled_uses : (declared : Declared) (allowed : Bool) (all : List Site) (old now : Uses) → Settled declared allowed all old now [] → now ≡ recorded old (mentioned declared all)
-settled_uses declared allowed all old now s = s.uses ∙ ap (λ ss. recorded old (mentioned declared ss)) (sym (append-nil s.done) ∙ s.whole)
+pub settled_uses : (declared : Declared) (allowed : Bool) (all : List Site) (old now : Uses) → Settled declared allowed all old now [] → now ≡ with_mentions old (mentions_in declared all)
+settled_uses declared allowed all old now s = s.uses ∙ ap (λ ss. with_mentions old (mentions_in declared ss)) (sym (append-nil s.done) ∙ s.whole)
 
 -- a refusal at what comes next
 pub settled_refused : (declared : Declared) (allowed : Bool) (all : List Site) (old mid new : Uses) (one rest : List Site) (fault : SubstituteFault) → Settled declared allowed all old mid (one ++ rest)
-    → Refuses declared allowed one mid new fault → Refuses declared allowed all old new fault
+    → RefusesUses declared allowed one mid new fault → RefusesUses declared allowed all old new fault
 settled_refused declared allowed all old mid new one rest (Ambiguous place) s r =
     let first = some_first declared allowed one rest place r.0 in
     let behind = none_behind declared allowed s.done (one ++ rest) s.none in
     let before : before_ambiguous declared allowed all ≡ s.done ++ before_ambiguous declared allowed one =
     ap (before_ambiguous declared allowed) (sym s.whole) ∙ behind.1 ∙ ap (λ l. s.done ++ l) first.1 in (
       ap (first_ambiguous declared allowed) (sym s.whole) ∙ behind.0 ∙ first.0,
-      r.1 ∙ ap (λ u. recorded u (mentioned declared (before_ambiguous declared allowed one))) s.uses
-          ∙ sym (recorded-append old (mentioned declared s.done) (mentioned declared (before_ambiguous declared allowed one)))
-          ∙ ap (recorded old) (sym (flat_map-append (mentions_of declared) s.done (before_ambiguous declared allowed one)))
-          ∙ ap (λ ss. recorded old (mentioned declared ss)) (sym before),
+      r.1 ∙ ap (λ u. with_mentions u (mentions_in declared (before_ambiguous declared allowed one))) s.uses
+          ∙ sym (with_mentions-append old (mentions_in declared s.done) (mentions_in declared (before_ambiguous declared allowed one)))
+          ∙ ap (with_mentions old) (sym (flat_map-append (mentions_of declared) s.done (before_ambiguous declared allowed one)))
+          ∙ ap (λ ss. with_mentions old (mentions_in declared ss)) (sym before),
     )
 settled_refused declared allowed all old mid new one rest Memory s r =
     let behind = none_behind declared allowed s.done (one ++ rest) s.none in
     let more = before_more declared allowed one rest in
     let before : before_ambiguous declared allowed all ≡ s.done ++ (before_ambiguous declared allowed one ++ more.0) =
     ap (before_ambiguous declared allowed) (sym s.whole) ∙ behind.1 ∙ ap (λ l. s.done ++ l) more.1 in
-    begins_later (mentioned declared s.done) (mentioned declared (before_ambiguous declared allowed one)) (mentioned declared more.0) (mentioned declared (before_ambiguous declared allowed all)) old mid new s.uses
-    (ap (mentioned declared) before ∙ flat_map-append (mentions_of declared) s.done (before_ambiguous declared allowed one ++ more.0)
-    ∙ ap (λ l. mentioned declared s.done ++ l) (flat_map-append (mentions_of declared) (before_ambiguous declared allowed one) more.0)) r
+    begins_later (mentions_in declared s.done) (mentions_in declared (before_ambiguous declared allowed one)) (mentions_in declared more.0) (mentions_in declared (before_ambiguous declared allowed all)) old mid new s.uses
+    (ap (mentions_in declared) before ∙ flat_map-append (mentions_of declared) s.done (before_ambiguous declared allowed one ++ more.0)
+    ∙ ap (λ l. mentions_in declared s.done ++ l) (flat_map-append (mentions_of declared) (before_ambiguous declared allowed one) more.0)) r
 
 -- ---- a count of paths
-pub refused_is : (declared : Declared) (allowed : Bool) (s : Site) (xs : List (String Global)) (behind : List ℕ) → paths_for declared s.name ≡ all_extended (map string_bytes xs) behind
+pub refused_is : (declared : Declared) (allowed : Bool) (s : Site) (xs : List (String Global)) (behind : List ℕ) → paths_for declared s.name ≡ longer_paths (map string_bytes xs) behind
     → is_refused declared allowed s ≡ (not allowed && nat_lt 1 (length xs))
 refused_is declared allowed s xs behind e =
-    ap (λ n. not allowed && nat_lt 1 n) (ap length e ∙ length-map (map string_bytes xs) (λ path. extended path behind) ∙ length-map xs string_bytes)
+    ap (λ n. not allowed && nat_lt 1 n) (ap length e ∙ length-map (map string_bytes xs) (λ path. longer_path path behind) ∙ length-map xs string_bytes)
 
 -- a fault as the answer
 pub fault_answer : {T : Type 0} (r : Result T SubstituteFault) (P : SubstituteFault → Type 0) (fault : SubstituteFault) → IsErrAnd r (λ e. e ≡ fault) → P fault → IfErr r P

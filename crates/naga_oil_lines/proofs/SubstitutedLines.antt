@@ -14,11 +14,12 @@ use Rattle.naga_oil_lines.specs.declared.comment_strip_iter.CommentState.{Commen
 use Rattle.naga_oil_lines.specs.declared.comment_strip_iter.CommentState.TheVariants.{Code, Block, Quote}
 use Rattle.naga_oil_lines.specs.declared.comment_strip_iter.Mark.{Mark}
 use Rattle.naga_oil_lines.specs.declared.comment_strip_iter.Mark.TheVariants.{LineComment, Open, Close, DoubleQuote}
-use Rattle.naga_oil_lines.specs.Cover.{mark_at, spaces, deeper, shallower, past_quote, plain, Covered, behind, cover}
+use Rattle.naga_oil_lines.specs.Cover.{mark_at, spaces, deeper, shallower, past_quote, plain, Covered, with_front, cover}
 use Rattle.naga_oil_lines.specs.CoveredLines.{covered_lines}
 use Rattle.naga_oil_lines.specs.Declarations.{Declared, paths_of}
-use Rattle.naga_oil_lines.specs.Decorate.{letter, letters, bits, base32, module_mark, decorated_name}
-use Rattle.naga_oil_lines.specs.Substituted.{cut_at_first, module_and_item, first_part, behind_first, extended, paths_or, all_extended, paths_for, written_as, written, keeps_next, written_token, substituted_from, substituted}
+use Rattle.naga_oil_lines.specs.Decorate.{letter, letters, bits, base32, decorated_name}
+use Rattle.naga_oil_marks.specs.Marks.{module_mark}
+use Rattle.naga_oil_lines.specs.Substituted.{cut_at_first, module_and_item, first_part, behind_first, longer_path, paths_or, longer_paths, paths_for, path_text_by, path_text, keeps_next, token_text, substituted_from, substituted}
 use Rattle.naga_oil_lines.specs.Tokens.{Lexeme, identifier, other, whitespace, starts_identifier, more_in_token, lexeme_at, lexemes}
 
 abbrev is_end : ℕ → Bool
@@ -179,11 +180,11 @@ NoneInPaths paths = AllByRecursion None10 paths
 abbrev NoneInDeclared : Declared → Type 0
 NoneInDeclared declared = AllByRecursion (λ e. NoneInPaths e.1) declared
 
-in_extended : (path behind : List ℕ) → None10 path → None10 behind → None10 (extended path behind)
+in_extended : (path behind : List ℕ) → None10 path → None10 behind → None10 (longer_path path behind)
 in_extended path [] h k = h
 in_extended path (c ∷ behind) h k = both path (58 ∷ 58 ∷ c ∷ behind) h (refl, (refl, k))
 
-in_all_extended : (paths : List (List ℕ)) (behind : List ℕ) → NoneInPaths paths → None10 behind → NoneInPaths (all_extended paths behind)
+in_all_extended : (paths : List (List ℕ)) (behind : List ℕ) → NoneInPaths paths → None10 behind → NoneInPaths (longer_paths paths behind)
 in_all_extended [] behind h k = tt
 in_all_extended (path ∷ more) behind h k = (in_extended path behind h.0 k, in_all_extended more behind h.1 k)
 
@@ -201,19 +202,19 @@ in_paths_for declared name h k =
     in_all_extended _ (behind_first name) (in_paths_or (paths_of declared (first_part name)) (first_part name) (in_paths_of declared (first_part name) h) (in_first_part name k)) (in_behind_first name k)
 
 -- ---- what is written
-in_written_as : (name path : List ℕ) (o : Option (List ℕ × List ℕ)) → None10 name → None10 path → NoneInParts o → None10 (written_as name path o)
+in_written_as : (name path : List ℕ) (o : Option (List ℕ × List ℕ)) → None10 name → None10 path → NoneInParts o → None10 (path_text_by name path o)
 in_written_as name path (Some p) h k l = in_decorated p.0 p.1 l.1
 in_written_as name path None h k l = elim (list_any (λ b. eqb b 34) path) as (λ t. None10 (cond t name path)) [ true ↦ h | false ↦ k ]
 
-in_written : (name path : List ℕ) → None10 name → None10 path → None10 (written name path)
-unfolding written
+in_written : (name path : List ℕ) → None10 name → None10 path → None10 (path_text name path)
+unfolding path_text
 in_written name path h k = in_written_as name path (module_and_item path) h k (in_parts path k)
 
-in_all_written : (name : List ℕ) (paths : List (List ℕ)) → None10 name → NoneInPaths paths → None10 (flat_map (written name) paths)
+in_all_written : (name : List ℕ) (paths : List (List ℕ)) → None10 name → NoneInPaths paths → None10 (flat_map (path_text name) paths)
 in_all_written name [] h k = tt
-in_all_written name (path ∷ more) h k = both (written name path) _ (in_written name path h k.0) (in_all_written name more h k.1)
+in_all_written name (path ∷ more) h k = both (path_text name path) _ (in_written name path h k.0) (in_all_written name more h k.1)
 
-in_written_token : (declared : Declared) (kept : Bool) (t : Lexeme) → NoneInDeclared declared → NoneInLexeme t → None10 (written_token declared kept t)
+in_written_token : (declared : Declared) (kept : Bool) (t : Lexeme) → NoneInDeclared declared → NoneInLexeme t → None10 (token_text declared kept t)
 in_written_token declared true (identifier text at) h k = k
 in_written_token declared false (identifier text at) h k = in_all_written text (paths_for declared text) k (in_paths_for declared text h k)
 in_written_token declared kept (other c at) h k = in_character c k
@@ -222,7 +223,7 @@ in_written_token declared kept (whitespace text at) h k = k
 in_substituted : (declared : Declared) (kept : Bool) (tokens : List Lexeme) → NoneInDeclared declared → NoneInTokens tokens → None10 (substituted_from declared kept tokens)
 in_substituted declared kept [] h k = tt
 in_substituted declared kept (t ∷ more) h k =
-    both (written_token declared kept t) _ (in_written_token declared kept t h k.0) (in_substituted declared (keeps_next t) more h k.1)
+    both (token_text declared kept t) _ (in_written_token declared kept t h k.0) (in_substituted declared (keeps_next t) more h k.1)
 
 all_paths : (paths : List (List ℕ)) → AllByRecursion (λ path. count_by (λ b. eqb b 10) path ≡ 0) paths → NoneInPaths paths
 all_paths [] h = tt
@@ -284,15 +285,15 @@ in_plain Quote bs h = h
 
 -- the steps of `cover`, by the mark
 abbrev last_covered : CommentState → ℕ → Option Mark → Covered
-last_covered s a o = elim o [ None ↦ behind (plain s (a ∷ [])) ([], s) | Some m ↦ behind (a ∷ []) ([], past_quote s) ]
+last_covered s a o = elim o [ None ↦ with_front (plain s (a ∷ [])) ([], s) | Some m ↦ with_front (a ∷ []) ([], past_quote s) ]
 
 abbrev first_covered : CommentState → (a b : ℕ) → List ℕ → Option Mark → Covered
 first_covered s a b bs o = elim o [
-  | None ↦ behind (plain s (a ∷ [])) (cover s (b ∷ bs))
-  | Some LineComment ↦ behind (spaces (length (a ∷ b ∷ bs))) ([], s)
-  | Some Open ↦ behind (spaces 2) (cover (deeper s) bs)
-  | Some Close ↦ behind (spaces 2) (cover (shallower s) bs)
-  | Some DoubleQuote ↦ behind (a ∷ []) (cover (past_quote s) (b ∷ bs))
+  | None ↦ with_front (plain s (a ∷ [])) (cover s (b ∷ bs))
+  | Some LineComment ↦ with_front (spaces (length (a ∷ b ∷ bs))) ([], s)
+  | Some Open ↦ with_front (spaces 2) (cover (deeper s) bs)
+  | Some Close ↦ with_front (spaces 2) (cover (shallower s) bs)
+  | Some DoubleQuote ↦ with_front (a ∷ []) (cover (past_quote s) (b ∷ bs))
 ]
 
 in_last : (s : CommentState) (a : ℕ) → None10 (a ∷ []) → (o : Option Mark) → None10 ((last_covered s a o).0)

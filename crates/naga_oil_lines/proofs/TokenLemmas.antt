@@ -10,47 +10,47 @@ use Rattle.unicode_ident.specs.Ident.{is_xid_continue}
 use Rattle.naga_oil_lines.specs.Text.{BeginsWithChar}
 use Rattle.naga_oil_lines.specs.declared.tokenizer.Tokenizer.{Tokenizer}
 use Rattle.naga_oil_lines.specs.Tokenizer.{tokens_left}
-use Rattle.naga_oil_lines.specs.Tokens.{Lexeme, identifier, other, whitespace, starts_identifier, continued, more_in_token, lexeme_at, lexemes, is_whitespace_lexeme, shown}
+use Rattle.naga_oil_lines.specs.Tokens.{Lexeme, identifier, other, whitespace, starts_identifier, tail_len, more_in_token, lexeme_at, lexemes, is_whitespace_lexeme, emit}
 
 -- ---- an identifier
 abbrev pub after : Bool → List ℕ → List ℕ
-after quoted cs = drop (continued quoted cs) cs
+after quoted cs = drop (tail_len quoted cs) cs
 
 pub after-nil : (quoted : Bool) → after quoted [] ≡ []
-unfolding continued
+unfolding tail_len
 after-nil true = refl
 after-nil false = refl
 
 pub after_in_quote : (c : ℕ) (cs : List ℕ) → after true (c ∷ cs) ≡ after (not (eqb c 34)) cs
-unfolding continued
+unfolding tail_len
 after_in_quote c cs = refl
 
 pub after_quote : (c : ℕ) (cs : List ℕ) → c ≡ 34 → after false (c ∷ cs) ≡ after true cs
-unfolding continued
+unfolding tail_len
 after_quote c [] e = rw e
 after_quote c (d ∷ cs) e = rw e
 
 pub after_continue : (c : ℕ) (cs : List ℕ) → c ≢ 34 → is_xid_continue c ≡ true → after false (c ∷ cs) ≡ after false cs
-unfolding continued
+unfolding tail_len
 after_continue c [] n e = rw (ne_eqb c 34 n, e)
 after_continue c (d ∷ cs) n e = rw (ne_eqb c 34 n, e)
 
 pub after_colons : (c d : ℕ) (cs : List ℕ) → is_xid_continue c ≡ false → c ≡ 58 → d ≡ 58 → after false (c ∷ d ∷ cs) ≡ after false cs
-unfolding continued
+unfolding tail_len
 after_colons c d cs n e f = let n58 : is_xid_continue 58 ≡ false = subst (λ k. is_xid_continue k ≡ false) e n in rw (e, f, n58)
 
 pub after_stop : (c : ℕ) (cs : List ℕ) → c ≢ 34 → is_xid_continue c ≡ false → c ≢ 58 → after false (c ∷ cs) ≡ c ∷ cs
-unfolding continued
+unfolding tail_len
 after_stop c [] n e m = rw (ne_eqb c 34 n, e)
 after_stop c (d ∷ cs) n e m = rw (ne_eqb c 34 n, e, ne_eqb c 58 m)
 
 pub after_one_colon : (c d : ℕ) (cs : List ℕ) → c ≢ 34 → is_xid_continue c ≡ false → d ≢ 58 → after false (c ∷ d ∷ cs) ≡ c ∷ d ∷ cs
-unfolding continued
+unfolding tail_len
 after_one_colon c d cs n e m =
-    rw (ne_eqb c 34 n, e, ne_eqb d 58 m) (elim (eqb c 58) as (λ b. drop (cond (b && false) (suc (suc (continued false cs))) 0) (c ∷ d ∷ cs) ≡ c ∷ d ∷ cs) [ true ↦ refl | false ↦ refl ])
+    rw (ne_eqb c 34 n, e, ne_eqb d 58 m) (elim (eqb c 58) as (λ b. drop (cond (b && false) (suc (suc (tail_len false cs))) 0) (c ∷ d ∷ cs) ≡ c ∷ d ∷ cs) [ true ↦ refl | false ↦ refl ])
 
 pub after_last : (c : ℕ) → c ≢ 34 → is_xid_continue c ≡ false → after false (c ∷ []) ≡ c ∷ []
-unfolding continued
+unfolding tail_len
 after_last c n e = rw (ne_eqb c 34 n, e)
 
 pub suffix_more : (bs front rest enc more : List ℕ) → bs ≡ front ++ rest → rest ≡ enc ++ more → (f : List ℕ) × (bs ≡ f ++ more)
@@ -103,7 +103,7 @@ lexemes_first at c bs more text left first cut v rest =
 pub suffix_behind_char : (bs : List ℕ) (c : ℕ) (more front left : List ℕ) → BeginsWithChar bs c more → more ≡ front ++ left → (f : List ℕ) × (bs ≡ f ++ left)
 suffix_behind_char bs c more front left first e = (encode_utf8 c ++ front, first.bytes ∙ ap (λ l. encode_utf8 c ++ l) e ∙ sym (append_assoc (encode_utf8 c) front left))
 
-pub more_in_identifier : (c : ℕ) (cs : List ℕ) → starts_identifier c ≡ true → more_in_token c cs ≡ continued (eqb c 34) cs
+pub more_in_identifier : (c : ℕ) (cs : List ℕ) → starts_identifier c ≡ true → more_in_token c cs ≡ tail_len (eqb c 34) cs
 unfolding more_in_token
 more_in_identifier c cs e = rw e
 
@@ -116,7 +116,7 @@ unfolding more_in_token
 more_in_other c cs e f = rw (e, f)
 
 -- ---- what is shown
-shown_kept : (emit : Bool) (us : List Lexeme) (l : Lexeme) → is_whitespace_lexeme l ≡ false → shown emit (l ∷ us) ≡ l ∷ shown emit us
+shown_kept : (asked : Bool) (us : List Lexeme) (l : Lexeme) → is_whitespace_lexeme l ≡ false → emit asked (l ∷ us) ≡ l ∷ emit asked us
 shown_kept true us l e = refl
 shown_kept false us l e = rw e
 
@@ -132,10 +132,10 @@ lexeme_other at c text e f = rw (e, f)
 -- ---- a call of `next`: from s to t it takes the text off, which begins with the character c
 module _ (s t : Tokenizer) (c : ℕ) (more text left : List ℕ) (first : BeginsWithChar s.rest.now c more) (cut : s.rest.now ≡ text ++ left) (utf8 : IsUtf8 left)
     (rest : t.rest.now ≡ left) (place : t.at ≡ s.at + length text) (same : t.emit_whitespace ≡ s.emit_whitespace) where
-  first_lexeme : (l : Lexeme) → chars left ≡ drop (more_in_token c (chars more)) (chars more) → lexeme_at s.at c text ≡ l → tokens_left s ≡ shown s.emit_whitespace (l ∷ lexemes 0 t.at (chars t.rest.now))
+  first_lexeme : (l : Lexeme) → chars left ≡ drop (more_in_token c (chars more)) (chars more) → lexeme_at s.at c text ≡ l → tokens_left s ≡ emit s.emit_whitespace (l ∷ lexemes 0 t.at (chars t.rest.now))
   first_lexeme l e is =
-      ap (shown s.emit_whitespace) (lexemes_first s.at c s.rest.now more text left first cut utf8 e)
-      ∙ (λ i. shown s.emit_whitespace (is i ∷ lexemes 0 (sym place i) (chars (sym rest i))))
+      ap (emit s.emit_whitespace) (lexemes_first s.at c s.rest.now more text left first cut utf8 e)
+      ∙ (λ i. emit s.emit_whitespace (is i ∷ lexemes 0 (sym place i) (chars (sym rest i))))
 
   abbrev others : List Lexeme
   others = lexemes 0 t.at (chars t.rest.now)
@@ -143,15 +143,15 @@ module _ (s t : Tokenizer) (c : ℕ) (more text left : List ℕ) (first : Begins
   pub gives_identifier : starts_identifier c ≡ true → chars left ≡ after (eqb c 34) (chars more) → tokens_left s ≡ identifier text s.at ∷ tokens_left t
   gives_identifier starts e =
       first_lexeme (identifier text s.at) (rw (more_in_identifier c (chars more) starts) e) (lexeme_identifier s.at c text starts)
-      ∙ shown_kept s.emit_whitespace others (identifier text s.at) refl ∙ ap (λ b. identifier text s.at ∷ shown b others) (sym same)
+      ∙ shown_kept s.emit_whitespace others (identifier text s.at) refl ∙ ap (λ b. identifier text s.at ∷ emit b others) (sym same)
 
   pub gives_other : starts_identifier c ≡ false → is_whitespace c ≡ false → left ≡ more → tokens_left s ≡ other c s.at ∷ tokens_left t
   gives_other starts white e =
       first_lexeme (other c s.at) (rw (more_in_other c (chars more) starts white) (ap chars e)) (lexeme_other s.at c text starts white)
-      ∙ shown_kept s.emit_whitespace others (other c s.at) refl ∙ ap (λ b. other c s.at ∷ shown b others) (sym same)
+      ∙ shown_kept s.emit_whitespace others (other c s.at) refl ∙ ap (λ b. other c s.at ∷ emit b others) (sym same)
 
   module _ (starts : starts_identifier c ≡ false) (white : is_whitespace c ≡ true) (e : chars left ≡ drop (prefix_len is_whitespace (chars more)) (chars more)) where
-    all_whitespace : tokens_left s ≡ shown s.emit_whitespace (whitespace text s.at ∷ others)
+    all_whitespace : tokens_left s ≡ emit s.emit_whitespace (whitespace text s.at ∷ others)
     all_whitespace = first_lexeme (whitespace text s.at) (rw (more_in_whitespace c (chars more) starts white) e) (lexeme_whitespace s.at c text starts white)
 
     pub gives_whitespace : t.emit_whitespace ≡ true → tokens_left s ≡ whitespace text s.at ∷ tokens_left t
@@ -163,4 +163,4 @@ module _ (s t : Tokenizer) (c : ℕ) (more text left : List ℕ) (first : Begins
 pub none_left : (s : Tokenizer) → length s.rest.now ≡ 0 → tokens_left s ≡ []
 none_left s e =
     let none : chars s.rest.now ≡ [] = ap chars (nil_from_length s.rest.now e) ∙ chars-nil in
-    rw (none, lexemes-nil) (elim s.emit_whitespace as (λ b. shown b [] ≡ []) [ true ↦ refl | false ↦ refl ])
+    rw (none, lexemes-nil) (elim s.emit_whitespace as (λ b. emit b [] ≡ []) [ true ↦ refl | false ↦ refl ])

@@ -10,10 +10,11 @@ use Rattle.std.specs.Str.{IsUtf8, chars, encode_utf8_all}
 use Rattle.std.proofs.lemmas.Option.{some_pair_parts}
 use Rattle.std.proofs.lemmas.Str.{chars-append, encodes-chars}
 use Rattle.ucd_perl.specs.Perl.{is_word_char}
-use Rattle.naga_oil_lines.specs.Decorate.{module_mark, override_mark, decoded}
+use Rattle.naga_oil_lines.specs.Decorate.{decoded}
+use Rattle.naga_oil_marks.specs.Marks.{module_mark, override_mark}
 use Rattle.naga_oil_lines.specs.Text.{past_word}
 use Rattle.naga_oil_lines.proofs.TextLemmas.{past_word-some, chars_before}
-use Rattle.naga_oil_lines.specs.Undecorate.{is_code_char, from_last_x, marked, from_last_mark, split_at_mark, with_module, run_shown, with_modules, overriding, with_overrides}
+use Rattle.naga_oil_lines.specs.Undecorate.{is_code_char, from_last_x, mark_code, from_last_mark, split_at_mark, with_module, run_shown, with_modules, override_at, with_overrides}
 
 -- ---- a value that a later one stands before
 or_some : {A : Type 0} (o p : Option A) (x : A) → option_or (option_or o (Some x)) p ≡ option_or o (Some x)
@@ -70,21 +71,21 @@ unfolding chars
 spelled_x = refl
 
 module _ (mark text : List ℕ) where
-  pub no_mark : None ≡ past_word mark text → None ≡ marked mark text
-  unfolding marked
+  pub no_mark : None ≡ past_word mark text → None ≡ mark_code mark text
+  unfolding mark_code
   no_mark e = rw (← e) refl
 
-  pub no_code : (rest : List ℕ) → Some rest ≡ past_word mark text → None ≡ from_last_x rest → None ≡ marked mark text
-  unfolding marked
+  pub no_code : (rest : List ℕ) → Some rest ≡ past_word mark text → None ≡ from_last_x rest → None ≡ mark_code mark text
+  unfolding mark_code
   no_code rest e f = rw (← e, ← f) refl
 
-  pub no_end : (rest end : List ℕ) → Some rest ≡ past_word mark text → Some end ≡ from_last_x rest → None ≡ past_word (codes "X") end → None ≡ marked mark text
-  unfolding marked
+  pub no_end : (rest end : List ℕ) → Some rest ≡ past_word mark text → Some end ≡ from_last_x rest → None ≡ past_word (codes "X") end → None ≡ mark_code mark text
+  unfolding mark_code
   no_end rest end e f g = rw (← e, ← f, ← g) refl
 
   pub a_mark : (rest end behind code : List ℕ) → Some rest ≡ past_word mark text → Some end ≡ from_last_x rest → Some behind ≡ past_word (codes "X") end
-      → code ≡ encode_utf8_all (take (length rest - length end) rest) → (let found : Option (List ℕ × List ℕ) = Some (code, behind) in found ≡ marked mark text)
-  unfolding marked
+      → code ≡ encode_utf8_all (take (length rest - length end) rest) → (let found : Option (List ℕ × List ℕ) = Some (code, behind) in found ≡ mark_code mark text)
+  unfolding mark_code
   a_mark rest end behind code e f g h = rw (← e, ← f, ← g, h) refl
 
 -- ---- what follows a mark
@@ -100,9 +101,9 @@ from_last_x-suffix (c ∷ cs) end e = go (is_code_char c) (from_last_x cs) (eqb 
     go true None false more p e = cc
     go false o x more p e = cc
 
-marked-suffix : (mark cs code behind : List ℕ) → (let found : Option (List ℕ × List ℕ) = Some (code, behind) in marked mark cs ≡ found) → (front : List ℕ) × (cs ≡ mark ++ (front ++ behind))
-unfolding marked
-marked-suffix mark cs code behind e = go (past_word mark cs) refl e
+mark_code-suffix : (mark cs code behind : List ℕ) → (let found : Option (List ℕ × List ℕ) = Some (code, behind) in mark_code mark cs ≡ found) → (front : List ℕ) × (cs ≡ mark ++ (front ++ behind))
+unfolding mark_code
+mark_code-suffix mark cs code behind e = go (past_word mark cs) refl e
   where
     at_behind : (rest end : List ℕ) (o : Option (List ℕ)) → past_word mark cs ≡ Some rest → from_last_x rest ≡ Some end → past_word (codes "X") end ≡ o
         → (let found : Option (List ℕ × List ℕ) = Some (code, behind) in option_and_then (λ b. Some (encode_utf8_all (take (length rest - length end) rest), b)) o ≡ found) → (front : List ℕ) × (cs ≡ mark ++ (front ++ behind))
@@ -124,19 +125,19 @@ marked-suffix mark cs code behind e = go (past_word mark cs) refl e
     go None p e = cc
 
 -- behind the first character of a mark of an override
-behind_mark : (c : ℕ) (cs code behind : List ℕ) → (let found : Option (List ℕ × List ℕ) = Some (code, behind) in marked override_mark (c ∷ cs) ≡ found) → (front : List ℕ) × (cs ≡ front ++ behind)
+behind_mark : (c : ℕ) (cs code behind : List ℕ) → (let found : Option (List ℕ × List ℕ) = Some (code, behind) in mark_code override_mark (c ∷ cs) ≡ found) → (front : List ℕ) × (cs ≡ front ++ behind)
 behind_mark c cs code behind e =
-    let cut = marked-suffix override_mark (c ∷ cs) code behind e in
+    let cut = mark_code-suffix override_mark (c ∷ cs) code behind e in
     let tail : cs ≡ drop 1 override_mark ++ (cut.0 ++ behind) = ap (drop 1) cut.1 in
     (drop 1 override_mark ++ cut.0, tail ∙ sym (append_assoc (drop 1 override_mark) cut.0 behind))
 
 -- ---- the last mark
 module _ (all : List ℕ) (c : ℕ) (cs : List ℕ) (found : Option (List ℕ)) (first : all ≡ c ∷ cs) where
-  pub mark_here : is_some (marked module_mark cs) ≡ true → option_or (from_last_mark cs) (Some cs) ≡ option_or (from_last_mark all) found
+  pub mark_here : is_some (mark_code module_mark cs) ≡ true → option_or (from_last_mark cs) (Some cs) ≡ option_or (from_last_mark all) found
   unfolding from_last_mark
   mark_here h = rw (first, h) (sym (or_some (from_last_mark cs) found cs))
 
-  pub no_mark_here : is_some (marked module_mark cs) ≡ false → option_or (from_last_mark cs) found ≡ option_or (from_last_mark all) found
+  pub no_mark_here : is_some (mark_code module_mark cs) ≡ false → option_or (from_last_mark cs) found ≡ option_or (from_last_mark all) found
   unfolding from_last_mark
   no_mark_here h = rw (first, h) (sym (or_none (from_last_mark cs) found))
 
@@ -152,11 +153,11 @@ module _ (run : List ℕ) where
   unfolding split_at_mark
   no_split e = rw (← e) refl
 
-  pub no_split_behind : (at : List ℕ) → Some at ≡ from_last_mark run → None ≡ marked module_mark at → None ≡ split_at_mark run
+  pub no_split_behind : (at : List ℕ) → Some at ≡ from_last_mark run → None ≡ mark_code module_mark at → None ≡ split_at_mark run
   unfolding split_at_mark
   no_split_behind at e f = rw (← e, ← f) refl
 
-  pub a_split : (at before code behind : List ℕ) → Some at ≡ from_last_mark run → (let found : Option (List ℕ × List ℕ) = Some (code, behind) in found ≡ marked module_mark at)
+  pub a_split : (at before code behind : List ℕ) → Some at ≡ from_last_mark run → (let found : Option (List ℕ × List ℕ) = Some (code, behind) in found ≡ mark_code module_mark at)
       → before ≡ encode_utf8_all (take (length run - length at) run) → (let parts : Option (List ℕ × List ℕ × List ℕ) = Some (before, code, behind) in parts ≡ split_at_mark run)
   unfolding split_at_mark
   a_split at before code behind e f h = rw (← e, ← f, h) refl
@@ -193,21 +194,21 @@ abbrev shown_front : ℕ → List ℕ → Option (List ℕ × List ℕ) → List
 shown_front c cs (Some found) = codes "override fn " ++ found.0 ++ codes "::" ++ with_overrides (length cs - length found.1) cs
 shown_front c cs None = encode_utf8 c ++ with_overrides 0 cs
 
-at_front : (c : ℕ) (cs : List ℕ) (o : Option (List ℕ × List ℕ)) → overriding (c ∷ cs) ≡ o → with_overrides 0 (c ∷ cs) ≡ shown_front c cs o
+at_front : (c : ℕ) (cs : List ℕ) (o : Option (List ℕ × List ℕ)) → override_at (c ∷ cs) ≡ o → with_overrides 0 (c ∷ cs) ≡ shown_front c cs o
 unfolding with_overrides
 at_front c cs o e = ap (shown_front c cs) e
 
-overriding_none : (cs : List ℕ) → None ≡ marked override_mark cs → overriding cs ≡ None
-unfolding overriding
+overriding_none : (cs : List ℕ) → None ≡ mark_code override_mark cs → override_at cs ≡ None
+unfolding override_at
 overriding_none cs e = rw (← e) refl
 
-overriding_other : (cs code behind : List ℕ) → (let found : Option (List ℕ × List ℕ) = Some (code, behind) in found ≡ marked override_mark cs) → None ≡ decoded code → overriding cs ≡ None
-unfolding overriding
+overriding_other : (cs code behind : List ℕ) → (let found : Option (List ℕ × List ℕ) = Some (code, behind) in found ≡ mark_code override_mark cs) → None ≡ decoded code → override_at cs ≡ None
+unfolding override_at
 overriding_other cs code behind e f = rw (← e, ← f) refl
 
-overriding_some : (cs code behind module_name : List ℕ) → (let found : Option (List ℕ × List ℕ) = Some (code, behind) in found ≡ marked override_mark cs) → Some module_name ≡ decoded code
-    → (let told : Option (List ℕ × List ℕ) = Some (module_name, behind) in overriding cs ≡ told)
-unfolding overriding
+pub overriding_some : (cs code behind module_name : List ℕ) → (let found : Option (List ℕ × List ℕ) = Some (code, behind) in found ≡ mark_code override_mark cs) → Some module_name ≡ decoded code
+    → (let told : Option (List ℕ × List ℕ) = Some (module_name, behind) in override_at cs ≡ told)
+unfolding override_at
 overriding_some cs code behind module_name e f = rw (← e, ← f) refl
 
 module _ (all : List ℕ) (c : ℕ) (cs : List ℕ) (first : all ≡ c ∷ cs) where
@@ -221,22 +222,22 @@ module _ (all : List ℕ) (c : ℕ) (cs : List ℕ) (first : all ≡ c ∷ cs) w
   unfolding with_modules
   no_word word = rw (first, word) refl
 
-  pub overridden : (code behind module_name : List ℕ) → (let found : Option (List ℕ × List ℕ) = Some (code, behind) in found ≡ marked override_mark all) → Some module_name ≡ decoded code
+  pub overridden : (code behind module_name : List ℕ) → (let found : Option (List ℕ × List ℕ) = Some (code, behind) in found ≡ mark_code override_mark all) → Some module_name ≡ decoded code
       → codes "override fn " ++ module_name ++ codes "::" ++ with_overrides 0 behind ≡ with_overrides 0 all
   overridden code behind module_name e f =
-      let here = e ∙ ap (marked override_mark) first in
+      let here = e ∙ ap (mark_code override_mark) first in
       let cut = behind_mark c cs code behind (sym here) in
       let count : length cs - length behind ≡ length cut.0 = omega (arith, ap length cut.1, length-append cut.0 behind) in
       let left : drop (length cs - length behind) cs ≡ behind = ap (λ k. drop k cs) count ∙ ap (drop (length cut.0)) cut.1 ∙ drop-append_seam cut.0 behind in
       ap (λ l. codes "override fn " ++ module_name ++ codes "::" ++ l) (sym (told_overrides (length cs - length behind) cs ∙ ap (with_overrides 0) left))
       ∙ sym (at_front c cs (Some (module_name, behind)) (overriding_some (c ∷ cs) code behind module_name here f)) ∙ ap (with_overrides 0) (sym first)
 
-  pub not_marked : None ≡ marked override_mark all → encode_utf8 c ++ with_overrides 0 cs ≡ with_overrides 0 all
-  not_marked e = sym (at_front c cs None (overriding_none (c ∷ cs) (e ∙ ap (marked override_mark) first))) ∙ ap (with_overrides 0) (sym first)
+  pub not_marked : None ≡ mark_code override_mark all → encode_utf8 c ++ with_overrides 0 cs ≡ with_overrides 0 all
+  not_marked e = sym (at_front c cs None (overriding_none (c ∷ cs) (e ∙ ap (mark_code override_mark) first))) ∙ ap (with_overrides 0) (sym first)
 
-  pub not_decoded : (code behind : List ℕ) → (let found : Option (List ℕ × List ℕ) = Some (code, behind) in found ≡ marked override_mark all) → None ≡ decoded code
+  pub not_decoded : (code behind : List ℕ) → (let found : Option (List ℕ × List ℕ) = Some (code, behind) in found ≡ mark_code override_mark all) → None ≡ decoded code
       → encode_utf8 c ++ with_overrides 0 cs ≡ with_overrides 0 all
-  not_decoded code behind e f = sym (at_front c cs None (overriding_other (c ∷ cs) code behind (e ∙ ap (marked override_mark) first) f)) ∙ ap (with_overrides 0) (sym first)
+  not_decoded code behind e f = sym (at_front c cs None (overriding_other (c ∷ cs) code behind (e ∙ ap (mark_code override_mark) first) f)) ∙ ap (with_overrides 0) (sym first)
 
 pub no_modules : (all : List ℕ) → all ≡ [] → with_modules 0 all ≡ []
 unfolding with_modules

@@ -10,8 +10,8 @@ use Rattle.naga_oil_lines.specs.declared.substitute.SubstituteFault.{SubstituteF
 use Rattle.naga_oil_lines.specs.declared.substitute.SubstituteFault.TheVariants.{Memory}
 use Rattle.naga_oil_lines.specs.Declarations.{Declared, paths_of}
 use Rattle.naga_oil_lines.specs.Sites.{is_own, HasNoSite, FindsSite}
-use Rattle.naga_oil_lines.specs.SubstituteFault.{Refuses}
-use Rattle.naga_oil_lines.specs.Substituted.{cut_at_first, module_and_item, first_part, behind_first, paths_for, written, written_as, mentions_at, mention_of, recorded, Site, mentioned, first_ambiguous, sites_from, substituted_from, substituted, sites, used_by}
+use Rattle.naga_oil_lines.specs.SubstituteFault.{RefusesUses}
+use Rattle.naga_oil_lines.specs.Substituted.{cut_at_first, module_and_item, first_part, behind_first, paths_for, path_text, path_text_by, mentions_at, mention_of, with_mentions, Site, mentions_in, first_ambiguous, sites_from, substituted_from, substituted, sites, usize_place, usize_sites}
 use Rattle.naga_oil_lines.specs.Tokens.{identifier, lexemes}
 use Rattle.naga_oil_lines.specs.Uses.{Uses}
 use Rattle.naga_oil_lines.proofs.SiteLemmas.{begins_none}
@@ -51,18 +51,18 @@ no_module (a ∷ b ∷ more) e = let n = not_cut a b more e in rw (no_module (b 
 -- it has one path, itself, which is written as it is and uses nothing
 pub record Own (declared : Declared) (name : List ℕ) : Type 0 where
   pub paths : paths_for declared name ≡ name ∷ []
-  pub text : written name name ≡ name
+  pub text : path_text name name ≡ name
   pub unused : (place : ℕ) → mentions_at place name ≡ []
 
 pub own_without_cut : (declared : Declared) (name : List ℕ) → cut_at_first name ≡ None → length (paths_of declared name) ≡ 0 → Own declared name
-unfolding written mentions_at
+unfolding path_text mentions_at
 own_without_cut declared name cut empty =
     let first : first_part name ≡ name = rw cut refl in
     let behind : behind_first name ≡ [] = rw cut refl in
     let own : own_path name ≡ name = rw (first, behind) refl in
     record {
       paths = paths_for_own declared name (rw first (nil_from_length (paths_of declared name) empty)) ∙ ap (λ l. l ∷ []) own;
-      text = ap (written_as name name) (no_module name cut) ∙ elim (list_any (λ b. eqb b 34) name) as (λ b. cond b name name ≡ name) [ true ↦ refl | false ↦ refl ];
+      text = ap (path_text_by name name) (no_module name cut) ∙ elim (list_any (λ b. eqb b 34) name) as (λ b. cond b name name ≡ name) [ true ↦ refl | false ↦ refl ];
       unused = λ place. ap (mention_of place) (no_module name cut);
     }
 
@@ -83,11 +83,11 @@ pub record Writing (declared : Declared) (allowed : Bool) (offset : ℕ) (input 
   pub plain : List ℕ
   pub behind : unwritten ≡ plain ++ rest
   pub text : output ++ (plain ++ substituted declared (lexemes 0 (length read) (chars rest))) ≡ substituted declared (lexemes 0 0 (chars input))
-  pub settled : Settled declared allowed (sites offset (lexemes 0 0 (chars input))) old now (sites offset (lexemes 0 (length read) (chars rest)))
+  pub settled : Settled declared allowed (usize_sites (sites offset (lexemes 0 0 (chars input)))) old now (usize_sites (sites offset (lexemes 0 (length read) (chars rest))))
 
 module _ (declared : Declared) (allowed : Bool) (offset : ℕ) (input : List ℕ) (old : Uses) where
   abbrev all : List Site
-  all = sites offset (lexemes 0 0 (chars input))
+  all = usize_sites (sites offset (lexemes 0 0 (chars input)))
 
   pub writing_start : (output : List ℕ) → output ≡ [] → Writing declared allowed offset input old old output input input
   writing_start output e = record {
@@ -100,9 +100,9 @@ module _ (declared : Declared) (allowed : Bool) (offset : ℕ) (input : List ℕ
   }
 
   -- want of memory between two identifiers
-  pub writing_refused : (now : Uses) (output unwritten rest : List ℕ) → Writing declared allowed offset input old now output unwritten rest → Refuses declared allowed all old now Memory
+  pub writing_refused : (now : Uses) (output unwritten rest : List ℕ) → Writing declared allowed offset input old now output unwritten rest → RefusesUses declared allowed all old now Memory
   writing_refused now output unwritten rest w =
-      settled_refused declared allowed all old now now [] (sites offset (lexemes 0 (length w.read) (chars rest))) Memory w.settled (begins_none [] now now refl)
+      settled_refused declared allowed all old now now [] (usize_sites (sites offset (lexemes 0 (length w.read) (chars rest)))) Memory w.settled (begins_none [] now now refl)
 
   module _ (now : Uses) (output unwritten rest : List ℕ) (w : Writing declared allowed offset input old now output unwritten rest) where
     -- no identifier is left
@@ -110,8 +110,8 @@ module _ (declared : Declared) (allowed : Bool) (offset : ℕ) (input : List ℕ
       nothing_left : (at : ℕ) → lexemes 0 at (chars []) ≡ []
       nothing_left at = ap (lexemes 0 at) chars-nil ∙ lexemes-nil at
 
-      no_sites : sites offset (lexemes 0 (length w.read) (chars rest)) ≡ []
-      no_sites = none.1.sites offset (length w.read) ∙ ap (sites_from offset none.0) (nothing_left (length w.read + length none.1.front))
+      no_sites : usize_sites (sites offset (lexemes 0 (length w.read) (chars rest))) ≡ []
+      no_sites = ap usize_sites (none.1.sites offset (length w.read) ∙ ap (sites_from offset none.0) (nothing_left (length w.read + length none.1.front)))
 
       rest_text : substituted declared (lexemes 0 (length w.read) (chars rest)) ≡ rest
       rest_text =
@@ -126,7 +126,7 @@ module _ (declared : Declared) (allowed : Bool) (offset : ℕ) (input : List ℕ
       pub written_allowed : first_ambiguous declared allowed all ≡ None
       written_allowed = settled_none declared allowed all old now done
 
-      pub written_uses : now ≡ used_by declared offset (lexemes 0 0 (chars input)) old
+      pub written_uses : now ≡ with_mentions old (mentions_in declared all)
       written_uses = settled_uses declared allowed all old now done
 
     -- the next identifier
@@ -138,7 +138,7 @@ module _ (declared : Declared) (allowed : Bool) (offset : ℕ) (input : List ℕ
       at = length w.read + length front
 
       abbrev this : Site
-      this = record { name = name; place = offset + at }
+      this = record { name = name; place = usize_place (offset + at) }
 
       abbrev next_read : List ℕ
       next_read = w.read ++ (front ++ name)
@@ -150,16 +150,16 @@ module _ (declared : Declared) (allowed : Bool) (offset : ℕ) (input : List ℕ
       next_whole =
           w.whole ∙ ap (λ l. w.read ++ l) (site.before.whole ∙ ap (λ l. front ++ l) site.cut ∙ sym (append_assoc front name more)) ∙ sym (append_assoc w.read (front ++ name) more)
 
-      next_text : substituted declared (lexemes 0 (length w.read) (chars rest)) ≡ front ++ (flat_map (written name) (paths_for declared name) ++ substituted declared (lexemes 0 (length next_read) (chars more)))
+      next_text : substituted declared (lexemes 0 (length w.read) (chars rest)) ≡ front ++ (flat_map (path_text name) (paths_for declared name) ++ substituted declared (lexemes 0 (length next_read) (chars more)))
       next_text =
           site.before.written declared (length w.read)
           ∙ ap (λ ts. front ++ substituted declared ts) (site.token at ∙ ap (λ n. identifier name at ∷ lexemes 0 n (chars more)) next_at)
 
-      next_sites : sites offset (lexemes 0 (length w.read) (chars rest)) ≡ (this ∷ []) ++ sites offset (lexemes 0 (length next_read) (chars more))
+      next_sites : usize_sites (sites offset (lexemes 0 (length w.read) (chars rest))) ≡ (this ∷ []) ++ usize_sites (sites offset (lexemes 0 (length next_read) (chars more)))
       next_sites =
-          site.before.sites offset (length w.read) ∙ ap (sites offset) (site.token at ∙ ap (λ n. identifier name at ∷ lexemes 0 n (chars more)) next_at)
+          ap usize_sites (site.before.sites offset (length w.read) ∙ ap (sites offset) (site.token at ∙ ap (λ n. identifier name at ∷ lexemes 0 n (chars more)) next_at))
 
-      before_next : Settled declared allowed all old now ((this ∷ []) ++ sites offset (lexemes 0 (length next_read) (chars more)))
+      before_next : Settled declared allowed all old now ((this ∷ []) ++ usize_sites (sites offset (lexemes 0 (length next_read) (chars more))))
       before_next = subst (Settled declared allowed all old now) next_sites w.settled
 
       -- what is unwritten before it
@@ -176,8 +176,8 @@ module _ (declared : Declared) (allowed : Bool) (offset : ℕ) (input : List ℕ
       pub own_read : is_own declared name ≡ true → Writing declared allowed offset input old now output unwritten more
       own_read e =
           let own = is_own_gives declared name e in
-          let uses : mentioned declared (this ∷ []) ≡ [] = mentions_one declared this (name ∷ []) own.paths ∙ append-nil (mentions_at (offset + at) name) ∙ own.unused (offset + at) in
-          let same : flat_map (written name) (paths_for declared name) ≡ name = ap (flat_map (written name)) own.paths ∙ append-nil (written name name) ∙ own.text in
+          let uses : mentions_in declared (this ∷ []) ≡ [] = mentions_one declared this (name ∷ []) own.paths ∙ append-nil (mentions_at (usize_place (offset + at)) name) ∙ own.unused (usize_place (offset + at)) in
+          let same : flat_map (path_text name) (paths_for declared name) ≡ name = ap (flat_map (path_text name)) own.paths ∙ append-nil (path_text name name) ∙ own.text in
           record {
             read = next_read;
             whole = next_whole;
@@ -191,17 +191,17 @@ module _ (declared : Declared) (allowed : Bool) (offset : ℕ) (input : List ℕ
                 ∙ ap (λ l. front ++ (l ++ substituted declared (lexemes 0 (length next_read) (chars more)))) (sym same) ∙ sym next_text))
                 ∙ w.text;
             settled =
-                settled_more declared allowed all old now now (this ∷ []) (sites offset (lexemes 0 (length next_read) (chars more))) before_next
-                (settled_one declared allowed this (one_path declared allowed this name own.paths)) (ap (recorded now) (sym uses));
+                settled_more declared allowed all old now now (this ∷ []) (usize_sites (sites offset (lexemes 0 (length next_read) (chars more)))) before_next
+                (settled_one declared allowed this (one_path declared allowed this name own.paths)) (ap (with_mentions now) (sym uses));
           }
 
       -- it is written
-      module _ (place : ℕ) (is : place ≡ offset + (length input - length from)) where
+      module _ (place : ℕ) (is : place ≡ usize_place (offset + (length input - length from))) where
         this_is : record { name = name; place = place } ≡ this
-        this_is i = record { name = name; place = (is ∙ ap (λ n. offset + n) place_of_next) i }
+        this_is i = record { name = name; place = (is ∙ ap (λ n. usize_place (offset + n)) place_of_next) i }
 
-        pub site_written : (new : Uses) (front_text mid out : List ℕ) → unwritten ≡ front_text ++ from → mid ≡ output ++ front_text → out ≡ mid ++ flat_map (written name) (paths_for declared name)
-            → first_ambiguous declared allowed (record { name = name; place = place } ∷ []) ≡ None → new ≡ recorded now (mentioned declared (record { name = name; place = place } ∷ []))
+        pub site_written : (new : Uses) (front_text mid out : List ℕ) → unwritten ≡ front_text ++ from → mid ≡ output ++ front_text → out ≡ mid ++ flat_map (path_text name) (paths_for declared name)
+            → first_ambiguous declared allowed (record { name = name; place = place } ∷ []) ≡ None → new ≡ with_mentions now (mentions_in declared (record { name = name; place = place } ∷ []))
             → Writing declared allowed offset input old new out more more
         unfolding unwritten_before
         site_written new front_text mid out e m o none uses =
@@ -213,17 +213,17 @@ module _ (declared : Declared) (allowed : Bool) (offset : ℕ) (input : List ℕ
               plain = [];
               behind = refl;
               text =
-                  ap (λ l. l ++ others) (o ∙ ap (λ l. l ++ flat_map (written name) (paths_for declared name)) (m ∙ ap (λ l. output ++ l) before))
-                  ∙ append_assoc (output ++ (w.plain ++ front)) (flat_map (written name) (paths_for declared name)) others
-                  ∙ append_assoc output (w.plain ++ front) (flat_map (written name) (paths_for declared name) ++ others)
-                  ∙ ap (λ l. output ++ l) (append_assoc w.plain front (flat_map (written name) (paths_for declared name) ++ others) ∙ ap (λ l. w.plain ++ l) (sym next_text))
+                  ap (λ l. l ++ others) (o ∙ ap (λ l. l ++ flat_map (path_text name) (paths_for declared name)) (m ∙ ap (λ l. output ++ l) before))
+                  ∙ append_assoc (output ++ (w.plain ++ front)) (flat_map (path_text name) (paths_for declared name)) others
+                  ∙ append_assoc output (w.plain ++ front) (flat_map (path_text name) (paths_for declared name) ++ others)
+                  ∙ ap (λ l. output ++ l) (append_assoc w.plain front (flat_map (path_text name) (paths_for declared name) ++ others) ∙ ap (λ l. w.plain ++ l) (sym next_text))
                   ∙ w.text;
               settled =
-                  settled_more declared allowed all old now new (this ∷ []) (sites offset (lexemes 0 (length next_read) (chars more))) before_next
-                  (ap (λ s. first_ambiguous declared allowed (s ∷ [])) (sym this_is) ∙ none) (uses ∙ ap (λ s. recorded now (mentioned declared (s ∷ []))) this_is);
+                  settled_more declared allowed all old now new (this ∷ []) (usize_sites (sites offset (lexemes 0 (length next_read) (chars more)))) before_next
+                  (ap (λ s. first_ambiguous declared allowed (s ∷ [])) (sym this_is) ∙ none) (uses ∙ ap (λ s. with_mentions now (mentions_in declared (s ∷ []))) this_is);
             }
 
-        pub site_refused : (new : Uses) (fault : SubstituteFault) → Refuses declared allowed (record { name = name; place = place } ∷ []) now new fault → Refuses declared allowed all old new fault
+        pub site_refused : (new : Uses) (fault : SubstituteFault) → RefusesUses declared allowed (record { name = name; place = place } ∷ []) now new fault → RefusesUses declared allowed all old new fault
         site_refused new fault r =
-            settled_refused declared allowed all old now new (this ∷ []) (sites offset (lexemes 0 (length next_read) (chars more))) fault before_next
-            (subst (λ s. Refuses declared allowed (s ∷ []) now new fault) this_is r)
+            settled_refused declared allowed all old now new (this ∷ []) (usize_sites (sites offset (lexemes 0 (length next_read) (chars more)))) fault before_next
+            (subst (λ s. RefusesUses declared allowed (s ∷ []) now new fault) this_is r)

@@ -2,6 +2,7 @@
 use Rattle.std.specs.Prelude.{ℕ, zero, suc, ◌+◌, ◌-◌, ◌*◌, ◌/◌, ◌%◌, ◌^◌, ◌&&◌, if◌then◌else◌, nat_lt, bytes_eq, Option, Some, None, List, [], ◌∷◌, ◌++◌, fold, take, replicate, codes}
 use Rattle.std.specs.List.{flat_map}
 use Rattle.std.specs.Str.{is_utf8}
+use Rattle.naga_oil_marks.specs.Marks.{module_mark}
 
 -- the lowest bits of a number, the highest of them first
 abbrev pub bits : ℕ → ℕ → List ℕ
@@ -40,13 +41,6 @@ unfoldable pub decoded : List ℕ → Option (List ℕ)
 decoded code =
     let bytes = bytes_of (flat_map (λ c. bits 5 (value_of c)) code) in
     if bytes_eq (base32 bytes) code && is_utf8 bytes then Some bytes else None
-
--- the marks between an item and its module: of an item, and of a function that overrides it
-abbrev pub module_mark : List ℕ
-module_mark = codes "X_naga_oil_mod_X"
-
-abbrev pub override_mark : List ℕ
-override_mark = codes "X_naga_oil_vrt_X"
 
 -- the name of a module's item; one of no module keeps its name
 abbrev pub decorated_name : Option (List ℕ) → List ℕ → List ℕ

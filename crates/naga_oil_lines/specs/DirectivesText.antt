@@ -15,8 +15,8 @@ unfoldable pub in_order : List (List ℕ) → List (List ℕ)
 in_order names = fold with_name [] names
 
 -- the extensions that directives name
-abbrev pub named : List Extensions → List (List ℕ)
-named directives = flat_map (λ d. d.names) directives
+abbrev pub names_of : List Extensions → List (List ℕ)
+names_of directives = flat_map (λ d. d.names) directives
 
 -- a line of a word and its names; there is none without names
 abbrev pub names_line : (word : List ℕ) → List (List ℕ) → List ℕ
@@ -35,7 +35,7 @@ with_empty_line (c ∷ text) = c ∷ text ++ codes "\n"
 -- a line of what is enabled, one of what is required, and one of each diagnostic
 abbrev pub directive_lines : Directives → List ℕ
 directive_lines d =
-    names_line (codes "enable") (in_order (named d.enables)) ++ names_line (codes "requires") (in_order (named d.requires)) ++ flat_map diagnostic_line d.diagnostics
+    names_line (codes "enable") (in_order (names_of d.enables)) ++ names_line (codes "requires") (in_order (names_of d.requires)) ++ flat_map diagnostic_line d.diagnostics
 
 -- what is written for directives
 abbrev pub directives_text : Directives → List ℕ
@@ -43,4 +43,4 @@ directives_text d = with_empty_line (directive_lines d)
 
 -- the directives name no extension and have no diagnostic
 abbrev pub SaysNothing : Directives → Type 0
-SaysNothing d = (named d.enables ≡ []) × (named d.requires ≡ []) × (d.diagnostics ≡ [])
+SaysNothing d = (names_of d.enables ≡ []) × (names_of d.requires ≡ []) × (d.diagnostics ≡ [])

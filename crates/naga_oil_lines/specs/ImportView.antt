@@ -18,8 +18,8 @@ fault_of (Syntax text at) = Some (text.now, at)
 fault_of Memory = None
 
 -- an error is the fault that the value is, or want of memory
-abbrev pub Refuses : {X : Type 0} → ImportFault → Result X SyntaxFault → Type 0
-Refuses e value = MatchOption (fault_of e) (Unit {0}) (λ f. value ≡ Err f)
+abbrev pub RefusesImport : {X : Type 0} → ImportFault → Result X SyntaxFault → Type 0
+RefusesImport e value = MatchOption (fault_of e) (Unit {0}) (λ f. value ≡ Err f)
 
 abbrev pub alias_of : Alias → lines.Alias
 alias_of NoAlias = lines.no_alias

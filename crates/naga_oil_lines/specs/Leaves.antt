@@ -3,7 +3,7 @@ use Rattle.std.specs.Prelude.{ℕ, zero, suc, ◌+◌, Bool, true, false, ◌==�
 use Rattle.std.specs.List.{list_all, list_any, concat, starts_with, ends_with}
 use Rattle.std.specs.Str.{chars}
 use Rattle.naga_oil_lines.specs.Declarations.{Declared, with_path}
-use Rattle.naga_oil_lines.specs.Tokens.{Lexeme, identifier, other, whitespace, lexemes, shown}
+use Rattle.naga_oil_lines.specs.Tokens.{Lexeme, identifier, other, whitespace, place_of, lexemes, emit}
 
 -- why an import line is refused: what is said of it, and the place
 abbrev pub SyntaxFault : Type 0
@@ -70,11 +70,6 @@ brace_len ts = 0
 -- how many tokens behind its name belong to a unit
 abbrev pub unit_len : List Lexeme → ℕ
 unit_len ts = alias_len (alias_after ts) + brace_len (drop (alias_len (alias_after ts)) ts)
-
-abbrev pub place_of : Lexeme → ℕ
-place_of (identifier text at) = at
-place_of (other c at) = at
-place_of (whitespace text at) = at
 
 -- a `;`, which must be the last token
 abbrev pub at_semicolon : List Lexeme → Part
@@ -146,12 +141,12 @@ abbrev pub Leaf : Type 0
 Leaf = List ℕ × List ℕ
 
 -- what a part adds behind the others: a leaf's path is the texts of the heads open at it and its own name; a `}` closes a head
-abbrev pub added : (before : List Part) → Part → Result (List Leaf) SyntaxFault
-added before (head is_old text) = Ok []
-added before (leaf key name) = Ok ((key, concat (open_heads before) ++ name) ∷ [])
-added before (close at) = elim (open_heads before) [ [] ↦ Err (codes "close brace without open", at) | h ∷ hs ↦ Ok [] ]
-added before nothing = Ok []
-added before (wrong f) = Err f
+abbrev pub part_leaves : (before : List Part) → Part → Result (List Leaf) SyntaxFault
+part_leaves before (head is_old text) = Ok []
+part_leaves before (leaf key name) = Ok ((key, concat (open_heads before) ++ name) ∷ [])
+part_leaves before (close at) = elim (open_heads before) [ [] ↦ Err (codes "close brace without open", at) | h ∷ hs ↦ Ok [] ]
+part_leaves before nothing = Ok []
+part_leaves before (wrong f) = Err f
 
 -- at the end no head is open, or just one if the old form was used
 abbrev pub at_end : (end : ℕ) → (before : List Part) → Result (List Leaf) SyntaxFault
@@ -165,7 +160,7 @@ then_leaves (Ok ls) (Ok more) = Ok (ls ++ more)
 -- the leaves of parts behind others, or the first fault in their order; the text ends at the place
 unfoldable pub leaves_of : (end : ℕ) → (before : List Part) → List Part → Result (List Leaf) SyntaxFault
 leaves_of end before [] = at_end end before
-leaves_of end before (p ∷ ps) = then_leaves (added before p) (leaves_of end (before ++ p ∷ []) ps)
+leaves_of end before (p ∷ ps) = then_leaves (part_leaves before p) (leaves_of end (before ++ p ∷ []) ps)
 
 -- the tokens behind `#` and `import`, or the fault there
 abbrev pub behind_hash : (end : ℕ) → List Lexeme → Result (List Lexeme) SyntaxFault
@@ -186,7 +181,7 @@ line_leaves end ts = elim (behind_import end ts) [ Ok behind ↦ leaves_of end [
 
 -- the leaves of a text as an import line, or its first fault
 abbrev pub import_leaves : List ℕ → Result (List Leaf) SyntaxFault
-import_leaves text = line_leaves (length text) (shown false (lexemes 0 0 (chars text)))
+import_leaves text = line_leaves (length text) (emit false (lexemes 0 0 (chars text)))
 
 -- what is declared once each leaf's path has been pushed at its key
 abbrev pub with_leaves : Declared → List Leaf → Declared
@@ -194,6 +189,6 @@ with_leaves d [] = d
 with_leaves d ((key, path) ∷ ls) = with_leaves (with_path d key path) ls
 
 -- what is declared after an import line with such leaves, or its fault
-abbrev pub imported : Declared → Result (List Leaf) SyntaxFault → Result Declared SyntaxFault
-imported d (Ok ls) = Ok (with_leaves d ls)
-imported d (Err f) = Err f
+abbrev pub with_import : Declared → Result (List Leaf) SyntaxFault → Result Declared SyntaxFault
+with_import d (Ok ls) = Ok (with_leaves d ls)
+with_import d (Err f) = Err f

@@ -1,3 +1,4 @@
+-- What the crate's contracts say.
 pub mod Text
 pub mod Declarations
 pub mod Leaves
@@ -20,4 +21,5 @@ pub mod ImportReader
 pub mod ImportRows
 pub mod Sites
 pub mod Undecorate
+pub mod UndecorateGrammar
 pub mod UndecorateRows

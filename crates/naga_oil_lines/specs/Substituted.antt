@@ -1,5 +1,5 @@
 -- What the identifiers of a text are substituted by, and what they use of imported modules.
-use Rattle.std.specs.Prelude.{◌≡◌, ℕ, ◌+◌, Bool, false, not, ◌&&◌, ◌||◌, ◌==◌, nat_lt, if◌then◌else◌, Option, Some, None, List, [], ◌∷◌, ◌++◌, length, map}
+use Rattle.std.specs.Prelude.{◌≡◌, ℕ, ◌+◌, Bool, false, not, ◌&&◌, ◌||◌, ◌==◌, nat_lt, ◌-◌, ◌^◌, if◌then◌else◌, Option, Some, None, List, [], ◌∷◌, ◌++◌, length, map, min}
 use Rattle.std.specs.Char.{encode_utf8}
 use Rattle.std.specs.List.{flat_map, list_any}
 use Rattle.std.specs.Option.{option_map, option_map_or}
@@ -31,30 +31,30 @@ abbrev pub behind_first : List ℕ → List ℕ
 behind_first name = option_map_or (λ p. p.1) (cut_at_first name) []
 
 -- a path and what follows it
-abbrev pub extended : (path behind : List ℕ) → List ℕ
-extended path [] = path
-extended path (c ∷ behind) = path ++ 58 ∷ 58 ∷ c ∷ behind
+abbrev pub longer_path : (path behind : List ℕ) → List ℕ
+longer_path path [] = path
+longer_path path (c ∷ behind) = path ++ 58 ∷ 58 ∷ c ∷ behind
 
 -- the paths, or the name itself where there is none
 abbrev pub paths_or : List (List ℕ) → List ℕ → List (List ℕ)
 paths_or [] name = name ∷ []
 paths_or (path ∷ more) name = path ∷ more
 
-abbrev pub all_extended : List (List ℕ) → (behind : List ℕ) → List (List ℕ)
-all_extended paths behind = map (λ path. extended path behind) paths
+abbrev pub longer_paths : List (List ℕ) → (behind : List ℕ) → List (List ℕ)
+longer_paths paths behind = map (λ path. longer_path path behind) paths
 
 -- the paths that an identifier stands for: those declared for its first part, or that part, each with what follows
 unfoldable pub paths_for : Declared → List ℕ → List (List ℕ)
-paths_for declared name = all_extended (paths_or (paths_of declared (first_part name)) (first_part name)) (behind_first name)
+paths_for declared name = longer_paths (paths_or (paths_of declared (first_part name)) (first_part name)) (behind_first name)
 
 -- what is written for a path with this module and item
-abbrev pub written_as : (name path : List ℕ) → Option (List ℕ × List ℕ) → List ℕ
-written_as name path (Some p) = decorated_name (Some p.0) p.1
-written_as name path None = if list_any (λ b. b == 34) path then name else path
+abbrev pub path_text_by : (name path : List ℕ) → Option (List ℕ × List ℕ) → List ℕ
+path_text_by name path (Some p) = decorated_name (Some p.0) p.1
+path_text_by name path None = if list_any (λ b. b == 34) path then name else path
 
 -- what is written for a path that an identifier stands for
-unfoldable pub written : (name path : List ℕ) → List ℕ
-written name path = written_as name path (module_and_item path)
+unfoldable pub path_text : (name path : List ℕ) → List ℕ
+path_text name path = path_text_by name path (module_and_item path)
 
 -- the use of an item of a module, at a place
 pub record Mention : Type 0 where
@@ -71,19 +71,14 @@ unfoldable pub mentions_at : ℕ → List ℕ → List Mention
 mentions_at place path = mention_of place (module_and_item path)
 
 -- the uses after each of these is recorded in turn
-abbrev pub recorded : Uses → List Mention → Uses
-recorded uses [] = uses
-recorded uses (m ∷ more) = recorded (with_use uses m.import m.item m.place) more
+abbrev pub with_mentions : Uses → List Mention → Uses
+with_mentions uses [] = uses
+with_mentions uses (m ∷ more) = with_mentions (with_use uses m.import m.item m.place) more
 
 -- an identifier that is substituted, and its place
 pub record Site : Type 0 where
   pub name : List ℕ
   pub place : ℕ
-
-abbrev pub place_of : Lexeme → ℕ
-place_of (identifier text at) = at
-place_of (other c at) = at
-place_of (whitespace text at) = at
 
 -- behind `.` or `@` an identifier is kept
 abbrev pub keeps_next : Lexeme → Bool
@@ -98,10 +93,10 @@ site_at offset kept (other c at) = []
 site_at offset kept (whitespace text at) = []
 
 -- what is written for a token
-abbrev pub written_token : Declared → (kept : Bool) → Lexeme → List ℕ
-written_token declared kept (identifier text at) = if kept then text else flat_map (written text) (paths_for declared text)
-written_token declared kept (other c at) = encode_utf8 c
-written_token declared kept (whitespace text at) = text
+abbrev pub token_text : Declared → (kept : Bool) → Lexeme → List ℕ
+token_text declared kept (identifier text at) = if kept then text else flat_map (path_text text) (paths_for declared text)
+token_text declared kept (other c at) = encode_utf8 c
+token_text declared kept (whitespace text at) = text
 
 -- the same for tokens, where the first is kept or not
 abbrev pub sites_from : ℕ → (kept : Bool) → List Lexeme → List Site
@@ -110,7 +105,7 @@ sites_from offset kept (t ∷ more) = site_at offset kept t ++ sites_from offset
 
 abbrev pub substituted_from : Declared → (kept : Bool) → List Lexeme → List ℕ
 substituted_from declared kept [] = []
-substituted_from declared kept (t ∷ more) = written_token declared kept t ++ substituted_from declared (keeps_next t) more
+substituted_from declared kept (t ∷ more) = token_text declared kept t ++ substituted_from declared (keeps_next t) more
 
 -- the text of tokens with its identifiers substituted
 abbrev pub substituted : Declared → List Lexeme → List ℕ
@@ -120,12 +115,23 @@ substituted declared tokens = substituted_from declared false tokens
 abbrev pub sites : ℕ → List Lexeme → List Site
 sites offset tokens = sites_from offset false tokens
 
+-- a place as a number of the machine: the greatest one stands for all beyond it
+abbrev pub usize_place : ℕ → ℕ
+usize_place place = min place (2 ^ 64 - 1)
+
+abbrev pub usize_site : Site → Site
+usize_site s = record { name = s.name; place = usize_place s.place }
+
+-- the same identifiers, their places as numbers of the machine
+abbrev pub usize_sites : List Site → List Site
+usize_sites ss = map usize_site ss
+
 -- the uses that identifiers make
 abbrev pub mentions_of : Declared → Site → List Mention
 mentions_of declared s = flat_map (mentions_at s.place) (paths_for declared s.name)
 
-abbrev pub mentioned : Declared → List Site → List Mention
-mentioned declared ss = flat_map (mentions_of declared) ss
+abbrev pub mentions_in : Declared → List Site → List Mention
+mentions_in declared ss = flat_map (mentions_of declared) ss
 
 -- an identifier with more than one path, where that is not allowed
 abbrev pub is_refused : Declared → (allowed : Bool) → Site → Bool
@@ -143,11 +149,11 @@ before_ambiguous declared allowed (s ∷ more) = if is_refused declared allowed 
 
 -- the uses after those of the tokens are recorded
 abbrev pub used_by : Declared → ℕ → List Lexeme → Uses → Uses
-used_by declared offset tokens uses = recorded uses (mentioned declared (sites offset tokens))
+used_by declared offset tokens uses = with_mentions uses (mentions_in declared (sites offset tokens))
 
 -- a beginning of these uses was recorded
 pub record BeginsUses (all : List Mention) (old new : Uses) : Type 0 where
   pub done : List Mention
   pub left : List Mention
   pub whole : done ++ left ≡ all
-  pub now : new ≡ recorded old done
+  pub now : new ≡ with_mentions old done

@@ -27,18 +27,18 @@ abbrev pub starts_identifier : ℕ → Bool
 starts_identifier c = is_xid_start c || (c == 34)
 
 -- how many characters go on an identifier, inside a quoted part or not: XID_Continue, `::` and quoted parts
-unfoldable pub continued : Bool → List ℕ → ℕ
-continued quoted [] = 0
-continued true (c ∷ cs) = suc (continued (not (c == 34)) cs)
-continued false (c ∷ []) = if c == 34 then 1 else (if is_xid_continue c then 1 else 0)
-continued false (c ∷ d ∷ cs) =
-    if c == 34 then suc (continued true (d ∷ cs))
-    else (if is_xid_continue c then suc (continued false (d ∷ cs))
-    else (if (c == 58) && (d == 58) then suc (suc (continued false cs)) else 0))
+unfoldable pub tail_len : Bool → List ℕ → ℕ
+tail_len quoted [] = 0
+tail_len true (c ∷ cs) = suc (tail_len (not (c == 34)) cs)
+tail_len false (c ∷ []) = if c == 34 then 1 else (if is_xid_continue c then 1 else 0)
+tail_len false (c ∷ d ∷ cs) =
+    if c == 34 then suc (tail_len true (d ∷ cs))
+    else (if is_xid_continue c then suc (tail_len false (d ∷ cs))
+    else (if (c == 58) && (d == 58) then suc (suc (tail_len false cs)) else 0))
 
 -- how many characters follow the first one in its token
 unfoldable pub more_in_token : ℕ → List ℕ → ℕ
-more_in_token c cs = if starts_identifier c then continued (c == 34) cs else (if is_whitespace c then prefix_len is_whitespace cs else 0)
+more_in_token c cs = if starts_identifier c then tail_len (c == 34) cs else (if is_whitespace c then prefix_len is_whitespace cs else 0)
 
 -- the token that begins with the character c and has this text
 abbrev pub lexeme_at : ℕ → ℕ → List ℕ → Lexeme
@@ -56,5 +56,5 @@ is_whitespace_lexeme (other c at) = false
 is_whitespace_lexeme (whitespace text at) = true
 
 -- the tokens that are asked for
-abbrev pub shown : Bool → List Lexeme → List Lexeme
-shown emit_whitespace ts = if emit_whitespace then ts else filter (λ t. not (is_whitespace_lexeme t)) ts
+abbrev pub emit : Bool → List Lexeme → List Lexeme
+emit emit_whitespace ts = if emit_whitespace then ts else filter (λ t. not (is_whitespace_lexeme t)) ts

@@ -5,7 +5,8 @@ use Rattle.std.specs.List.{prefix_len}
 use Rattle.std.specs.Option.{option_or}
 use Rattle.std.specs.Str.{chars, encode_utf8_all}
 use Rattle.ucd_perl.specs.Perl.{is_word_char}
-use Rattle.naga_oil_lines.specs.Decorate.{module_mark, override_mark, decoded}
+use Rattle.naga_oil_lines.specs.Decorate.{decoded}
+use Rattle.naga_oil_marks.specs.Marks.{module_mark, override_mark}
 use Rattle.naga_oil_lines.specs.Text.{◌>>=◌, past_word}
 
 abbrev pub is_code_char : ℕ → Bool
@@ -17,8 +18,8 @@ from_last_x [] = None
 from_last_x (c ∷ cs) = if is_code_char c then option_or (from_last_x cs) (if c == 88 then Some (c ∷ cs) else None) else None
 
 -- a mark at the front with a code and an `X` behind it: the code, and what follows
-unfoldable pub marked : (mark : List ℕ) → List ℕ → Option (List ℕ × List ℕ)
-marked mark cs = do
+unfoldable pub mark_code : (mark : List ℕ) → List ℕ → Option (List ℕ × List ℕ)
+mark_code mark cs = do
   rest ← past_word mark cs
   end ← from_last_x rest
   behind ← past_word (codes "X") end
@@ -27,13 +28,13 @@ marked mark cs = do
 -- the characters from the last mark of a module on that has a code and stands behind some character
 unfoldable pub from_last_mark : List ℕ → Option (List ℕ)
 from_last_mark [] = None
-from_last_mark (c ∷ cs) = option_or (from_last_mark cs) (if is_some (marked module_mark cs) then Some cs else None)
+from_last_mark (c ∷ cs) = option_or (from_last_mark cs) (if is_some (mark_code module_mark cs) then Some cs else None)
 
 -- a run of word characters that has such a mark: what is before it, its code, and what follows
 unfoldable pub split_at_mark : List ℕ → Option (List ℕ × List ℕ × List ℕ)
 split_at_mark run = do
   at ← from_last_mark run
-  found ← marked module_mark at
+  found ← mark_code module_mark at
   Some (encode_utf8_all (take (length run - length at) run), found.0, found.1)
 
 -- the run with the module before it in place of the mark, if the code stands for a module
@@ -55,9 +56,9 @@ with_modules zero (c ∷ cs) =
     else encode_utf8 c ++ with_modules zero cs
 
 -- a mark of an override at the front: the module that its code stands for, and what follows
-unfoldable pub overriding : List ℕ → Option (List ℕ × List ℕ)
-overriding cs = do
-  found ← marked override_mark cs
+unfoldable pub override_at : List ℕ → Option (List ℕ × List ℕ)
+override_at cs = do
+  found ← mark_code override_mark cs
   module_name ← decoded found.0
   Some (module_name, found.1)
 
@@ -65,11 +66,11 @@ overriding cs = do
 unfoldable pub with_overrides : ℕ → List ℕ → List ℕ
 with_overrides told [] = []
 with_overrides (suc told) (c ∷ cs) = with_overrides told cs
-with_overrides zero (c ∷ cs) = elim (overriding (c ∷ cs)) [
+with_overrides zero (c ∷ cs) = elim (override_at (c ∷ cs)) [
   | Some found ↦ codes "override fn " ++ found.0 ++ codes "::" ++ with_overrides (length cs - length found.1) cs
   | None ↦ encode_utf8 c ++ with_overrides zero cs
 ]
 
 -- a text with its decorated names as a reader knows them
-abbrev pub undecorated : List ℕ → List ℕ
-undecorated text = with_overrides 0 (chars (with_modules 0 (chars text)))
+abbrev pub undecoration : List ℕ → List ℕ
+undecoration text = with_overrides 0 (chars (with_modules 0 (chars text)))

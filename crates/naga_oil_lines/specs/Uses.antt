@@ -10,6 +10,10 @@ pub record Import : Type 0 where
   pub import : List ℕ
   pub items : List (List ℕ)
 
+-- the empty name, of which no item is asked
+abbrev pub nothing_asked : Import
+nothing_asked = record { import = []; items = [] }
+
 -- what a module is used for, and the place of its first use
 pub record Use : Type 0 where
   pub import : Import

@@ -1,25 +1,18 @@
 //! Names of the items of modules, as they stand in the one shader, and as a reader knows them.
-ghost use Rattle.std.specs.Prelude.{◌≡◌, ℕ, ◌+◌, ◌<◌, ◌≤◌, ◌++◌, List, length, drop, All, Some, option_map, IfSome, IfOk, OnOk};
+ghost use Rattle.std.specs.Prelude.{◌≡◌, ◌↔◌, ℕ, ◌+◌, ◌<◌, ◌≤◌, ◌++◌, List, length, drop, All, Some, option_map, IfSome, IfOk, OnOk};
 ghost use Rattle.std.specs.List.{flat_map, prefix_len};
-ghost use Rattle.std.specs.Str.{chars, IsUtf8};
+ghost use Rattle.std.specs.Str.{chars, encode_utf8_all, IsUtf8};
 ghost use Rattle.std.specs.String.{string_bytes};
 ghost use Rattle.ucd_perl.specs.Perl.{is_word_char};
 ghost use Rattle.naga_oil_lines.specs.Decorate.{bits, letter, letters, base32, value_of, bytes_of, decoded, decorated_name};
 ghost use Rattle.naga_oil_lines.specs.Text.{BeginsWithChar};
-ghost use Rattle.naga_oil_lines.specs.Undecorate.{is_code_char, from_last_x, marked, from_last_mark, split_at_mark, run_shown, with_modules, with_overrides, undecorated};
+ghost use Rattle.naga_oil_lines.specs.Undecorate.{is_code_char, from_last_x, mark_code, from_last_mark, split_at_mark, run_shown, with_modules, override_at, with_overrides, undecoration};
+ghost use Rattle.naga_oil_lines.specs.UndecorateGrammar.{reading, reading_behind, BeginsWithMark, HasLastMark, BeginsWithOverride};
 
 use crate::text::{past_word, split_first_char, text_before};
+pub use naga_oil_marks::{DECORATION_OVERRIDE_PRE, DECORATION_POST, DECORATION_PRE};
 use std::alloc::{AllocError, Global};
 use ucd_perl::is_word_code;
-
-/// What stands between an item and the code of its module.
-pub const DECORATION_PRE: &str = "X_naga_oil_mod_X";
-
-/// What ends the code of a module.
-pub const DECORATION_POST: &str = "X";
-
-/// What stands there in place of `DECORATION_PRE` at a function that overrides the item. It is as long, so that places stay.
-pub const DECORATION_OVERRIDE_PRE: &str = "X_naga_oil_vrt_X";
 
 // The letter of five bits.
 fn letter(group: u8) -> char
@@ -185,8 +178,8 @@ fn from_last_x(text: &str) -> Option<&str>
 }
 
 // The code behind a mark that the text begins with, and what follows its `X`.
-fn marked<'a>(text: &'a str, mark: &str) -> Option<(&'a str, &'a str)>
-    ensures found { option_map (λ r. (r.0.now, chars r.1.now)) result ≡ marked (chars mark.now) (chars text.now) }
+fn mark_code<'a>(text: &'a str, mark: &str) -> Option<(&'a str, &'a str)>
+    ensures found { option_map (λ r. (r.0.now, chars r.1.now)) result ≡ mark_code (chars mark.now) (chars text.now) }
     ensures shorter { IfSome result (λ r. length r.1.now < length text.now) }
     ensures utf8 { IfSome result (λ r. IsUtf8 r.1.now) }
 {
@@ -206,7 +199,7 @@ fn from_last_mark(run: &str) -> Option<&str>
     let mut rest = run;
     while let Some((_, more)) = split_first_char(rest) {
         rest = more;
-        if marked(more, DECORATION_PRE).is_some() {
+        if mark_code(more, DECORATION_PRE).is_some() {
             found = Some(more);
         }
     }
@@ -219,7 +212,7 @@ fn split_at_mark(run: &str) -> Option<(&str, &str, &str)>
     ensures utf8 { IfSome result (λ r. IsUtf8 r.2.now) }
 {
     let at = from_last_mark(run)?;
-    let (code, behind) = marked(at, DECORATION_PRE)?;
+    let (code, behind) = mark_code(at, DECORATION_PRE)?;
     Some((text_before(run, at), code, behind))
 }
 
@@ -284,7 +277,7 @@ fn push_front<'a>(
     ensures shorter { IfOk result (λ rest. length rest.now < length text.now) }
     ensures utf8 { IfOk result (λ rest. IsUtf8 rest.now) }
 {
-    let Some((code, behind)) = marked(text, DECORATION_OVERRIDE_PRE) else {
+    let Some((code, behind)) = mark_code(text, DECORATION_OVERRIDE_PRE) else {
         out.push(first)?;
         return Ok(more);
     };
@@ -300,7 +293,7 @@ fn push_front<'a>(
 /// before the module of an item that is overridden. A code that is of no module leaves its mark as it is.
 /// Takes time and memory linear in the text.
 pub fn undecorate(alloc: Global, text: &str) -> Result<String, AllocError>
-    ensures { IfOk result (λ t. string_bytes t ≡ undecorated text.now) }
+    ensures { IfOk result (λ t. string_bytes t ≡ undecoration text.now) }
 {
     let named = with_modules(alloc, text)?;
     let mut out = String::with_capacity(alloc, named.len())?;
@@ -314,6 +307,22 @@ pub fn undecorate(alloc: Global, text: &str) -> Result<String, AllocError>
 /// A name that was decorated with a module tells the item and the module.
 pub fn one_decoration()
     ensures { (f g m n : List ℕ) → All (λ b. b < 256) m → All (λ b. b < 256) n → decorated_name (Some m) f ≡ decorated_name (Some n) g → (f ≡ g) × (m ≡ n) }
+{}
+
+/// A mark at the front of a text has one code, and so one rest behind it.
+pub fn one_mark()
+    ensures { (mark text code rest : List ℕ) → (mark_code mark text ≡ reading code rest) ↔ BeginsWithMark mark text code rest }
+{}
+
+/// A run of word characters has one reading: its last mark of a module that has a code and a character before it.
+pub fn one_last_mark()
+    ensures { (run text code rest : List ℕ) → (split_at_mark run ≡ reading_behind text code rest)
+        ↔ ((before : List ℕ) × (text ≡ encode_utf8_all before) × HasLastMark run before code rest) }
+{}
+
+/// A mark of an override tells one module.
+pub fn one_override()
+    ensures { (text module_name rest : List ℕ) → (override_at text ≡ reading module_name rest) ↔ BeginsWithOverride text module_name rest }
 {}
 
 #[cfg(test)]

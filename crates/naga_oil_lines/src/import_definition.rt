@@ -12,14 +12,24 @@ pub struct ImportDefinition {
 }
 
 /// An import, with the place in the text, in bytes, where it is first asked for.
-#[derive(Debug, Drop, PartialEq, Eq)]
+#[derive(Debug, Drop)]
 pub struct ImportDefWithOffset {
     definition: ImportDefinition,
     offset: usize,
 }
 
 impl ImportDefinition {
-    ghost use Rattle.naga_oil_lines.specs.Uses.{import_of};
+    ghost use Rattle.naga_oil_lines.specs.Uses.{import_of, nothing_asked};
+
+    /// An import with the empty name, of which no item is asked. It takes no memory.
+    pub fn new(alloc: Global) -> ImportDefinition
+        ensures { import_of result ≡ nothing_asked }
+    {
+        ImportDefinition {
+            import: String::new(alloc),
+            items: Vec::new(alloc),
+        }
+    }
 
     /// An equal import.
     pub fn try_clone(&self) -> Result<ImportDefinition, AllocError>

@@ -3,11 +3,11 @@ ghost use Rattle.std.specs.Prelude.{false, ◌≡◌, ℕ, ◌<◌, ◌≤◌, �
 ghost use Rattle.std.specs.List.{concat};
 ghost use Rattle.naga_oil_lines.specs.Declarations.{Declared, declared_of, with_path};
 ghost use Rattle.std.specs.Str.{chars};
-ghost use Rattle.naga_oil_lines.specs.Tokens.{lexemes, shown};
+ghost use Rattle.naga_oil_lines.specs.Tokens.{place_of, lexemes, emit};
 ghost use Rattle.naga_oil_lines.specs.Tokenizer.{lexeme_of};
-ghost use Rattle.naga_oil_lines.specs.Leaves.{leaf, close, behind_hash, behind_last_colons, before_brace, at_semicolon, alias_after, alias_len, key_of, unit_part, unit_len, brace_len, mark_part, place_of, parts, behind_import, line_leaves, import_leaves, imported, with_leaves};
+ghost use Rattle.naga_oil_lines.specs.Leaves.{leaf, close, behind_hash, behind_last_colons, before_brace, at_semicolon, alias_after, alias_len, key_of, unit_part, unit_len, brace_len, mark_part, parts, behind_import, line_leaves, import_leaves, with_import, with_leaves};
 ghost use Rattle.naga_oil_lines.specs.ImportReader.{at_start, step, may_end, without_path};
-ghost use Rattle.naga_oil_lines.specs.ImportView.{head_of, Refuses, alias_of, part_of, leaf_of, reader_of};
+ghost use Rattle.naga_oil_lines.specs.ImportView.{head_of, RefusesImport, alias_of, part_of, leaf_of, reader_of};
 
 pub use crate::substitute::{SubstituteFault, substitute_identifiers};
 use crate::tokenizer::{Token, Tokenizer};
@@ -219,7 +219,7 @@ fn behind_import<'t, 'a>(
     end: usize,
 ) -> Result<&'t [Token<'a>], ImportFault>
     ensures ok { IfOk result (λ r. behind_import end (map lexeme_of tokens.now) ≡ Ok (map lexeme_of r.now)) }
-    ensures err { IfErr result (λ e. Refuses e (behind_import end (map lexeme_of tokens.now))) }
+    ensures err { IfErr result (λ e. RefusesImport e (behind_import end (map lexeme_of tokens.now))) }
 {
     let [first, behind @ ..] = tokens else {
         return Err(ImportFault::Syntax("expected #import", end));
@@ -232,7 +232,7 @@ fn behind_import<'t, 'a>(
 
 fn behind_hash<'t, 'a>(tokens: &'t [Token<'a>], end: usize) -> Result<&'t [Token<'a>], ImportFault>
     ensures ok { IfOk result (λ r. behind_hash end (map lexeme_of tokens.now) ≡ Ok (map lexeme_of r.now)) }
-    ensures err { IfErr result (λ e. Refuses e (behind_hash end (map lexeme_of tokens.now))) }
+    ensures err { IfErr result (λ e. RefusesImport e (behind_hash end (map lexeme_of tokens.now))) }
 {
     let [first, behind @ ..] = tokens else {
         return Err(ImportFault::Syntax("expected `#import`", end));
@@ -292,7 +292,7 @@ impl ImportLine {
 
     fn close(&mut self, at: usize) -> Result<(), ImportFault>
         ensures ok { OnOk result (step (reader_of self.old) (close at) ≡ Ok (reader_of self.new)) }
-        ensures err { IfErr result (λ e. Refuses e (step (reader_of self.old) (close at))) }
+        ensures err { IfErr result (λ e. RefusesImport e (step (reader_of self.old) (close at))) }
     {
         match self.heads.pop() {
             Some(_) => Ok(()),
@@ -302,7 +302,7 @@ impl ImportLine {
 
     fn take_part(&mut self, alloc: Global, part: Part<'_>) -> Result<(), ImportFault>
         ensures ok { OnOk result (step (reader_of self.old) (part_of part.entry) ≡ Ok (reader_of self.new)) }
-        ensures err { IfErr result (λ e. Refuses e (step (reader_of self.old) (part_of part.entry))) }
+        ensures err { IfErr result (λ e. RefusesImport e (step (reader_of self.old) (part_of part.entry))) }
     {
         match part {
             Part::Head(name, is_old) => Ok(self.push_head(alloc, name, is_old)?),
@@ -321,7 +321,7 @@ impl ImportLine {
 }
 
 fn tokens_of<'a>(alloc: Global, input: &'a str) -> Result<Vec<Token<'a>>, AllocError>
-    ensures { IfOk result (λ v. map lexeme_of v.items ≡ shown false (lexemes 0 0 (chars input.now))) }
+    ensures { IfOk result (λ v. map lexeme_of v.items ≡ emit false (lexemes 0 0 (chars input.now))) }
 {
     Tokenizer::new(input, false).collect(alloc)
 }
@@ -329,7 +329,7 @@ fn tokens_of<'a>(alloc: Global, input: &'a str) -> Result<Vec<Token<'a>>, AllocE
 // The leaves of a text as an import line.
 fn read_leaves(alloc: Global, input: &str) -> Result<Vec<Leaf>, ImportFault>
     ensures ok { IfOk result (λ ls. import_leaves input.now ≡ Ok (map leaf_of ls.items)) }
-    ensures err { IfErr result (λ e. Refuses e (import_leaves input.now)) }
+    ensures err { IfErr result (λ e. RefusesImport e (import_leaves input.now)) }
 {
     let tokens = tokens_of(alloc, input)?;
     let mut rest = behind_import(tokens.as_slice(), input.len())?;
@@ -416,8 +416,8 @@ pub fn parse_imports(
     input: &str,
     declared_imports: &mut IndexMap<String, Vec<String>>,
 ) -> Result<(), ImportFault>
-    ensures ok { OnOk result (imported (declared_of declared_imports.old) (import_leaves input.now) ≡ Ok (declared_of declared_imports.new)) }
-    ensures fault { IfErr result (λ e. Refuses e (import_leaves input.now)) }
+    ensures ok { OnOk result (with_import (declared_of declared_imports.old) (import_leaves input.now) ≡ Ok (declared_of declared_imports.new)) }
+    ensures fault { IfErr result (λ e. RefusesImport e (import_leaves input.now)) }
     ensures unchanged { OnErr result (declared_of declared_imports.new ≡ declared_of declared_imports.old) }
 {
     let leaves = read_leaves(alloc, input)?;

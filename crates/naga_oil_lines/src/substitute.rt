@@ -1,13 +1,13 @@
 // Writes what identifiers stand for, and records what they use of imported modules.
-ghost use Rattle.std.specs.Prelude.{◌≡◌, ℕ, ◌+◌, ◌<◌, ◌^◌, ◌++◌, ◌∷◌, [], None, not, ◌&&◌, ◌||◌, ◌==◌, nat_lt, length, map, IfOk, IfErr, OnOk, OnErr, MatchOption, IsTrue, false};
+ghost use Rattle.std.specs.Prelude.{◌≡◌, ℕ, ◌+◌, ◌<◌, ◌^◌, ◌++◌, ◌∷◌, [], List, None, not, ◌&&◌, ◌||◌, ◌==◌, nat_lt, length, map, IfOk, IfErr, OnOk, OnErr, MatchOption, IsTrue, false};
 ghost use Rattle.std.specs.Cow.{cow_str_bytes};
 ghost use Rattle.std.specs.List.{flat_map, list_any};
-ghost use Rattle.std.specs.Str.{chars};
+ghost use Rattle.std.specs.Str.{chars, IsUtf8};
 ghost use Rattle.std.specs.String.{string_bytes};
 ghost use Rattle.naga_oil_lines.specs.Declarations.{declared_of, paths_of};
 ghost use Rattle.naga_oil_lines.specs.Decorate.{decorated_name};
-ghost use Rattle.naga_oil_lines.specs.SubstituteFault.{Refuses};
-ghost use Rattle.naga_oil_lines.specs.Substituted.{first_part, behind_first, extended, all_extended, paths_for, written, mentions_at, recorded, Site, substituted, sites, mentioned, first_ambiguous, used_by, BeginsUses};
+ghost use Rattle.naga_oil_lines.specs.SubstituteFault.{RefusesUses};
+ghost use Rattle.naga_oil_lines.specs.Substituted.{first_part, behind_first, longer_path, longer_paths, paths_for, path_text, mentions_at, with_mentions, Site, substituted, sites, usize_sites, mentions_in, first_ambiguous, BeginsUses};
 ghost use Rattle.naga_oil_lines.specs.Sites.{HasNoSite, FindsSite, is_own};
 ghost use Rattle.naga_oil_lines.specs.Tokens.{lexemes};
 ghost use Rattle.naga_oil_lines.specs.Uses.{uses_of, with_use};
@@ -71,8 +71,8 @@ fn split_identifier(name: &str) -> (&str, &str)
 }
 
 // A path and what follows it.
-fn extended<'a>(alloc: Global, path: &'a str, behind: &str) -> Result<CowStr<'a>, AllocError>
-    ensures { IfOk result (λ whole. cow_str_bytes whole ≡ extended path.now behind.now) }
+fn longer_path<'a>(alloc: Global, path: &'a str, behind: &str) -> Result<CowStr<'a>, AllocError>
+    ensures { IfOk result (λ whole. cow_str_bytes whole ≡ longer_path path.now behind.now) }
 {
     if behind.is_empty() {
         return Ok(CowStr::Borrowed(path));
@@ -87,7 +87,7 @@ fn extended<'a>(alloc: Global, path: &'a str, behind: &str) -> Result<CowStr<'a>
 fn own_path<'a>(identifier: &'a str, first: &'a str, behind: &str) -> &'a str
     requires first { first.now ≡ first_part identifier.now }
     requires behind { behind.now ≡ behind_first identifier.now }
-    ensures { result.now ≡ extended (first_part identifier.now) (behind_first identifier.now) }
+    ensures { result.now ≡ longer_path (first_part identifier.now) (behind_first identifier.now) }
 {
     if behind.is_empty() { first } else { identifier }
 }
@@ -154,8 +154,8 @@ impl Substitution<'_> {
         used_imports: &mut IndexMap<String, ImportDefWithOffset>,
         output: &mut String,
     ) -> Result<(), AllocError>
-        ensures text { OnOk result (string_bytes output.new ≡ string_bytes output.old ++ written identifier.now path.now) }
-        ensures used { OnOk result (uses_of used_imports.new ≡ recorded (uses_of used_imports.old) (mentions_at place path.now)) }
+        ensures text { OnOk result (string_bytes output.new ≡ string_bytes output.old ++ path_text identifier.now path.now) }
+        ensures used { OnOk result (uses_of used_imports.new ≡ with_mentions (uses_of used_imports.old) (mentions_at place path.now)) }
         ensures begun { OnErr result (BeginsUses (mentions_at place path.now) (uses_of used_imports.old) (uses_of used_imports.new)) }
     {
         if let Some((module_name, item)) = path.rsplit_once("::") {
@@ -178,12 +178,12 @@ impl Substitution<'_> {
         used_imports: &mut IndexMap<String, ImportDefWithOffset>,
         output: &mut String,
     ) -> Result<(), AllocError>
-        ensures text { OnOk result (string_bytes output.new ≡ string_bytes output.old ++ flat_map (written identifier.now) (all_extended (map string_bytes paths.now) behind.now)) }
-        ensures used { OnOk result (uses_of used_imports.new ≡ recorded (uses_of used_imports.old) (flat_map (mentions_at place) (all_extended (map string_bytes paths.now) behind.now))) }
-        ensures begun { OnErr result (BeginsUses (flat_map (mentions_at place) (all_extended (map string_bytes paths.now) behind.now)) (uses_of used_imports.old) (uses_of used_imports.new)) }
+        ensures text { OnOk result (string_bytes output.new ≡ string_bytes output.old ++ flat_map (path_text identifier.now) (longer_paths (map string_bytes paths.now) behind.now)) }
+        ensures used { OnOk result (uses_of used_imports.new ≡ with_mentions (uses_of used_imports.old) (flat_map (mentions_at place) (longer_paths (map string_bytes paths.now) behind.now))) }
+        ensures begun { OnErr result (BeginsUses (flat_map (mentions_at place) (longer_paths (map string_bytes paths.now) behind.now)) (uses_of used_imports.old) (uses_of used_imports.new)) }
     {
         for path in paths {
-            let whole = extended(self.alloc, path.as_str(), behind)?;
+            let whole = longer_path(self.alloc, path.as_str(), behind)?;
             self.write_path(identifier, whole.as_str(), place, used_imports, output)?;
         }
         Ok(())
@@ -217,10 +217,10 @@ impl Substitution<'_> {
         used_imports: &mut IndexMap<String, ImportDefWithOffset>,
         output: &mut String,
     ) -> Result<(), SubstituteFault>
-        ensures text { OnOk result (string_bytes output.new ≡ string_bytes output.old ++ flat_map (written identifier.now) (paths_for (declared_of self.now.declared_imports.now) identifier.now)) }
-        ensures used { OnOk result (uses_of used_imports.new ≡ recorded (uses_of used_imports.old) (mentioned (declared_of self.now.declared_imports.now) (record { name = identifier.now; place = place } ∷ []))) }
+        ensures text { OnOk result (string_bytes output.new ≡ string_bytes output.old ++ flat_map (path_text identifier.now) (paths_for (declared_of self.now.declared_imports.now) identifier.now)) }
+        ensures used { OnOk result (uses_of used_imports.new ≡ with_mentions (uses_of used_imports.old) (mentions_in (declared_of self.now.declared_imports.now) (record { name = identifier.now; place = place } ∷ []))) }
         ensures allowed { OnOk result (first_ambiguous (declared_of self.now.declared_imports.now) self.now.allow_ambiguous (record { name = identifier.now; place = place } ∷ []) ≡ None) }
-        ensures fault { IfErr result (λ e. Refuses (declared_of self.now.declared_imports.now) self.now.allow_ambiguous (record { name = identifier.now; place = place } ∷ []) (uses_of used_imports.old) (uses_of used_imports.new) e) }
+        ensures fault { IfErr result (λ e. RefusesUses (declared_of self.now.declared_imports.now) self.now.allow_ambiguous (record { name = identifier.now; place = place } ∷ []) (uses_of used_imports.old) (uses_of used_imports.new) e) }
     {
         let (first, behind) = split_identifier(identifier);
         let paths = self.declared_paths(first);
@@ -247,8 +247,8 @@ impl Substitution<'_> {
 }
 
 /// Writes a text with what its identifiers stand for by the declared imports, and records in `used_imports` what they
-/// use, at their places, in bytes, counted from the offset. Behind `.` or `@` an identifier is kept. An identifier with
-/// several paths is refused, or these are written one after another.
+/// use, at their places, in bytes, counted from the offset; a place past the greatest `usize` is that. Behind `.` or `@`
+/// an identifier is kept. An identifier with several paths is refused, or these are written one after another.
 ///
 /// After a refusal `used_imports` holds a beginning of the uses, and after `Ambiguous` those before its place.
 pub fn substitute_identifiers(
@@ -259,11 +259,10 @@ pub fn substitute_identifiers(
     used_imports: &mut IndexMap<String, ImportDefWithOffset>,
     allow_ambiguous: bool,
 ) -> Result<String, SubstituteFault>
-    requires { offset + length input.now < 2 ^ 64 }
     ensures text { IfOk result (λ t. string_bytes t ≡ substituted (declared_of declared_imports.now) (lexemes 0 0 (chars input.now))) }
-    ensures used { OnOk result (uses_of used_imports.new ≡ used_by (declared_of declared_imports.now) offset (lexemes 0 0 (chars input.now)) (uses_of used_imports.old)) }
-    ensures allowed { OnOk result (first_ambiguous (declared_of declared_imports.now) allow_ambiguous (sites offset (lexemes 0 0 (chars input.now))) ≡ None) }
-    ensures fault { IfErr result (λ e. Refuses (declared_of declared_imports.now) allow_ambiguous (sites offset (lexemes 0 0 (chars input.now))) (uses_of used_imports.old) (uses_of used_imports.new) e) }
+    ensures used { OnOk result (uses_of used_imports.new ≡ with_mentions (uses_of used_imports.old) (mentions_in (declared_of declared_imports.now) (usize_sites (sites offset (lexemes 0 0 (chars input.now)))))) }
+    ensures allowed { OnOk result (first_ambiguous (declared_of declared_imports.now) allow_ambiguous (usize_sites (sites offset (lexemes 0 0 (chars input.now)))) ≡ None) }
+    ensures fault { IfErr result (λ e. RefusesUses (declared_of declared_imports.now) allow_ambiguous (usize_sites (sites offset (lexemes 0 0 (chars input.now)))) (uses_of used_imports.old) (uses_of used_imports.new) e) }
 {
     if declared_imports.is_empty() && !input.contains("::") {
         return Ok(String::from_str(alloc, input)?);
@@ -283,13 +282,18 @@ pub fn substitute_identifiers(
             continue;
         }
         output.push_str(text_before(unwritten, site.from))?;
-        let place = offset + (input.len() - site.from.len());
+        let place = offset.saturating_add(input.len() - site.from.len());
         substitution.write_identifier(site.name, place, used_imports, &mut output)?;
         unwritten = rest;
     }
     output.push_str(unwritten)?;
     Ok(output)
 }
+
+/// The place of a use is the sum of the offset and its place in the text wherever a `usize` holds the text's end.
+pub fn exact_places()
+    ensures { (offset : ℕ) (text : List ℕ) → IsUtf8 text → offset + length text < 2 ^ 64 → usize_sites (sites offset (lexemes 0 0 (chars text))) ≡ sites offset (lexemes 0 0 (chars text)) }
+{}
 
 #[cfg(test)]
 mod tests;

@@ -3,7 +3,7 @@ ghost use Rattle.std.specs.Prelude.{◌≡◌, ◌↔◌, ℕ, ◌+◌, ◌<◌,
 ghost use Rattle.std.specs.Char.{encode_utf8, is_whitespace};
 ghost use Rattle.std.specs.Str.{chars, IsUtf8};
 ghost use Rattle.std.specs.List.{prefix_len, list_any};
-ghost use Rattle.naga_oil_lines.specs.Tokens.{Lexeme, continued, lexemes, starts_identifier};
+ghost use Rattle.naga_oil_lines.specs.Tokens.{Lexeme, tail_len, lexemes, starts_identifier};
 ghost use Rattle.naga_oil_lines.specs.Words.{is_word_byte, ends_identifier};
 ghost use Rattle.naga_oil_lines.specs.TokenGrammar.{AreTokens};
 ghost use Rattle.unicode_ident.specs.Ident.{is_xid_start, is_xid_continue};
@@ -100,7 +100,7 @@ fn after_word(text: &str) -> &str
 
 // What is left of a text behind the characters that go on an identifier.
 fn after_identifier(text: &str, begins_quoted: bool) -> &str
-    ensures chars { chars result.now ≡ drop (continued begins_quoted (chars text.now)) (chars text.now) }
+    ensures chars { chars result.now ≡ drop (tail_len begins_quoted (chars text.now)) (chars text.now) }
     ensures suffix { (front : List ℕ) × (text.now ≡ front ++ result.now) }
 {
     let mut quoted = begins_quoted;
@@ -144,7 +144,7 @@ fn ends_identifier(text: &str) -> bool
 
 // What is left of a text behind an identifier that begins with a character before it, and whether this is one word, which has no `:`.
 pub(crate) fn behind_identifier(first: char, text: &str) -> (&str, bool)
-    ensures chars { chars result.0.now ≡ drop (continued (first == 34) (chars text.now)) (chars text.now) }
+    ensures chars { chars result.0.now ≡ drop (tail_len (first == 34) (chars text.now)) (chars text.now) }
     ensures suffix { (front : List ℕ) × (text.now ≡ front ++ result.0.now) × (IsTrue result.1 → list_any (λ b. b == 58) front ≡ false) }
     ensures utf8 { IsUtf8 result.0.now }
 {
@@ -167,10 +167,10 @@ pub struct Tokenizer<'a> {
 
 impl<'a> Tokenizer<'a> {
     ghost use Rattle.naga_oil_lines.specs.Tokenizer.{tokens_left};
-    ghost use Rattle.naga_oil_lines.specs.Tokens.{shown};
+    ghost use Rattle.naga_oil_lines.specs.Tokens.{emit};
 
     pub fn new(src: &'a str, emit_whitespace: bool) -> Tokenizer<'a>
-        ensures left { tokens_left result ≡ shown emit_whitespace (lexemes 0 0 (chars src.now)) }
+        ensures left { tokens_left result ≡ emit emit_whitespace (lexemes 0 0 (chars src.now)) }
         ensures tokens { AreTokens 0 (chars src.now) (lexemes 0 0 (chars src.now)) }
     {
         let _len = src.len();

@@ -6,7 +6,7 @@ ghost use Rattle.std.specs.List.Sorted.{IsStrictlySortedBy};
 ghost use Rattle.std.specs.Ordering.{nat_cmp};
 ghost use Rattle.std.specs.String.{string_bytes};
 ghost use Rattle.naga_oil_lines.specs.Directives.{enable_of, requires_of, diagnostic_of, directives_of, no_directives};
-ghost use Rattle.naga_oil_lines.specs.DirectivesText.{with_name, in_order, named, names_line, diagnostic_line, with_empty_line, directives_text, SaysNothing};
+ghost use Rattle.naga_oil_lines.specs.DirectivesText.{with_name, in_order, names_of, names_line, diagnostic_line, with_empty_line, directives_text, SaysNothing};
 
 use std::alloc::{AllocError, Global};
 use std::collections::BTreeSet;
@@ -148,7 +148,7 @@ fn enabled_names<'a>(
     alloc: Global,
     enables: &'a [EnableDirective],
 ) -> Result<BTreeSet<&'a str>, AllocError>
-    ensures { IfOk result (λ names. map (λ n. n.now) names.keys ≡ in_order (named (map enable_of enables.now))) }
+    ensures { IfOk result (λ names. map (λ n. n.now) names.keys ≡ in_order (names_of (map enable_of enables.now))) }
 {
     let mut names = BTreeSet::new(alloc);
     for enable in enables {
@@ -162,7 +162,7 @@ fn required_names<'a>(
     alloc: Global,
     requires_: &'a [RequiresDirective],
 ) -> Result<BTreeSet<&'a str>, AllocError>
-    ensures { IfOk result (λ names. map (λ n. n.now) names.keys ≡ in_order (named (map requires_of requires_.now))) }
+    ensures { IfOk result (λ names. map (λ n. n.now) names.keys ≡ in_order (names_of (map requires_of requires_.now))) }
 {
     let mut names = BTreeSet::new(alloc);
     for required in requires_ {

@@ -1,7 +1,7 @@
 //! The program `oil`: prints a shader's text as it stands behind preprocessing, or a shader made of files.
 #![tactic(auto)]
 
-mod mini;
+pub mod mini;
 
 use std::alloc::AllocError;
 use std::io::{BufWriter, ErrorKind};

@@ -24,7 +24,8 @@ mod valid;
 mod words;
 mod writer;
 
-use refusal::Refusal;
+pub use front::Mini;
+pub use refusal::Refusal;
 use std::alloc::{AllocError, Global};
 use std::io::{self, Write};
 use words::Task;

@@ -2,18 +2,20 @@
 use Rattle.std.specs.Prelude.{OnOk, IfErr, String}
 use Rattle.std.specs.declared.alloc.Global.{Global}
 use Rattle.naga_oil_lines.specs.declared.import_definition.ImportDefWithOffset.{ImportDefWithOffset}
-use Rattle.std.proofs.Common.{◌≡◌, ℕ, zero, suc, ◌+◌, ◌<◌, ◌≤◌, Bool, true, false, List, [], ◌∷◌, ◌++◌, map, length, replicate, refl, sym, ap, subst, ◌∙◌, append_assoc, append-nil, Option, Some, None, MatchOption, Result, Ok, Err, arith}
+use Rattle.std.proofs.Common.{◌≡◌, ℕ, zero, suc, ◌+◌, ◌<◌, ◌≤◌, ◌^◌, Bool, true, false, List, [], ◌∷◌, ◌++◌, map, length, replicate, refl, sym, ap, subst, ◌∙◌, append_assoc, append-nil, Option, Some, None, MatchOption, Result, Ok, Err, arith}
 use Rattle.naga_oil_lines.specs.Declarations.{Declared}
-use Rattle.naga_oil_lines.specs.Leaves.{Leaf, SyntaxFault, import_leaves, with_leaves, imported as declared_behind}
+use Rattle.naga_oil_lines.specs.Leaves.{Leaf, SyntaxFault, import_leaves, with_leaves, with_import as declared_behind}
 use Rattle.naga_oil_lines.specs.Uses.{Use, Uses, use_of, use_entry}
-use Rattle.naga_oil_lines.specs.Substituted.{Site, substituted, sites, first_ambiguous, is_refused, used_by}
+use Rattle.naga_oil_lines.specs.Substituted.{Site, substituted, sites, first_ambiguous, is_refused, usize_sites, used_by}
 use denote.Ref.{Bor}
-use Rattle.std.specs.Str.{IsUtf8}
+use Rattle.std.specs.Str.{IsUtf8, chars}
 use Rattle.naga_oil_lines.proofs.ImportPlaceLemmas.{fault_within}
-use Rattle.naga_oil_lines.specs.ImportView.{Refuses as Declines}
+use Rattle.naga_oil_lines.proofs.SitePlaceLemmas.{sites_count}
+use Rattle.naga_oil_lines.specs.Tokens.{lexemes}
+use Rattle.naga_oil_lines.specs.ImportView.{RefusesImport as Declines}
 use Rattle.naga_oil_lines.specs.declared.parse_imports.ImportFault.{ImportFault}
 use Rattle.naga_oil_lines.specs.declared.parse_imports.ImportFault.TheVariants.{Syntax, Memory as OutOfMemory}
-use Rattle.naga_oil_lines.specs.SubstituteFault.{Refuses}
+use Rattle.naga_oil_lines.specs.SubstituteFault.{RefusesUses}
 use Rattle.naga_oil_lines.specs.declared.substitute.SubstituteFault.{SubstituteFault}
 use Rattle.naga_oil_lines.specs.declared.substitute.SubstituteFault.TheVariants.{Ambiguous, Memory}
 use Rattle.naga_oil_pre.specs.declared.scope.ScopeLevel.{ScopeLevel}
@@ -83,9 +85,18 @@ pub none_refused : (declared : Declared) (ss : List Site) → first_ambiguous de
 none_refused declared [] = refl
 none_refused declared (s ∷ ss) = none_refused declared ss
 
-pub never_ambiguous : (declared : Declared) (ss : List Site) (old new : Uses) (e : SubstituteFault) (place : ℕ) → Refuses declared true ss old new e → e ≡ Ambiguous place → ⊥
+pub never_ambiguous : (declared : Declared) (ss : List Site) (old new : Uses) (e : SubstituteFault) (place : ℕ) → RefusesUses declared true ss old new e → e ≡ Ambiguous place → ⊥
 never_ambiguous declared ss old new (Ambiguous p) place h e = let none = none_refused declared ss in let some = h.0 in cc
 never_ambiguous declared ss old new Memory place h e = cc
+
+-- the place of the first ambiguous identifier
+pub first_refused : (declared : Declared) (ss : List Site) (old new : Uses) (e : SubstituteFault) (place : ℕ) → RefusesUses declared false ss old new e → e ≡ Ambiguous place → first_ambiguous declared false ss ≡ Some place
+first_refused declared ss old new (Ambiguous p) place h e = let same : p ≡ place = cc in h.0 ∙ ap (λ n. Some n) same
+first_refused declared ss old new Memory place h e = cc
+
+-- the identifiers of a text whose end is a number of the machine
+pub counted : (offset : ℕ) (text whole : List ℕ) → IsUtf8 text → text ≡ whole → offset + length text < 2 ^ 64 → usize_sites (sites offset (lexemes 0 0 (chars text))) ≡ sites offset (tokens_of whole)
+counted offset text whole u e h = sites_count offset text u h ∙ ap (λ t. sites offset (tokens_of t)) e
 
 -- ---- an import
 -- a fault of an import line has its place in the line or at its end

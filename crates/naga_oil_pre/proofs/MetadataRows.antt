@@ -8,8 +8,8 @@ use Rattle.unicode_ident.specs.Ident.{is_xid_start, is_xid_continue}
 use Rattle.unicode_ident.proofs.Computing.{unicode_ident}
 use Rattle.naga_oil_lines.specs.Cover.{cover}
 use Rattle.naga_oil_lines.specs.Leaves.{parts, leaves_of, line_leaves}
-use Rattle.naga_oil_lines.specs.Substituted.{paths_for, written, mentions_at}
-use Rattle.naga_oil_lines.specs.Tokens.{lexemes, more_in_token, continued}
+use Rattle.naga_oil_lines.specs.Substituted.{paths_for, path_text, mentions_at}
+use Rattle.naga_oil_lines.specs.Tokens.{lexemes, more_in_token, tail_len}
 use Rattle.naga_oil_lines.specs.Uses.{Use}
 use Rattle.naga_oil_pre.specs.declared.shader_def.ShaderDefValue.{ShaderDefValue}
 use Rattle.naga_oil_pre.specs.declared.shader_def.ShaderDefValue.TheVariants as def
@@ -60,9 +60,9 @@ last_path = refl
 
 -- a line that an import takes is no define
 taken_define : finds false (codes "#import a::{" ∷ codes "#define A" ∷ []) ≡ Err (invalid_import (codes "unexpected token") 13)
-unfolding finds text cover line_kinds chars encode ucd_perl unicode_ident is_xid_start is_xid_continue lexemes more_in_token continued line_leaves leaves_of parts
+unfolding finds text cover line_kinds chars encode ucd_perl unicode_ident is_xid_start is_xid_continue lexemes more_in_token tail_len line_leaves leaves_of parts
 taken_define = refl
 
 used : uses_of (finds false (codes "#import a::f" ∷ codes "// #C f" ∷ codes "#ifdef D" ∷ codes "f();" ∷ codes "#endif" ∷ [])) ≡ record { import = record { import = codes "a"; items = codes "f" ∷ [] }; offset = 30 } ∷ []
-unfolding finds uses_of text cover line_kinds chars encode ucd_perl unicode_ident is_xid_start is_xid_continue lexemes more_in_token continued line_leaves leaves_of parts paths_for written mentions_at
+unfolding finds uses_of text cover line_kinds chars encode ucd_perl unicode_ident is_xid_start is_xid_continue lexemes more_in_token tail_len line_leaves leaves_of parts paths_for path_text mentions_at
 used = refl

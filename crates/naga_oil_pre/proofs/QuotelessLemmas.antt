@@ -9,8 +9,8 @@ use Rattle.std.specs.Str.{IsUtf8, NonePass, NoCharPasses, chars, encode_utf8_all
 use Rattle.std.proofs.lemmas.List.Elements.{All-cons, All-nil, All-head, All-tail, All-append}
 use Rattle.unicode_ident.specs.Ident.{is_xid_start, is_xid_continue}
 use Rattle.unicode_ident.proofs.Computing.{unicode_ident}
-use Rattle.naga_oil_lines.specs.Tokens.{Lexeme, identifier, other, whitespace, continued, more_in_token, lexeme_at, lexemes, is_whitespace_lexeme, shown as emitted}
-use Rattle.naga_oil_lines.specs.Leaves.{SyntaxFault, Alias, no_alias, as_name, lacking, alias_after, alias_len, Part, head, leaf, close, nothing, wrong, before_brace, unit_part, unit_len, at_semicolon, mark_part, parts, is_open, open_heads, Leaf, added, at_end, is_old_head, then_leaves, leaves_of, behind_hash, behind_import, line_leaves, import_leaves, key_of}
+use Rattle.naga_oil_lines.specs.Tokens.{Lexeme, identifier, other, whitespace, tail_len, more_in_token, lexeme_at, lexemes, is_whitespace_lexeme, emit as emitted}
+use Rattle.naga_oil_lines.specs.Leaves.{SyntaxFault, Alias, no_alias, as_name, lacking, alias_after, alias_len, Part, head, leaf, close, nothing, wrong, before_brace, unit_part, unit_len, at_semicolon, mark_part, parts, is_open, open_heads, Leaf, part_leaves, at_end, is_old_head, then_leaves, leaves_of, behind_hash, behind_import, line_leaves, import_leaves, key_of}
 use Rattle.naga_oil_pre.specs.declared.scope.ScopeLevel.{ScopeLevel}
 use Rattle.naga_oil_pre.specs.Line.{Line, source_lines}
 use Rattle.naga_oil_pre.specs.Kind.{LineKind, version, condition, endif, imports, import_path, define, other as other_line, kind_of}
@@ -53,16 +53,16 @@ no_continue c e =
 is_other : (c d : ℕ) → eqb c d ≡ true → eqb d 10 ≡ false → is_end c ≡ false
 is_other c d e f = ap (λ x. eqb x 10) (eqb-true c d e) ∙ f
 
-continued_holds_none : (cs : List ℕ) → NonePass is_quote cs → NonePass is_end (take (continued false cs) cs)
-unfolding continued
+continued_holds_none : (cs : List ℕ) → NonePass is_quote cs → NonePass is_end (take (tail_len false cs) cs)
+unfolding tail_len
 continued_holds_none [] h = tt
 continued_holds_none (c ∷ []) h =
     rw h.0 (elim (is_xid_continue c) as (λ t. is_xid_continue c ≡ t → NonePass is_end (take (cond t 1 0) (c ∷ []))) [ true ↦ λ e. (no_continue c e, tt) | false ↦ λ e. tt ] refl)
 continued_holds_none (c ∷ d ∷ cs) h =
     rw h.0
-    (elim (is_xid_continue c) as (λ t. is_xid_continue c ≡ t → NonePass is_end (take (cond t (suc (continued false (d ∷ cs))) (cond (eqb c 58 && eqb d 58) (suc (suc (continued false cs))) 0)) (c ∷ d ∷ cs))) [
+    (elim (is_xid_continue c) as (λ t. is_xid_continue c ≡ t → NonePass is_end (take (cond t (suc (tail_len false (d ∷ cs))) (cond (eqb c 58 && eqb d 58) (suc (suc (tail_len false cs))) 0)) (c ∷ d ∷ cs))) [
       | true ↦ λ e. (no_continue c e, continued_holds_none (d ∷ cs) h.1)
-      | false ↦ λ e. elim (eqb c 58 && eqb d 58) as (λ t. (eqb c 58 && eqb d 58) ≡ t → NonePass is_end (take (cond t (suc (suc (continued false cs))) 0) (c ∷ d ∷ cs))) [
+      | false ↦ λ e. elim (eqb c 58 && eqb d 58) as (λ t. (eqb c 58 && eqb d 58) ≡ t → NonePass is_end (take (cond t (suc (suc (tail_len false cs))) 0) (c ∷ d ∷ cs))) [
         | true ↦ λ f. let each = and_parts (eqb c 58) (eqb d 58) f in (is_other c 58 each.0 refl, (is_other d 58 each.1 refl, continued_holds_none cs h.1.1))
         | false ↦ λ f. tt
       ] refl
@@ -77,8 +77,8 @@ no_end_at : (at c : ℕ) (cs : List ℕ) → NonePass is_quote (c ∷ cs) → No
 unfolding more_in_token
 no_end_at at c cs h =
     rw h.0
-    (elim (is_xid_start c) as (λ t. is_xid_start c ≡ t → NoEndIn (let text = encode_utf8_all (c ∷ take (cond (t || false) (continued false cs) (cond (is_whitespace c) (prefix_len is_whitespace cs) 0)) cs) in cond (t || false) (identifier text at) (cond (is_whitespace c) (whitespace text at) (other c at)))) [
-      | true ↦ λ e. no_ends_in_text (c ∷ take (continued false cs) cs) (no_start c e, continued_holds_none cs h.1)
+    (elim (is_xid_start c) as (λ t. is_xid_start c ≡ t → NoEndIn (let text = encode_utf8_all (c ∷ take (cond (t || false) (tail_len false cs) (cond (is_whitespace c) (prefix_len is_whitespace cs) 0)) cs) in cond (t || false) (identifier text at) (cond (is_whitespace c) (whitespace text at) (other c at)))) [
+      | true ↦ λ e. no_ends_in_text (c ∷ take (tail_len false cs) cs) (no_start c e, continued_holds_none cs h.1)
       | false ↦ λ e. elim (is_whitespace c) as (λ t. NoEndIn (let text = encode_utf8_all (c ∷ take (cond t (prefix_len is_whitespace cs) 0) cs) in cond t (whitespace text at) (other c at))) [ true ↦ tt | false ↦ tt ]
     ] refl)
 
@@ -186,7 +186,7 @@ no_end_in_concat (text ∷ more) h = no_ends_in_both text (concat more) h.0 (no_
 abbrev NoEndInLeaves : List Leaf → Type 0
 NoEndInLeaves leaves = All HoldsNoEnd (map (λ l. l.1) leaves)
 
-no_end_added : (before : List Part) (p : Part) → NoEndInParts before → NoEndInPart p → IfOk (added before p) NoEndInLeaves
+no_end_added : (before : List Part) (p : Part) → NoEndInParts before → NoEndInPart p → IfOk (part_leaves before p) NoEndInLeaves
 no_end_added before (head is_old text) h k = All-nil HoldsNoEnd
 no_end_added before (leaf key name) h k =
     All-cons HoldsNoEnd (concat (open_heads before) ++ name) [] (no_ends_in_both (concat (open_heads before)) name (no_end_in_concat (open_heads before) (no_end_in_heads before h)) k) (All-nil HoldsNoEnd)
@@ -216,7 +216,7 @@ no_end_in_leaves : (end : ℕ) (before ps : List Part) → NoEndInParts before �
 unfolding leaves_of
 no_end_in_leaves end before [] h k = no_end_at_end end before
 no_end_in_leaves end before (p ∷ ps) h k =
-    no_end_then (added before p) (leaves_of end (before ++ p ∷ []) ps) (no_end_added before p h k.0) (no_end_in_leaves end (before ++ p ∷ []) ps (one_part_more before p h k.0) k.1)
+    no_end_then (part_leaves before p) (leaves_of end (before ++ p ∷ []) ps) (no_end_added before p h k.0) (no_end_in_leaves end (before ++ p ∷ []) ps (one_part_more before p h k.0) k.1)
 
 no_end_in_line : (end : ℕ) (ts : List Lexeme) → NoEndAmong ts → IfOk (line_leaves end ts) NoEndInLeaves
 unfolding line_leaves

@@ -15,7 +15,7 @@ use Rattle.naga_oil_lines.specs.declared.comment_strip_iter.CommentState.{Commen
 use Rattle.naga_oil_lines.specs.declared.comment_strip_iter.CommentState.TheVariants.{Code, Block, Quote}
 use Rattle.naga_oil_lines.specs.declared.comment_strip_iter.Mark.{Mark}
 use Rattle.naga_oil_lines.specs.declared.comment_strip_iter.Mark.TheVariants.{LineComment, Open, Close, DoubleQuote}
-use Rattle.naga_oil_lines.specs.Cover.{Covered, behind, spaces, plain, deeper, shallower, past_quote, mark_at, cover}
+use Rattle.naga_oil_lines.specs.Cover.{Covered, with_front, spaces, plain, deeper, shallower, past_quote, mark_at, cover}
 use Rattle.naga_oil_lines.specs.CoveredLines.{covered_lines}
 use Rattle.naga_oil_pre.specs.Line.{Line, placed, next_place, source_lines}
 use Rattle.naga_oil_pre.proofs.LineParts.{KeepsFront, holds_of_lines}
@@ -109,15 +109,15 @@ no_mark Quote b bs high = rw (ne_eqb b 34 (λ e. absurd (omega arith))) refl
 
 -- the steps of `cover`, by the mark
 abbrev last_covered : CommentState → ℕ → Option Mark → Covered
-last_covered s a o = elim o [ None ↦ behind (plain s (a ∷ [])) ([], s) | Some m ↦ behind (a ∷ []) ([], past_quote s) ]
+last_covered s a o = elim o [ None ↦ with_front (plain s (a ∷ [])) ([], s) | Some m ↦ with_front (a ∷ []) ([], past_quote s) ]
 
 abbrev first_covered : CommentState → (a b : ℕ) → List ℕ → Option Mark → Covered
 first_covered s a b bs o = elim o [
-  | None ↦ behind (plain s (a ∷ [])) (cover s (b ∷ bs))
-  | Some LineComment ↦ behind (spaces (length (a ∷ b ∷ bs))) ([], s)
-  | Some Open ↦ behind (spaces 2) (cover (deeper s) bs)
-  | Some Close ↦ behind (spaces 2) (cover (shallower s) bs)
-  | Some DoubleQuote ↦ behind (a ∷ []) (cover (past_quote s) (b ∷ bs))
+  | None ↦ with_front (plain s (a ∷ [])) (cover s (b ∷ bs))
+  | Some LineComment ↦ with_front (spaces (length (a ∷ b ∷ bs))) ([], s)
+  | Some Open ↦ with_front (spaces 2) (cover (deeper s) bs)
+  | Some Close ↦ with_front (spaces 2) (cover (shallower s) bs)
+  | Some DoubleQuote ↦ with_front (a ∷ []) (cover (past_quote s) (b ∷ bs))
 ]
 
 plain_first : (s : CommentState) (b : ℕ) (bs ys : List ℕ) → plain s (b ∷ []) ++ (plain s bs ++ ys) ≡ plain s (b ∷ bs) ++ ys

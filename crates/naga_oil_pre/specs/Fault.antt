@@ -6,7 +6,7 @@ use Rattle.std.specs.declared.cmp.Ordering.{Ordering}
 use Rattle.std.specs.Ordering.{nat_cmp, int_cmp, bool_cmp}
 use Rattle.naga_oil_ir.specs.declared.span.Span.{Span}
 use Rattle.naga_oil_ir.specs.Backend.{FaultValue}
-use Rattle.naga_oil_derive.specs.RedirectFault.{RedirectFault}
+use Rattle.naga_oil_ir.specs.RedirectFault.{RedirectFault}
 use Rattle.naga_oil_pre.specs.Values.{read_bool, read_i32, read_u32, operator_holds}
 use Rattle.naga_oil_pre.specs.Line.{Line}
 use Rattle.naga_oil_pre.specs.Kind.{LineKind, condition, kind_of, Condition, defined, undefined, compares, otherwise}

@@ -5,7 +5,7 @@ use lib.Utf8.{encode}
 use Rattle.unicode_ident.specs.Ident.{is_xid_start, is_xid_continue}
 use Rattle.unicode_ident.proofs.Computing.{unicode_ident}
 use Rattle.naga_oil_lines.specs.Cover.{cover}
-use Rattle.naga_oil_lines.specs.Tokens.{lexemes, more_in_token, continued}
+use Rattle.naga_oil_lines.specs.Tokens.{lexemes, more_in_token, tail_len}
 use Rattle.naga_oil_lines.specs.Leaves.{parts, leaves_of, line_leaves}
 use Rattle.naga_oil_pre.specs.Computing.{line_kinds}
 use Rattle.naga_oil_pre.specs.Fault.{Definitions}
@@ -25,15 +25,15 @@ Declares : List (List ℕ) → List (List ℕ) → Type 0
 Declares source paths = declared_paths none_defined (text source) ≡ paths
 
 over_lines : Declares (codes "#import a::{b," ∷ codes "c as d}" ∷ codes "b" ∷ codes "#import e" ∷ []) (codes "a::b" ∷ codes "a::c" ∷ codes "e" ∷ [])
-unfolding Declares text none_defined declared_paths unicode_ident is_xid_start is_xid_continue chars encode lexemes more_in_token continued line_leaves leaves_of parts cover reading read_block read_arms line_kinds
+unfolding Declares text none_defined declared_paths unicode_ident is_xid_start is_xid_continue chars encode lexemes more_in_token tail_len line_leaves leaves_of parts cover reading read_block read_arms line_kinds
 over_lines = refl
 
 -- an import of an inactive arm declares nothing, and one that has a fault neither
 idle : Declares (codes "#ifdef X" ∷ codes "#import a::b" ∷ codes "#endif" ∷ codes "#import a::{" ∷ []) []
-unfolding Declares text none_defined declared_paths unicode_ident is_xid_start is_xid_continue chars encode lexemes more_in_token continued line_leaves leaves_of parts cover reading read_block read_arms line_kinds
+unfolding Declares text none_defined declared_paths unicode_ident is_xid_start is_xid_continue chars encode lexemes more_in_token tail_len line_leaves leaves_of parts cover reading read_block read_arms line_kinds
 idle = refl
 
 -- quotes that run over a line end bring it into the path
 over_an_end : Declares (codes "#import a::{\"" ∷ codes "\" as b}" ∷ []) ((codes "a::\"" ++ 10 ∷ codes "\"") ∷ [])
-unfolding Declares text none_defined declared_paths unicode_ident is_xid_start is_xid_continue chars encode lexemes more_in_token continued line_leaves leaves_of parts cover reading read_block read_arms line_kinds
+unfolding Declares text none_defined declared_paths unicode_ident is_xid_start is_xid_continue chars encode lexemes more_in_token tail_len line_leaves leaves_of parts cover reading read_block read_arms line_kinds
 over_an_end = refl

@@ -3,9 +3,9 @@ use Rattle.std.specs.Prelude.{◌≡◌, Option, Some, None, Result, Ok, Err, Ma
 use Rattle.naga_oil_pre.specs.declared.fault.ComposerErrorInner.{ComposerErrorInner}
 use Rattle.naga_oil_pre.specs.declared.fault.ComposerErrorInner.TheVariants as code
 use Rattle.naga_oil_ir.specs.Backend.{parse_fault, write_fault, valid_fault}
-use Rattle.naga_oil_derive.specs.declared.redirect_error.RedirectError.{RedirectError}
-use Rattle.naga_oil_derive.specs.declared.redirect_error.RedirectError.TheVariants as redirect
-use Rattle.naga_oil_derive.specs.RedirectFault.{RedirectFault, redirect_fault}
+use Rattle.naga_oil_ir.specs.declared.redirect_error.RedirectError.{RedirectError}
+use Rattle.naga_oil_ir.specs.declared.redirect_error.RedirectError.TheVariants as redirect
+use Rattle.naga_oil_ir.specs.RedirectFault.{RedirectFault, redirect_fault}
 use Rattle.naga_oil_pre.specs.Fault.{Fault, import_not_found, wgsl_parse, glsl_parse, wgsl_back, glsl_back, header_validation, shader_validation, inconsistent_def, no_module_name, decoration_in_source, redirection, redirection_memory, not_virtual, invalid_identifier, too_many_modules, bindings_exhausted, text_too_large, wrong_form, unknown_def, invalid_value, unknown_operator, else_without_condition, too_many_end_ifs, not_enough_end_ifs, invalid_version, invalid_definition, invalid_import, invalid_directive, define_in_module}
 use Rattle.naga_oil_pre.specs.Preprocessed.{Status, noted}
 

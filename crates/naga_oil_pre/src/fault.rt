@@ -1,6 +1,5 @@
 // What can be wrong with a text.
-use naga_oil_derive::RedirectError;
-use naga_oil_ir::{ParseFault, Span, ValidFault, WriteFault};
+use naga_oil_ir::{ParseFault, RedirectError, Span, ValidFault, WriteFault};
 use std::alloc::{AllocError, AllocFailed};
 use std::ops::Range;
 use thiserror::Error;

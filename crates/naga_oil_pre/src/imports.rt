@@ -3,7 +3,7 @@ ghost use Rattle.std.specs.Prelude.{◌≡◌, ℕ, ◌+◌, ◌<◌, ◌≤◌,
 ghost use Rattle.std.specs.BTreeMap.{get_by_text};
 ghost use Rattle.naga_oil_lines.specs.Declarations.{declared_of};
 ghost use Rattle.naga_oil_lines.specs.Uses.{uses_of};
-ghost use Rattle.naga_oil_lines.specs.Leaves.{import_leaves, imported};
+ghost use Rattle.naga_oil_lines.specs.Leaves.{import_leaves, with_import};
 ghost use Rattle.naga_oil_lines.specs.Substituted.{substituted, sites, first_ambiguous, used_by};
 ghost use Rattle.naga_oil_pre.specs.Line.{Line, end_place};
 ghost use Rattle.naga_oil_pre.specs.Fault.{Definitions};
@@ -68,7 +68,7 @@ pub fn declare(
     declared: &mut IndexMap<String, Vec<String>>,
 ) -> Result<(), ComposerErrorInner>
     requires { offset + length import.now < 2 ^ 64 }
-    ensures ok { OnOk result (imported (declared_of declared.old) (import_leaves import.now) ≡ Ok (declared_of declared.new)) }
+    ensures ok { OnOk result (with_import (declared_of declared.old) (import_leaves import.now) ≡ Ok (declared_of declared.new)) }
     ensures err { IfErr result (λ e. (known : Known) (l : Line) → l.at ≡ offset → Fails e (imported_piece known l (import_leaves import.now))) }
 {
     match parse_imports(alloc, import, declared) {

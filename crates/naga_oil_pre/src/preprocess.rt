@@ -159,7 +159,7 @@ fn write_line(
 }
 
 /// Preprocesses texts.
-#[derive(Clone, Copy, Debug, Default, PartialEq, Eq)]
+#[derive(Clone, Copy, Debug, Default)]
 pub struct Preprocessor;
 
 impl Preprocessor {

@@ -2,7 +2,7 @@
 ghost use Rattle.std.specs.Prelude.{◌≡◌, ◌≤◌, [], map, All, string_bytes, IfOk, OnOk};
 ghost use Rattle.std.specs.BTreeMap.{get_by_text};
 ghost use Rattle.naga_oil_ir.specs.ModuleValue.{module_value};
-ghost use Rattle.naga_oil.specs.Afresh.{entered, setting_of, may_import, Reaching, Unless, UnlessBuilt, EachReached, OneUnreached, Reached, Unreached};
+ghost use Rattle.naga_oil.specs.Afresh.{builds_with, setting_of, may_import, Reaching, Unless, UnlessBuilt, EachReached, OneUnreached, Reached, Unreached};
 ghost use Rattle.naga_oil_lines.specs.Uses.{import_of, use_of};
 ghost use Rattle.naga_oil_pre.specs.KnownView.{output_of};
 ghost use Rattle.naga_oil_pre.specs.View.{Gives};
@@ -85,7 +85,7 @@ fn add_imported(alloc: Global, all: &mut Overrides, builds: &Builds, name: &str)
 
 // Enters a build under its name.
 fn enter(alloc: Global, builds: &mut Builds, name: &str, built: Build) -> Checked
-    ensures { GivesBy (λ _. builds_of builds.new ≡ entered (builds_of builds.old) name.now (built_of built)) (λ _. ⊥) result }
+    ensures { GivesBy (λ _. builds_of builds.new ≡ builds_with (builds_of builds.old) name.now (built_of built)) (λ _. ⊥) result }
 {
     let name = String::from_str(alloc, name)?;
     builds.entry(name)?.or_insert(built);
@@ -319,7 +319,7 @@ impl<B: Backend> Maker<'_, B> {
     // Builds a module over the builds of what it imports, and enters it.
     fn build(&mut self, of: &Definition, output: &PreprocessOutput) -> Told
         requires { of.now.module_index ≤ 2047 }
-        ensures built { AnswersBy (λ _. (b : BuiltModule) × by_steps.makes (setting_of (B.front self.old.front.now) self.old.validate self.old.capabilities self.old.defs) (definition_of of.now) (output_of output.now) (builds_of self.old.builds) b × (builds_of self.new.builds ≡ entered (builds_of self.old.builds) (definition_of of.now).name b)) (by_steps.refuses (setting_of (B.front self.old.front.now) self.old.validate self.old.capabilities self.old.defs) (definition_of of.now) (output_of output.now) (builds_of self.old.builds)) result }
+        ensures built { AnswersBy (λ _. (b : BuiltModule) × by_steps.makes (setting_of (B.front self.old.front.now) self.old.validate self.old.capabilities self.old.defs) (definition_of of.now) (output_of output.now) (builds_of self.old.builds) b × (builds_of self.new.builds ≡ builds_with (builds_of self.old.builds) (definition_of of.now).name b)) (by_steps.refuses (setting_of (B.front self.old.front.now) self.old.validate self.old.capabilities self.old.defs) (definition_of of.now) (output_of output.now) (builds_of self.old.builds)) result }
         ensures rest { self.new ≡ record self.old { builds = self.new.builds } }
     {
         let built = self.built(of, output)?;

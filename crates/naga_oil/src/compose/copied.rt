@@ -13,12 +13,12 @@ ghost use Rattle.naga_oil.specs.BuiltModule.{built_of};
 ghost use Rattle.naga_oil.specs.CopiedSteps.{special_names, own_type_at, own_types, owning_types, owns_function, item_steps, type_in_module, type_in_header, in_module, in_header, copy_step, stub_steps, module_steps, header_steps, IsFilled, IsUnfilled, IsFinished, IsUnfinished, IsCopied, IsUncopied};
 ghost use Rattle.naga_oil.specs.CopySources.{CopiesFrom, IsFunctionOf, stub_of};
 ghost use Rattle.naga_oil.specs.Definition.{texts};
-ghost use Rattle.naga_oil.specs.Owned.{has_mark};
+ghost use Rattle.naga_oil_marks.specs.Marks.{has_module_mark};
 ghost use Rattle.naga_oil.specs.Places.{places_of};
 ghost use Rattle.naga_oil.specs.Relations.{GivesBy};
 ghost use Rattle.naga_oil.specs.Steps.{Source as source_step, AreTaken};
 
-use super::items::{has_mark, import_item, name_at, named, note, places_of};
+use super::items::{import_item, name_at, named, note, places_of};
 use super::*;
 use naga_oil_derive::copied_name;
 use naga_oil_derive::special::special_entries;
@@ -38,9 +38,9 @@ fn special_names(alloc: Global, of: &Module) -> Tried<Names>
 
 // Whether a type of a name isn't owned: it has a mark, or a special type has it.
 fn is_kept(special: &Names, name: &str) -> bool
-    ensures { result ≡ (is_among (texts special.now.keys) name.now || has_mark name.now) }
+    ensures { result ≡ (is_among (texts special.now.keys) name.now || has_module_mark name.now) }
 {
-    special.contains(name) | has_mark(name)
+    special.contains(name) | has_module_mark(name)
 }
 
 // The decorated name of a type that is owned, which is noted.

@@ -1,3 +1,4 @@
+// The types that the calls of this crate speak of, and a registered module.
 ghost use Rattle.std.specs.Prelude.{◌≡◌, bytes_eq};
 ghost use Rattle.std.specs.List.{list_any};
 ghost use Rattle.naga_oil.specs.Definition.{definition_of};

@@ -4,10 +4,11 @@ ghost use Rattle.std.specs.List.{flat_map};
 ghost use Rattle.naga_oil_ir.specs.ItemForm.{IsThere};
 ghost use Rattle.naga_oil_ir.specs.ModuleValue.{argument_value, entry_value, function_value, module_value};
 ghost use Rattle.naga_oil_lines.specs.DirectivesText.{in_order, with_name};
+ghost use Rattle.naga_oil_marks.specs.Marks.{with_decoration};
 ghost use Rattle.naga_oil_derive.specs.Derived.{HasItem, Keeps};
 ghost use Rattle.naga_oil.specs.BuiltModule.{built_of, owns};
 ghost use Rattle.naga_oil.specs.Definition.{texts};
-ghost use Rattle.naga_oil.specs.Owned.{constant_rows, override_rows, global_rows, function_values, has_mark, owned_name, with_owned_name, with_owned, owned_item, owned_function, item_names, function_texts, decorated_items, owning, with_text, name_or_main, unbound_argument, unbound_result, demoted_name, demoted_function, demoted, demotable, function_names, with_demoted, owning_demoted};
+ghost use Rattle.naga_oil.specs.Owned.{constant_rows, override_rows, global_rows, function_values, with_owned_name, with_owned, owned_item, owned_function, item_names, function_texts, decorated_items, owning, with_text, name_or_main, unbound_argument, unbound_result, demoted_name, demoted_function, demoted, demotable, function_names, with_demoted, owning_demoted};
 ghost use Rattle.naga_oil.specs.Places.{places_of, name_at};
 ghost use Rattle.naga_oil.specs.Steps.{Item as item_step, Taken};
 
@@ -84,29 +85,20 @@ pub(crate) fn import_item(into: &mut DerivedModule<'_>, place: ItemPlace) -> Tri
     }
 }
 
-/// Whether a name has the mark of a module.
-pub(crate) fn has_mark(name: &str) -> bool
-    ensures { result ≡ has_mark name.now }
-{
-    name.contains(DECORATION_PRE)
-}
-
 // Decorates a name if it is owned, and notes it.
 fn own_name(name: &mut String, suffix: &str, owned: &mut Names) -> Tried
-    ensures name { OnOk result (string_bytes name.new ≡ owned_name suffix.now (string_bytes name.old)) }
+    ensures name { OnOk result (string_bytes name.new ≡ with_decoration suffix.now (string_bytes name.old)) }
     ensures owned { OnOk result (texts owned.new.keys ≡ with_owned_name suffix.now (texts owned.old.keys) (string_bytes name.old)) }
 {
-    if has_mark(name.as_str()) {
-        return Ok(());
+    if add_decoration(name, suffix)? {
+        owned.insert(name.clone()?)?;
     }
-    name.push_str(suffix)?;
-    owned.insert(name.clone()?)?;
     Ok(())
 }
 
 // The same of a name that may be absent.
 fn own(name: &mut Option<String>, suffix: &str, owned: &mut Names) -> Tried
-    ensures name { OnOk result (option_map string_bytes name.new ≡ option_map (owned_name suffix.now) (option_map string_bytes name.old)) }
+    ensures name { OnOk result (option_map string_bytes name.new ≡ option_map (with_decoration suffix.now) (option_map string_bytes name.old)) }
     ensures owned { OnOk result (texts owned.new.keys ≡ with_owned suffix.now (texts owned.old.keys) (option_map string_bytes name.old)) }
 {
     match name {

@@ -17,7 +17,7 @@ ghost use Rattle.naga_oil.specs.Definition.{definition_of, defs_of, texts};
 ghost use Rattle.naga_oil.specs.Descriptor.{shader_source};
 ghost use Rattle.naga_oil.specs.Linked.{WholeLinked};
 ghost use Rattle.naga_oil.specs.Made.{Reading, OneUnread, any_use, may_use};
-ghost use Rattle.naga_oil.specs.Merging.{shader_definition, imported, agrees, joined, joined_over, are_among};
+ghost use Rattle.naga_oil.specs.Merging.{shader_definition, imported, agrees, defs_union, defs_union_over, are_among};
 ghost use Rattle.naga_oil.specs.Read.{IsShader, FirstRead, NotFirstRead, SecondRead, NotSecondRead, IsRead, IsUnread};
 ghost use Rattle.naga_oil.specs.Refused.{Answers, Tells};
 ghost use Rattle.naga_oil.specs.Relations.{GivesBy, AnswersBy};
@@ -133,7 +133,7 @@ fn agrees(known: Option<ShaderDefValue>, value: ShaderDefValue) -> bool
 
 // Adds definitions, which may not say another value of a name.
 fn add_consistent(defs: &mut Defs, others: &Defs) -> Checked
-    ensures { GivesBy (λ done. joined (defs_of defs.old) (defs_of others.now) ≡ Ok (defs_of defs.new)) (λ f. joined (defs_of defs.old) (defs_of others.now) ≡ Err f) result }
+    ensures { GivesBy (λ done. defs_union (defs_of defs.old) (defs_of others.now) ≡ Ok (defs_of defs.new)) (λ f. defs_union (defs_of defs.old) (defs_of others.now) ≡ Err f) result }
 {
     for (name, value) in others {
         let known = defs.insert(name.clone()?, *value)?;
@@ -146,7 +146,7 @@ fn add_consistent(defs: &mut Defs, others: &Defs) -> Checked
 
 // Adds the definitions of what is imported, which all has to be registered.
 fn merge(defs: &mut Defs, imports: &[Use], modules: &[Definition]) -> Checked
-    ensures { let value = joined_over (map definition_of modules.now) (defs_of defs.old) (map use_of imports.now) in GivesBy (λ done. value ≡ Ok (defs_of defs.new)) (λ f. value ≡ Err f) result }
+    ensures { let value = defs_union_over (map definition_of modules.now) (defs_of defs.old) (map use_of imports.now) in GivesBy (λ done. value ≡ Ok (defs_of defs.new)) (λ f. value ≡ Err f) result }
 {
     for import in imports {
         let of = imported(import, modules)?;

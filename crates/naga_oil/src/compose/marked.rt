@@ -1,3 +1,4 @@
+// Functions behind keywords, and what they are read over.
 ghost use Rattle.std.specs.Prelude.{◌+◌, ◌<◌, ◌^◌, length};
 
 use super::*;

@@ -1,3 +1,4 @@
+// A module that was built.
 ghost use Rattle.std.specs.Prelude.{◌≤◌};
 
 use super::*;

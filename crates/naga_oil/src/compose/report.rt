@@ -1,11 +1,11 @@
 //! What an error is told as: its message, its places in a text, and notes.
 ghost use Rattle.std.specs.Prelude.{◌≡◌, ◌++◌, Some, map, string_bytes, IfOk, OnOk};
 ghost use Rattle.std.specs.List.{flat_map};
-ghost use Rattle.naga_oil_derive.specs.RedirectFault.{redirect_fault};
+ghost use Rattle.naga_oil_ir.specs.RedirectFault.{redirect_fault};
 ghost use Rattle.naga_oil_ir.specs.Backend.{labels};
 ghost use Rattle.naga_oil_pre.specs.View.{fault_of, redirection_of};
 ghost use Rattle.naga_oil.specs.Report.{message, fault_places, fault_notes, note_line, line_column, span_place, said_behind, place_line, span_lines, place_lines, report_text, report};
-ghost use Rattle.naga_oil.specs.ReportView.{line_starts, places_of};
+ghost use Rattle.naga_oil.specs.ReportView.{line_starts, report_places};
 
 use super::*;
 
@@ -90,7 +90,7 @@ fn push_message(out: &mut String, inner: &Inner) -> Tried
 // Where it is wrong.
 #[rattlefmt::skip]
 fn fault_places(inner: &Inner) -> Places<'_>
-    ensures { places_of result ≡ fault_places (fault_of inner.now) }
+    ensures { report_places result ≡ fault_places (fault_of inner.now) }
 {
     match inner {
         Inner::ImportParseError(_, place) | Inner::ImportNotFound(_, place)
@@ -201,7 +201,7 @@ impl Source<'_> {
 
     // Writes where something is wrong.
     fn push_places(self, out: &mut String, places: Places<'_>, message: &str) -> Tried
-        ensures { OnOk result (string_bytes out.new ≡ string_bytes out.old ++ place_lines self.entry.path.now self.entry.text.now self.entry.offset message.now (places_of places.entry)) }
+        ensures { OnOk result (string_bytes out.new ≡ string_bytes out.old ++ place_lines self.entry.path.now self.entry.text.now self.entry.offset message.now (report_places places.entry)) }
     {
         match places {
             Places::Nowhere => write!(out, "  in {}\n", self.path),

@@ -2,7 +2,7 @@
 ghost use Rattle.std.specs.Prelude.{◌≡◌, ◌∷◌, ◌++◌, ◌+◌, ◌-◌, ◌≤◌, ◌<◌, length, map, IfOk, option_map, string_bytes};
 ghost use Rattle.naga_oil_pre.specs.View.{Gives};
 ghost use Rattle.naga_oil.specs.Added.{read_source};
-ghost use Rattle.naga_oil.specs.Sanitized.{first_decoration, line_feeds, ended, binding, parts_around, auto_binding, within};
+ghost use Rattle.naga_oil.specs.Sanitized.{first_decoration, line_feeds, end_last_line, binding, parts_around, auto_binding, within};
 
 use super::*;
 
@@ -33,7 +33,7 @@ fn past_line_feed(text: &str) -> &str
 
 // The text with every line ended by one line feed, the last line too.
 fn with_line_feeds(alloc: Global, source: &str) -> Tried<String>
-    ensures { IfOk result (λ text. string_bytes text ≡ ended (line_feeds source.now)) }
+    ensures { IfOk result (λ text. string_bytes text ≡ end_last_line (line_feeds source.now)) }
 {
     let mut text = String::with_capacity(alloc, source.len() + 1)?;
     let mut rest = source;

@@ -1,3 +1,4 @@
+//! Entry points that are copied into the module.
 ghost use Rattle.std.specs.Prelude.{IsSome, IfOk, OnOk, IfSome, All, map, option_map};
 ghost use Rattle.naga_oil_ir.specs.ModuleValue.{entry_value};
 ghost use Rattle.naga_oil_ir.specs.declared.names.ItemPlace.{ItemPlace};

@@ -1,3 +1,4 @@
+//! Functions that are copied into the module.
 ghost use Rattle.naga_oil_derive.specs.declared.walk.Request.{Request};
 ghost use Rattle.std.specs.Prelude.{◌≡◌, ◌∷◌, ℕ, [], Ok, Some, None, IfOk, OnOk};
 ghost use Rattle.naga_oil_ir.specs.ModuleValue.{function_value};

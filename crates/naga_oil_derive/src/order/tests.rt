@@ -1,3 +1,4 @@
+//! A worked row: the longest way to a function without calls decides.
 use super::*;
 use std::test::Fail;
 

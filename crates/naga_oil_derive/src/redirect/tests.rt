@@ -181,7 +181,7 @@ fn add_call(function: &mut Function, callee: usize, alloc: Global) -> Result<(),
     let result = Expression::CallResult(callee);
     let result = function.expressions.append(result, NONE)?;
     let call = Statement::Call {
-        function: callee,
+        callee,
         arguments: Vec::new(alloc),
         result: Some(result),
     };
@@ -306,7 +306,7 @@ fn result_of(function: &Function) -> Option<usize> {
 fn callee(function: &Function) -> Callee {
     let of = result_of(function)?;
     match function.body.body.first() {
-        Some((Statement::Call { function, .. }, _)) => Some((function.index(), of)),
+        Some((Statement::Call { callee, .. }, _)) => Some((callee.index(), of)),
         _ => None,
     }
 }

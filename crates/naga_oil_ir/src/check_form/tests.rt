@@ -214,8 +214,8 @@ fn step_of(step: Step, alloc: Global) -> Result<Statement, AllocError> {
             result: Index::new(place),
             predicate: None,
         }),
-        Step::Call(function, place) => Ok(Statement::Call {
-            function: Index::new(function),
+        Step::Call(callee, place) => Ok(Statement::Call {
+            callee: Index::new(callee),
             arguments: Vec::new(alloc),
             result: Some(Index::new(place)),
         }),

@@ -14,7 +14,7 @@ struct Row {
     want: &'static str,
 }
 
-static ROWS: [Row; 10] = [
+static ROWS: [Row; 11] = [
     Row {
         text: "x.f + x. f",
         offset: 13,
@@ -85,6 +85,14 @@ static ROWS: [Row; 10] = [
         allow_ambiguous: false,
         want: r#"Err(Ambiguous(18)) [ImportDefWithOffset { definition: ImportDefinition { import: "a", items: ["c"] }, offset: 10 }]"#,
     },
+    // a place past the greatest is the greatest
+    Row {
+        text: "  a::f",
+        offset: 18446744073709551614,
+        declared: &[],
+        allow_ambiguous: true,
+        want: r#"Ok("  fX_naga_oil_mod_XMEX") [ImportDefWithOffset { definition: ImportDefinition { import: "a", items: ["f"] }, offset: 18446744073709551615 }]"#,
+    },
 ];
 
 fn declare(
@@ -116,9 +124,6 @@ fn told_under(
     declared: &IndexMap<String, Vec<String>>,
     row: &Row,
 ) -> Result<String, AllocError> {
-    if row.offset >= 100 || row.text.len() >= 100 {
-        return String::from_str(alloc, "a row too long");
-    }
     let mut used = IndexMap::new(alloc);
     let written = substitute_identifiers(
         alloc,
@@ -173,10 +178,25 @@ fn told_of_clone(alloc: Global) -> Result<String, AllocError> {
     format!(in alloc; "{definition:?} {offset}")
 }
 
+fn told_of_new(alloc: Global) -> Result<String, AllocError> {
+    let definition = ImportDefinition::new(alloc);
+    format!(in alloc; "{definition:?}")
+}
+
 #[test]
 fn clones(rt: HostRuntime) -> Result<(), Fail> {
     let want = r#"ImportDefinition { import: "a", items: ["f"] } 7"#;
     if is(told_of_clone(rt.alloc()), want) {
+        Ok(())
+    } else {
+        Err(Fail::from(want))
+    }
+}
+
+#[test]
+fn begins_with_nothing(rt: HostRuntime) -> Result<(), Fail> {
+    let want = r#"ImportDefinition { import: "", items: [] }"#;
+    if is(told_of_new(rt.alloc()), want) {
         Ok(())
     } else {
         Err(Fail::from(want))

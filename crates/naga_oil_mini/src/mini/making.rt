@@ -119,7 +119,7 @@ impl<'a> Making<'_, 'a> {
     {
         let place = self.expressions.len();
         self.state(Statement::Call {
-            function: call.callee,
+            callee: call.callee,
             arguments: call.arguments,
             result: Some(Index::new(place)),
         })?;

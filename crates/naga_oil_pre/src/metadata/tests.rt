@@ -66,7 +66,7 @@ fn reads_names_and_uses(rt: HostRuntime) -> Result<(), Fail> {
     tells(rt.alloc(), false, &USES)
 }
 
-static DEFINES: [(&str, &str); 3] = [
+static DEFINES: [(&str, &str); 4] = [
     (
         "#define A 1\n#define A -2\n#define B",
         "None [] {\"A\": Int(-2), \"B\": Bool(true)} {}",
@@ -74,6 +74,10 @@ static DEFINES: [(&str, &str); 3] = [
     (
         "#ifdef A\n#define A 1\n#else\n#define B false\n#endif",
         "None [] {\"A\": UInt(1), \"B\": Bool(false)} {\"A\"}",
+    ),
+    (
+        "#define A x1",
+        "InvalidShaderDefDefinitionValue { name: \"A\", value: \"x1\", pos: 0 }",
     ),
     (
         "\n#define A x1",

@@ -25,6 +25,12 @@ static THREE: &[Definition] = &[("T", ShaderDefValue::Int(3))];
 
 static SEVEN: &[Definition] = &[("T", ShaderDefValue::Int(7))];
 
+static TWO: &[Definition] = &[("T", ShaderDefValue::Int(2))];
+
+static FIRST: &[Definition] = &[("TEXTURE", ShaderDefValue::Bool(true))];
+
+static THIRD: &[Definition] = &[("THIRD", ShaderDefValue::Bool(true))];
+
 static SECOND: &[Definition] = &[("SECOND", ShaderDefValue::Bool(true))];
 
 static SECOND_THIRD: &[Definition] = &[
@@ -38,6 +44,7 @@ static VALUES: &[Definition] = &[
     ("UINT", ShaderDefValue::UInt(4294967295)),
     ("INT", ShaderDefValue::Int(-1)),
     ("BOOL", ShaderDefValue::Bool(false)),
+    ("FIRST", ShaderDefValue::Int(5)),
 ];
 
 fn define(
@@ -147,9 +154,27 @@ static SECOND_ARM: &[Row] = &[(
     "~~~~~~~~~~~~~~\n~\n~~~~~~~~~~~~~~~~~~\nb\n~~~~~~~~~~~~~~~~~\n~\n~~~~~\n~\n~~~~~~\n",
 )];
 
+static FIRST_ARM: &[Row] = &[(
+    TEXTURES,
+    "~~~~~~~~~~~~~~\na\n~~~~~~~~~~~~~~~~~~\n~\n~~~~~~~~~~~~~~~~~\n~\n~~~~~\n~\n~~~~~~\n",
+)];
+
+static THIRD_ARM: &[Row] = &[(
+    TEXTURES,
+    "~~~~~~~~~~~~~~\n~\n~~~~~~~~~~~~~~~~~~\n~\n~~~~~~~~~~~~~~~~~\nc\n~~~~~\n~\n~~~~~~\n",
+)];
+
+static NO_ARM: &[Row] = &[(
+    "#ifdef TEXTURE\na\n#else ifdef SECOND\nb\n#endif",
+    "~~~~~~~~~~~~~~\n~\n~~~~~~~~~~~~~~~~~~\n~\n~~~~~~\n",
+)];
+
 #[test]
 fn shows_the_first_arm_that_holds(rt: HostRuntime) -> Result<(), Fail> {
     tells(rt.alloc(), NONE, FOURTH_ARM)?;
+    tells(rt.alloc(), NONE, NO_ARM)?;
+    tells(rt.alloc(), FIRST, FIRST_ARM)?;
+    tells(rt.alloc(), THIRD, THIRD_ARM)?;
     tells(rt.alloc(), SECOND, SECOND_ARM)?;
     tells(rt.alloc(), SECOND_THIRD, SECOND_ARM)
 }
@@ -159,14 +184,26 @@ static UNDER_THREE: &[Row] = &[
     ("#if T <= 3\na\n#endif", "~~~~~~~~~~\na\n~~~~~~\n"),
 ];
 
+static UNDER_TWO: &[Row] = &[(
+    "#ifdef N\na\n#else if T == 1\nb\n#else if T == 2\nc\n#else\nd\n#endif",
+    "~~~~~~~~\n~\n~~~~~~~~~~~~~~~\n~\n~~~~~~~~~~~~~~~\nc\n~~~~~\n~\n~~~~~~\n",
+)];
+
 static UNDER_SEVEN: &[Row] = &[("#if T == 3\na\n#endif", "~~~~~~~~~~\n~\n~~~~~~\n")];
 
-static UNDER_TRUE: &[Row] = &[("#if T != false\na\n#endif", "~~~~~~~~~~~~~~\na\n~~~~~~\n")];
+static UNDER_TRUE: &[Row] = &[
+    ("#if T != false\na\n#endif", "~~~~~~~~~~~~~~\na\n~~~~~~\n"),
+    ("#if T == true\na\n#endif", "~~~~~~~~~~~~~\na\n~~~~~~\n"),
+];
 
-static UNDER_FALSE: &[Row] = &[("#if T != false\na\n#endif", "~~~~~~~~~~~~~~\n~\n~~~~~~\n")];
+static UNDER_FALSE: &[Row] = &[
+    ("#if T != false\na\n#endif", "~~~~~~~~~~~~~~\n~\n~~~~~~\n"),
+    ("#if T == true\na\n#endif", "~~~~~~~~~~~~~\n~\n~~~~~~\n"),
+];
 
 #[test]
 fn compares_values(rt: HostRuntime) -> Result<(), Fail> {
+    tells(rt.alloc(), TWO, UNDER_TWO)?;
     tells(rt.alloc(), THREE, UNDER_THREE)?;
     tells(rt.alloc(), SEVEN, UNDER_SEVEN)?;
     tells(rt.alloc(), TRUE, UNDER_TRUE)?;
@@ -178,6 +215,7 @@ static WITH_VALUES: &[Row] = &[
         "    var b: i32 = #FIRST_VALUE * #SECOND_VALUE;",
         "~~~~var~b:~i32~=~5~*~3;~~~~~~~~~~~~~~~~~~~~~~~\n",
     ),
+    ("#MISSING * #FIRST", "#MISSING~*~5~~~~~\n"),
     ("#MISSING * #FIRST_VALUE", "#MISSING~*~5~~~~~~~~~~~\n"),
     ("#UINT\n# {INT};\n#BOOL", "4294967295\n-1;~~~~~\nfalse\n"),
 ];
@@ -185,6 +223,34 @@ static WITH_VALUES: &[Row] = &[
 #[test]
 fn writes_values(rt: HostRuntime) -> Result<(), Fail> {
     tells(rt.alloc(), VALUES, WITH_VALUES)
+}
+
+static OWN_DEFINES: &[Row] = &[(
+    "#define DEFUINT 1\n#define DEFINT -1\n#define DEFBOOL false\n#if DEFUINT == 1\nuint: #DEFUINT\n#endif\n#if DEFINT == -1\nint: #DEFINT\n#endif\n#if DEFBOOL == false\nbool: #DEFBOOL\n#endif\n",
+    "~~~~~~~~~~~~~~~~~\n~~~~~~~~~~~~~~~~~\n~~~~~~~~~~~~~~~~~~~~~\n~~~~~~~~~~~~~~~~\nuint:~1~~~~~~~\n~~~~~~\n~~~~~~~~~~~~~~~~\nint:~-1~~~~~\n~~~~~~\n~~~~~~~~~~~~~~~~~~~~\nbool:~false~~~\n~~~~~~\n",
+)];
+
+// A text under its own defines.
+fn by_own_defines(alloc: Global, source: &str) -> Result<PreprocessOutput, ComposerErrorInner> {
+    let metadata = Preprocessor::default().get_preprocessor_metadata(alloc, source, true)?;
+    Preprocessor::default().preprocess(alloc, source, &metadata.defines)
+}
+
+fn becomes(alloc: Global, source: &str, want: &str) -> bool {
+    match by_own_defines(alloc, source) {
+        Ok(output) => is(output.preprocessed_source.replace(alloc, ' ', "~"), want),
+        Err(_) => false,
+    }
+}
+
+#[test]
+fn compares_what_a_text_defines(rt: HostRuntime) -> Result<(), Fail> {
+    for (source, want) in OWN_DEFINES {
+        if !becomes(rt.alloc(), source, want) {
+            return Err(Fail::from(*source));
+        }
+    }
+    Ok(())
 }
 
 static IMPORTS: &[UsesRow] = &[
@@ -242,6 +308,10 @@ static FAULTS: &[Row] = &[
         "#if FOO",
         "UnknownShaderDef { pos: 0, shader_def_name: \"FO\" }",
     ),
+    (
+        "#if T == true\na\n#endif",
+        "UnknownShaderDef { pos: 0, shader_def_name: \"T\" }",
+    ),
     ("#ifdef A\nx", "NotEnoughEndIfs(11)"),
     ("#ifdef A\n#version 300\n#endif", "GlslInvalidVersion(9)"),
     ("a\n#endif\n#else", "TooManyEndIfs(2)"),
@@ -269,10 +339,16 @@ static FAULTS_UNDER_TRUE: &[Row] = &[
     ),
 ];
 
-static FAULTS_UNDER_SEVEN: &[Row] = &[(
-    "a\n#if T !! true",
-    "InvalidShaderDefComparisonValue { pos: 2, shader_def_name: \"T\", expected: \"int\", value: \"true\" }",
-)];
+static FAULTS_UNDER_SEVEN: &[Row] = &[
+    (
+        "#if T !! true",
+        "InvalidShaderDefComparisonValue { pos: 0, shader_def_name: \"T\", expected: \"int\", value: \"true\" }",
+    ),
+    (
+        "a\n#if T !! true",
+        "InvalidShaderDefComparisonValue { pos: 2, shader_def_name: \"T\", expected: \"int\", value: \"true\" }",
+    ),
+];
 
 static FAULTS_OF_IMPORTS: &[Row] = &[
     (
@@ -282,6 +358,10 @@ static FAULTS_OF_IMPORTS: &[Row] = &[
     (
         "#import a::{",
         "ImportParseError(\"missing close brace\", 13)",
+    ),
+    (
+        "#import a::{b,\n#ifdef X\nc}\nb",
+        "ImportParseError(\"unexpected token\", 15)",
     ),
     (
         "x\n#import a::{b,\n#ifdef X\nc}\nb",

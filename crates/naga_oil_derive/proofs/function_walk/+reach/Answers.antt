@@ -3,9 +3,9 @@ use Rattle.std.proofs.lemmas.List.{take_all}
 use Rattle.std.specs.List.{flat_map}
 use Rattle.naga_oil_ir.specs.Links.{lists, linked, added, trail}
 use Rattle.naga_oil_ir.proofs.LinkLemmas.{linked-at}
-use Rattle.naga_oil_derive.specs.Walk.{IsReady, Holds}
-use Rattle.naga_oil_derive.proofs.WalkLemmas.{added-more, trail-known, trail-added, links_there, IsReady-add}
-use Rattle.naga_oil_derive.specs.Naming.{name_at, names_from}
+use Rattle.naga_oil_derive.specs.Walk.{IsReachOrder, Holds}
+use Rattle.naga_oil_derive.proofs.WalkLemmas.{added-more, trail-known, trail-added, links_there, IsReachOrder-add}
+use Rattle.naga_oil_derive.specs.Naming.{requests_at, names_from}
 use Rattle.naga_oil_derive.specs.declared.walk.Request.{Request}
 use Rattle.naga_oil_derive.proofs.NamingLemmas.{known_names, Adds-none, Adds-more_at}
 use Rattle.naga_oil_derive.proofs.ReachSteps.{over_asked, over_list, reach_requests, asked_before}
@@ -47,7 +47,7 @@ returns-clause-ready t c =
     let e : take i xs ≡ linked ls c.args.place = take_all i xs (omega arith) ∙ (c.deref-operand-items.ensures.value ∙ sym (linked-at c.args.of.now.links.items c.args.place c.index.result.now c.requires.in_range c.index.ensures)) in
     let is : added o (flat_map (trail ls) (linked ls c.args.place)) ≡ p = sym (c.loop-operand.invariant.so_far ∙ ap (λ ys. added o (flat_map (trail ls) ys)) e) in
     let w : Holds p (linked ls c.args.place) = subst (λ q. Holds q (linked ls c.args.place)) is (links_there ls c.requires.over.earlier o (linked ls c.args.place)) in
-    subst (IsReady ls) (sym c.in_ok-list.ensures.order) (IsReady-add ls p c.args.place c.loop-operand.invariant.ready w)
+    subst (IsReachOrder ls) (sym c.in_ok-list.ensures.order) (IsReachOrder-add ls p c.args.place c.loop-operand.invariant.ready w)
 
 pub returns-then-has-clause-requests : goal.returns-then-has-clause-requests
 returns-then-has-clause-requests t c =
@@ -59,7 +59,7 @@ loop-operand-init t c = record {
   emitted = refl;
   ready = c.requires.ready;
   requests = Adds-none c.request.new.requests.items;
-  over = over_asked c.args.of.now c.args.walk.now _ (name_at c.args.of.now.named.items c.args.place) c.requires.over refl refl c.in_ok-request.ensures;
+  over = over_asked c.args.of.now c.args.walk.now _ (requests_at c.args.of.now.named.items c.args.place) c.requires.over refl refl c.in_ok-request.ensures;
 }
 
 pub returns-clause-requests : goal.returns-clause-requests

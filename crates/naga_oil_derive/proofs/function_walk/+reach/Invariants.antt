@@ -2,9 +2,9 @@ use Rattle.std.proofs.Common.{◌≡◌, take, length, ◌-◌}
 use Rattle.std.specs.List.{flat_map}
 use Rattle.naga_oil_ir.specs.Links.{lists, linked, added, trail}
 use Rattle.naga_oil_ir.specs.BodyForm.{run}
-use Rattle.naga_oil_derive.specs.Walk.{IsReady, externals, brief, notes_after}
+use Rattle.naga_oil_derive.specs.Walk.{IsReachOrder, externals, brief, notes_after}
 use Rattle.naga_oil_derive.specs.Walks.{IsOver}
-use Rattle.naga_oil_derive.specs.Naming.{names_from, name_at, token_names, local_names, Adds}
+use Rattle.naga_oil_derive.specs.Naming.{names_from, requests_at, token_names, local_names, Adds}
 use Rattle.naga_oil_derive.proofs.function_walk.+reach.Given as goal
 
 abbrev pub decreases-reach : goal.decreases-reach
@@ -14,7 +14,7 @@ abbrev pub invariant-loop-operand : goal.invariant-loop-operand
 invariant-loop-operand l = record {
   so_far : l.walk.places.items ≡ added l.fn.walk.places.items (flat_map (trail (lists l.of.links.items)) (take l.operand-index l.operand-items));
   emitted : l.walk.emitted ≡ l.fn.walk.emitted;
-  ready : IsReady (lists l.of.links.items) l.walk.places.items;
+  ready : IsReachOrder (lists l.of.links.items) l.walk.places.items;
   requests : Adds l.initial.walk.requests.items (flat_map (names_from l.of.named.items (lists l.of.links.items)) (take l.operand-index l.operand-items)) l.walk.requests.items;
   over : IsOver l.of l.walk;
 }

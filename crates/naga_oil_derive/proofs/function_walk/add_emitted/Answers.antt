@@ -4,7 +4,7 @@ use Rattle.naga_oil_ir.specs.Links.{lists, linked, added}
 use Rattle.naga_oil_ir.specs.BodyForm.{places, run}
 use Rattle.naga_oil_derive.specs.Walk.{externals}
 use Rattle.naga_oil_derive.proofs.WalkLemmas.{added-append, added-run}
-use Rattle.naga_oil_derive.specs.Naming.{name_at, Adds}
+use Rattle.naga_oil_derive.specs.Naming.{requests_at, Adds}
 use Rattle.naga_oil_derive.proofs.NamingLemmas.{Adds-places}
 use Rattle.naga_oil_derive.proofs.ReachSteps.{run_none, adds_start, adds_run}
 use Rattle.naga_oil_derive.proofs.function_walk.add_emitted.Goals as goal
@@ -18,7 +18,7 @@ loop-place-preserved c =
     record {
       so_far = c.in_ok-add.ensures.order ∙ ap (λ p. added p (k ∷ [])) c.loop-place.invariant.so_far ∙ added-run w.places.items a k l;
       emitted = c.add.ensures.emitted ∙ c.loop-place.invariant.emitted;
-      requests = adds_run (name_at c.args.of.now.named.items) w.requests.items c.loop-place.walk.requests.items c.add.new.walk.requests.items a k l c.loop-place.invariant.requests c.in_ok-add.ensures.requests;
+      requests = adds_run (requests_at c.args.of.now.named.items) w.requests.items c.loop-place.walk.requests.items c.add.new.walk.requests.items a k l c.loop-place.invariant.requests c.in_ok-add.ensures.requests;
       over = c.in_ok-add.ensures.over;
     }
 
@@ -30,7 +30,7 @@ loop-place-init c =
     record {
       so_far = ap (added w.places.items) (sym (run_none a k c.start-place.ensures));
       emitted = refl;
-      requests = adds_start (flat_map (name_at c.args.of.now.named.items)) w.requests.items a k c.start-place.ensures refl;
+      requests = adds_start (flat_map (requests_at c.args.of.now.named.items)) w.requests.items a k c.start-place.ensures refl;
       over = c.in_ok-add_all_externals.ensures.over;
     }
 
@@ -49,7 +49,7 @@ returns-clause-requests c =
     let ls = lists c.args.of.now.links.items in
     let a = c.args.range.0 in
     let w = c.add_all_externals.new.walk in
-    let names = name_at c.args.of.now.named.items in
+    let names = requests_at c.args.of.now.named.items in
     let end : c.loop-place.place ≡ c.args.range.1 = omega (arith, c.requires.in_range.0, c.start-place.ensures, c.end-place-end.ensures, c.loop-place-test.false, c.loop-place.auto.place-end) in
     let whole : run a (c.loop-place.place - a) ≡ places c.args.range = ap (λ n. run a (n - a)) end in
     let added_last = subst (λ (ps : List ℕ). Adds w.requests.items (flat_map names ps) c.loop-place.walk.requests.items) whole c.loop-place.invariant.requests in

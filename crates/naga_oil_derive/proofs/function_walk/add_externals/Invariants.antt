@@ -2,15 +2,15 @@ use Rattle.std.proofs.Common.{◌≡◌, take, length, ◌-◌}
 use Rattle.std.specs.List.{flat_map}
 use Rattle.naga_oil_ir.specs.Links.{lists, linked, added, trail}
 use Rattle.naga_oil_ir.specs.BodyForm.{run}
-use Rattle.naga_oil_derive.specs.Walk.{IsReady, externals, brief, notes_after}
+use Rattle.naga_oil_derive.specs.Walk.{IsReachOrder, externals, brief, notes_after}
 use Rattle.naga_oil_derive.specs.Walks.{IsOver}
-use Rattle.naga_oil_derive.specs.Naming.{names_from, name_at, token_names, local_names, Adds}
+use Rattle.naga_oil_derive.specs.Naming.{names_from, requests_at, token_names, local_names, Adds}
 use Rattle.naga_oil_derive.proofs.function_walk.add_externals.Given as goal
 
 abbrev pub invariant-loop-operand : goal.invariant-loop-operand
 invariant-loop-operand l = record {
   so_far : l.walk.places.items ≡ added l.fn.walk.places.items (externals l.of.kinds.items (take l.operand-index l.operand-items));
   emitted : l.walk.emitted ≡ l.fn.walk.emitted;
-  requests : Adds l.fn.walk.requests.items (flat_map (name_at l.of.named.items) (externals l.of.kinds.items (take l.operand-index l.operand-items))) l.walk.requests.items;
+  requests : Adds l.fn.walk.requests.items (flat_map (requests_at l.of.named.items) (externals l.of.kinds.items (take l.operand-index l.operand-items))) l.walk.requests.items;
   over : IsOver l.of l.walk;
 }

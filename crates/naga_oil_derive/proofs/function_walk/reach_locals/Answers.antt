@@ -3,7 +3,7 @@ use Rattle.std.specs.List.{flat_map}
 use Rattle.std.proofs.lemmas.List.{append-nil}
 use Rattle.naga_oil_ir.specs.Links.{lists, added, trail}
 use Rattle.naga_oil_ir.specs.declared.names.ItemPlace.TheVariants.{TypeItem}
-use Rattle.naga_oil_derive.specs.Walk.{IsReady}
+use Rattle.naga_oil_derive.specs.Walk.{IsReachOrder}
 use Rattle.naga_oil_derive.specs.Walks.{IsOver}
 use Rattle.naga_oil_derive.specs.Naming.{names_from, local_names, Adds}
 use Rattle.naga_oil_derive.specs.declared.walk.Walk.{Walk}
@@ -51,7 +51,7 @@ loop-local-preserved c =
           record {
             so_far = ap (λ (v : Walk). v.places.items) w.walk-is ∙ e.order ∙ here ∙ far;
             emitted = ap (λ (v : Walk). v.emitted) w.walk-is ∙ w.reach.ensures.emitted ∙ inv.emitted;
-            ready = subst (λ (v : Walk). IsReady ls v.places.items) (sym w.walk-is) e.ready;
+            ready = subst (λ (v : Walk). IsReachOrder ls v.places.items) (sym w.walk-is) e.ready;
             requests = subst (λ (v : Walk). Adds first (flat_map (local_names ns ls) (take (i + 1) xs)) v.requests.items) (sym w.walk-is) (Adds-more (local_names ns ls) first asked u xs i l c.loop-local-test.true c.local-item.is inv.requests named);
             over = subst (IsOver c.args.of.now) (sym w.walk-is) e.over;
           }
@@ -62,7 +62,7 @@ loop-local-preserved c =
           record {
             so_far = ap (λ (v : Walk). v.places.items) w.walk-is ∙ here ∙ far;
             emitted = ap (λ (v : Walk). v.emitted) w.walk-is ∙ inv.emitted;
-            ready = subst (λ (v : Walk). IsReady ls v.places.items) (sym w.walk-is) inv.ready;
+            ready = subst (λ (v : Walk). IsReachOrder ls v.places.items) (sym w.walk-is) inv.ready;
             requests = subst (λ (v : Walk). Adds first (flat_map (local_names ns ls) (take (i + 1) xs)) v.requests.items) (sym w.walk-is) (Adds-more (local_names ns ls) first asked t xs i l c.loop-local-test.true c.local-item.is inv.requests named);
             over = subst (IsOver c.args.of.now) (sym w.walk-is) (over_asked c.args.of.now c.loop-local.walk _ (x ∷ []) inv.over refl refl c.in_ok-push.ensures.items);
           }

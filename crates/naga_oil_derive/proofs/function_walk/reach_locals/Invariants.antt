@@ -2,16 +2,16 @@ use Rattle.std.proofs.Common.{◌≡◌, take}
 use Rattle.std.specs.List.{flat_map}
 use Rattle.naga_oil_ir.specs.Links.{lists, added, trail}
 use Rattle.naga_oil_ir.specs.WellFormed.{initialisers_of}
-use Rattle.naga_oil_derive.specs.Walk.{IsReady}
+use Rattle.naga_oil_derive.specs.Walk.{IsReachOrder}
 use Rattle.naga_oil_derive.specs.Walks.{IsOver}
-use Rattle.naga_oil_derive.specs.Naming.{names_from, name_at, token_names, local_names, Adds}
+use Rattle.naga_oil_derive.specs.Naming.{names_from, requests_at, token_names, local_names, Adds}
 use Rattle.naga_oil_derive.proofs.function_walk.reach_locals.Given as goal
 
 abbrev pub invariant-loop-local : goal.invariant-loop-local
 invariant-loop-local l = record {
   so_far : l.walk.places.items ≡ added l.fn.walk.places.items (flat_map (trail (lists l.of.links.items)) (initialisers_of (take l.local-index l.locals)));
   emitted : l.walk.emitted ≡ l.fn.walk.emitted;
-  ready : IsReady (lists l.of.links.items) l.walk.places.items;
+  ready : IsReachOrder (lists l.of.links.items) l.walk.places.items;
   requests : Adds l.fn.walk.requests.items (flat_map (local_names l.of.named.items (lists l.of.links.items)) (take l.local-index l.locals)) l.walk.requests.items;
   over : IsOver l.of l.walk;
 }

@@ -8,7 +8,7 @@ use Rattle.naga_oil_ir.specs.declared.expression.Expression.{Expression}
 use Rattle.naga_oil_ir.specs.declared.span.Span.{Span}
 use Rattle.naga_oil_ir.specs.BodyForm.{operand_links}
 use Rattle.naga_oil_derive.specs.Copies.{Values, AreCopies, IsStep}
-use Rattle.naga_oil_derive.specs.Walk.{IsReady}
+use Rattle.naga_oil_derive.specs.Walk.{IsReachOrder}
 use Rattle.naga_oil_derive.specs.Went.{went}
 use Rattle.naga_oil_derive.proofs.CopySteps.{no_copies}
 use Rattle.naga_oil_derive.proofs.CopyLoops.{so_far_start, so_far_step}
@@ -36,7 +36,7 @@ loop-at-preserved c =
     let k = c.index.result.now in
     let l : at < length o = omega (arith, c.loop-at-test.true, c.len-at-end.ensures, c.args.walk.now.places.ok.0) in
     let is : k ≡ get_or o at 0 = c.index.ensures ∙ get_or_default o at k 0 l in
-    let ready : IsReady (operand_links es) o = subst (λ (xs : List (Expression × Span)). IsReady (operand_links xs) o) (sym c.as_slice-source.ensures) c.requires.listed.ready in
+    let ready : IsReachOrder (operand_links es) o = subst (λ (xs : List (Expression × Span)). IsReachOrder (operand_links xs) o) (sym c.as_slice-source.ensures) c.requires.listed.ready in
     let room = ap length c.as_slice-source.ensures in
     let long = length-map c.args.function.now.expressions (λ (e : Expression × Span). flat_map option_to_list (parts e.0).operands) in
     let within : get_or o at 0 < length es = omega (arith, c.requires.listed.within at 0 l, room, long) in

@@ -28,7 +28,7 @@ pub renamed_statement-returns-in_ok-renamed_list-in-Call :
     goal.renamed_statement-returns-in_ok-renamed_list-in-Call
 renamed_statement-returns-in_ok-renamed_list-in-Call g t c =
     let m = map-Use-rename (g.R.Renaming.renames c.args.names.now) c.in-Call.arguments.items in
-    let e = call_tokens c.in-Call.function c.in-Call.arguments c.in-Call.result in
+    let e = call_tokens c.in-Call.callee c.in-Call.arguments c.in-Call.result in
     let f = call_tokens c.function.result c.in_ok-renamed_list-in-Call.field-0 c.renamed_option-in-Call.result in
     grind (arith, common_steps)
 

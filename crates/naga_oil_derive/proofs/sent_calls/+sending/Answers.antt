@@ -21,7 +21,7 @@ send_block-returns t c =
 
 pub send_statement-returns-in-Call : goal.send_statement-returns-in-Call
 send_statement-returns-in-Call t c =
-    sent_call c.args.from c.args.to c.in-Call.function c.send_callee.new.function c.in-Call.arguments c.in-Call.result c.send_callee.ensures ∙ ap (λ s. rename_tokens (sent c.args.from c.args.to) (statement_tokens s)) (sym c.in-Call.is ∙ c.replace.ensures.value)
+    sent_call c.args.from c.args.to c.in-Call.callee c.send_callee.new.function c.in-Call.arguments c.in-Call.result c.send_callee.ensures ∙ ap (λ s. rename_tokens (sent c.args.from c.args.to) (statement_tokens s)) (sym c.in-Call.is ∙ c.replace.ensures.value)
 
 pub send_statement-returns-in-Block : goal.send_statement-returns-in-Block
 send_statement-returns-in-Block t c =

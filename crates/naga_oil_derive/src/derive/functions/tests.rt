@@ -192,7 +192,7 @@ fn function(name: &str, alloc: Global) -> Result<Function, AllocError> {
 /// Makes a body call the function at a place.
 fn add_call(function: &mut Function, place: usize, alloc: Global) -> Result<(), AllocError> {
     let statement = Statement::Call {
-        function: Index::new(place),
+        callee: Index::new(place),
         arguments: Vec::new(alloc),
         result: None,
     };
@@ -489,7 +489,7 @@ fn names_so(f: &Function, at: usize, wanted: &str) -> bool {
 /// The place of what the first statement calls.
 fn calls(f: &Function) -> Option<usize> {
     match f.body.body.first() {
-        Some((Statement::Call { function, .. }, _)) => Some(function.index()),
+        Some((Statement::Call { callee, .. }, _)) => Some(callee.index()),
         _ => None,
     }
 }

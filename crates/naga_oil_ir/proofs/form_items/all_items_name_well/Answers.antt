@@ -1,5 +1,5 @@
 use Rattle.std.proofs.Common.{[], refl}
-use Rattle.naga_oil_ir.specs.Links.{marked}
+use Rattle.naga_oil_ir.specs.Links.{is_marked}
 use Rattle.naga_oil_ir.specs.ItemForm.{NamesThere, NamesWell, types_of, is_sized}
 use Rattle.naga_oil_ir.specs.Rows.{type_row, constant_row, override_row, global_row, expression_row}
 use Rattle.naga_oil_ir.proofs.FormLemmas.{and_decides, decides_at, well_same, well_there}
@@ -8,8 +8,8 @@ use Rattle.naga_oil_ir.proofs.form_items.all_items_name_well.Goals as goal
 pub returns : goal.returns
 returns c =
     let m = c.args.of.now in
-    let sized = marked c.args.sized.now in
-    let types = decides_at (λ t. NamesThere m (type_row t)) _ (types_of m) _ c.items.ensures (well_there m (λ t. type_row t) [] refl _ c.in_ok-types.types c.in_ok-types.ensures) in
+    let sized = is_marked c.args.sized.now in
+    let types = decides_at (λ t. NamesThere m (type_row t)) _ (types_of m) _ c.items.ensures.items (well_there m (λ t. type_row t) [] refl _ c.in_ok-types.types c.in_ok-types.ensures) in
     let constants = decides_at (λ e. NamesWell m (is_sized m) (constant_row e.0)) _ m.constants _ c.as_slice.ensures (well_same m (λ e. constant_row e.0) sized (is_sized m) c.requires _ c.in_ok-constants.constants c.in_ok-constants.ensures) in
     let overrides = decides_at (λ e. NamesWell m (is_sized m) (override_row e.0)) _ m.overrides _ c.as_slice-2.ensures (well_same m (λ e. override_row e.0) sized (is_sized m) c.requires _ c.in_ok-overrides.overrides c.in_ok-overrides.ensures) in
     let globals = decides_at (λ e. NamesThere m (global_row e.0)) _ m.global_variables _ c.as_slice-3.ensures (well_there m (λ e. global_row e.0) [] refl _ c.in_ok-globals.globals c.in_ok-globals.ensures) in

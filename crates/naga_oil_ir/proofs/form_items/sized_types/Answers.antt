@@ -2,7 +2,7 @@ use Rattle.std.proofs.Common.{◌∙◌, ◌||◌, ⊎_elim, ap, sym, arith, len
 use Rattle.std.specs.List.{filter_map, list_any}
 use Rattle.std.proofs.lemmas.Bool.{cases_lt}
 use Rattle.std.proofs.lemmas.List.{length-map}
-use Rattle.naga_oil_ir.specs.Links.{marked}
+use Rattle.naga_oil_ir.specs.Links.{is_marked}
 use Rattle.naga_oil_ir.specs.Rows.{type_row}
 use Rattle.naga_oil_ir.specs.ItemForm.{type_at, types_named, type_links, is_override, pending}
 use Rattle.naga_oil_ir.proofs.LinkLemmas.{linked-map, marked-map, marked_past, reaches-push, reaches-past}
@@ -18,11 +18,11 @@ loop-ty-preserved c =
     let own = marked-map (λ t. list_any is_override (type_row t).names) types p c.ty-item.result at in
     let override = c.names_override.ensures ∙ ap (list_any is_override) (c.deref-in-loop-ty.ensures.value ∙ c.in_ok-names.ensures) ∙ sym own in
     let own_types = c.in_ok-types.ensures ∙ ap (filter_map type_at) (c.deref.ensures.value ∙ c.in_ok-names.ensures) in
-    let named = c.any_marked.ensures ∙ ap (λ ms. list_any (marked ms) c.deref-in-loop-ty-3.result.now) c.deref-in-loop-ty-2.ensures.value ∙ ap (list_any (marked sized)) (c.deref-in-loop-ty-3.ensures.value ∙ own_types) in
+    let named = c.any_marked.ensures ∙ ap (λ ms. list_any (is_marked ms) c.deref-in-loop-ty-3.result.now) c.deref-in-loop-ty-2.ensures.value ∙ ap (list_any (is_marked sized)) (c.deref-in-loop-ty-3.ensures.value ∙ own_types) in
     let pushed = c.in_ok-push.ensures.items in
     record {
       long = simp pushed (simp length-append (omega arith));
-      so_far = λ k h. ap (λ ms. marked ms k) pushed ∙ reaches-push (type_links types) c.requires (pending types) sized p (c.names_override.result || c.any_marked.result) (types_named (type_row c.ty-item.result)) c.loop-ty.invariant.long (linked-map (λ t. types_named (type_row t)) types p c.ty-item.result at) (ap (λ b. b || c.any_marked.result) override ∙ ap (λ b. marked (pending types) p || b) named) c.loop-ty.invariant.so_far k h;
+      so_far = λ k h. ap (λ ms. is_marked ms k) pushed ∙ reaches-push (type_links types) c.requires (pending types) sized p (c.names_override.result || c.any_marked.result) (types_named (type_row c.ty-item.result)) c.loop-ty.invariant.long (linked-map (λ t. types_named (type_row t)) types p c.ty-item.result at) (ap (λ b. b || c.any_marked.result) override ∙ ap (λ b. is_marked (pending types) p || b) named) c.loop-ty.invariant.so_far k h;
     }
 
 pub returns : goal.returns

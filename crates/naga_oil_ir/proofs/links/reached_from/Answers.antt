@@ -1,5 +1,5 @@
 use Rattle.std.proofs.Common.{◌≡◌, ◌∙◌, ◌<◌, ◌+◌, ◌-◌, ◌||◌, ap, sym, subst, arith, length, ℕ, Bool, Vec, Global}
-use Rattle.naga_oil_ir.specs.Links.{lists, linked, marked, has}
+use Rattle.naga_oil_ir.specs.Links.{lists, linked, is_marked, has}
 use Rattle.naga_oil_ir.proofs.LinkLemmas.{linked-at, named_within, spread_one, spread_none, IsSpread, IsSpread-start, IsSpread-step, IsSpread-end}
 use Rattle.naga_oil_ir.proofs.links.reached_from.Goals as goal
 use Rattle.naga_oil_ir.proofs.links.reached_from.Goals.{then-is_marked, else-is_marked}
@@ -24,9 +24,9 @@ loop-step-preserved c =
     let far : p + 1 + c.loop-step.step ≡ n = omega arith in
     let within : p < n = omega arith in
     let M : Vec Bool Global → Type 0 = λ v. (length v.items ≡ n) × IsSpread (lists links) roots n (c.loop-step.step + 1) v.items in
-    let mark = ap (λ ms. marked ms p) (sym c.deref.ensures.value) ∙ sym c.is_marked.ensures in
+    let mark = ap (λ ms. is_marked ms p) (sym c.deref.ensures.value) ∙ sym c.is_marked.ensures in
     let spread = IsSpread-step (lists links) c.requires.earlier roots n c.loop-step.step p old in
-    let done : M c.if-is_marked.marks = elim c.if-is_marked.branch [ then-is_marked w ↦ subst M (sym w.marks-is) (w.mark_all.ensures.long ∙ c.loop-step.invariant.long, spread w.mark_all.new.marks.items c.loop-step.invariant.spread far (λ k. w.mark_all.ensures.marked k ∙ ap (λ b. marked old k || b) (spread_one _ _ _ (mark ∙ w.if-is_marked.true) (ap (λ xs. has xs k) (w.as_slice.ensures.value ∙ sym (linked-at links p w.index-links-place.result within w.index-links-place.is)))))) | else-is_marked w ↦ subst M (sym w.marks-is) (c.loop-step.invariant.long, spread old c.loop-step.invariant.spread far (λ k. spread_none (marked old p) (marked old k) (has (linked (lists links) p) k) (mark ∙ w.if-is_marked.false))) ] in
+    let done : M c.if-is_marked.marks = elim c.if-is_marked.branch [ then-is_marked w ↦ subst M (sym w.marks-is) (w.mark_all.ensures.long ∙ c.loop-step.invariant.long, spread w.mark_all.new.marks.items c.loop-step.invariant.spread far (λ k. w.mark_all.ensures.marked k ∙ ap (λ b. is_marked old k || b) (spread_one _ _ _ (mark ∙ w.if-is_marked.true) (ap (λ xs. has xs k) (w.as_slice.ensures.value ∙ sym (linked-at links p w.index-links-place.result within w.index-links-place.is)))))) | else-is_marked w ↦ subst M (sym w.marks-is) (c.loop-step.invariant.long, spread old c.loop-step.invariant.spread far (λ k. spread_none (is_marked old p) (is_marked old k) (has (linked (lists links) p) k) (mark ∙ w.if-is_marked.false))) ] in
     record { long = done.0; spread = done.1 }
 
 pub returns : goal.returns

@@ -241,7 +241,7 @@ fn write_of(kind: u64) -> Statement {
 
 fn call(alloc: Global) -> Result<Statement, AllocError> {
     Ok(Statement::Call {
-        function: first(),
+        callee: first(),
         arguments: Vec::from_slice(alloc, &[first()])?,
         result: Some(Index::new(7)),
     })

@@ -3,13 +3,13 @@ use denote.Text.{Utf8}
 use denote.Shadow.{shadow}
 use Rattle.std.specs.Str.{chars}
 use Rattle.std.specs.String.{string_bytes}
-use Rattle.naga_oil_lines.specs.Undecorate.{with_overrides, undecorated}
+use Rattle.naga_oil_lines.specs.Undecorate.{with_overrides, undecoration}
 use Rattle.naga_oil_lines.proofs.decorate.undecorate.Given as goal
 
 abbrev pub invariant-loop-first : goal.invariant-loop-first
 invariant-loop-first l = record {
   text : shadow (Utf8 l.rest);
-  told : string_bytes l.out ++ with_overrides 0 (chars l.rest) ≡ undecorated l.text;
+  told : string_bytes l.out ++ with_overrides 0 (chars l.rest) ≡ undecoration l.text;
 }
 
 abbrev pub decreases-loop-first : goal.decreases-loop-first

@@ -1,7 +1,7 @@
 use Rattle.std.proofs.Common.{◌≡◌, false, ap, sym, ◌∙◌, map, length}
 use Rattle.std.specs.Str.{chars}
 use Rattle.std.proofs.lemmas.Result.{err_from_is_err_and}
-use Rattle.naga_oil_lines.specs.Tokens.{lexemes, shown}
+use Rattle.naga_oil_lines.specs.Tokens.{lexemes, emit}
 use Rattle.naga_oil_lines.specs.Tokenizer.{lexeme_of}
 use Rattle.naga_oil_lines.specs.Leaves.{parts, line_leaves}
 use Rattle.naga_oil_lines.specs.ImportReader.{run}
@@ -14,13 +14,13 @@ pub returns-in_err-rest-clause-err : goal.returns-in_err-rest-clause-err
 returns-in_err-rest-clause-err c =
     let p = err_from_is_err_and c.from_residual-in_err-rest.result c.from_residual-in_err-rest.ensures.1 in
     let end = length c.args.input.now in
-    let same : map lexeme_of c.as_slice.result.now ≡ shown false (lexemes 0 0 (chars c.args.input.now)) = ap (map lexeme_of) c.as_slice.ensures.value ∙ c.in_ok-tokens.ensures in
+    let same : map lexeme_of c.as_slice.result.now ≡ emit false (lexemes 0 0 (chars c.args.input.now)) = ap (map lexeme_of) c.as_slice.ensures.value ∙ c.in_ok-tokens.ensures in
     rw (p.1, p.2) (refuses_by _ _ _ (λ f e. ap (line_leaves end) (sym same) ∙ line_refused end (map lexeme_of c.as_slice.result.now) f e) c.in_err-rest.ensures.err)
 
 pub loop-part-init : goal.loop-part-init
 loop-part-init c =
     let end = length c.args.input.now in
-    let same : map lexeme_of c.as_slice.result.now ≡ shown false (lexemes 0 0 (chars c.args.input.now)) = ap (map lexeme_of) c.as_slice.ensures.value ∙ c.in_ok-tokens.ensures in
+    let same : map lexeme_of c.as_slice.result.now ≡ emit false (lexemes 0 0 (chars c.args.input.now)) = ap (map lexeme_of) c.as_slice.ensures.value ∙ c.in_ok-tokens.ensures in
     ap (λ r. run end r (parts 0 (map lexeme_of c.in_ok-rest.rest.now))) c.new-line.ensures
     ∙ line_read end (map lexeme_of c.as_slice.result.now) (map lexeme_of c.in_ok-rest.rest.now) c.in_ok-rest.ensures.ok ∙ ap (line_leaves end) same
 

@@ -1,6 +1,6 @@
 use Rattle.std.proofs.Common.{◌≡◌, [], map, ap, ◌∙◌, refl, sym, rules}
 use Rattle.std.proofs.lemmas.List.{nil_from_length}
-use Rattle.naga_oil_lines.specs.Substituted.{recorded}
+use Rattle.naga_oil_lines.specs.Substituted.{with_mentions}
 use Rattle.std.specs.String.{string_bytes}
 use Rattle.naga_oil_lines.specs.declared.substitute.SubstituteFault.TheVariants.{Memory}
 use Rattle.naga_oil_lines.specs.Declarations.{declared_of}
@@ -27,7 +27,7 @@ returns-in_err-push_str-clause-fault c =
 pub returns-in_err-write_identifier-clause-fault : goal.returns-in_err-write_identifier-clause-fault
 returns-in_err-write_identifier-clause-fault c =
     fault_answer c.from_residual-in_err-write_identifier.result _ c.in_err-write_identifier.field-0.0 c.from_residual-in_err-write_identifier.ensures.1
-    (site_refused _ _ _ _ _ _ _ _ _ c.loop-site.invariant.writing _ _ _ _ c.in-Some.ensures _ refl (uses_of c.write_identifier.new.used_imports) c.in_err-write_identifier.field-0.0
+    (site_refused _ _ _ _ _ _ _ _ _ c.loop-site.invariant.writing _ _ _ _ c.in-Some.ensures c.saturating_add-place.result c.saturating_add-place.ensures (uses_of c.write_identifier.new.used_imports) c.in_err-write_identifier.field-0.0
     c.in_err-write_identifier.ensures.fault)
 
 pub loop-site-preserved : goal.loop-site-preserved
@@ -35,7 +35,7 @@ loop-site-preserved c = record {
   unwritten = c.in-Some.ensures.utf8;
   rest = c.in-Some.ensures.utf8;
   writing =
-      site_written _ _ _ _ _ _ _ _ _ c.loop-site.invariant.writing _ _ _ _ c.in-Some.ensures _ refl (uses_of c.write_identifier.new.used_imports) _ (string_bytes c.push_str.new.self)
+      site_written _ _ _ _ _ _ _ _ _ c.loop-site.invariant.writing _ _ _ _ c.in-Some.ensures c.saturating_add-place.result c.saturating_add-place.ensures (uses_of c.write_identifier.new.used_imports) _ (string_bytes c.push_str.new.self)
       (string_bytes c.write_identifier.new.output) c.text_before.ensures c.in_ok-push_str.ensures.bytes c.in_ok-write_identifier.ensures.text c.in_ok-write_identifier.ensures.allowed
       c.in_ok-write_identifier.ensures.used;
 }
@@ -61,7 +61,7 @@ returns-then-not-contains-clause-text c =
 pub returns-then-not-contains-clause-used : goal.returns-then-not-contains-clause-used
 returns-then-not-contains-clause-used c =
     let nothing : declared_of c.args.declared_imports.now ≡ [] = ap (map _) (nil_from_length c.args.declared_imports.now.entries (c.is_empty.ensures.0 (search rules))) in
-    rw nothing (ap (recorded (uses_of c.args.used_imports.now)) (sym ((plain_text c.args.input.now c.utf8.input c.if-not-contains.ensures.cases).unused c.args.offset)))
+    rw nothing (ap (with_mentions (uses_of c.args.used_imports.now)) (sym ((plain_text c.args.input.now c.utf8.input c.if-not-contains.ensures.cases).unused c.args.offset)))
 
 pub returns-then-not-contains-clause-allowed : goal.returns-then-not-contains-clause-allowed
 returns-then-not-contains-clause-allowed c =

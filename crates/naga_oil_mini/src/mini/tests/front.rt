@@ -79,10 +79,10 @@ fn said(expression: &Expression) -> Said {
 fn done(statement: &Statement) -> Said {
     match statement {
         Statement::Call {
-            function,
+            callee,
             result: Some(result),
             ..
-        } => ("call", function.index() as u64, result.index() as u64),
+        } => ("call", callee.index() as u64, result.index() as u64),
         Statement::Emit(range) => ("emit", range.start() as u64, range.end() as u64),
         Statement::Return { value: Some(value) } => ("return", value.index() as u64, 0),
         _ => ("other", 0, 0),

@@ -276,7 +276,7 @@ fn body(alloc: Global, of: &Caller) -> Result<Block, AllocError>
     ensures { IfOk result (λ b. block_tokens b ≡ At of.now.statement_span ∷ Head 16 ∷ Callee of.now.called ∷ GiveCall of.now.called of.now.given ∷ At of.now.statement_span ∷ Head 0 ∷ Emitted of.now.emitted ∷ At of.now.statement_span ∷ Head 10 ∷ Use of.now.returned ∷ []) }
 {
     let call = Statement::Call {
-        function: Index::new(of.called),
+        callee: Index::new(of.called),
         arguments: Vec::new(alloc),
         result: Some(Index::new(of.given)),
     };

@@ -6,5 +6,5 @@ use Rattle.naga_oil.proofs.compose.copied.is_kept.Goals as goal
 
 pub returns : goal.returns
 returns c =
-    ap (λ b. b || c.has_mark.result) (c.contains.ensures ∙ among_texts c.args.special.now.keys c.args.name.now)
-    ∙ ap (λ b. is_among (texts c.args.special.now.keys) c.args.name.now || b) c.has_mark.ensures
+    ap (λ b. b || c.has_module_mark.result) (c.contains.ensures ∙ among_texts c.args.special.now.keys c.args.name.now)
+    ∙ ap (λ b. is_among (texts c.args.special.now.keys) c.args.name.now || b) c.has_module_mark.ensures

@@ -1,10 +1,12 @@
-use Rattle.std.proofs.Common.{◌≡◌, ◌++◌, false, sym, ap, ◌∙◌, string_bytes, rules}
-use Rattle.naga_oil.specs.Owned.{has_mark}
-use Rattle.naga_oil.proofs.OwnedLemmas.{owned-noted}
+use Rattle.std.proofs.Common.{◌≡◌, ◌++◌, false, ap, ◌∙◌, cond, string_bytes, rules}
+use Rattle.naga_oil_marks.specs.Marks.{has_module_mark}
+use Rattle.naga_oil.proofs.OwnedLemmas.{of_not, owned-noted}
 use Rattle.naga_oil.proofs.compose.items.own_name.Goals as goal
 
-pub returns-clause-owned : goal.returns-clause-owned
-returns-clause-owned c =
-    let unmarked : has_mark (string_bytes c.args.name.now) ≡ false = ap has_mark (sym c.as_str.ensures.value) ∙ sym c.has_mark.ensures ∙ c.if-has_mark.false in
-    let same : string_bytes c.in_ok-clone.field-0 ≡ string_bytes c.args.name.now ++ c.args.suffix.now = search rules in
+pub returns-in_ok-insert-clause-owned : goal.returns-in_ok-insert-clause-owned
+returns-in_ok-insert-clause-owned c =
+    let n = string_bytes c.args.name.now in
+    let unmarked : has_module_mark n ≡ false = of_not (has_module_mark n) c.in_ok-add_decoration.field-0 c.in_ok-add_decoration.ensures.told c.if-branch.true in
+    let named : string_bytes c.add_decoration.new.name ≡ n ++ c.args.suffix.now = c.in_ok-add_decoration.ensures.name ∙ ap (λ b. cond b n (n ++ c.args.suffix.now)) unmarked in
+    let same : string_bytes c.in_ok-clone.field-0 ≡ n ++ c.args.suffix.now = search (rules, named) in
     owned-noted _ _ _ _ c.in_ok-clone.field-0 unmarked same c.in_ok-insert.ensures.keys

@@ -2,8 +2,9 @@ use Rattle.std.proofs.Common.{◌≡◌, ◌++◌}
 use Rattle.std.specs.List.{flat_map}
 use Rattle.std.specs.String.{string_bytes}
 use Rattle.naga_oil_lines.specs.CoveredLines.{covered_lines_left}
-use Rattle.naga_oil.specs.Keywords.{covered_text, ended}
+use Rattle.naga_oil.specs.Keywords.{covered_text}
+use Rattle.naga_oil.specs.Sanitized.{end_line}
 use Rattle.naga_oil.proofs.compose.keywords.covered.Given as goal
 
 abbrev pub invariant-loop-line : goal.invariant-loop-line
-invariant-loop-line l = string_bytes l.covered ++ flat_map ended (covered_lines_left l.line-iterator) ≡ covered_text l.text
+invariant-loop-line l = string_bytes l.covered ++ flat_map end_line (covered_lines_left l.line-iterator) ≡ covered_text l.text

@@ -4,7 +4,7 @@ use Rattle.std.proofs.lemmas.Map.Iter.{rest_more}
 use Rattle.naga_oil_pre.specs.Fault.{inconsistent_def}
 use Rattle.naga_oil.specs.Definition.{defs_of}
 use Rattle.naga_oil.specs.Merged.{with_def}
-use Rattle.naga_oil.specs.Merging.{joined, agrees, value_of}
+use Rattle.naga_oil.specs.Merging.{defs_union, agrees, value_of}
 use Rattle.naga_oil.proofs.MergedLemmas.{named, named-insert}
 use Rattle.naga_oil.proofs.MergingLemmas.{value-named, joined_more, joined_not}
 use Rattle.naga_oil.proofs.compose.make.add_consistent.Goals as goal
@@ -18,7 +18,7 @@ returns-then-not-agrees c =
     let same : string_bytes c.in_ok-clone.field-0 ≡ name = search rules in
     let known = c.in_ok-known.ensures.old ∙ value-named c.loop-name.defs.entries c.in_ok-clone.field-0 ∙ ap (value_of defs) same in
     let other : agrees value (value_of defs name) ≡ false = ap (agrees value) (sym known) ∙ sym c.agrees.ensures ∙ c.if-not-agrees.true in
-    sym c.loop-name.invariant ∙ ap (λ es. joined defs (named es)) step ∙ joined_not defs (name, value) (named c.next.new.self) other ∙ ap (λ n. Err (inconsistent_def n)) (sym c.in_ok-clone-2.ensures.cases)
+    sym c.loop-name.invariant ∙ ap (λ es. defs_union defs (named es)) step ∙ joined_not defs (name, value) (named c.next.new.self) other ∙ ap (λ n. Err (inconsistent_def n)) (sym c.in_ok-clone-2.ensures.cases)
 
 pub loop-name-preserved : goal.loop-name-preserved
 loop-name-preserved c =
@@ -30,4 +30,4 @@ loop-name-preserved c =
     let known = c.in_ok-known.ensures.old ∙ value-named c.loop-name.defs.entries c.in_ok-clone.field-0 ∙ ap (value_of defs) same in
     let agreed : agrees value (value_of defs name) ≡ true = ap (agrees value) (sym known) ∙ sym c.agrees.ensures ∙ c.if-not-agrees.false in
     let more : defs_of c.insert.new.self ≡ with_def defs (name, value) = ap named c.in_ok-known.ensures.entries ∙ named-insert c.loop-name.defs.entries c.in_ok-clone.field-0 value ∙ ap (λ n. with_def defs (n, value)) same in
-    ap (λ ds. joined ds (named c.next.new.self)) more ∙ sym (joined_more defs (name, value) (named c.next.new.self) agreed) ∙ ap (λ es. joined defs (named es)) (sym step) ∙ c.loop-name.invariant
+    ap (λ ds. defs_union ds (named c.next.new.self)) more ∙ sym (joined_more defs (name, value) (named c.next.new.self) agreed) ∙ ap (λ es. defs_union defs (named es)) (sym step) ∙ c.loop-name.invariant

@@ -1,6 +1,6 @@
 use Rattle.std.proofs.Common.{◌≤◌, sym, length, arith}
 use Rattle.naga_oil.specs.Sanitized.{first_decoration}
-use Rattle.naga_oil_lines.specs.Decorate.{module_mark, override_mark}
+use Rattle.naga_oil_marks.specs.Marks.{module_mark, override_mark}
 use Rattle.naga_oil.proofs.SanitizedLemmas.{first-within}
 use Rattle.naga_oil.proofs.compose.sanitize.read_source.Goals as goal
 

@@ -2,7 +2,7 @@ use Rattle.std.proofs.Common.{◌≡◌, ◌++◌, ◌∷◌, [], Some, None, eq
 use Rattle.std.specs.List.{ends_with}
 use Rattle.std.specs.String.{string_bytes}
 use Rattle.std.proofs.lemmas.Str.Pattern.{split_parts, ends_text}
-use Rattle.naga_oil.specs.Sanitized.{line_feeds, ended}
+use Rattle.naga_oil.specs.Sanitized.{line_feeds, end_last_line}
 use Rattle.naga_oil.proofs.SanitizedLemmas.{plain_front, plain_text, ended_already, ended_now}
 use Rattle.naga_oil.proofs.compose.sanitize.with_line_feeds.Goals as goal
 
@@ -28,7 +28,7 @@ returns-then-ends_with c =
     let pushed : string_bytes c.push_str-2.new.self ≡ string_bytes c.loop-before.text ++ c.loop-before.rest.now = search rules in
     let whole : string_bytes c.push_str-2.new.self ≡ line_feeds c.args.source.now = pushed ∙ ap (λ l. string_bytes c.loop-before.text ++ l) (sym plain) ∙ c.loop-before.invariant.same in
     let ends : ends_with eqb (string_bytes c.push_str-2.new.self) (10 ∷ []) ≡ true = ap (λ t. ends_with eqb t (10 ∷ [])) (sym c.as_str.ensures.value) ∙ sym (ends_text c.ends_with.result (10 ∷ []) c.as_str.result.now c.ends_with.ensures.cases) ∙ c.if-ends_with.true in
-    ended_already (string_bytes c.push_str-2.new.self) ends ∙ ap ended whole
+    ended_already (string_bytes c.push_str-2.new.self) ends ∙ ap end_last_line whole
 
 pub returns : goal.returns
 returns c =
@@ -37,4 +37,4 @@ returns c =
     let whole : string_bytes c.push_str-2.new.self ≡ line_feeds c.args.source.now = pushed ∙ ap (λ l. string_bytes c.loop-before.text ++ l) (sym plain) ∙ c.loop-before.invariant.same in
     let ends : ends_with eqb (string_bytes c.push_str-2.new.self) (10 ∷ []) ≡ false = ap (λ t. ends_with eqb t (10 ∷ [])) (sym c.as_str.ensures.value) ∙ sym (ends_text c.ends_with.result (10 ∷ []) c.as_str.result.now c.ends_with.ensures.cases) ∙ c.if-ends_with.false in
     let more : string_bytes c.push-2.new.self ≡ string_bytes c.push_str-2.new.self ++ 10 ∷ [] = search rules in
-    more ∙ ended_now (string_bytes c.push_str-2.new.self) ends ∙ ap ended whole
+    more ∙ ended_now (string_bytes c.push_str-2.new.self) ends ∙ ap end_last_line whole

@@ -1,6 +1,6 @@
 use Rattle.std.proofs.Common.{◌≡◌, Option, Some, None, sym, ap, ◌∙◌, rules}
 use Rattle.std.specs.Prelude.{codes}
-use Rattle.naga_oil_lines.specs.Decorate.{module_mark}
+use Rattle.naga_oil_marks.specs.Marks.{module_mark}
 use Rattle.naga_oil.specs.Virtuals.{around_last, without_end}
 use Rattle.naga_oil.proofs.KeywordsLemmas.{cut_name}
 use Rattle.naga_oil.proofs.SplitLemmas.{cut_last, cut_none, ends_so, ends_not, no_end, no_mark, no_parts, has_parts, none_empty}

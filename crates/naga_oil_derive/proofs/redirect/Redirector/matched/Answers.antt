@@ -4,7 +4,7 @@ use Rattle.std.proofs.lemmas.Bool.{false≢true}
 use Rattle.naga_oil_ir.specs.ModuleValue.{function_value}
 use Rattle.naga_oil_ir.specs.declared.module.FunctionArgument.{FunctionArgument}
 use Rattle.naga_oil_derive.specs.Redirected.{same_arguments}
-use Rattle.naga_oil_derive.specs.RedirectFault.{argument_mismatch, return_type_mismatch}
+use Rattle.naga_oil_ir.specs.RedirectFault.{argument_mismatch, return_type_mismatch}
 use Rattle.naga_oil_derive.proofs.RedirectLemmas.{matched_found, arguments_of, compared_as}
 use Rattle.naga_oil_derive.proofs.redirect.Redirector.matched.Goals as goal
 use Rattle.naga_oil_derive.proofs.redirect.Redirector.matched.Goals.{else-arguments-via-then-arguments+else-same_results, else-arguments-via-else-arguments, then-arguments-2, else-arguments-2}

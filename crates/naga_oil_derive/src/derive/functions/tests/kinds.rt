@@ -1,3 +1,4 @@
+//! A function with each kind of expression and statement, copied, and its copy by hand.
 use super::{function, mapped};
 use crate::DerivedModule;
 use crate::derive::tests::{holds, set};
@@ -205,7 +206,7 @@ impl Maker {
     fn call(self) -> Result<Statement, AllocError> {
         let arguments = Vec::from_slice(self.alloc, &[self.at(6)])?;
         Ok(Statement::Call {
-            function: Index::new(0),
+            callee: Index::new(0),
             arguments,
             result: self.some(7),
         })

@@ -1,5 +1,5 @@
 use Rattle.std.proofs.Common.{◌≡◌, ◌∙◌, sym, ap, position, None}
-use Rattle.naga_oil_ir.proofs.PlaceLemmas.{place_of-absent, fetched-absent}
+use Rattle.naga_oil_ir.proofs.PlaceLemmas.{place_of-absent, with_element-absent}
 use Rattle.naga_oil_ir.proofs.arena.Arena.fetch_or_append.Goals as goal
 
 pub returns-in-None-clause-place : goal.returns-in-None-clause-place
@@ -10,4 +10,4 @@ returns-in-None-clause-place g c =
 pub returns-in-None-clause-items : goal.returns-in-None-clause-items
 returns-in-None-clause-items g c =
     let absent : position (λ e. g.T.PartialEq.eq c.args.item e.0) c.args.self.now ≡ None = ap (position (λ e. g.T.PartialEq.eq c.args.item e.0)) (sym c.as_slice.ensures) ∙ sym c.position_of.ensures ∙ c.in-None.is in
-    rw (fetched-absent (λ e. g.T.PartialEq.eq c.args.item e.0) c.args.self.now (c.args.item, c.args.span) absent) c.append.ensures.appended
+    rw (with_element-absent (λ e. g.T.PartialEq.eq c.args.item e.0) c.args.self.now (c.args.item, c.args.span) absent) c.append.ensures.appended

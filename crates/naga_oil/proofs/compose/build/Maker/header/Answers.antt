@@ -18,5 +18,5 @@ returns g c =
     let start = c.new-linker.result in
     let s = c.link_imports.new.self in
     let linked = linked_from_nothing start true builds c.len.result imports s.descended.keys s.derived c.new-linker.ensures.given.1 (ap (λ b. builds_of b.now) c.new-linker.ensures.given.0) c.new-linker.ensures.linked.0 c.new-linker.ensures.linked.1 (c.len.ensures.len ∙ all_builds maker.builds.entries) c.in_ok-link_imports.ensures.linked in
-    let header : HeaderLinked builds imports (module_value c.from.result) = record { derived = s.derived; entered = s.descended.keys; linked = linked; value = c.from.ensures } in
+    let header : HeaderLinked builds imports (module_value c.from.result) = record { derived = s.derived; descents = s.descended.keys; linked = linked; value = c.from.ensures } in
     gives_by string_bytes c.written.result (header_text front maker.capabilities c.args.language (module_value c.from.result)) (HeaderAnswers front maker.capabilities c.args.language builds imports) c.written.ensures (λ a is. record { header = module_value c.from.result; linked = header; written = is })

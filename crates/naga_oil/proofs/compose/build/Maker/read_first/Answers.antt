@@ -9,7 +9,7 @@ use Rattle.naga_oil.specs.Built.{preprocessed_of}
 use Rattle.naga_oil.specs.BuiltModule.{builds_of}
 use Rattle.naga_oil.specs.Definition.{definition_of, defs_of}
 use Rattle.naga_oil.specs.Made.{OneUnread, any_use}
-use Rattle.naga_oil.specs.Merging.{joined_over}
+use Rattle.naga_oil.specs.Merging.{defs_union_over}
 use Rattle.naga_oil.specs.Read.{FirstRead, NotFirstRead, NotPreprocessed}
 use Rattle.naga_oil.specs.declared.compose.build.Maker.{Maker}
 use Rattle.naga_oil.proofs.MadeLemmas.{reading_here}
@@ -37,7 +37,7 @@ returns-in_err-merge-clause-read g c =
     let becomes : preprocessed_of (defined s.defs) d ≡ Ok out = sym (ap (λ n. preprocessed_of n d) (defined_same defs)) ∙ c.in_ok-output.ensures in
     let us = map use_of c.deref.result.now in
     let uses : us ≡ out.uses = ap (λ (is : List ImportDefWithOffset). map use_of is) c.deref.ensures.value in
-    reading_here _ (λ f. joined_over ds s.defs us ≡ Err f) (NotFirstRead s ds d bs) c.in_err-merge.field-0.0 c.from_residual-in_err-merge.result (not_joined s ds d bs out becomes us uses) c.in_err-merge.ensures c.from_residual-in_err-merge.ensures.1
+    reading_here _ (λ f. defs_union_over ds s.defs us ≡ Err f) (NotFirstRead s ds d bs) c.in_err-merge.field-0.0 c.from_residual-in_err-merge.result (not_joined s ds d bs out becomes us uses) c.in_err-merge.ensures c.from_residual-in_err-merge.ensures.1
 
 pub returns-clause-read : goal.returns-clause-read
 returns-clause-read g c =

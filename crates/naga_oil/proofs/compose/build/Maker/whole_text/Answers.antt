@@ -48,6 +48,6 @@ returns g c =
       read = sym same ∙ c.in_ok-virtuals.ensures;
       heading = heading;
       headed = subst (λ (is : List Import). HeadingAnswers front maker.capabilities d bs is (Ok heading)) (ap (map import_of) c.deref-2.ensures.value) c.in_ok-whole.ensures;
-      joined = c.in_ok-push_str.ensures.bytes ∙ ap (λ t. heading ++ t) c.deref-3.ensures;
+      concatenation = c.in_ok-push_str.ensures.bytes ∙ ap (λ t. heading ++ t) c.deref-3.ensures;
       held = λ k. record b { virtuals = f.virtuals; overriding = f.overriding; offset = length (c.as_str-2.ensures.value k) };
     }

@@ -1,0 +1,33 @@
+// Why calls can't be redirected, or functions can't be put in order.
+use std::alloc::AllocError;
+use thiserror::Error;
+
+/// Why calls can't be redirected, or functions can't be put in order.
+#[derive(Debug, Drop, Error)]
+pub enum RedirectError {
+    #[error("can't find function {0} for redirection")]
+    FunctionNotFound(String),
+    /// The replacement, and the function that it was to stand for.
+    #[error("{0} cannot override {1} due to argument mismatch")]
+    ArgumentMismatch(String, String),
+    /// The replacement, and the function that it was to stand for.
+    #[error("{0} cannot override {1} due to return type mismatch")]
+    ReturnTypeMismatch(String, String),
+    /// The names of the functions that call themselves or lead to some that do, joined by `, `.
+    #[error("circular reference; can't find an order for : {0}")]
+    CircularReference(String),
+    /// A growth of memory was refused.
+    #[error("out of memory")]
+    Memory,
+}
+
+impl From<AllocError> for RedirectError {
+    ghost use Rattle.std.specs.Prelude.{◌≡◌};
+    ghost use Rattle.naga_oil_ir.specs.declared.redirect_error.RedirectError.TheVariants.{Memory};
+
+    ghost from_gives = { λ _ e. e ≡ Memory };
+
+    fn from(_error: AllocError) -> RedirectError {
+        RedirectError::Memory
+    }
+}

@@ -1,0 +1,90 @@
+-- The directives that a text may begin with as a grammar: the pieces that a line, without the white space round it, is
+-- made of, one behind the other.
+use Rattle.std.specs.Prelude.{◌≡◌, ◌⊎◌, ℕ, true, false, ◌==◌, not, List, [], ◌∷◌, ◌++◌, codes}
+use Rattle.std.specs.Char.{is_whitespace}
+use Rattle.std.specs.Str.{byte, chars, trim, trim_start}
+use Rattle.naga_oil_pre.specs.LineGrammar.{IsRun}
+use Rattle.naga_oil_pre.specs.DirectiveLines.{Directive, enabling, requiring, treating, wrong, passing, ending, extensions, is_severity, unknown_severity, is_between}
+
+-- the bytes before the first byte c, and those behind it
+abbrev pub IsUpTo : (c : ℕ) (text before behind : List ℕ) → Type 0
+IsUpTo c text before behind = IsRun (λ b. not (b == c)) text before (c ∷ behind)
+
+-- a white character and at least one more
+pub record IsList (text : List ℕ) : Type 0 where
+  pub white : ℕ
+  pub next : ℕ
+  pub more : List ℕ
+  pub spelled : chars text ≡ white ∷ (next ∷ more)
+  pub gap : is_whitespace white ≡ true
+
+-- a word, and the list behind it up to the first `;`
+pub record HasList (word line list : List ℕ) : Type 0 where
+  pub behind : List ℕ
+  pub rest : List ℕ
+  pub start : line ≡ word ++ behind
+  pub end : IsUpTo (byte ";") behind list rest
+  pub is : IsList list
+
+-- a word and the names of at least one extension
+pub record IsNaming (word : List ℕ) (names : List (List ℕ)) (line : List ℕ) : Type 0 where
+  pub list : List ℕ
+  pub has : HasList word line list
+  pub parts : names ≡ extensions list
+  pub some : names ≡ [] → ⊥
+
+abbrev pub IsEnabling : (names : List (List ℕ)) (line : List ℕ) → Type 0
+IsEnabling names line = IsNaming (codes "enable") names line
+
+abbrev pub IsRequiring : (names : List (List ℕ)) (line : List ℕ) → Type 0
+IsRequiring names line = IsNaming (codes "requires") names line
+
+-- a list of no extension
+abbrev pub IsNameless : (line : List ℕ) → Type 0
+IsNameless line = (list : List ℕ) × (HasList (codes "enable") line list ⊎ HasList (codes "requires") line list) × (extensions list ≡ [])
+
+-- `diagnostic`, and in brackets a severity up to the first `,` and a rule up to the first `)` behind it; then `;`
+pub record IsDiagnostic (severity rule line : List ℕ) : Type 0 where
+  pub behind : List ℕ
+  pub inside : List ℕ
+  pub first : List ℕ
+  pub more : List ℕ
+  pub second : List ℕ
+  pub end : List ℕ
+  pub rest : List ℕ
+  pub word : line ≡ codes "diagnostic" ++ behind
+  pub opens : trim_start behind ≡ codes "(" ++ inside
+  pub comma : IsUpTo (byte ",") inside first more
+  pub bracket : IsUpTo (byte ")") more second end
+  pub closes : trim_start end ≡ codes ";" ++ rest
+  pub some_severity : first ≡ [] → ⊥
+  pub some_rule : second ≡ [] → ⊥
+  pub severity_is : severity ≡ trim first
+  pub rule_is : rule ≡ trim second
+
+-- a diagnostic of a severity that is known
+abbrev pub IsTreating : (severity rule line : List ℕ) → Type 0
+IsTreating severity rule line = IsDiagnostic severity rule line × (is_severity severity ≡ true)
+
+-- a diagnostic of one that isn't
+abbrev pub IsUngraded : (severity line : List ℕ) → Type 0
+IsUngraded severity line = (rule : List ℕ) × IsDiagnostic severity rule line × (is_severity severity ≡ false)
+
+-- what is wrong with a directive
+abbrev pub IsWrong : (reason line : List ℕ) → Type 0
+IsWrong reason line = (IsNameless line × (reason ≡ codes "No extensions specified")) ⊎ ((severity : List ℕ) × IsUngraded severity line × (reason ≡ unknown_severity severity))
+
+-- a line that is no directive
+pub record IsNone (line : List ℕ) : Type 0 where
+  pub enables : (list : List ℕ) → HasList (codes "enable") line list → ⊥
+  pub requires : (list : List ℕ) → HasList (codes "requires") line list → ⊥
+  pub diagnoses : (severity rule : List ℕ) → IsDiagnostic severity rule line → ⊥
+
+-- what a line is among directives
+abbrev pub IsDirective : Directive → (line : List ℕ) → Type 0
+IsDirective (enabling names) line = IsEnabling names line
+IsDirective (requiring names) line = IsRequiring names line
+IsDirective (treating severity rule) line = IsTreating severity rule line
+IsDirective (wrong reason) line = IsWrong reason line
+IsDirective passing line = IsNone line × (is_between line ≡ true)
+IsDirective ending line = IsNone line × (is_between line ≡ false)
