@@ -17,7 +17,7 @@ use Rattle.naga_oil_pre.specs.Scope.{is_active, is_open, level}
 use Rattle.naga_oil_pre.specs.Step.{Step, step, else_step, end_step, opened, scanned}
 use Rattle.naga_oil_lines.specs.Substituted.{substituted, sites, first_ambiguous, used_by}
 use Rattle.naga_oil_pre.specs.Preprocessed as becomes
-use Rattle.naga_oil_pre.specs.Preprocessed.{Status, blanked, shown, imported, noted, Known, nothing_known, Output, written, piece, shown_piece, joined, behind, end_status, condition_status, ended, padded, spaces, tokens_of, preprocessed}
+use Rattle.naga_oil_pre.specs.Preprocessed.{Status, blanked, shown, imported, noted, Known, nothing_known, Output, written, passage, shown_passage, prepend_passage, prepend, end_status, condition_status, end_line, padded, spaces, tokens_of, preprocessed}
 use Rattle.naga_oil_pre.specs.Recorded.{condition_names, text_names, kind_names, line_names, names_of, is_among, is_recorded, AgreeOn}
 use Rattle.naga_oil_pre.proofs.LoopLemmas.{told_first}
 
@@ -105,15 +105,15 @@ same_step d e levels l (define name value) more h = refl
 same_step d e levels l other more h = refl
 
 -- what a shown line becomes, by its two replaced texts
-abbrev shown_of : Known → Line → (text covered : List ℕ) → (ambiguous : Option ℕ) → Result becomes.Piece Fault
+abbrev shown_of : Known → Line → (text covered : List ℕ) → (ambiguous : Option ℕ) → Result becomes.Passage Fault
 shown_of k l text covered (Some place) = Err (invalid_import (codes "Ambiguous import path for item") place)
-shown_of k l text covered None = Ok (ended (padded (length l.text) (substituted k.declared (tokens_of text))), record k { uses = used_by k.declared l.at (tokens_of covered) k.uses })
+shown_of k l text covered None = Ok (end_line (padded (length l.text) (substituted k.declared (tokens_of text))), record k { uses = used_by k.declared l.at (tokens_of covered) k.uses })
 
-shown_is : (d : Definitions) (k : Known) (l : Line) (o : Option ℕ) → shown_piece d k l o ≡ shown_of k l (replaced d l.text) (replaced d l.covered) o
+shown_is : (d : Definitions) (k : Known) (l : Line) (o : Option ℕ) → shown_passage d k l o ≡ shown_of k l (replaced d l.text) (replaced d l.covered) o
 shown_is d k l (Some place) = refl
 shown_is d k l None = refl
 
-same_shown : (d e : Definitions) (k : Known) (l : Line) → Agree d e (text_names l) → piece d k (shown l) ≡ piece e k (shown l)
+same_shown : (d e : Definitions) (k : Known) (l : Line) → Agree d e (text_names l) → passage d k (shown l) ≡ passage e k (shown l)
 same_shown d e k l h =
     let ambiguous : List ℕ → Option ℕ = λ covered. first_ambiguous k.declared false (sites l.at (tokens_of covered)) in
     let text = same_replaced d e l.text (agree_left d e (hash_names l.text) (hash_names l.covered) h) in
@@ -122,36 +122,36 @@ same_shown d e k l h =
     ∙ (λ i. shown_of k l (text i) (covered i) (ambiguous (covered i)))
     ∙ sym (shown_is e k l (ambiguous (replaced e l.covered)))
 
-same_condition : (d e : Definitions) (k : Known) (l : Line) (r : Result Bool Fault) → piece d k (condition_status l r) ≡ piece e k (condition_status l r)
+same_condition : (d e : Definitions) (k : Known) (l : Line) (r : Result Bool Fault) → passage d k (condition_status l r) ≡ passage e k (condition_status l r)
 same_condition d e k l (Ok holds) = refl
 same_condition d e k l (Err own) = refl
 
-same_else : (d e : Definitions) (k : Known) (l : Line) (r : Result Bool Fault) (levels : List ScopeLevel) → piece d k (else_step l r levels).0 ≡ piece e k (else_step l r levels).0
+same_else : (d e : Definitions) (k : Known) (l : Line) (r : Result Bool Fault) (levels : List ScopeLevel) → passage d k (else_step l r levels).0 ≡ passage e k (else_step l r levels).0
 same_else d e k l (Ok holds) [] = refl
 same_else d e k l (Err own) [] = refl
 same_else d e k l r (previous ∷ outer) = same_condition d e k l r
 
-same_end : (d e : Definitions) (k : Known) (l : Line) (levels : List ScopeLevel) → piece d k (end_step l levels).0 ≡ piece e k (end_step l levels).0
+same_end : (d e : Definitions) (k : Known) (l : Line) (levels : List ScopeLevel) → passage d k (end_step l levels).0 ≡ passage e k (end_step l levels).0
 same_end d e k l [] = refl
 same_end d e k l (previous ∷ outer) = refl
 
 same_piece : (d e : Definitions) (k : Known) (levels : List ScopeLevel) (l : Line) (kind : LineKind) (more : List Line) → Agree d e (read_names kind l)
-    → piece d k (step e levels l kind more).0 ≡ piece e k (step e levels l kind more).0
-same_piece d e k levels l (version known) more h = elim known as (λ b. piece d k (cond b (blanked l) (noted (invalid_version l.at))) ≡ piece e k (cond b (blanked l) (noted (invalid_version l.at)))) [ true ↦ refl | false ↦ refl ]
+    → passage d k (step e levels l kind more).0 ≡ passage e k (step e levels l kind more).0
+same_piece d e k levels l (version known) more h = elim known as (λ b. passage d k (cond b (blanked l) (noted (invalid_version l.at))) ≡ passage e k (cond b (blanked l) (noted (invalid_version l.at)))) [ true ↦ refl | false ↦ refl ]
 same_piece d e k levels l (condition false c) more h = same_condition d e k l (evaluated e l.at c)
 same_piece d e k levels l (condition true c) more h = same_else d e k l (evaluated e l.at c) levels
 same_piece d e k levels l endif more h = same_end d e k l levels
 same_piece d e k levels l imports more h =
     let import = imported l (taken (braces_after 0 l.covered) more) in
-    elim (is_active levels) as (λ b. piece d k (cond b import (blanked l)) ≡ piece e k (cond b import (blanked l))) [ true ↦ refl | false ↦ refl ]
+    elim (is_active levels) as (λ b. passage d k (cond b import (blanked l)) ≡ passage e k (cond b import (blanked l))) [ true ↦ refl | false ↦ refl ]
 same_piece d e k levels l (import_path name) more h = refl
 same_piece d e k levels l (define name value) more h = refl
 same_piece d e k levels l other more h =
-    elim (is_active levels) as (λ b. piece d k (cond b (shown l) (blanked l)) ≡ piece e k (cond b (shown l) (blanked l))) [ true ↦ same_shown d e k l h | false ↦ refl ]
+    elim (is_active levels) as (λ b. passage d k (cond b (shown l) (blanked l)) ≡ passage e k (cond b (shown l) (blanked l))) [ true ↦ same_shown d e k l h | false ↦ refl ]
 
 -- ---- line after line
-same_joined : (d e : Definitions) (p : Result becomes.Piece Fault) (ss ts : List Status) → ((k : Known) → written d k ss ≡ written e k ts) → joined p (λ k. written d k ss) ≡ joined p (λ k. written e k ts)
-same_joined d e (Ok p) ss ts h = ap (behind p.0) (h p.1)
+same_joined : (d e : Definitions) (p : Result becomes.Passage Fault) (ss ts : List Status) → ((k : Known) → written d k ss ≡ written e k ts) → prepend_passage p (λ k. written d k ss) ≡ prepend_passage p (λ k. written e k ts)
+same_joined d e (Ok p) ss ts h = ap (prepend p.0) (h p.1)
 same_joined d e (Err f) ss ts h = refl
 
 same_ends : (d e : Definitions) (k : Known) (end : ℕ) (b : Bool) → written d k (end_status end b) ≡ written e k (end_status end b)
@@ -166,13 +166,13 @@ same_written d e k end levels zero (l ∷ more) h =
     let here = agree_read d e l (agree_left d e (line_names l) (flat_map line_names more) h) in
     let next : Step = step e levels l kind more in
     ap (λ (s : Step). written d k (s.0 ∷ scanned d end s.1 (opened levels l kind) more)) (same_step d e levels l kind more here)
-    ∙ ap (λ p. joined p (λ kk. written d kk (scanned d end next.1 (opened levels l kind) more))) (same_piece d e k levels l kind more here)
-    ∙ same_joined d e (piece e k next.0) (scanned d end next.1 (opened levels l kind) more) (scanned e end next.1 (opened levels l kind) more)
+    ∙ ap (λ p. prepend_passage p (λ kk. written d kk (scanned d end next.1 (opened levels l kind) more))) (same_piece d e k levels l kind more here)
+    ∙ same_joined d e (passage e k next.0) (scanned d end next.1 (opened levels l kind) more) (scanned e end next.1 (opened levels l kind) more)
     (λ kk. same_written d e kk end next.1 (opened levels l kind) more (agree_right d e (line_names l) (flat_map line_names more) h))
 same_written d e k end levels (suc n) (l ∷ more) h =
-    ap (behind (ended (spaces l))) (same_written d e k end levels (braces_after (suc n) l.covered) more (agree_right d e (line_names l) (flat_map line_names more) h))
+    ap (prepend (end_line (spaces l))) (same_written d e k end levels (braces_after (suc n) l.covered) more (agree_right d e (line_names l) (flat_map line_names more) h))
 
-behind_nothing : (r : Result Output Fault) → behind [] r ≡ r
+behind_nothing : (r : Result Output Fault) → prepend [] r ≡ r
 behind_nothing (Ok o) = refl
 behind_nothing (Err f) = refl
 
@@ -181,5 +181,5 @@ unfolding names_of
 recorded_names_decide text d e h =
     let end : ℕ = end_place 0 (source_lines text) in
     sym (told_first d nothing_known text [] refl refl)
-    ∙ ap (behind []) (same_written d e nothing_known end [] 0 (source_lines text) h)
+    ∙ ap (prepend []) (same_written d e nothing_known end [] 0 (source_lines text) h)
     ∙ told_first e nothing_known text [] refl refl

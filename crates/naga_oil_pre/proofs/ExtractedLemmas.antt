@@ -14,7 +14,7 @@ use Rattle.naga_oil_pre.specs.declared.fault.ComposerErrorInner.{ComposerErrorIn
 use Rattle.naga_oil_pre.specs.Fault.{Fault}
 use Rattle.naga_oil_pre.specs.View.{Fails, fault_of}
 use Rattle.naga_oil_pre.specs.DirectiveLines.{Directive, enabling, requiring, treating, wrong, passing, ending, directive_of}
-use Rattle.naga_oil_pre.specs.Extracted.{Extracted, kept, found, goes_on, ◌and◌, onto, taken_out, joined, extracted}
+use Rattle.naga_oil_pre.specs.Extracted.{Extracted, kept, found, goes_on, ◌and◌, onto, taken_out, join_lines, extracted}
 
 -- further lines, each behind a line end
 abbrev pub followed : List (List ℕ) → List ℕ
@@ -62,7 +62,7 @@ and_none : (a : Directives) → a and no_directives ≡ a
 and_none a = λ i. record { enables = append-nil a.enables i; requires = append-nil a.requires i; diagnostics = append-nil a.diagnostics i }
 
 -- ---- before the first line
-behind_nothing : (t : Result Extracted Fault) → behind [] no_directives 0 t ≡ joined t
+behind_nothing : (t : Result Extracted Fault) → behind [] no_directives 0 t ≡ join_lines t
 behind_nothing (Ok e) = refl
 behind_nothing (Err f) = refl
 

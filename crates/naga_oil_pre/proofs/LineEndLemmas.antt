@@ -28,7 +28,7 @@ use Rattle.naga_oil_pre.specs.Kind.{LineKind, version, condition, endif, imports
 use Rattle.naga_oil_pre.specs.Fault.{Fault, Definitions, evaluated}
 use Rattle.naga_oil_pre.specs.Reading.{reading, braces_after, taken, is_unclosed}
 use Rattle.naga_oil_pre.specs.Replaced.{plain, named, hash_name, pieces, piece_text, value_text, value_or, replaced_from, replaced}
-use Rattle.naga_oil_pre.specs.Preprocessed.{Status, blanked, shown, imported, noted, condition_status, stray_status, statuses, end_status, Known, nothing_known, Output, Piece, written, ended, spaces, tokens_of, using_tokens, shown_text, shown_piece, imported_piece, import_text, piece, behind, joined, preprocessed}
+use Rattle.naga_oil_pre.specs.Preprocessed.{Status, blanked, shown, imported, noted, condition_status, stray_status, statuses, end_status, Known, nothing_known, Output, Passage, written, end_line, spaces, tokens_of, using_tokens, shown_text, shown_passage, imported_passage, import_text, passage, prepend, prepend_passage, preprocessed}
 use Rattle.naga_oil_pre.specs.Scope.{is_active, is_open}
 use Rattle.naga_oil_pre.specs.Step.{step, opened, scanned}
 use Rattle.naga_oil_pre.specs.LineEnds.{paths_among, paths_by, declared_paths}
@@ -140,7 +140,7 @@ no_ends_in_spaces : (n : ℕ) → count_by is_end (replicate n 32) ≡ 0
 no_ends_in_spaces zero = refl
 no_ends_in_spaces (suc n) = no_ends_in_both (32 ∷ []) (replicate n 32) refl (no_ends_in_spaces n)
 
-one_end : (text : List ℕ) → count_by is_end text ≡ 0 → count_by is_end (ended text) ≡ 1
+one_end : (text : List ℕ) → count_by is_end text ≡ 0 → count_by is_end (end_line text) ≡ 1
 one_end text e = sum_by-append (λ x. cond (is_end x) 1 0) text (10 ∷ []) ∙ ap (λ n. n + 1) e
 
 no_ends_shown : (defs : Definitions) (known : Known) (l : Line) → IsOneLine l.text → DeclaresNoEnd known.declared → count_by is_end (shown_text defs known l) ≡ 0
@@ -167,7 +167,7 @@ leaves_declared declared ((key, path) ∷ more) d h =
 
 -- ---- what a line becomes
 -- a piece is one line, and behind it no declared path holds a line end
-record Made (p : Piece) : Type 0 where
+record Made (p : Passage) : Type 0 where
   one : count_by is_end p.0 ≡ 1
   declares : DeclaresNoEnd p.1.declared
 
@@ -178,15 +178,15 @@ ShowsLine (shown l) = IsOneLine l.text
 ShowsLine (imported l taken) = Unit {0}
 ShowsLine (noted f) = Unit {0}
 
-piece_made : (defs : Definitions) (known : Known) (s : Status) → ShowsLine s → All HoldsNoEnd (paths_by s) → DeclaresNoEnd known.declared → IfOk (piece defs known s) Made
+piece_made : (defs : Definitions) (known : Known) (s : Status) → ShowsLine s → All HoldsNoEnd (paths_by s) → DeclaresNoEnd known.declared → IfOk (passage defs known s) Made
 piece_made defs known (blanked l) h p d = record { one = one_end (spaces l) (no_ends_in_spaces (length l.text)); declares = d }
 piece_made defs known (shown l) h p d =
-    elim (first_ambiguous known.declared false (sites l.at (using_tokens defs l))) as (λ o. IfOk (shown_piece defs known l o) Made) [
+    elim (first_ambiguous known.declared false (sites l.at (using_tokens defs l))) as (λ o. IfOk (shown_passage defs known l o) Made) [
       | Some place ↦ tt
       | None ↦ record { one = one_end (shown_text defs known l) (no_ends_shown defs known l h d); declares = d }
     ]
 piece_made defs known (imported l taken) h p d =
-    elim (import_leaves (import_text (l ∷ taken))) as (λ r. All HoldsNoEnd (paths_among r) → IfOk (imported_piece known l r) Made) [
+    elim (import_leaves (import_text (l ∷ taken))) as (λ r. All HoldsNoEnd (paths_among r) → IfOk (imported_passage known l r) Made) [
       | Ok leaves ↦ λ q. record { one = one_end (spaces l) (no_ends_in_spaces (length l.text)); declares = leaves_declared known.declared leaves d q }
       | Err f ↦ λ q. tt
     ] p
@@ -196,11 +196,11 @@ piece_made defs known (noted f) h p d = tt
 abbrev HasEnds : ℕ → Result Output Fault → Type 0
 HasEnds n r = IfOk r (λ o. count_by is_end o.text ≡ n)
 
-ends_behind : (text : List ℕ) (n : ℕ) (r : Result Output Fault) → count_by is_end text ≡ 1 → HasEnds n r → HasEnds (suc n) (behind text r)
+ends_behind : (text : List ℕ) (n : ℕ) (r : Result Output Fault) → count_by is_end text ≡ 1 → HasEnds n r → HasEnds (suc n) (prepend text r)
 ends_behind text n (Ok o) e h = sum_by-append (λ x. cond (is_end x) 1 0) text o.text ∙ omega arith
 ends_behind text n (Err f) e h = tt
 
-ends_joined : (r : Result Piece Fault) (rest : Known → Result Output Fault) (n : ℕ) → IfOk r Made → ((known : Known) → DeclaresNoEnd known.declared → HasEnds n (rest known)) → HasEnds (suc n) (joined r rest)
+ends_joined : (r : Result Passage Fault) (rest : Known → Result Output Fault) (n : ℕ) → IfOk r Made → ((known : Known) → DeclaresNoEnd known.declared → HasEnds n (rest known)) → HasEnds (suc n) (prepend_passage r rest)
 ends_joined (Ok p) rest n m go = ends_behind p.0 n (rest p.1) m.one (go p.1 m.declares)
 ends_joined (Err f) rest n m go = tt
 
@@ -240,12 +240,12 @@ ends_scanned defs end known levels zero (l ∷ more) h p d =
     let k = kind_of l.covered in
     let s = (step defs levels l k more).0 in
     let rest = scanned defs end (step defs levels l k more).1 (opened levels l k) more in
-    ends_joined (piece defs known s) (λ next. written defs next rest) (length more)
+    ends_joined (passage defs known s) (λ next. written defs next rest) (length more)
     (piece_made defs known s (shows_line defs levels l k more (All-head HasOneLine l more h)) (none_in_left (paths_by s) (flat_map paths_by rest) p) d)
     (λ next e. ends_scanned defs end next (step defs levels l k more).1 (opened levels l k) more (All-tail HasOneLine l more h) (none_in_right (paths_by s) (flat_map paths_by rest) p) e)
 ends_scanned defs end known levels (suc n) (l ∷ more) h p d =
     let rest = scanned defs end levels (braces_after (suc n) l.covered) more in
-    ends_behind (ended (spaces l)) (length more) (written defs known rest) (one_end (spaces l) (no_ends_in_spaces (length l.text))) (ends_scanned defs end known levels (braces_after (suc n) l.covered) more (All-tail HasOneLine l more h) p d)
+    ends_behind (end_line (spaces l)) (length more) (written defs known rest) (one_end (spaces l) (no_ends_in_spaces (length l.text))) (ends_scanned defs end known levels (braces_after (suc n) l.covered) more (All-tail HasOneLine l more h) p d)
 
 -- ---- a whole text
 lines_placed : (s : CommentState) (at : ℕ) (texts : List (List ℕ)) → All IsOneLine texts → All HasOneLine (placed at texts (covered_lines s texts))

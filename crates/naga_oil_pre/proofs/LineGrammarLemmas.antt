@@ -10,7 +10,7 @@ use Rattle.std.specs.Prelude.{bytes_eq}
 use Rattle.std.specs.Char.{is_not_whitespace, is_ascii_digit}
 use Rattle.naga_oil_lines.specs.Text.{◌>>=◌, past_word}
 use Rattle.naga_oil_lines.proofs.TextLemmas.{past_word-append, past_word-some}
-use Rattle.naga_oil_pre.specs.LineKinds.{run, behind_run, is_operator_char, compared, cut, comparison_at, if_condition, is_import, import_path, define, after_white, past_white, past_hash, past_else, past_directive, begins_with, text_at, name_at, is_name_char, is_value_char, version, arm, named_arm, ifdef, ifndef}
+use Rattle.naga_oil_pre.specs.LineKinds.{run, behind_run, is_operator_char, operation_at, cut, comparison_at, if_condition, has_import, import_path, define, after_white, past_white, past_hash, past_else, past_directive, has_keyword, text_at, name_text, is_name_char, is_value_char, version, arm, named_arm, ifdef, ifndef}
 use Rattle.naga_oil_pre.specs.LineGrammar.{IsRun, IsWord, IsBehindWhite, IsBehindGap, IsBehindHash, IsBehindKeyword, IsBehindDirective, IsBehindElse, IsBehindArm, IsNamedArm, IsVersion, IsIfdef, IsIfndef, IsOperation, IsCompared, IsCut, IsIf, IsImport, IsImportPath, IsDefineValue, IsDefine}
 use Rattle.naga_oil_pre.proofs.RunLemmas.{some_is, bind_some, word-reads, word-is, white-only, white-is, gap-reads, gap-is, run-only, run-is, wordless-reads, wordless-is}
 
@@ -86,7 +86,7 @@ arm-is word e cs rest h =
       gap = subst (IsBehindGap b.0) (ap (λ x. x.1) both) (gap-is b.0 d.0 d.1);
     }
 
-named_by : (word cs : List ℕ) (e : Bool) (rest name : List ℕ) → arm word cs ≡ Some (e, rest) → name_at rest ≡ Some name → named_arm word cs ≡ Some (e, name)
+named_by : (word cs : List ℕ) (e : Bool) (rest name : List ℕ) → arm word cs ≡ Some (e, rest) → name_text rest ≡ Some name → named_arm word cs ≡ Some (e, name)
 unfolding named_arm
 named_by word cs e rest name p q = rw (p, q) refl
 
@@ -96,8 +96,8 @@ named-reads word e name cs plain h = named_by word cs e h.rest name (arm-reads w
 named-is : (word : List ℕ) (e : Bool) (name cs : List ℕ) → named_arm word cs ≡ Some (e, name) → IsNamedArm word e name cs
 unfolding named_arm
 named-is word e name cs h =
-    let b = bind_some (arm word cs) (λ found. name_at found.1 >>= (λ n. let x : Option (Bool × List ℕ) = Some (found.0, n) in x)) (e, name) h in
-    let d = bind_some (name_at b.0.1) (λ n. let x : Option (Bool × List ℕ) = Some (b.0.0, n) in x) (e, name) b.2 in
+    let b = bind_some (arm word cs) (λ found. name_text found.1 >>= (λ n. let x : Option (Bool × List ℕ) = Some (found.0, n) in x)) (e, name) h in
+    let d = bind_some (name_text b.0.1) (λ n. let x : Option (Bool × List ℕ) = Some (b.0.0, n) in x) (e, name) b.2 in
     let both : (let x : Bool × List ℕ = (b.0.0, d.0) in x ≡ (e, name)) = some_is _ _ d.2 in
     record {
       rest = b.0.1;
@@ -161,20 +161,20 @@ version-is known cs h =
 
 -- ---- comparisons
 operation_by : (cs start behind rest sign operator value : List ℕ) → start ≡ after_white cs → sign ≡ run is_operator_char start → behind ≡ behind_run is_operator_char start → rest ≡ after_white behind
-    → operator ≡ encode_utf8_all sign → text_at is_value_char rest ≡ Some value → compared cs ≡ Some (operator, value)
-unfolding compared
+    → operator ≡ encode_utf8_all sign → text_at is_value_char rest ≡ Some value → operation_at cs ≡ Some (operator, value)
+unfolding operation_at
 operation_by cs start behind rest sign operator value p q r s t u =
     let same : after_white (behind_run is_operator_char (after_white cs)) ≡ rest = sym (s ∙ ap after_white (r ∙ ap (behind_run is_operator_char) p)) in
     let sign_is : encode_utf8_all (run is_operator_char (after_white cs)) ≡ operator = sym (t ∙ ap encode_utf8_all (q ∙ ap (run is_operator_char) p)) in
     rw (same, u, sign_is) refl
 
-pub operation-reads : (operator value cs : List ℕ) → IsOperation operator value cs → compared cs ≡ Some (operator, value)
+pub operation-reads : (operator value cs : List ℕ) → IsOperation operator value cs → operation_at cs ≡ Some (operator, value)
 operation-reads operator value cs h =
     let u = run-only is_operator_char h.start h.sign h.behind h.run in
     operation_by cs h.start h.behind h.rest h.sign operator value (white-only cs h.start h.front) u.0 u.1 (white-only h.behind h.rest h.white) h.spelled (word-reads is_value_char h.rest value h.more h.operand).0
 
-pub operation-is : (operator value cs : List ℕ) → compared cs ≡ Some (operator, value) → IsOperation operator value cs
-unfolding compared
+pub operation-is : (operator value cs : List ℕ) → operation_at cs ≡ Some (operator, value) → IsOperation operator value cs
+unfolding operation_at
 operation-is operator value cs h =
     let start = after_white cs in
     let behind = behind_run is_operator_char start in
@@ -235,11 +235,11 @@ cut-is name a b h =
       | false ↦ λ t q. cc
     ] refl h
 
-compared_by : (cs name operator value : List ℕ) → name_at cs ≡ Some name → compared (behind_run is_name_char cs) ≡ Some (operator, value) → comparison_at cs ≡ Some (name, operator, value)
+compared_by : (cs name operator value : List ℕ) → name_text cs ≡ Some name → operation_at (behind_run is_name_char cs) ≡ Some (operator, value) → comparison_at cs ≡ Some (name, operator, value)
 unfolding comparison_at
 compared_by cs name operator value p q = rw (p, q) refl
 
-cut_comparison : (cs whole front end : List ℕ) → name_at cs ≡ Some whole → compared (behind_run is_name_char cs) ≡ None → cut (run is_name_char cs) ≡ Some (front, end) → comparison_at cs ≡ Some (front, [], end)
+cut_comparison : (cs whole front end : List ℕ) → name_text cs ≡ Some whole → operation_at (behind_run is_name_char cs) ≡ None → cut (run is_name_char cs) ≡ Some (front, end) → comparison_at cs ≡ Some (front, [], end)
 unfolding comparison_at
 cut_comparison cs whole front end p q r = rw (p, q, r) refl
 
@@ -250,12 +250,12 @@ none_without (Some x) h = absurd (h x refl)
 comparison-reads : (name operator value cs : List ℕ) → IsCompared name operator value cs ⊎ IsCut name operator value cs → comparison_at cs ≡ Some (name, operator, value)
 comparison-reads name operator value cs (inl h) =
     let w = word-reads is_name_char cs name h.rest h.spelling in
-    compared_by cs name operator value w.0 (ap compared (sym w.1) ∙ operation-reads operator value h.rest h.operation)
+    compared_by cs name operator value w.0 (ap operation_at (sym w.1) ∙ operation-reads operator value h.rest h.operation)
 comparison-reads name operator value cs (inr h) =
     let whole = h.first ∷ (h.more ++ (h.last ∷ [])) in
     let w = word-reads is_name_char cs (encode_utf8_all whole) h.rest (record { first = h.first; more = h.more ++ (h.last ∷ []); run = h.run; spelled = refl }) in
     let u = run-only is_name_char cs whole h.rest h.run in
-    let none : compared (behind_run is_name_char cs) ≡ None = none_without _ (λ x e. h.alone x.0 x.1 (operation-is x.0 x.1 h.rest (ap compared w.1 ∙ e))) in
+    let none : operation_at (behind_run is_name_char cs) ≡ None = none_without _ (λ x e. h.alone x.0 x.1 (operation-is x.0 x.1 h.rest (ap operation_at w.1 ∙ e))) in
     let parts : cut (run is_name_char cs) ≡ Some (encode_utf8_all (h.first ∷ h.more), encode_utf8_all (h.last ∷ [])) =
     ap cut (sym u.0) ∙ cut_by whole (h.first ∷ h.more) (h.last ∷ []) refl (λ z. omega (arith, z)) refl in
     cut_comparison cs (encode_utf8_all whole) _ _ w.0 none parts ∙ (λ i. Some (sym h.front i, sym h.empty i, sym h.end i))
@@ -268,19 +268,19 @@ comparison-is name operator value cs h =
       | Some found ↦ Some (n, found.0, found.1)
       | None ↦ option_map (λ parts. (parts.0, [], parts.1)) (cut (run is_name_char cs))
     ] in x) in
-    let b = bind_some (name_at cs) (λ n. go n (compared behind)) (name, operator, value) h in
-    elim (compared behind) as (λ o. compared behind ≡ o → go b.0 o ≡ Some (name, operator, value) → IsCompared name operator value cs ⊎ IsCut name operator value cs) [
+    let b = bind_some (name_text cs) (λ n. go n (operation_at behind)) (name, operator, value) h in
+    elim (operation_at behind) as (λ o. operation_at behind ≡ o → go b.0 o ≡ Some (name, operator, value) → IsCompared name operator value cs ⊎ IsCut name operator value cs) [
       | Some found ↦ λ e q. compared_case b.0 found.0 found.1 b.1 e (some_is _ _ q)
       | None ↦ λ e q. cut_case (cut (run is_name_char cs)) refl e q
     ] refl b.2
   where
-    compared_case : (n o v : List ℕ) → name_at cs ≡ Some n → compared (behind_run is_name_char cs) ≡ Some (o, v) → (let x : List ℕ × List ℕ × List ℕ = (n, o, v) in x ≡ (name, operator, value)) → IsCompared name operator value cs ⊎ IsCut name operator value cs
+    compared_case : (n o v : List ℕ) → name_text cs ≡ Some n → operation_at (behind_run is_name_char cs) ≡ Some (o, v) → (let x : List ℕ × List ℕ × List ℕ = (n, o, v) in x ≡ (name, operator, value)) → IsCompared name operator value cs ⊎ IsCut name operator value cs
     compared_case n o v p q e =
         let name_is : IsWord is_name_char cs name (behind_run is_name_char cs) = subst (λ x. IsWord is_name_char cs x (behind_run is_name_char cs)) (ap (λ x. x.0) e) (word-is is_name_char cs n p) in
-        let found : compared (behind_run is_name_char cs) ≡ Some (operator, value) = q ∙ (λ i. Some ((e i).1, (e i).2)) in
+        let found : operation_at (behind_run is_name_char cs) ≡ Some (operator, value) = q ∙ (λ i. Some ((e i).1, (e i).2)) in
         inl (record { rest = behind_run is_name_char cs; spelling = name_is; operation = operation-is operator value (behind_run is_name_char cs) found })
 
-    cut_case : (o : Option (List ℕ × List ℕ)) → cut (run is_name_char cs) ≡ o → compared (behind_run is_name_char cs) ≡ None → (let x : Option (List ℕ × List ℕ × List ℕ) = option_map (λ parts. (parts.0, [], parts.1)) o in x ≡ Some (name, operator, value)) → IsCompared name operator value cs ⊎ IsCut name operator value cs
+    cut_case : (o : Option (List ℕ × List ℕ)) → cut (run is_name_char cs) ≡ o → operation_at (behind_run is_name_char cs) ≡ None → (let x : Option (List ℕ × List ℕ × List ℕ) = option_map (λ parts. (parts.0, [], parts.1)) o in x ≡ Some (name, operator, value)) → IsCompared name operator value cs ⊎ IsCut name operator value cs
     cut_case None p none q = cc
     cut_case (Some parts) p none q =
         let e : (let x : List ℕ × List ℕ × List ℕ = (parts.0, [], parts.1) in x ≡ (name, operator, value)) = some_is _ _ q in
@@ -325,18 +325,18 @@ there_some : {A : Type 0} (o : Option A) → is_some o ≡ true → (x : A) × (
 there_some None e = cc
 there_some (Some x) e = (x, refl)
 
-pub begins-reads : (word cs rest : List ℕ) → IsBehindKeyword word cs rest → begins_with word cs ≡ true
-unfolding begins_with
+pub begins-reads : (word cs rest : List ℕ) → IsBehindKeyword word cs rest → has_keyword word cs ≡ true
+unfolding has_keyword
 begins-reads word cs rest h = some_there (past_word word (after_white cs)) rest (keyword-reads word cs rest h)
 
-pub begins-is : (word cs : List ℕ) → begins_with word cs ≡ true → (rest : List ℕ) × IsBehindKeyword word cs rest
-unfolding begins_with
+pub begins-is : (word cs : List ℕ) → has_keyword word cs ≡ true → (rest : List ℕ) × IsBehindKeyword word cs rest
+unfolding has_keyword
 begins-is word cs e = let b = there_some (past_word word (after_white cs)) e in (b.0, keyword-is word cs b.0 b.1)
 
-pub import-reads : (cs : List ℕ) → IsImport cs → is_import cs ≡ true
+pub import-reads : (cs : List ℕ) → IsImport cs → has_import cs ≡ true
 import-reads cs h = some_there (past_directive (codes "import") cs) h.0 (directive-reads (codes "import") cs h.0 h.1)
 
-pub import-is : (cs : List ℕ) → is_import cs ≡ true → IsImport cs
+pub import-is : (cs : List ℕ) → has_import cs ≡ true → IsImport cs
 import-is cs e = let b = there_some (past_directive (codes "import") cs) e in (b.0, directive-is (codes "import") cs b.0 b.1)
 
 path_by : (cs rest path : List ℕ) → past_directive (codes "define_import_path") cs ≡ Some rest → text_at is_not_whitespace rest ≡ Some path → import_path cs ≡ Some path
@@ -361,7 +361,7 @@ value-is : (value : Option (List ℕ)) (cs : List ℕ) → text_at is_value_char
 value-is None cs e = wordless-is is_value_char cs e
 value-is (Some value) cs e = (behind_run is_value_char cs, word-is is_value_char cs value e)
 
-define_by : (cs rest name : List ℕ) → past_directive (codes "define") cs ≡ Some rest → name_at rest ≡ Some name → define cs ≡ Some (name, text_at is_value_char (after_white (behind_run is_name_char rest)))
+define_by : (cs rest name : List ℕ) → past_directive (codes "define") cs ≡ Some rest → name_text rest ≡ Some name → define cs ≡ Some (name, text_at is_value_char (after_white (behind_run is_name_char rest)))
 unfolding define
 define_by cs rest name p q = rw (p, q) refl
 
@@ -376,8 +376,8 @@ pub define-is : (name : List ℕ) (value : Option (List ℕ)) (cs : List ℕ) �
 unfolding define
 define-is name value cs h =
     let last = λ (rest n : List ℕ). (let x : Option (List ℕ × Option (List ℕ)) = Some (n, text_at is_value_char (after_white (behind_run is_name_char rest))) in x) in
-    let b = bind_some (past_directive (codes "define") cs) (λ rest. name_at rest >>= last rest) (name, value) h in
-    let d = bind_some (name_at b.0) (last b.0) (name, value) b.2 in
+    let b = bind_some (past_directive (codes "define") cs) (λ rest. name_text rest >>= last rest) (name, value) h in
+    let d = bind_some (name_text b.0) (last b.0) (name, value) b.2 in
     let both : (let x : List ℕ × Option (List ℕ) = (d.0, text_at is_value_char (after_white (behind_run is_name_char b.0))) in x ≡ (name, value)) = some_is _ _ d.2 in
     record {
       rest = b.0;

@@ -14,7 +14,7 @@ use Rattle.std.proofs.lemmas.Str.{IsUtf8-drop, IsCharBoundary-from_take, chars_p
 use Rattle.std.proofs.lemmas.List.{nil_from_length}
 use Rattle.std.proofs.lemmas.List.Folds.{length-prefix_len}
 use Rattle.naga_oil_lines.proofs.TextLemmas.{chars_before}
-use Rattle.naga_oil_pre.specs.LineKinds.{run, behind_run, text_at, after_white, is_operator_char, is_value_char, is_name_char, is_name, compared, cut}
+use Rattle.naga_oil_pre.specs.LineKinds.{run, behind_run, text_at, after_white, is_operator_char, is_value_char, is_name_char, is_name, operation_at, cut}
 
 -- ---- a run
 pub chars-none : (bs : List ℕ) → IsUtf8 bs → chars bs ≡ [] → length bs ≡ 0
@@ -43,8 +43,8 @@ map_is_then f None = refl
 map_is_then f (Some x) = refl
 
 pub compared_by : (cs start mid behind operator : List ℕ) (value : Option (List ℕ)) → start ≡ after_white cs → mid ≡ behind_run is_operator_char start → behind ≡ after_white mid
-    → operator ≡ encode_utf8_all (run is_operator_char start) → value ≡ text_at is_value_char behind → option_map (λ v. (operator, v)) value ≡ compared cs
-unfolding compared
+    → operator ≡ encode_utf8_all (run is_operator_char start) → value ≡ text_at is_value_char behind → option_map (λ v. (operator, v)) value ≡ operation_at cs
+unfolding operation_at
 compared_by cs start mid behind operator value e1 e2 e3 e4 e5 = rw (e5, e4, e3, e2, e1) (map_is_then _ _)
 
 -- ---- a whole name

@@ -27,7 +27,7 @@ use Rattle.naga_oil_pre.specs.Kind.{kind_of}
 use Rattle.naga_oil_pre.specs.Fault.{Fault, Definitions}
 use Rattle.naga_oil_pre.specs.Reading.{braces_after, reading, taken, behind_taken}
 use Rattle.naga_oil_pre.specs.Replaced.{replaced}
-use Rattle.naga_oil_pre.specs.Preprocessed.{Status, blanked, shown, imported, noted, Known, nothing_known, Output, Piece, written, ended, spaces, padded, blanks, import_text, tokens_of, using_tokens, shown_text, shown_piece, imported_piece, piece, behind, joined, end_status, preprocessed}
+use Rattle.naga_oil_pre.specs.Preprocessed.{Status, blanked, shown, imported, noted, Known, nothing_known, Output, Passage, written, end_line, spaces, padded, blanks, import_text, tokens_of, using_tokens, shown_text, shown_passage, imported_passage, passage, prepend, prepend_passage, end_status, preprocessed}
 use Rattle.naga_oil_pre.specs.Step.{Step, step, opened, scanned}
 use Rattle.naga_oil_pre.specs.Scope.{is_open}
 use Rattle.naga_oil_pre.specs.Treatment.{status_of, open_after}
@@ -35,11 +35,11 @@ use Rattle.naga_oil_pre.specs.View.{Fails, fault_of}
 use Rattle.naga_oil_pre.proofs.Machine.{scanned_reading}
 use Rattle.naga_oil_pre.proofs.ReadingLemmas.{IsReading-reading}
 
-behind_behind : (front text : List ℕ) (r : Result Output Fault) → behind (front ++ text) r ≡ behind front (behind text r)
+behind_behind : (front text : List ℕ) (r : Result Output Fault) → prepend (front ++ text) r ≡ prepend front (prepend text r)
 behind_behind front text (Ok o) = ap (λ t. Ok (record o { text = t })) (append_assoc front text o.text)
 behind_behind front text (Err f) = refl
 
-behind_nothing : (r : Result Output Fault) → behind [] r ≡ r
+behind_nothing : (r : Result Output Fault) → prepend [] r ≡ r
 behind_nothing (Ok o) = refl
 behind_nothing (Err f) = refl
 
@@ -56,29 +56,29 @@ scanned_behind defs end levels zero ls = refl
 scanned_behind defs end levels (suc n) [] = refl
 scanned_behind defs end levels (suc n) (l ∷ ls) = ap (λ v. blanked l ∷ v) (scanned_behind defs end levels (braces_after (suc n) l.covered) ls)
 
-written_blanks : (defs : Definitions) (k : Known) (ls : List Line) (rest : List Status) → written defs k (map blanked ls ++ rest) ≡ behind (blanks ls) (written defs k rest)
+written_blanks : (defs : Definitions) (k : Known) (ls : List Line) (rest : List Status) → written defs k (map blanked ls ++ rest) ≡ prepend (blanks ls) (written defs k rest)
 written_blanks defs k [] rest = sym (behind_nothing (written defs k rest))
-written_blanks defs k (l ∷ ls) rest = ap (behind (ended (spaces l))) (written_blanks defs k ls rest) ∙ sym (behind_behind (ended (spaces l)) (blanks ls) (written defs k rest))
+written_blanks defs k (l ∷ ls) rest = ap (prepend (end_line (spaces l))) (written_blanks defs k ls rest) ∙ sym (behind_behind (end_line (spaces l)) (blanks ls) (written defs k rest))
 
 -- ---- a blanked line
-pub blank_turn : (defs : Definitions) (k : Known) (l : Line) (rest all : List Status) (out out' : List ℕ) → all ≡ blanked l ∷ rest → out' ≡ out ++ ended (spaces l)
-    → behind out' (written defs k rest) ≡ behind out (written defs k all)
+pub blank_turn : (defs : Definitions) (k : Known) (l : Line) (rest all : List Status) (out out' : List ℕ) → all ≡ blanked l ∷ rest → out' ≡ out ++ end_line (spaces l)
+    → prepend out' (written defs k rest) ≡ prepend out (written defs k all)
 blank_turn defs k l rest all out out' e p =
-    ap (λ v. behind v (written defs k rest)) p ∙ behind_behind out (ended (spaces l)) (written defs k rest) ∙ ap (λ v. behind out (written defs k v)) (sym e)
+    ap (λ v. prepend v (written defs k rest)) p ∙ behind_behind out (end_line (spaces l)) (written defs k rest) ∙ ap (λ v. prepend out (written defs k v)) (sym e)
 
 -- ---- a shown line
 pub shown_turn : (defs : Definitions) (k next : Known) (l : Line) (rest : List Status) (out out' : List ℕ)
     → first_ambiguous k.declared false (sites l.at (using_tokens defs l)) ≡ None
     → next.declared ≡ k.declared → next.uses ≡ used_by k.declared l.at (using_tokens defs l) k.uses
-    → out' ≡ out ++ ended (padded (length l.text) (substituted next.declared (tokens_of (replaced defs l.text))))
-    → behind out' (written defs next rest) ≡ behind out (written defs k (shown l ∷ rest))
+    → out' ≡ out ++ end_line (padded (length l.text) (substituted next.declared (tokens_of (replaced defs l.text))))
+    → prepend out' (written defs next rest) ≡ prepend out (written defs k (shown l ∷ rest))
 shown_turn defs k next l rest out out' clear same uses p =
     let then : Known = record k { uses = used_by k.declared l.at (using_tokens defs l) k.uses } in
     let is_then : next ≡ then = (λ i. record { declared = same i; uses = uses i }) in
-    let text : Known → List ℕ = λ kk. ended (padded (length l.text) (substituted kk.declared (tokens_of (replaced defs l.text)))) in
-    ap (λ v. behind v (written defs next rest)) p ∙ behind_behind out (text next) (written defs next rest)
-    ∙ ap (λ (kk : Known). behind out (behind (text kk) (written defs kk rest))) is_then
-    ∙ ap (λ o. behind out (joined (shown_piece defs k l o) (λ kk. written defs kk rest))) (sym clear)
+    let text : Known → List ℕ = λ kk. end_line (padded (length l.text) (substituted kk.declared (tokens_of (replaced defs l.text)))) in
+    ap (λ v. prepend v (written defs next rest)) p ∙ behind_behind out (text next) (written defs next rest)
+    ∙ ap (λ (kk : Known). prepend out (prepend (text kk) (written defs kk rest))) is_then
+    ∙ ap (λ o. prepend out (prepend_passage (shown_passage defs k l o) (λ kk. written defs kk rest))) (sym clear)
 
 -- where several paths are allowed, nothing is ambiguous
 pub none_refused : (declared : Declared) (ss : List Site) → first_ambiguous declared true ss ≡ None
@@ -105,28 +105,28 @@ syntax_within text (Syntax s p) said place u h e = let same : p ≡ place = cc i
 syntax_within text OutOfMemory said place u h e = cc
 
 declared_piece : (k : Known) (l : Line) (r : Result (List Leaf) SyntaxFault) (declared : Declared) → declared_behind k.declared r ≡ Ok declared
-    → (let p : Piece = (ended (spaces l), record k { declared = declared }) in imported_piece k l r ≡ Ok p)
-declared_piece k l (Ok ls) declared e = let same : with_leaves k.declared ls ≡ declared = cc in ap (λ d. (let p : Piece = (ended (spaces l), record k { declared = d }) in Ok p)) same
+    → (let p : Passage = (end_line (spaces l), record k { declared = declared }) in imported_passage k l r ≡ Ok p)
+declared_piece k l (Ok ls) declared e = let same : with_leaves k.declared ls ≡ declared = cc in ap (λ d. (let p : Passage = (end_line (spaces l), record k { declared = d }) in Ok p)) same
 declared_piece k l (Err f) declared e = cc
 
 pub import_turn : (defs : Definitions) (end : ℕ) (levels : List ScopeLevel) (k next : Known) (l : Line) (n : ℕ) (left after : List Line) (out first out' import : List ℕ)
     → after ≡ behind_taken n left → import ≡ import_text (l ∷ taken n left)
     → declared_behind k.declared (import_leaves import) ≡ Ok next.declared → next.uses ≡ k.uses
-    → first ≡ out ++ ended (spaces l) → out' ≡ first ++ blanks (taken n left)
-    → behind out' (written defs next (scanned defs end levels 0 after)) ≡ behind out (written defs k (imported l (taken n left) ∷ scanned defs end levels n left))
+    → first ≡ out ++ end_line (spaces l) → out' ≡ first ++ blanks (taken n left)
+    → prepend out' (written defs next (scanned defs end levels 0 after)) ≡ prepend out (written defs k (imported l (taken n left) ∷ scanned defs end levels n left))
 import_turn defs end levels k next l n left after out first out' import behind_is text_is declares uses p q =
     let then : Known = record k { declared = next.declared } in
     let is_then : next ≡ then = (λ i. record { declared = next.declared; uses = uses i }) in
     let rest : List Status = scanned defs end levels 0 (behind_taken n left) in
-    let reads : (let p : Piece = (ended (spaces l), then) in imported_piece k l (import_leaves (import_text (l ∷ taken n left))) ≡ Ok p) =
+    let reads : (let p : Passage = (end_line (spaces l), then) in imported_passage k l (import_leaves (import_text (l ∷ taken n left))) ≡ Ok p) =
     declared_piece k l (import_leaves (import_text (l ∷ taken n left))) next.declared (ap (λ t. declared_behind k.declared (import_leaves t)) (sym text_is) ∙ declares) in
-    ap (λ ls. behind out' (written defs next (scanned defs end levels 0 ls))) behind_is
-    ∙ ap (λ v. behind v (written defs next rest)) (q ∙ ap (λ v. v ++ blanks (taken n left)) p)
-    ∙ behind_behind (out ++ ended (spaces l)) (blanks (taken n left)) (written defs next rest)
-    ∙ behind_behind out (ended (spaces l)) (behind (blanks (taken n left)) (written defs next rest))
-    ∙ ap (λ v. behind out (behind (ended (spaces l)) v)) (sym (written_blanks defs next (taken n left) rest) ∙ ap (written defs next) (sym (scanned_behind defs end levels n left)))
-    ∙ ap (λ (kk : Known). behind out (behind (ended (spaces l)) (written defs kk (scanned defs end levels n left)))) is_then
-    ∙ ap (λ r. behind out (joined r (λ kk. written defs kk (scanned defs end levels n left)))) (sym reads)
+    ap (λ ls. prepend out' (written defs next (scanned defs end levels 0 ls))) behind_is
+    ∙ ap (λ v. prepend v (written defs next rest)) (q ∙ ap (λ v. v ++ blanks (taken n left)) p)
+    ∙ behind_behind (out ++ end_line (spaces l)) (blanks (taken n left)) (written defs next rest)
+    ∙ behind_behind out (end_line (spaces l)) (prepend (blanks (taken n left)) (written defs next rest))
+    ∙ ap (λ v. prepend out (prepend (end_line (spaces l)) v)) (sym (written_blanks defs next (taken n left) rest) ∙ ap (written defs next) (sym (scanned_behind defs end levels n left)))
+    ∙ ap (λ (kk : Known). prepend out (prepend (end_line (spaces l)) (written defs kk (scanned defs end levels n left)))) is_then
+    ∙ ap (λ r. prepend out (prepend_passage r (λ kk. written defs kk (scanned defs end levels n left)))) (sym reads)
 
 -- ---- the lines that an import takes, one by one
 pub taken_first : (n : ℕ) (l : Line) (ls : List Line) → 0 < n → taken n (l ∷ ls) ≡ l ∷ taken (braces_after n l.covered) ls
@@ -156,34 +156,34 @@ pub line_fails : (defs : Definitions) (k : Known) (end : ℕ) (levels : List Sco
 line_fails defs k end levels l more error h =
     let s : Step = step defs levels l (kind_of l.covered) more in
     let rest : List Status = scanned defs end s.1 (opened levels l (kind_of l.covered)) more in
-    fails_along (fault_of error) s.0 (written defs k (scanned defs end levels 0 (l ∷ more))) (λ f is_f. ap (λ v. joined (piece defs k v) (λ kk. written defs kk rest)) is_f) (h more)
+    fails_along (fault_of error) s.0 (written defs k (scanned defs end levels 0 (l ∷ more))) (λ f is_f. ap (λ v. prepend_passage (passage defs k v) (λ kk. written defs kk rest)) is_f) (h more)
 
-fails_joined : (o : Option Fault) (p : Result Piece Fault) (rest : Known → Result Output Fault) → MatchOption o (Unit {0}) (λ f. p ≡ Err f) → MatchOption o (Unit {0}) (λ f. joined p rest ≡ Err f)
+fails_joined : (o : Option Fault) (p : Result Passage Fault) (rest : Known → Result Output Fault) → MatchOption o (Unit {0}) (λ f. p ≡ Err f) → MatchOption o (Unit {0}) (λ f. prepend_passage p rest ≡ Err f)
 fails_joined None p rest h = tt
-fails_joined (Some f) p rest h = ap (λ v. joined v rest) h
+fails_joined (Some f) p rest h = ap (λ v. prepend_passage v rest) h
 
 -- a line whose piece is refused is the first that fails
-pub piece_fails : (defs : Definitions) (k : Known) (s : Status) (rest all : List Status) (error : ComposerErrorInner) → all ≡ s ∷ rest → Fails error (piece defs k s) → Fails error (written defs k all)
+pub piece_fails : (defs : Definitions) (k : Known) (s : Status) (rest all : List Status) (error : ComposerErrorInner) → all ≡ s ∷ rest → Fails error (passage defs k s) → Fails error (written defs k all)
 piece_fails defs k s rest all error e h =
-    subst (λ v. Fails error (written defs k v)) (sym e) (fails_joined (fault_of error) (piece defs k s) (λ kk. written defs kk rest) h)
+    subst (λ v. Fails error (written defs k v)) (sym e) (fails_joined (fault_of error) (passage defs k s) (λ kk. written defs kk rest) h)
 
-fails_on : (o : Option Fault) (out : List ℕ) (r total : Result Output Fault) → behind out r ≡ total → MatchOption o (Unit {0}) (λ f. r ≡ Err f) → MatchOption o (Unit {0}) (λ f. total ≡ Err f)
+fails_on : (o : Option Fault) (out : List ℕ) (r total : Result Output Fault) → prepend out r ≡ total → MatchOption o (Unit {0}) (λ f. r ≡ Err f) → MatchOption o (Unit {0}) (λ f. total ≡ Err f)
 fails_on None out r total e h = tt
-fails_on (Some f) out r total e h = sym e ∙ ap (behind out) h
+fails_on (Some f) out r total e h = sym e ∙ ap (prepend out) h
 
 -- a fault of the first line that is left is that of the whole
 pub fails_first : (defs : Definitions) (k : Known) (end : ℕ) (levels : List ScopeLevel) (l : Line) (left more : List Line) (out : List ℕ) (total : Result Output Fault) (error : ComposerErrorInner)
-    → left ≡ l ∷ more → behind out (written defs k (scanned defs end levels 0 left)) ≡ total
+    → left ≡ l ∷ more → prepend out (written defs k (scanned defs end levels 0 left)) ≡ total
     → ((end : ℕ) → Fails error (written defs k (scanned defs end levels 0 (l ∷ more)))) → Fails error total
 fails_first defs k end levels l left more out total error first told h =
-    fails_on (fault_of error) out (written defs k (scanned defs end levels 0 (l ∷ more))) total (ap (λ v. behind out (written defs k (scanned defs end levels 0 v))) (sym first) ∙ told) (h end)
+    fails_on (fault_of error) out (written defs k (scanned defs end levels 0 (l ∷ more))) total (ap (λ v. prepend out (written defs k (scanned defs end levels 0 v))) (sym first) ∙ told) (h end)
 
 -- before the first line
-pub told_first : (defs : Definitions) (k : Known) (text out : List ℕ) → k ≡ nothing_known → out ≡ [] → behind out (written defs k (scanned defs (end_place 0 (source_lines text)) [] 0 (source_lines text))) ≡ preprocessed defs text
+pub told_first : (defs : Definitions) (k : Known) (text out : List ℕ) → k ≡ nothing_known → out ≡ [] → prepend out (written defs k (scanned defs (end_place 0 (source_lines text)) [] 0 (source_lines text))) ≡ preprocessed defs text
 unfolding preprocessed
 told_first defs k text out n e =
     let end : ℕ = end_place 0 (source_lines text) in
-    ap (λ v. behind v (written defs k (scanned defs end [] 0 (source_lines text)))) e
+    ap (λ v. prepend v (written defs k (scanned defs end [] 0 (source_lines text)))) e
     ∙ behind_nothing (written defs k (scanned defs end [] 0 (source_lines text)))
     ∙ ap (λ kk. written defs kk (scanned defs end [] 0 (source_lines text))) n
     ∙ scanned_reading defs end (source_lines text) (reading defs (source_lines text)) (IsReading-reading defs (source_lines text))
@@ -191,18 +191,18 @@ told_first defs k text out n e =
 -- an import that fails is the first line that does
 pub import_fails : (defs : Definitions) (k : Known) (end : ℕ) (levels next : List ScopeLevel) (l : Line) (left : List Line) (t : Treatment) (n : ℕ) (error : ComposerErrorInner)
     → ((ls : List Line) → (let s : Step = (status_of t l ls, next) in step defs levels l (kind_of l.covered) ls ≡ s)) → opened levels l (kind_of l.covered) ≡ open_after t → t ≡ Import n
-    → Fails error (piece defs k (imported l (taken n left))) → Fails error (written defs k (scanned defs end levels 0 (l ∷ left)))
+    → Fails error (passage defs k (imported l (taken n left))) → Fails error (written defs k (scanned defs end levels 0 (l ∷ left)))
 import_fails defs k end levels next l left Blank n error e o is h = cc
 import_fails defs k end levels next l left Show n error e o is h = cc
 import_fails defs k end levels next l left (Import m) n error e o is h =
     let same : n ≡ m = cc in
     piece_fails defs k (imported l (taken m left)) (scanned defs end next m left) (scanned defs end levels 0 (l ∷ left)) error (scanned_first defs end levels next l left (Import m) e o)
-    (subst (λ v. Fails error (piece defs k (imported l (taken v left)))) same h)
+    (subst (λ v. Fails error (passage defs k (imported l (taken v left)))) same h)
 
 -- a shown line that fails is the first line that does
 pub shown_fails : (defs : Definitions) (k : Known) (end : ℕ) (levels next : List ScopeLevel) (l : Line) (left : List Line) (t : Treatment) (error : ComposerErrorInner)
     → ((ls : List Line) → (let s : Step = (status_of t l ls, next) in step defs levels l (kind_of l.covered) ls ≡ s)) → opened levels l (kind_of l.covered) ≡ open_after t → t ≡ Show
-    → Fails error (piece defs k (shown l)) → Fails error (written defs k (scanned defs end levels 0 (l ∷ left)))
+    → Fails error (passage defs k (shown l)) → Fails error (written defs k (scanned defs end levels 0 (l ∷ left)))
 shown_fails defs k end levels next l left t error e o is h =
     piece_fails defs k (shown l) (scanned defs end next (open_after t) left) (scanned defs end levels 0 (l ∷ left)) error
     (scanned_first defs end levels next l left t e o ∙ ap (λ v. status_of v l left ∷ scanned defs end next (open_after t) left) is) h
@@ -226,8 +226,8 @@ uses_of_values (e ∷ more) = ap (λ v. use_of e.1 ∷ v) (uses_of_values more)
 
 -- where no line is left and no chain is open
 pub told_last : (defs : Definitions) (k : Known) (end : ℕ) (levels : List ScopeLevel) (left : List Line) (out : List ℕ) (uses : List Use) (total : Result Output Fault)
-    → left ≡ [] → is_open levels ≡ false → behind out (written defs k (scanned defs end levels 0 left)) ≡ total → uses ≡ map (λ u. u.1) k.uses
+    → left ≡ [] → is_open levels ≡ false → prepend out (written defs k (scanned defs end levels 0 left)) ≡ total → uses ≡ map (λ u. u.1) k.uses
     → (let o : Output = record { text = out; uses = uses } in total ≡ Ok o)
 told_last defs k end levels left out uses total none closed told same =
-    sym told ∙ ap (λ ls. behind out (written defs k (scanned defs end levels 0 ls))) none ∙ ap (λ b. behind out (written defs k (end_status end b))) closed
+    sym told ∙ ap (λ ls. prepend out (written defs k (scanned defs end levels 0 ls))) none ∙ ap (λ b. prepend out (written defs k (end_status end b))) closed
     ∙ (λ i. let o : Output = record { text = append-nil out i; uses = sym same i } in Ok o)

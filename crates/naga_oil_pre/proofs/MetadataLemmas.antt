@@ -15,7 +15,7 @@ use Rattle.naga_oil_pre.specs.declared.fault.ComposerErrorInner.{ComposerErrorIn
 use Rattle.naga_oil_pre.specs.Extracted.{extracted}
 use Rattle.naga_oil_pre.specs.Line.{Line, source_lines}
 use Rattle.naga_oil_pre.specs.MetadataView.{has_with, Gains, metadata_of}
-use Rattle.naga_oil_pre.specs.Preprocessed.{Piece, imported_piece, preprocessed}
+use Rattle.naga_oil_pre.specs.Preprocessed.{Passage, imported_passage, preprocessed}
 use Rattle.naga_oil_pre.specs.Reading.{braces_after, taken, behind_taken}
 use Rattle.naga_oil_pre.specs.Recorded.{line_names, names_of, is_recorded, AgreeOn}
 use Rattle.naga_oil_pre.specs.View.{Fails, fault_of}
@@ -114,9 +114,9 @@ never_refused : (X Y : Type 0) (o : Option Fault) (x : X) (b : Result Y Fault) �
 never_refused X Y None x b h = tt
 never_refused X Y (Some f) x b h = cc
 
-pub import_refused : (e : ComposerErrorInner) (found : Found) (l : Line) (r : Result (List Leaf) SyntaxFault) → Fails e (imported_piece found.known l r) → Fails e (with_import found l.at r)
-import_refused e found l (Ok leaves) h = never_refused Piece Found (fault_of e) _ (with_import found l.at (Ok leaves)) h
-import_refused e found l (Err f) h = refused_alike Piece Found (fault_of e) _ h
+pub import_refused : (e : ComposerErrorInner) (found : Found) (l : Line) (r : Result (List Leaf) SyntaxFault) → Fails e (imported_passage found.known l r) → Fails e (with_import found l.at r)
+import_refused e found l (Ok leaves) h = never_refused Passage Found (fault_of e) _ (with_import found l.at (Ok leaves)) h
+import_refused e found l (Err f) h = refused_alike Passage Found (fault_of e) _ h
 
 -- ---- what follows from two clauses on a result
 pub on_both : {X Y : Type 0} (r : Result X Y) (P Q R : Type 0) → OnOk r P → OnOk r Q → (P → Q → R) → OnOk r R

@@ -16,7 +16,7 @@ use Rattle.naga_oil_pre.specs.Line.{Line, source_lines}
 use Rattle.naga_oil_pre.specs.Kind.{LineKind, version, condition, endif, imports, import_path, define, other as other_line, kind_of}
 use Rattle.naga_oil_pre.specs.Fault.{Fault, Definitions, evaluated}
 use Rattle.naga_oil_pre.specs.Reading.{braces_after, taken}
-use Rattle.naga_oil_pre.specs.Preprocessed.{blanked, shown, imported, condition_status, stray_status, end_status, ended, import_text}
+use Rattle.naga_oil_pre.specs.Preprocessed.{blanked, shown, imported, condition_status, stray_status, end_status, end_line, import_text}
 use Rattle.naga_oil_pre.specs.Scope.{is_active, is_open as has_open}
 use Rattle.naga_oil_pre.specs.Step.{step, opened, scanned}
 use Rattle.naga_oil_pre.specs.LineEnds.{paths_among, paths_by, declared_paths}
@@ -239,7 +239,7 @@ no_end_in_import text q =
 import_quoteless : (ls : List Line) → All IsQuotelessLine ls → Quoteless (import_text ls)
 import_quoteless [] h = empty
 import_quoteless (l ∷ ls) h =
-    both (ended l.covered) (import_text ls) (both l.covered (10 ∷ []) (All-head IsQuotelessLine l ls h) one_end) (import_quoteless ls (All-tail IsQuotelessLine l ls h))
+    both (end_line l.covered) (import_text ls) (both l.covered (10 ∷ []) (All-head IsQuotelessLine l ls h) one_end) (import_quoteless ls (All-tail IsQuotelessLine l ls h))
 
 taken_quoteless : (n : ℕ) (ls : List Line) → All IsQuotelessLine ls → All IsQuotelessLine (taken n ls)
 taken_quoteless zero ls h = All-nil IsQuotelessLine

@@ -8,5 +8,5 @@ use Rattle.naga_oil_pre.specs.Kind.{kind_of, unversioned_kind_of, kind_behind_ha
 
 -- `unfolding line_kinds` lets `refl` compute the kind of a line
 unfoldable pub line_kinds : Unit {0}
-unfolding kind_of unversioned_kind_of kind_behind_hash grammar.past_hash past_word grammar.past_white grammar.past_else grammar.past_directive grammar.begins_with grammar.text_at grammar.version grammar.arm grammar.named_arm grammar.compared grammar.cut grammar.comparison_at grammar.if_condition grammar.import_path grammar.define chars encode ucd_perl
+unfolding kind_of unversioned_kind_of kind_behind_hash grammar.past_hash past_word grammar.past_white grammar.past_else grammar.past_directive grammar.has_keyword grammar.text_at grammar.version grammar.arm grammar.named_arm grammar.operation_at grammar.cut grammar.comparison_at grammar.if_condition grammar.import_path grammar.define chars encode ucd_perl
 line_kinds = tt

@@ -53,10 +53,10 @@ taken_out index (line ∷ more) =
     ]
 
 -- the lines joined, so that the last line's end goes
-abbrev pub joined : Result Extracted Fault → Result (List ℕ × Directives) Fault
-joined (Ok e) = Ok (join_with_byte 10 e.lines, e.directives)
-joined (Err f) = Err f
+abbrev pub join_lines : Result Extracted Fault → Result (List ℕ × Directives) Fault
+join_lines (Ok e) = Ok (join_with_byte 10 e.lines, e.directives)
+join_lines (Err f) = Err f
 
 -- a text without the directives that it begins with, and these; or the first fault
 unfoldable pub extracted : List ℕ → Result (List ℕ × Directives) Fault
-extracted text = joined (taken_out 0 (lines text))
+extracted text = join_lines (taken_out 0 (lines text))

@@ -55,9 +55,9 @@ ordered at operator (Some b) = Ok b
 ordered at operator None = Err (unknown_operator at operator)
 
 -- the same of two values that compare so, where the second could be read
-abbrev pub compared : ℕ → (name operator value expected : List ℕ) → Option Ordering → Result Bool Fault
-compared at name operator value expected (Some o) = ordered at operator (operator_holds operator o)
-compared at name operator value expected None = Err (invalid_value at name value expected)
+abbrev pub compare : ℕ → (name operator value expected : List ℕ) → Option Ordering → Result Bool Fault
+compare at name operator value expected (Some o) = ordered at operator (operator_holds operator o)
+compare at name operator value expected None = Err (invalid_value at name value expected)
 
 -- how a definition compares to a value, if the value can be read
 abbrev pub order_of : ShaderDefValue → List ℕ → Option Ordering
@@ -73,7 +73,7 @@ expected_by (def.UInt n) = codes "uint"
 -- whether a comparison holds of a name that is defined so, or its fault at the place; the definition stands left
 unfoldable pub comparison : ℕ → (name operator value : List ℕ) → Option ShaderDefValue → Result Bool Fault
 comparison at name operator value None = Err (unknown_def at name)
-comparison at name operator value (Some d) = compared at name operator value (expected_by d) (order_of d value)
+comparison at name operator value (Some d) = compare at name operator value (expected_by d) (order_of d value)
 
 -- whether a condition that stands at the place holds, or its fault
 abbrev pub evaluated : Definitions → ℕ → Condition → Result Bool Fault

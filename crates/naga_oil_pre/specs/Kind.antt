@@ -43,9 +43,9 @@ kind_behind_hash cs =
     read_as (λ r. condition r.0 (defined r.1)) (grammar.ifdef cs)
     or_else (read_as (λ r. condition r.0 (undefined r.1)) (grammar.ifndef cs)
     or_else (read_as (λ r. condition r.0 (compares r.1 r.2 r.3)) (grammar.if_condition cs)
-    or_else (if grammar.begins_with (codes "else") cs then condition true otherwise
-    else (if grammar.begins_with (codes "endif") cs then endif
-    else (if grammar.is_import cs then imports
+    or_else (if grammar.has_keyword (codes "else") cs then condition true otherwise
+    else (if grammar.has_keyword (codes "endif") cs then endif
+    else (if grammar.has_import cs then imports
     else (read_as import_path (grammar.import_path cs)
     or_else (read_as (λ r. define r.0 r.1) (grammar.define cs)
     or_else other)))))))

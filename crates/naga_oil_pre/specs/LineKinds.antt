@@ -41,8 +41,8 @@ past_white [] = None
 past_white (c ∷ cs) = if is_whitespace c then Some (after_white cs) else None
 
 -- the name at the front
-abbrev pub name_at : List ℕ → Option (List ℕ)
-name_at cs = text_at is_name_char cs
+abbrev pub name_text : List ℕ → Option (List ℕ)
+name_text cs = text_at is_name_char cs
 
 -- whether a text is a name and nothing else
 unfoldable pub is_name : List ℕ → Bool
@@ -76,7 +76,7 @@ arm word cs = do
 unfoldable pub named_arm : (word : List ℕ) → List ℕ → Option (Bool × List ℕ)
 named_arm word cs = do
   found ← arm word cs
-  name ← name_at found.1
+  name ← name_text found.1
   Some (found.0, name)
 
 abbrev pub ifdef : List ℕ → Option (Bool × List ℕ)
@@ -86,8 +86,8 @@ abbrev pub ifndef : List ℕ → Option (Bool × List ℕ)
 ifndef cs = named_arm (codes "ifndef") cs
 
 -- an operator, which may be empty, and a value, with white space before each
-unfoldable pub compared : List ℕ → Option (List ℕ × List ℕ)
-compared cs = do
+unfoldable pub operation_at : List ℕ → Option (List ℕ × List ℕ)
+operation_at cs = do
   let start = after_white cs
   value ← text_at is_value_char (after_white (behind_run is_operator_char start))
   Some (encode_utf8_all (run is_operator_char start), value)
@@ -99,8 +99,8 @@ cut name = if nat_lt 1 (length name) then Some (encode_utf8_all (take (length na
 -- a name, an operator and a value; the operator of a name that is cut is empty
 unfoldable pub comparison_at : List ℕ → Option (List ℕ × List ℕ × List ℕ)
 comparison_at cs = do
-  name ← name_at cs
-  elim (compared (behind_run is_name_char cs)) [
+  name ← name_text cs
+  elim (operation_at (behind_run is_name_char cs)) [
     | Some found ↦ Some (name, found.0, found.1)
     | None ↦ option_map (λ parts. (parts.0, [], parts.1)) (cut (run is_name_char cs))
   ]
@@ -113,16 +113,16 @@ if_condition cs = do
   Some (found.0, parts.0, parts.1, parts.2)
 
 -- a word behind white space, and anything behind it
-unfoldable pub begins_with : (word : List ℕ) → List ℕ → Bool
-begins_with word cs = is_some (past_word word (after_white cs))
+unfoldable pub has_keyword : (word : List ℕ) → List ℕ → Bool
+has_keyword word cs = is_some (past_word word (after_white cs))
 
 -- behind a word and white space, one character of it or more
 unfoldable pub past_directive : (word : List ℕ) → List ℕ → Option (List ℕ)
 past_directive word cs = past_word word (after_white cs) >>= past_white
 
 -- `import` and a white character
-abbrev pub is_import : List ℕ → Bool
-is_import cs = is_some (past_directive (codes "import") cs)
+abbrev pub has_import : List ℕ → Bool
+has_import cs = is_some (past_directive (codes "import") cs)
 
 -- `define_import_path` and a path, which is a run of what is not white
 unfoldable pub import_path : List ℕ → Option (List ℕ)
@@ -134,5 +134,5 @@ import_path cs = do
 unfoldable pub define : List ℕ → Option (List ℕ × Option (List ℕ))
 define cs = do
   rest ← past_directive (codes "define") cs
-  name ← name_at rest
+  name ← name_text rest
   Some (name, text_at is_value_char (after_white (behind_run is_name_char rest)))

@@ -70,8 +70,8 @@ abbrev pub padded : ℕ → List ℕ → List ℕ
 padded size text = text ++ replicate (size - length text) 32
 
 -- a line and its end
-abbrev pub ended : List ℕ → List ℕ
-ended text = text ++ 10 ∷ []
+abbrev pub end_line : List ℕ → List ℕ
+end_line text = text ++ 10 ∷ []
 
 -- what the imports so far declare, and what the lines so far use of them
 pub record Known : Type 0 where
@@ -96,32 +96,32 @@ using_tokens defs l = tokens_of (replaced defs l.covered)
 
 -- the covered lines of an import, each ended
 abbrev pub import_text : List Line → List ℕ
-import_text ls = flat_map (λ l. ended l.covered) ls
+import_text ls = flat_map (λ l. end_line l.covered) ls
 
 -- spaces for each of the lines, ended
 abbrev pub blanks : List Line → List ℕ
-blanks ls = flat_map (λ l. ended (spaces l)) ls
+blanks ls = flat_map (λ l. end_line (spaces l)) ls
 
 -- what a line becomes, and what is known behind it
-abbrev pub Piece : Type 0
-Piece = List ℕ × Known
+abbrev pub Passage : Type 0
+Passage = List ℕ × Known
 
 -- a shown line; the place is that of its first ambiguous identifier, if it has one
-abbrev pub shown_piece : Definitions → Known → Line → (ambiguous : Option ℕ) → Result Piece Fault
-shown_piece defs known l (Some place) = Err (invalid_import (codes "Ambiguous import path for item") place)
-shown_piece defs known l None = Ok (ended (shown_text defs known l), record known { uses = used_by known.declared l.at (using_tokens defs l) known.uses })
+abbrev pub shown_passage : Definitions → Known → Line → (ambiguous : Option ℕ) → Result Passage Fault
+shown_passage defs known l (Some place) = Err (invalid_import (codes "Ambiguous import path for item") place)
+shown_passage defs known l None = Ok (end_line (shown_text defs known l), record known { uses = used_by known.declared l.at (using_tokens defs l) known.uses })
 
 -- the first line of an import that has these leaves
-abbrev pub imported_piece : Known → Line → Result (List Leaf) SyntaxFault → Result Piece Fault
-imported_piece known l (Ok leaves) = Ok (ended (spaces l), record known { declared = with_leaves known.declared leaves })
-imported_piece known l (Err f) = Err (invalid_import f.0 (l.at + f.1))
+abbrev pub imported_passage : Known → Line → Result (List Leaf) SyntaxFault → Result Passage Fault
+imported_passage known l (Ok leaves) = Ok (end_line (spaces l), record known { declared = with_leaves known.declared leaves })
+imported_passage known l (Err f) = Err (invalid_import f.0 (l.at + f.1))
 
 -- what a line becomes, or its fault
-abbrev pub piece : Definitions → Known → Status → Result Piece Fault
-piece defs known (blanked l) = Ok (ended (spaces l), known)
-piece defs known (shown l) = shown_piece defs known l (first_ambiguous known.declared false (sites l.at (using_tokens defs l)))
-piece defs known (imported l taken) = imported_piece known l (import_leaves (import_text (l ∷ taken)))
-piece defs known (noted f) = Err f
+abbrev pub passage : Definitions → Known → Status → Result Passage Fault
+passage defs known (blanked l) = Ok (end_line (spaces l), known)
+passage defs known (shown l) = shown_passage defs known l (first_ambiguous known.declared false (sites l.at (using_tokens defs l)))
+passage defs known (imported l taken) = imported_passage known l (import_leaves (import_text (l ∷ taken)))
+passage defs known (noted f) = Err f
 
 -- a text, and what is used in it of each module
 pub record Output : Type 0 where
@@ -129,19 +129,19 @@ pub record Output : Type 0 where
   pub uses : List Use
 
 -- a text, and what comes behind it
-abbrev pub behind : List ℕ → Result Output Fault → Result Output Fault
-behind front (Ok more) = Ok (record more { text = front ++ more.text })
-behind front (Err f) = Err f
+abbrev pub prepend : List ℕ → Result Output Fault → Result Output Fault
+prepend front (Ok more) = Ok (record more { text = front ++ more.text })
+prepend front (Err f) = Err f
 
--- the same of a piece that may have a fault, which is then the earlier one
-abbrev pub joined : Result Piece Fault → (Known → Result Output Fault) → Result Output Fault
-joined (Ok p) rest = behind p.0 (rest p.1)
-joined (Err f) rest = Err f
+-- the same of a passage that may have a fault, which is then the earlier one
+abbrev pub prepend_passage : Result Passage Fault → (Known → Result Output Fault) → Result Output Fault
+prepend_passage (Ok p) rest = prepend p.0 (rest p.1)
+prepend_passage (Err f) rest = Err f
 
 -- the earliest fault, or else what the lines become
 abbrev pub written : Definitions → Known → List Status → Result Output Fault
 written defs known [] = Ok (record { text = []; uses = map (λ u. u.1) known.uses })
-written defs known (s ∷ more) = joined (piece defs known s) (λ next. written defs next more)
+written defs known (s ∷ more) = prepend_passage (passage defs known s) (λ next. written defs next more)
 
 -- what the lines become that are read so and end at the place
 abbrev pub read_so : Definitions → ℕ → Block → Result Output Fault

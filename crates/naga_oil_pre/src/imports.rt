@@ -8,7 +8,7 @@ ghost use Rattle.naga_oil_lines.specs.Substituted.{substituted, sites, first_amb
 ghost use Rattle.naga_oil_pre.specs.Line.{Line, end_place};
 ghost use Rattle.naga_oil_pre.specs.Fault.{Definitions};
 ghost use Rattle.naga_oil_pre.specs.View.{Fails};
-ghost use Rattle.naga_oil_pre.specs.Preprocessed.{Known, ended, padded, blanks, import_text, tokens_of, using_tokens, imported_piece, shown_piece};
+ghost use Rattle.naga_oil_pre.specs.Preprocessed.{Known, end_line, padded, blanks, import_text, tokens_of, using_tokens, imported_passage, shown_passage};
 ghost use Rattle.naga_oil_pre.specs.Replaced.{replaced};
 ghost use Rattle.naga_oil_pre.specs.Reading.{braces_after, taken, behind_taken};
 ghost use Rattle.naga_oil_pre.specs.SourceView.{line_of};
@@ -45,7 +45,7 @@ pub fn braces_after(before: usize, covered: &str) -> usize
 
 // Writes spaces in a line's place.
 pub fn blank_line(out: &mut String, line: &str) -> Result<(), AllocError>
-    ensures { OnOk result (string_bytes out.new ≡ string_bytes out.old ++ ended (replicate (length line.now) 32)) }
+    ensures { OnOk result (string_bytes out.new ≡ string_bytes out.old ++ end_line (replicate (length line.now) 32)) }
 {
     push_spaces(out, line.len())?;
     out.push('\n')
@@ -53,7 +53,7 @@ pub fn blank_line(out: &mut String, line: &str) -> Result<(), AllocError>
 
 // Writes a text as a line, filled up by spaces to a length.
 fn push_padded(out: &mut String, text: &str, size: usize) -> Result<(), AllocError>
-    ensures { OnOk result (string_bytes out.new ≡ string_bytes out.old ++ ended (padded size text.now)) }
+    ensures { OnOk result (string_bytes out.new ≡ string_bytes out.old ++ end_line (padded size text.now)) }
 {
     out.push_str(text)?;
     push_spaces(out, size.saturating_sub(text.len()))?;
@@ -69,7 +69,7 @@ pub fn declare(
 ) -> Result<(), ComposerErrorInner>
     requires { offset + length import.now < 2 ^ 64 }
     ensures ok { OnOk result (with_import (declared_of declared.old) (import_leaves import.now) ≡ Ok (declared_of declared.new)) }
-    ensures err { IfErr result (λ e. (known : Known) (l : Line) → l.at ≡ offset → Fails e (imported_piece known l (import_leaves import.now))) }
+    ensures err { IfErr result (λ e. (known : Known) (l : Line) → l.at ≡ offset → Fails e (imported_passage known l (import_leaves import.now))) }
 {
     match parse_imports(alloc, import, declared) {
         Ok(()) => Ok(()),
@@ -89,8 +89,8 @@ fn take_line(
     out: &mut String,
 ) -> Result<usize, AllocError>
     requires { braces + length (line_of line).covered < 2 ^ 64 }
-    ensures blank { OnOk result (string_bytes out.new ≡ string_bytes out.old ++ ended (replicate (length line.entry.text.now) 32)) }
-    ensures import { OnOk result (string_bytes import.new ≡ string_bytes import.old ++ ended (line_of line.entry).covered) }
+    ensures blank { OnOk result (string_bytes out.new ≡ string_bytes out.old ++ end_line (replicate (length line.entry.text.now) 32)) }
+    ensures import { OnOk result (string_bytes import.new ≡ string_bytes import.old ++ end_line (line_of line.entry).covered) }
     ensures after { IfOk result (λ n. n ≡ braces_after braces (line_of line.entry).covered) }
     ensures bound { IfOk result (λ n. n ≤ braces + length (line_of line.entry).covered) }
 {
@@ -138,7 +138,7 @@ pub fn record_uses(
     ensures ok { OnOk result (first_ambiguous (declared_of imports.old.declared) false (sites line.now.offset (using_tokens (get_by_text definitions.now) (line_of line.now))) ≡ None) }
     ensures used { OnOk result (uses_of imports.new.used ≡ used_by (declared_of imports.old.declared) line.now.offset (using_tokens (get_by_text definitions.now) (line_of line.now)) (uses_of imports.old.used)) }
     ensures declared { OnOk result (declared_of imports.new.declared ≡ declared_of imports.old.declared) }
-    ensures err { IfErr result (λ e. (known : Known) → Fails e (shown_piece (get_by_text definitions.now) known (line_of line.now)
+    ensures err { IfErr result (λ e. (known : Known) → Fails e (shown_passage (get_by_text definitions.now) known (line_of line.now)
         (first_ambiguous (declared_of imports.old.declared) false (sites line.now.offset (using_tokens (get_by_text definitions.now) (line_of line.now)))))) }
 {
     let covered = replaced_text(alloc, line.covered.as_str(), definitions)?;
@@ -168,7 +168,7 @@ pub fn push_shown(
     out: &mut String,
 ) -> Result<(), AllocError>
     ensures { OnOk result (string_bytes out.new ≡ string_bytes out.old
-        ++ ended (padded (length line.now.text.now) (substituted (declared_of declared.now) (tokens_of (replaced (get_by_text definitions.now) line.now.text.now))))) }
+        ++ end_line (padded (length line.now.text.now) (substituted (declared_of declared.now) (tokens_of (replaced (get_by_text definitions.now) line.now.text.now))))) }
 {
     let replaced = replaced_text(alloc, line.text, definitions)?;
     let mut unused = IndexMap::new(alloc);
@@ -197,11 +197,11 @@ pub fn show_line(
 ) -> Result<(), ComposerErrorInner>
     requires { line.now.offset ≤ 2 ^ 63 }
     ensures text { OnOk result (string_bytes out.new ≡ string_bytes out.old
-        ++ ended (padded (length line.now.text.now) (substituted (declared_of imports.old.declared) (tokens_of (replaced (get_by_text definitions.now) line.now.text.now))))) }
+        ++ end_line (padded (length line.now.text.now) (substituted (declared_of imports.old.declared) (tokens_of (replaced (get_by_text definitions.now) line.now.text.now))))) }
     ensures ok { OnOk result (first_ambiguous (declared_of imports.old.declared) false (sites line.now.offset (using_tokens (get_by_text definitions.now) (line_of line.now))) ≡ None) }
     ensures used { OnOk result (uses_of imports.new.used ≡ used_by (declared_of imports.old.declared) line.now.offset (using_tokens (get_by_text definitions.now) (line_of line.now)) (uses_of imports.old.used)) }
     ensures declared { OnOk result (declared_of imports.new.declared ≡ declared_of imports.old.declared) }
-    ensures err { IfErr result (λ e. (known : Known) → Fails e (shown_piece (get_by_text definitions.now) known (line_of line.now)
+    ensures err { IfErr result (λ e. (known : Known) → Fails e (shown_passage (get_by_text definitions.now) known (line_of line.now)
         (first_ambiguous (declared_of imports.old.declared) false (sites line.now.offset (using_tokens (get_by_text definitions.now) (line_of line.now)))))) }
 {
     let shown = record_uses(alloc, line, definitions, imports)?;

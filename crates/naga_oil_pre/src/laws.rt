@@ -19,9 +19,9 @@ pub fn kinds_by_grammar()
     ensures ifdef { Reads grammar.ifdef (λ g. IsIfdef g.0 g.1) }
     ensures ifndef { Reads grammar.ifndef (λ g. IsIfndef g.0 g.1) }
     ensures condition { Reads grammar.if_condition (λ g. IsIf g.0 g.1 g.2 g.3) }
-    ensures plain_else { Tests (grammar.begins_with (codes "else")) IsElse }
-    ensures endif { Tests (grammar.begins_with (codes "endif")) IsEndif }
-    ensures imports { Tests grammar.is_import IsImport }
+    ensures plain_else { Tests (grammar.has_keyword (codes "else")) IsElse }
+    ensures endif { Tests (grammar.has_keyword (codes "endif")) IsEndif }
+    ensures imports { Tests grammar.has_import IsImport }
     ensures import_path { Reads grammar.import_path IsImportPath }
     ensures define { Reads grammar.define (λ g. IsDefine g.0 g.1) }
 {}

@@ -171,8 +171,8 @@ fn named_arm<'a>(text: &'a str, word: &str) -> Option<(bool, &'a str)>
 }
 
 // An operator, which may be empty, and a value.
-fn compared(text: &str) -> Option<(&str, &str)>
-    ensures { option_map (λ r. (r.0.now, r.1.now)) result ≡ grammar.compared (chars text.now) }
+fn operation_at(text: &str) -> Option<(&str, &str)>
+    ensures { option_map (λ r. (r.0.now, r.1.now)) result ≡ grammar.operation_at (chars text.now) }
 {
     let start = after_whitespace(text);
     let behind = after_whitespace(behind_run(start, CharClass::Operator));
@@ -199,7 +199,7 @@ fn comparison_at(text: &str) -> Option<(&str, &str, &str)>
     ensures { option_map (λ r. (r.0.now, r.1.now, r.2.now)) result ≡ grammar.comparison_at (chars text.now) }
 {
     let name = text_at(text, CharClass::Name)?;
-    match compared(behind_run(text, CharClass::Name)) {
+    match operation_at(behind_run(text, CharClass::Name)) {
         Some((operator, value)) => Some((name, operator, value)),
         None => {
             let (front, last) = cut(run(text, CharClass::Name))?;
@@ -217,8 +217,8 @@ fn if_condition(text: &str) -> Option<(bool, &str, &str, &str)>
 }
 
 // Whether the text begins with the word, white space apart.
-fn begins_with(text: &str, word: &str) -> bool
-    ensures { result ≡ grammar.begins_with (chars word.now) (chars text.now) }
+fn has_keyword(text: &str, word: &str) -> bool
+    ensures { result ≡ grammar.has_keyword (chars word.now) (chars text.now) }
 {
     past_word(after_whitespace(text), word).is_some()
 }
@@ -271,12 +271,12 @@ fn kind_behind_hash(text: &str) -> LineKind<'_>
                 value,
             },
         }
-    } else if begins_with(text, "else") {
+    } else if has_keyword(text, "else") {
         LineKind::Condition {
             is_else: true,
             condition: Condition::Otherwise,
         }
-    } else if begins_with(text, "endif") {
+    } else if has_keyword(text, "endif") {
         LineKind::EndIf
     } else if past_directive(text, "import").is_some() {
         LineKind::Import

@@ -11,7 +11,7 @@ ghost use Rattle.naga_oil_pre.specs.Line.{Line, source_lines};
 ghost use Rattle.naga_oil_pre.specs.KindView.{line_kind_of};
 ghost use Rattle.naga_oil_pre.specs.Metadata.{nothing_found, defined_behind, with_import, found_behind, left_open, going_on, found_in, metadata_of_cleaned, metadata, data_of};
 ghost use Rattle.naga_oil_pre.specs.MetadataView.{has_with, Gains, found_of, metadata_of};
-ghost use Rattle.naga_oil_pre.specs.Preprocessed.{ended, import_text, tokens_of, preprocessed};
+ghost use Rattle.naga_oil_pre.specs.Preprocessed.{end_line, import_text, tokens_of, preprocessed};
 ghost use Rattle.naga_oil_pre.specs.Reading.{braces_after, taken, behind_taken};
 ghost use Rattle.naga_oil_pre.specs.Recorded.{is_recorded, line_names, names_of, AgreeOn};
 ghost use Rattle.naga_oil_pre.specs.SourceView.{line_of};
@@ -116,7 +116,7 @@ fn take_line(
     names: &mut BTreeSet<String>,
 ) -> Result<usize, AllocError>
     requires { braces + length (line_of line).covered < 2 ^ 64 }
-    ensures import { OnOk result (string_bytes import.new ≡ string_bytes import.old ++ ended (line_of line.entry).covered) }
+    ensures import { OnOk result (string_bytes import.new ≡ string_bytes import.old ++ end_line (line_of line.entry).covered) }
     ensures names { OnOk result (Gains names.old names.new (line_names (line_of line.entry))) }
     ensures after { IfOk result (λ n. n ≡ braces_after braces (line_of line.entry).covered) }
     ensures bound { IfOk result (λ n. n ≤ braces + length (line_of line.entry).covered) }

@@ -9,7 +9,7 @@ ghost use Rattle.naga_oil_pre.specs.Kind.{kind_of};
 ghost use Rattle.naga_oil_pre.specs.Step.{step, opened, scanned};
 ghost use Rattle.naga_oil_pre.specs.Fault.{Definitions};
 ghost use Rattle.naga_oil_pre.specs.View.{Notes, Fails, Gives};
-ghost use Rattle.naga_oil_pre.specs.Preprocessed.{imported, behind, piece, written, preprocessed};
+ghost use Rattle.naga_oil_pre.specs.Preprocessed.{imported, prepend, passage, written, preprocessed};
 ghost use Rattle.naga_oil_pre.specs.LineEnds.{line_ends, declared_paths};
 ghost use Rattle.naga_oil_pre.specs.KnownView.{known_of, output_of};
 ghost use Rattle.naga_oil_pre.specs.Reading.{taken};
@@ -112,11 +112,11 @@ fn write_import(
     requires room { source.old.place ≤ 2 ^ 63 }
     requires braces { braces ≤ length (line_of line).covered }
     ensures ok { OnOk result ((defs : Definitions) (end : ℕ) (levels : List ScopeLevel) →
-        behind (string_bytes out.new) (written defs (known_of imports.new) (scanned defs end levels 0 source.new.left))
-        ≡ behind (string_bytes out.old) (written defs (known_of imports.old) (imported (line_of line.entry) (taken braces source.old.left) ∷ scanned defs end levels braces source.old.left))) }
+        prepend (string_bytes out.new) (written defs (known_of imports.new) (scanned defs end levels 0 source.new.left))
+        ≡ prepend (string_bytes out.old) (written defs (known_of imports.old) (imported (line_of line.entry) (taken braces source.old.left) ∷ scanned defs end levels braces source.old.left))) }
     ensures end { OnOk result (end_place source.new.place source.new.left ≡ end_place source.old.place source.old.left) }
     ensures shorter { OnOk result (length source.new.left ≤ length source.old.left) }
-    ensures err { IfErr result (λ e. (defs : Definitions) → Fails e (piece defs (known_of imports.old) (imported (line_of line.entry) (taken braces source.old.left)))) }
+    ensures err { IfErr result (λ e. (defs : Definitions) → Fails e (passage defs (known_of imports.old) (imported (line_of line.entry) (taken braces source.old.left)))) }
 {
     let mut import = String::from_str(alloc, line.covered.as_str())?;
     import.push('\n')?;
@@ -139,8 +139,8 @@ fn write_line(
     requires even { length (line_of line).covered ≤ length line.text.now }
     requires room { source.old.place ≤ 2 ^ 63 }
     ensures ok { OnOk result ((end : ℕ) →
-        behind (string_bytes out.new) (written (get_by_text definitions.now) (known_of imports.new) (scanned (get_by_text definitions.now) end scope.new 0 source.new.left))
-        ≡ behind (string_bytes out.old) (written (get_by_text definitions.now) (known_of imports.old) (scanned (get_by_text definitions.now) end scope.old 0 (line_of line.entry ∷ source.old.left)))) }
+        prepend (string_bytes out.new) (written (get_by_text definitions.now) (known_of imports.new) (scanned (get_by_text definitions.now) end scope.new 0 source.new.left))
+        ≡ prepend (string_bytes out.old) (written (get_by_text definitions.now) (known_of imports.old) (scanned (get_by_text definitions.now) end scope.old 0 (line_of line.entry ∷ source.old.left)))) }
     ensures end { OnOk result (end_place source.new.place source.new.left ≡ end_place source.old.place source.old.left) }
     ensures shorter { OnOk result (length source.new.left ≤ length source.old.left) }
     ensures err { IfErr result (λ e. (end : ℕ) → Fails e (written (get_by_text definitions.now) (known_of imports.old) (scanned (get_by_text definitions.now) end scope.old 0 (line_of line.entry ∷ source.old.left)))) }

@@ -6,7 +6,7 @@ use Rattle.naga_oil_lines.specs.Substituted.{sites, first_ambiguous, usize_sites
 use Rattle.naga_oil_lines.specs.Tokens.{lexemes}
 use Rattle.std.specs.Str.{chars}
 use Rattle.naga_oil_pre.specs.Fault.{invalid_import}
-use Rattle.naga_oil_pre.specs.Preprocessed.{using_tokens, shown_piece}
+use Rattle.naga_oil_pre.specs.Preprocessed.{using_tokens, shown_passage}
 use Rattle.naga_oil_pre.specs.Replaced.{replaced}
 use Rattle.naga_oil_pre.specs.SourceView.{line_of}
 use Rattle.naga_oil_pre.proofs.LoopLemmas.{counted, first_refused}
@@ -38,6 +38,6 @@ returns-in-Err-Ambiguous-clause-err c = λ known.
     let declared = declared_of c.args.imports.now.declared in
     let found = first_refused declared (usize_sites (sites c.args.line.now.offset (lexemes 0 0 (chars text)))) (uses_of c.args.imports.now.used) (uses_of c.substitute_identifiers.new.used_imports)
     c.in-Err-Ambiguous.field-0 c.in-Err-Ambiguous.place c.in-Err-Ambiguous.ensures.fault c.in-Err-Ambiguous.field-0-is in
-    ap (shown_piece (get_by_text c.args.definitions.now) known (line_of c.args.line.now))
+    ap (shown_passage (get_by_text c.args.definitions.now) known (line_of c.args.line.now))
     (ap (first_ambiguous declared false) (sym (counted c.args.line.now.offset text whole c.as_str-2.utf8 same fits)) ∙ found)
     ∙ ap (λ s. Err (invalid_import s c.in-Err-Ambiguous.place)) (sym c.in_ok-from_str-in-Err-Ambiguous.ensures.ok)

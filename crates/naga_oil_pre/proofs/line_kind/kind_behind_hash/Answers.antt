@@ -15,13 +15,13 @@ pub returns-in-Some-if_condition : goal.returns-in-Some-if_condition
 unfolding kind_behind_hash chars
 returns-in-Some-if_condition c = search rules
 
-pub returns-then-begins_with : goal.returns-then-begins_with
+pub returns-then-has_keyword : goal.returns-then-has_keyword
 unfolding kind_behind_hash chars
-returns-then-begins_with c = search rules
+returns-then-has_keyword c = search rules
 
-pub returns-then-begins_with-2 : goal.returns-then-begins_with-2
+pub returns-then-has_keyword-2 : goal.returns-then-has_keyword-2
 unfolding kind_behind_hash chars
-returns-then-begins_with-2 c = search rules
+returns-then-has_keyword-2 c = search rules
 
 pub returns-then-is_some : goal.returns-then-is_some
 unfolding kind_behind_hash chars

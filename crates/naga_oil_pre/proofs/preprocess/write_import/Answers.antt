@@ -4,14 +4,14 @@ use Rattle.naga_oil_lines.specs.Declarations.{declared_of}
 use Rattle.naga_oil_lines.specs.Leaves.{import_leaves, with_import}
 use Rattle.naga_oil_pre.specs.KnownView.{known_of}
 use Rattle.naga_oil_pre.specs.SourceView.{line_of}
-use Rattle.naga_oil_pre.specs.Preprocessed.{ended, import_text}
+use Rattle.naga_oil_pre.specs.Preprocessed.{end_line, import_text}
 use Rattle.naga_oil_pre.specs.Reading.{taken}
 use Rattle.naga_oil_pre.proofs.LoopLemmas.{import_turn, on_ok}
 use Rattle.naga_oil_pre.proofs.preprocess.write_import.Goals as goal
 
 pub returns-clause-ok : goal.returns-clause-ok
 returns-clause-ok c =
-    let text : string_bytes c.take_lines.new.import ≡ ended (cow_str_bytes c.args.line.covered) ++ import_text (taken c.args.braces c.args.source.now.left) = search rules in
+    let text : string_bytes c.take_lines.new.import ≡ end_line (cow_str_bytes c.args.line.covered) ++ import_text (taken c.args.braces c.args.source.now.left) = search rules in
     on_ok c.declare.result (with_import (declared_of c.args.imports.now.declared) (import_leaves (string_bytes c.take_lines.new.import)) ≡ Ok (declared_of c.declare.new.declared)) _ (rw (← c.as_str-2.ensures.value) c.declare.ensures.ok)
     (λ declares defs end levels.
     import_turn defs end levels (known_of c.args.imports.now) (known_of (record c.args.imports.now { declared = c.declare.new.declared })) (line_of c.args.line) c.args.braces c.args.source.now.left

@@ -2,7 +2,7 @@ use Rattle.std.proofs.Common.{Some, None, [], refl}
 use Rattle.std.specs.Str.{chars, encode_utf8_all}
 use Rattle.naga_oil_pre.specs.LineKinds.{run, is_operator_char}
 use Rattle.naga_oil_pre.proofs.LineKindLemmas.{text_of, compared_by}
-use Rattle.naga_oil_pre.proofs.line_kind.compared.Goals as goal
+use Rattle.naga_oil_pre.proofs.line_kind.operation_at.Goals as goal
 
 pub returns-in_err-value : goal.returns-in_err-value
 returns-in_err-value c =
