@@ -56,10 +56,10 @@ IsOfMaking e = ⊥
 abbrev pub IsWritten : List ℕ → Type 0
 IsWritten text = (m : ModuleValue) × (module_text m ≡ Some text)
 
--- why words are refused: they ask for nothing
+-- why words are refused: they ask for nothing, or else there is no memory
 abbrev pub RefusesWords : List (List ℕ) → Refusal → Type 0
 RefusesWords words Usage = asked words ≡ None
-RefusesWords words Memory = ⊤
+RefusesWords words Memory = IsSome (asked words)
 RefusesWords words e = ⊥
 
 -- why the definitions among the words are refused
@@ -84,7 +84,7 @@ Refuses words Usage = asked words ≡ None
 Refuses words (BadDefinition word) = IsSome (asked words) × (defined_by none_defined (drop 1 words) ≡ Err word.now)
 Refuses words (CannotRead file) = IsAsked words × IfSome (asked words) (λ a. Contains a.files file.now)
 Refuses words (Fault report) = IsAsked words
-Refuses words Memory = ⊤
+Refuses words Memory = IsSome (asked words)
 Refuses words NotInMini = IsAsked words
 Refuses words Write = IsAsked words
 

@@ -37,10 +37,10 @@ imports words = filter_map added_import words
 abbrev pub task_of : List ℕ → Option Task
 task_of command = if bytes_eq command (codes "pre") then Some Preprocess else (if bytes_eq command (codes "make") then Some Make else None)
 
--- `pre` takes one file, and `make` one or more and imports
-abbrev pub takes : Task → (files imports : List (List ℕ)) → Bool
-takes Preprocess files imports = (length files == 1) && (length imports == 0)
-takes Make files imports = not (length files == 0)
+-- `pre` takes one file, and `make` one or more and imports: so many of them
+abbrev pub takes : Task → (files imports : ℕ) → Bool
+takes Preprocess files imports = (files == 1) && (imports == 0)
+takes Make files imports = not (files == 0)
 
 -- what is asked for: a task, files, of which the first is the shader's, and imports
 pub record Asked : Type 0 where
@@ -50,7 +50,7 @@ pub record Asked : Type 0 where
 
 -- what a task asks for with the words behind its command
 abbrev pub task_asked : List (List ℕ) → Task → Option Asked
-task_asked words task = if takes task (files words) (imports words) then Some (record { task = task; files = files words; imports = imports words }) else None
+task_asked words task = if takes task (length (files words)) (length (imports words)) then Some (record { task = task; files = files words; imports = imports words }) else None
 
 -- what the words ask for
 abbrev pub asked : List (List ℕ) → Option Asked

@@ -69,17 +69,36 @@ fn sorted(alloc: Global, words: &[String]) -> Result<(Vec<&str>, Vec<&str>), All
     Ok((files, imports))
 }
 
+// How many files and how many imports are among words.
+fn counts(words: &[String]) -> (usize, usize)
+    ensures files { result.0 ≡ length (files (texts words.now)) }
+    ensures imports { result.1 ≡ length (imports (texts words.now)) }
+{
+    let (mut files, mut imports) = (0, 0);
+    for word in words {
+        let word = word.as_str();
+        if is_definition(word) {
+            continue;
+        }
+        match import_of(word) {
+            Some(_) => imports += 1,
+            None => files += 1,
+        }
+    }
+    (files, imports)
+}
+
 // `pre` takes one file, `make` one or more and imports.
-fn takes(task: Task, files: &[&str], imports: &[&str]) -> bool
-    ensures { result ≡ takes task (texts_of files.now) (texts_of imports.now) }
+fn takes(task: Task, files: usize, imports: usize) -> bool
+    ensures { result ≡ takes task files imports }
 {
     match task {
-        Task::Preprocess => files.len() == 1 && imports.is_empty(),
-        Task::Make => !files.is_empty(),
+        Task::Preprocess => files == 1 && imports == 0,
+        Task::Make => files != 0,
     }
 }
 
-/// What the words ask for, if they do.
+/// What the words ask for, if they do. Words that ask for nothing are found before memory is asked for.
 pub fn asked(alloc: Global, words: &[String]) -> Result<Request<'_>, Refusal<'_>>
     ensures value { IfOk result (λ a. asked (texts words.now) ≡ Some (asked_of a)) }
     ensures words { IfOk result (λ a. a.words.now ≡ drop 1 words.now) }
@@ -88,10 +107,11 @@ pub fn asked(alloc: Global, words: &[String]) -> Result<Request<'_>, Refusal<'_>
 {
     let (command, words) = words.split_first().ok_or(Refusal::Usage)?;
     let task = task_of(command.as_str()).ok_or(Refusal::Usage)?;
-    let (files, imports) = sorted(alloc, words)?;
-    if !takes(task, &files, &imports) {
+    let (files, imports) = counts(words);
+    if !takes(task, files, imports) {
         return Err(Refusal::Usage);
     }
+    let (files, imports) = sorted(alloc, words)?;
     Ok(Request {
         task,
         files,

@@ -16,13 +16,13 @@ unreachable-requires c =
 
 pub returns-clause-used : goal.returns-clause-used
 returns-clause-used c = elim c.match-substitute_identifiers.branch [
-    | in-Ok w ↦ (
+  | in-Ok w ↦ (
       let text = c.as_str.result.now in
       let whole = (line_of c.args.line.now).covered in
       let same : text ≡ whole = search rules in
       let fits : c.args.line.now.offset + length text < 2 ^ 64 = search (rules, arith) in
       rw w.result-is (
-        w.in-Ok.ensures.used
-        ∙ ap (λ ss. with_mentions (uses_of c.args.imports.now.used) (mentions_in (declared_of c.args.imports.now.declared) ss)) (counted c.args.line.now.offset text whole c.as_str.utf8 same fits)))
-    | in-Err-Memory w ↦ search rules
-  ]
+      w.in-Ok.ensures.used
+      ∙ ap (λ ss. with_mentions (uses_of c.args.imports.now.used) (mentions_in (declared_of c.args.imports.now.declared) ss)) (counted c.args.line.now.offset text whole c.as_str.utf8 same fits)))
+  | in-Err-Memory w ↦ search rules
+]
