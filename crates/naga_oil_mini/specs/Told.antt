@@ -1,13 +1,16 @@
 -- What is told where nothing is written.
-use Rattle.std.specs.Prelude.{◌≡◌, ℕ, List, ◌++◌, ◌∷◌, [], codes, drop, Result, Ok, Err, Option, Some, None, IsSome, IfSome, IsOk, Contains, ⊤, string_bytes}
+use Rattle.std.specs.Prelude.{◌≡◌, ℕ, List, ◌++◌, ◌∷◌, [], codes, drop, Result, Ok, Err, Option, Some, None, IsSome, IfSome, IfOk, IsOk, Contains, ⊤, string_bytes}
 use Rattle.std.specs.Io.KnownBytes.{Appends}
 use Rattle.naga_oil.specs.Report as written
 use Rattle.naga_oil_ir.specs.ModuleValue.{ModuleValue}
-use Rattle.naga_oil_pre.specs.Fault.{Fault as FaultOfText}
+use Rattle.naga_oil_pre.specs.Fault.{Definitions, Fault as FaultOfText}
 use Rattle.naga_oil_pre.specs.Metadata.{none_defined}
 use Rattle.naga_oil_mini.specs.Defined.{defined_by}
+use Rattle.naga_oil_mini.specs.Printed.{printed}
 use Rattle.naga_oil_mini.specs.Words.{Asked, asked}
 use Rattle.naga_oil_mini.specs.Writer.{module_text}
+use Rattle.naga_oil_mini.specs.declared.mini.words.Task.{Task}
+use Rattle.naga_oil_mini.specs.declared.mini.words.Task.TheVariants.{Preprocess, Make}
 use Rattle.naga_oil_mini.specs.declared.mini.refusal.Refusal.{Refusal}
 use Rattle.naga_oil_mini.specs.declared.mini.refusal.Refusal.TheVariants.{Usage, BadDefinition, CannotRead, Fault, Memory, NotInMini, Write}
 
@@ -35,7 +38,15 @@ message_of Memory = codes "error: out of memory" ++ 10 ∷ []
 message_of NotInMini = codes "error: not in Mini" ++ 10 ∷ []
 message_of Write = []
 
--- that is written
+-- a front of bytes is appended
+abbrev pub AppendsFront : (old new : Option (List ℕ)) → List ℕ → Type 0
+AppendsFront old new bytes = (front rest : List ℕ) × (front ++ rest ≡ bytes) × Appends old new front
+
+-- a front of what is told is written
+abbrev pub TellsFront : Refusal → (old new : Option (List ℕ)) → Type 0
+TellsFront refusal old new = AppendsFront old new (message_of refusal)
+
+-- what is told is written
 abbrev pub Tells : Refusal → (old new : Option (List ℕ)) → Type 0
 Tells refusal old new = Appends old new (message_of refusal)
 
@@ -92,3 +103,16 @@ Refuses words Write = IsAsked words
 abbrev pub LeavesOut : {A : Type 0} → Refusal → (old new : A) → Type 0
 LeavesOut Write old new = ⊤
 LeavesOut e old new = new ≡ old
+
+-- what a task shows under definitions: what the text of a file becomes, or a module that Mini writes
+abbrev pub Shows : Task → Definitions → List ℕ → Type 0
+Shows Preprocess defs shown = (source : List ℕ) × (printed defs source ≡ Ok shown)
+Shows Make defs shown = IsWritten shown
+
+-- a text that the words ask for
+abbrev pub IsShown : List (List ℕ) → List ℕ → Type 0
+IsShown words shown = IfSome (asked words) (λ a. IfOk (defined_by none_defined (drop 1 words)) (λ defs. Shows a.task defs shown))
+
+-- a text that the words ask for is written
+abbrev pub Writes : List (List ℕ) → (old new : Option (List ℕ)) → Type 0
+Writes words old new = (shown : List ℕ) × IsShown words shown × Appends old new shown

@@ -4,7 +4,7 @@ ghost use Rattle.std.specs.Io.KnownBytes.{Appends};
 ghost use Rattle.naga_oil_mini.specs.declared.mini.refusal.Refusal.{Refusal};
 ghost use Rattle.naga_oil_mini.specs.Names.{texts_of};
 ghost use Rattle.naga_oil_mini.specs.Words.{texts, asked};
-ghost use Rattle.naga_oil_mini.specs.Told.{IsAsked, Refuses, RefusesFiles, LeavesOut, Tells, status_of};
+ghost use Rattle.naga_oil_mini.specs.Told.{AppendsFront, IsAsked, Refuses, RefusesFiles, LeavesOut, Tells, TellsFront, Writes, status_of};
 
 mod body_reader;
 mod definitions;
@@ -27,7 +27,7 @@ mod writer;
 pub use front::Mini;
 pub use refusal::Refusal;
 use std::alloc::{AllocError, Global};
-use std::io::{self, Write};
+use std::io::{self, ErrorKind, Write};
 use words::Task;
 
 // Writes what the words ask for.
@@ -39,6 +39,7 @@ fn answer<'a, F: FnMut(&str) -> Result<Option<Vec<u8>>, AllocError> + Drop, O: W
 ) -> Result<(), Refusal<'a>>
     requires { F.IsAlwaysCallable read }
     ensures ok { OnOk result (IsAsked (texts words.now)) }
+    ensures written { OnOk result (Writes (texts words.now) (O.contents out.old) (O.contents out.new)) }
     ensures err { IfErr result (Refuses (texts words.now)) }
     ensures untouched { IfErr result (λ e. LeavesOut e out.old out.new) }
 {
@@ -50,7 +51,10 @@ fn answer<'a, F: FnMut(&str) -> Result<Option<Vec<u8>>, AllocError> + Drop, O: W
         Task::Preprocess => pre::shown_file(alloc, top.0, top.1.as_str(), definitions)?,
         Task::Make => make::made(alloc, top, modules, &asked.imports, definitions)?,
     };
-    write_to(out, source.as_bytes()).ok().ok_or(Refusal::Write)
+    match show(out, source.as_str()) {
+        Ok(()) => Ok(()),
+        Err(_) => Err(Refusal::Write),
+    }
 }
 
 // The texts of files, each with its file.
@@ -73,18 +77,43 @@ fn read_files<'a, F: FnMut(&str) -> Result<Option<Vec<u8>>, AllocError> + Drop>(
     Ok(texts)
 }
 
-fn write_to<O: Write>(out: &mut O, bytes: &[u8]) -> io::Result<()>
-    ensures { OnOk result (Appends (O.contents out.old) (O.contents out.new) bytes.now) }
+// Writes the bytes. Of a write that fails a front of them stays.
+fn put<W: Write>(to: &mut W, bytes: &[u8]) -> io::Result<()>
+    ensures all { OnOk result (Appends (W.contents to.old) (W.contents to.new) bytes.now) }
+    ensures front { AppendsFront (W.contents to.old) (W.contents to.new) bytes.now }
 {
-    out.write_all(bytes)?;
+    let mut rest = bytes;
+    for _ in 0..u64::MAX {
+        if rest.is_empty() {
+            return Ok(());
+        }
+        match to.write(rest) {
+            Ok(0) => return Err(io::Error::from(ErrorKind::WriteZero)),
+            Ok(n) => rest = &rest[n..],
+            Err(error) if error.kind() == ErrorKind::Interrupted => {}
+            Err(error) => return Err(error),
+        }
+    }
+    Err(io::Error::from(ErrorKind::Interrupted))
+}
+
+// Writes a text and hands it on.
+fn show<O: Write>(out: &mut O, text: &str) -> io::Result<()>
+    ensures { OnOk result (Appends (O.contents out.old) (O.contents out.new) text.now) }
+{
+    put(out, text.as_bytes())?;
     out.flush()
 }
 
 // Tells why nothing is written.
-fn report<E: Write>(refusal: Refusal<'_>, err: &mut E) -> io::Result<()>
-    ensures { OnOk result (Tells refusal.entry (E.contents err.old) (E.contents err.new)) }
+fn tell<E: Write>(refusal: Refusal<'_>, err: &mut E) -> io::Result<()>
+    ensures all { OnOk result (Tells refusal.entry (E.contents err.old) (E.contents err.new)) }
+    ensures front { TellsFront refusal.entry (E.contents err.old) (E.contents err.new) }
 {
-    err.write_fmt(refusal)?;
+    let (front, middle, end) = refusal.message();
+    put(err, front.as_bytes())?;
+    put(err, middle.as_bytes())?;
+    put(err, end.as_bytes())?;
     err.flush()
 }
 
@@ -103,8 +132,9 @@ pub fn oil<F: FnMut(&str) -> Result<Option<Vec<u8>>, AllocError> + Drop, O: Writ
     requires { F.IsAlwaysCallable read }
     ensures statuses { result ≤ 2 }
     ensures asked { result ≡ 0 → IsAsked (texts words.now) }
+    ensures written { result ≡ 0 → Writes (texts words.now) (O.contents out.old) (O.contents out.new) × (err.new ≡ err.old) }
     // Nothing stands on `out` but what a write that failed left there.
-    ensures refused { 1 ≤ result → (e : Refusal) × Refuses (texts words.now) e × LeavesOut e out.old out.new }
+    ensures refused { 1 ≤ result → (e : Refusal) × Refuses (texts words.now) e × LeavesOut e out.old out.new × TellsFront e (E.contents err.old) (E.contents err.new) }
     // The words and the files are refused by a line.
     ensures told { result ≡ 2 → (e : Refusal) × Refuses (texts words.now) e × (status_of e ≡ 2) × Tells e (E.contents err.old) (E.contents err.new) × LeavesOut e out.old out.new }
     ensures usage { asked (texts words.now) ≡ None → 1 ≤ result }
@@ -113,7 +143,7 @@ pub fn oil<F: FnMut(&str) -> Result<Option<Vec<u8>>, AllocError> + Drop, O: Writ
         return 0;
     };
     let status = refusal.status();
-    match report(refusal, err) {
+    match tell(refusal, err) {
         Ok(()) => status,
         Err(_) => 1,
     }

@@ -2,6 +2,9 @@
 use std::alloc::AllocError;
 use std::fmt;
 
+const USAGE: &str =
+    "usage: oil pre FILE [NAME=VALUE..] | oil make TOP [MODULE..] [+NAME..] [NAME=VALUE..]\n";
+
 #[derive(Debug, Drop)]
 pub enum Refusal<'a> {
     Usage,
@@ -19,8 +22,23 @@ pub enum Refusal<'a> {
 }
 
 impl Refusal<'_> {
-    ghost use Rattle.std.specs.Prelude.{◌≡◌};
-    ghost use Rattle.naga_oil_mini.specs.Told.{status_of};
+    ghost use Rattle.std.specs.Prelude.{◌≡◌, ◌++◌};
+    ghost use Rattle.naga_oil_mini.specs.Told.{message_of, status_of};
+
+    /// What is told: three texts, one behind the other.
+    pub fn message(&self) -> (&str, &str, &str)
+        ensures { result.0.now ++ result.1.now ++ result.2.now ≡ message_of self.now }
+    {
+        match self {
+            Refusal::Usage => (USAGE, "", ""),
+            Refusal::BadDefinition(word) => ("bad definition ", *word, "\n"),
+            Refusal::CannotRead(file) => ("cannot read ", *file, "\n"),
+            Refusal::Fault(report) => (report.as_str(), "", ""),
+            Refusal::Memory => ("error: out of memory\n", "", ""),
+            Refusal::NotInMini => ("error: not in Mini\n", "", ""),
+            Refusal::Write => ("", "", ""),
+        }
+    }
 
     /// The status that `oil` ends with.
     pub fn status(&self) -> u8
@@ -40,18 +58,8 @@ impl fmt::Display for Refusal<'_> {
     ghost output = { λ e. Some (message_of e) };
 
     fn fmt<W: fmt::Write>(&self, f: &mut fmt::Formatter<W>) -> fmt::Result {
-        match self {
-            Refusal::Usage => write!(
-                f,
-                "usage: oil pre FILE [NAME=VALUE..] | oil make TOP [MODULE..] [+NAME..] [NAME=VALUE..]\n"
-            ),
-            Refusal::BadDefinition(word) => write!(f, "bad definition {word}\n"),
-            Refusal::CannotRead(file) => write!(f, "cannot read {file}\n"),
-            Refusal::Fault(report) => write!(f, "{report}"),
-            Refusal::Memory => write!(f, "error: out of memory\n"),
-            Refusal::NotInMini => write!(f, "error: not in Mini\n"),
-            Refusal::Write => Ok(()),
-        }
+        let (front, middle, end) = self.message();
+        write!(f, "{front}{middle}{end}")
     }
 }
 
