@@ -2,6 +2,7 @@ pub mod OverwriteLemmas
 pub mod WordLemmas
 pub mod NameLemmas
 pub mod SymbolLemmas
+pub mod LineLemmas
 pub mod ReaderLemmas
 pub mod BodyReaderLemmas
 pub mod OrderLemmas

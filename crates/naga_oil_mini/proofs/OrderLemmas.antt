@@ -4,7 +4,7 @@ use Rattle.std.specs.Option.{option_or, IfSome}
 use Rattle.std.proofs.lemmas.Bool.Decides.{same_from_decides}
 use Rattle.std.proofs.lemmas.Slice.Eq.{bytes_eq-Decides}
 use Rattle.naga_oil_mini.specs.Names.{last_place}
-use Rattle.naga_oil_mini.specs.Order.{greatest, place_from, next_places, take_last, fits, fit}
+use Rattle.naga_oil_mini.specs.Order.{greatest_count, place_from, next_places, take_last, fits, fit}
 use Rattle.naga_oil_mini.specs.declared.mini.order.Room.{Room}
 
 bytes_eq-sym : (a b : List ℕ) → bytes_eq a b ≡ bytes_eq b a
@@ -14,7 +14,7 @@ bytes_eq-sym a b =
 
 -- a name behind that is no equal one changes nothing
 place_from-other : (i : ℕ) (n x : List ℕ) (ns : List (List ℕ)) → bytes_eq n x ≡ false → place_from i n (ns ++ x ∷ []) ≡ place_from i n ns
-place_from-other i n x [] e = ap (λ b. cond b i greatest) e
+place_from-other i n x [] e = ap (λ b. cond b i greatest_count) e
 place_from-other i n x (m ∷ ns) e = ap (λ k. cond (bytes_eq n m) i k) (place_from-other (i + 1) n x ns e)
 
 -- whether a name stands among others
@@ -33,7 +33,7 @@ place_from-later i n x (m ∷ ns) e =
 -- the first equal one is found
 place_from-first : (i : ℕ) (n x : List ℕ) (ns : List (List ℕ)) → is_there n ns ≡ false → bytes_eq n x ≡ true → place_from i n (ns ++ x ∷ []) ≡ i + length ns
 unfolding is_there
-place_from-first i n x [] e s = ap (λ b. cond b i greatest) s ∙ omega arith
+place_from-first i n x [] e s = ap (λ b. cond b i greatest_count) s ∙ omega arith
 place_from-first i n x (m ∷ ns) e s =
     elim (bytes_eq n m) as (λ b. cond b true (is_there n ns) ≡ false → cond b i (place_from (i + 1) n (ns ++ x ∷ [])) ≡ i + suc (length ns))
     [ true ↦ λ there. cc | false ↦ λ there. place_from-first (i + 1) n x ns there s ∙ omega arith ] e
@@ -58,30 +58,30 @@ marked ps (Some p) k = set ps p k
 
 -- where names and their next places begin with a name n, and x comes behind
 marked_first : (i : ℕ) (x n : List ℕ) (ns : List (List ℕ)) (o : Option ℕ) (b : Bool) → is_there x ns ≡ is_some o → bytes_eq n x ≡ b
-    → place_from (i + 1) n (ns ++ x ∷ []) ∷ (marked (next_places (i + 1) ns) o (i + suc (length ns)) ++ greatest ∷ [])
-    ≡ marked (place_from (i + 1) n ns ∷ next_places (i + 1) ns) (option_or (option_map suc o) (cond b (Some 0) None)) (i + suc (length ns)) ++ greatest ∷ []
+    → place_from (i + 1) n (ns ++ x ∷ []) ∷ (marked (next_places (i + 1) ns) o (i + suc (length ns)) ++ greatest_count ∷ [])
+    ≡ marked (place_from (i + 1) n ns ∷ next_places (i + 1) ns) (option_or (option_map suc o) (cond b (Some 0) None)) (i + suc (length ns)) ++ greatest_count ∷ []
 marked_first i x n ns (Some p) true t e =
     let same = bytes_eq-Decides n x in
-    ap (λ k. k ∷ (set (next_places (i + 1) ns) p (i + suc (length ns)) ++ greatest ∷ [])) (place_from-later (i + 1) n x ns (ap (λ m. is_there m ns) (same.0 e) ∙ t))
+    ap (λ k. k ∷ (set (next_places (i + 1) ns) p (i + suc (length ns)) ++ greatest_count ∷ [])) (place_from-later (i + 1) n x ns (ap (λ m. is_there m ns) (same.0 e) ∙ t))
 marked_first i x n ns (Some p) false t e =
-    ap (λ k. k ∷ (set (next_places (i + 1) ns) p (i + suc (length ns)) ++ greatest ∷ [])) (place_from-other (i + 1) n x ns e)
+    ap (λ k. k ∷ (set (next_places (i + 1) ns) p (i + suc (length ns)) ++ greatest_count ∷ [])) (place_from-other (i + 1) n x ns e)
 marked_first i x n ns None true t e =
     let same = bytes_eq-Decides n x in
-    ap (λ k. k ∷ (next_places (i + 1) ns ++ greatest ∷ [])) (place_from-first (i + 1) n x ns (ap (λ m. is_there m ns) (same.0 e) ∙ t) e ∙ omega arith)
-marked_first i x n ns None false t e = ap (λ k. k ∷ (next_places (i + 1) ns ++ greatest ∷ [])) (place_from-other (i + 1) n x ns e)
+    ap (λ k. k ∷ (next_places (i + 1) ns ++ greatest_count ∷ [])) (place_from-first (i + 1) n x ns (ap (λ m. is_there m ns) (same.0 e) ∙ t) e ∙ omega arith)
+marked_first i x n ns None false t e = ap (λ k. k ∷ (next_places (i + 1) ns ++ greatest_count ∷ [])) (place_from-other (i + 1) n x ns e)
 
-next_places-push : (i : ℕ) (x : List ℕ) (ns : List (List ℕ)) → next_places i (ns ++ x ∷ []) ≡ marked (next_places i ns) (last_place x ns) (i + length ns) ++ greatest ∷ []
+next_places-push : (i : ℕ) (x : List ℕ) (ns : List (List ℕ)) → next_places i (ns ++ x ∷ []) ≡ marked (next_places i ns) (last_place x ns) (i + length ns) ++ greatest_count ∷ []
 next_places-push i x [] = refl
 next_places-push i x (n ∷ ns) =
     let e : i + 1 + length ns ≡ i + suc (length ns) = omega arith in
-    ap (λ t. place_from (i + 1) n (ns ++ x ∷ []) ∷ t) (next_places-push (i + 1) x ns ∙ ap (λ k. marked (next_places (i + 1) ns) (last_place x ns) k ++ greatest ∷ []) e)
+    ap (λ t. place_from (i + 1) n (ns ++ x ∷ []) ∷ t) (next_places-push (i + 1) x ns ∙ ap (λ k. marked (next_places (i + 1) ns) (last_place x ns) k ++ greatest_count ∷ []) e)
     ∙ marked_first i x n ns (last_place x ns) (bytes_eq n x) (is_there-last x ns) refl
 
 -- one name more, whose last place is known
-pub next_places-more : (x : List ℕ) (ns : List (List ℕ)) (o : Option ℕ) → last_place x ns ≡ o → next_places 0 (ns ++ x ∷ []) ≡ marked (next_places 0 ns) o (length ns) ++ greatest ∷ []
+pub next_places-more : (x : List ℕ) (ns : List (List ℕ)) (o : Option ℕ) → last_place x ns ≡ o → next_places 0 (ns ++ x ∷ []) ≡ marked (next_places 0 ns) o (length ns) ++ greatest_count ∷ []
 next_places-more x ns o e =
     let none : 0 + length ns ≡ length ns = omega arith in
-    next_places-push 0 x ns ∙ ap (λ q. marked (next_places 0 ns) q (0 + length ns) ++ greatest ∷ []) e ∙ ap (λ k. marked (next_places 0 ns) o k ++ greatest ∷ []) none
+    next_places-push 0 x ns ∙ ap (λ q. marked (next_places 0 ns) q (0 + length ns) ++ greatest_count ∷ []) e ∙ ap (λ k. marked (next_places 0 ns) o k ++ greatest_count ∷ []) none
 
 pub length-next_places : (i : ℕ) (ns : List (List ℕ)) → length (next_places i ns) ≡ length ns
 length-next_places i [] = refl

@@ -11,7 +11,7 @@ use Rattle.std.proofs.Math.Utf8.{low_scalar}
 use Rattle.std.specs.Char.{encode_utf8}
 use Rattle.std.specs.List.{list_all}
 use Rattle.std.specs.Str.Pattern.{FindsCharPrefix, FindsPrefixBy, HasCharAt, CutsPrefixes, IsTrimStartMatches}
-use Rattle.naga_oil_mini.specs.Symbols.{Symbol, Piece, run, byte, is_name_char, begins_with_name_char, extended, pieces, symbols_of, before, word, opening, sign, symbol_of, line_of}
+use Rattle.naga_oil_mini.specs.Symbols.{Symbol, Piece, run, byte, is_name_char, begins_with_name_char, extended, pieces, symbols_of, symbol_before, word, opening, sign, symbol_of, line_of}
 use Rattle.std.specs.Option.{IfSome}
 use Rattle.naga_oil_mini.specs.SymbolSplits.{StandsBehindRun, Begins}
 use Rattle.naga_oil_mini.specs.declared.mini.symbol.Symbol.{Symbol as SymbolOfCode}
@@ -103,10 +103,10 @@ NotOpened [] = Unit {0}
 NotOpened (run r ∷ ps) = Unit {0}
 NotOpened (byte b ∷ ps) = eqb b 40 ≡ false
 
-symbols_unopened : (r : List ℕ) (ps : List Piece) → NotOpened ps → symbols_of (run r ∷ ps) ≡ before (word r) (symbols_of ps)
+symbols_unopened : (r : List ℕ) (ps : List Piece) → NotOpened ps → symbols_of (run r ∷ ps) ≡ symbol_before (word r) (symbols_of ps)
 symbols_unopened r [] h = refl
 symbols_unopened r (run s ∷ ps) h = refl
-symbols_unopened r (byte b ∷ ps) h = ap (λ t. cond t (before (opening r) (symbols_of ps)) (before (word r) (symbols_of (byte b ∷ ps)))) h
+symbols_unopened r (byte b ∷ ps) h = ap (λ t. cond t (symbol_before (opening r) (symbols_of ps)) (symbol_before (word r) (symbols_of (byte b ∷ ps)))) h
 
 NotOpened-extended : (b : ℕ) (ps : List Piece) → NotOpened (extended b ps)
 NotOpened-extended b [] = tt
@@ -121,11 +121,11 @@ NotOpened-pieces (b ∷ bs) h k =
       | false ↦ let space : eqb b 32 ≡ false = grind (arith, nat_tests) in let opened : eqb b 40 ≡ false = grind (arith, nat_tests) in subst (λ t. NotOpened (cond t (pieces bs) (byte b ∷ pieces bs))) (sym space) opened
     ]
 
-pub symbols_behind_run : (r text : List ℕ) → get_or text 0 0 ≢ 32 → ((rest : List ℕ) → text ≢ 40 ∷ rest) → symbols_of (run r ∷ pieces text) ≡ before (word r) (symbols_of (pieces text))
+pub symbols_behind_run : (r text : List ℕ) → get_or text 0 0 ≢ 32 → ((rest : List ℕ) → text ≢ 40 ∷ rest) → symbols_of (run r ∷ pieces text) ≡ symbol_before (word r) (symbols_of (pieces text))
 symbols_behind_run r text h k = symbols_unopened r (pieces text) (NotOpened-pieces text h (not_first 40 text (omega arith) k))
 
-pub symbols_behind_opening : (r text rest : List ℕ) (n : ℕ) → HasCharAt 40 text 0 n → rest ≡ drop n text → symbols_of (run r ∷ pieces text) ≡ before (opening r) (symbols_of (pieces rest))
-symbols_behind_opening r text rest n at e = ap (λ t. symbols_of (run r ∷ pieces t)) (drop_at_char 40 text 0 n at (omega arith)) ∙ ap (λ t. before (opening r) (symbols_of (pieces t))) (sym e)
+pub symbols_behind_opening : (r text rest : List ℕ) (n : ℕ) → HasCharAt 40 text 0 n → rest ≡ drop n text → symbols_of (run r ∷ pieces text) ≡ symbol_before (opening r) (symbols_of (pieces rest))
+symbols_behind_opening r text rest n at e = ap (λ t. symbols_of (run r ∷ pieces t)) (drop_at_char 40 text 0 n at (omega arith)) ∙ ap (λ t. symbol_before (opening r) (symbols_of (pieces t))) (sym e)
 
 Match-weaker : {X : Type 0} (found : Option X) (P : Type 0) (Q R : X → Type 0) → MatchOption found P Q → ((x : X) → Q x → R x) → MatchOption found P R
 Match-weaker None P Q R h f = h
@@ -139,7 +139,7 @@ Begins-run text rest (b ∷ r) behind found s is some same bound h =
     let front : b ∷ r ≡ s.front = append_cancel_right (b ∷ r) s.front rest (sym is ∙ s.bytes) in
     let cut : pieces text ≡ run (b ∷ r) ∷ pieces behind = ap pieces is ∙ pieces_run b r rest (ap (list_all is_name_char) front ∙ s.passing) s.ends ∙ ap (λ ps. run (b ∷ r) ∷ ps) (sym same) in
     let len : length behind + 1 ≤ length text = omega (arith, ap length is, length-append (b ∷ r) rest) in
-    Match-weaker found _ (λ r. (symbols_of (pieces text) ≡ before (Some (symbol_of r.0)) (symbols_of (pieces r.1.now))) × (length r.1.now < length behind + 1)) (λ r. (symbols_of (pieces text) ≡ before (Some (symbol_of r.0)) (symbols_of (pieces r.1.now))) × (length r.1.now < length text)) (subst (λ ps. Begins ps (length behind + 1) found) (sym cut) h) (λ p q. (q.0, omega (arith, q.1, len)))
+    Match-weaker found _ (λ r. (symbols_of (pieces text) ≡ symbol_before (Some (symbol_of r.0)) (symbols_of (pieces r.1.now))) × (length r.1.now < length behind + 1)) (λ r. (symbols_of (pieces text) ≡ symbol_before (Some (symbol_of r.0)) (symbols_of (pieces r.1.now))) × (length r.1.now < length text)) (subst (λ ps. Begins ps (length behind + 1) found) (sym cut) h) (λ p q. (q.0, omega (arith, q.1, len)))
 
 sign-none : (b : ℕ) → 128 ≤ b → sign b ≡ None
 sign-none b h =
@@ -158,12 +158,12 @@ Begins-byte (b ∷ bs) rest more c s same begins e none some =
     let space : eqb b 32 ≡ false = grind (arith, nat_tests) in
     ap symbols_of (ap (λ t. cond t (cond (begins_with_name_char bs) (extended b (pieces bs)) (run (b ∷ []) ∷ pieces bs)) (cond (eqb b 32) (pieces bs) (byte b ∷ pieces bs))) plain
     ∙ ap (λ t. cond t (pieces bs) (byte b ∷ pieces bs)) space)
-    ∙ ap (λ o. before o (symbols_of (pieces bs))) (elim (cases_lt b 128) as (λ _. sign b ≡ None) [
+    ∙ ap (λ o. symbol_before o (symbols_of (pieces bs))) (elim (cases_lt b 128) as (λ _. sign b ≡ None) [
       | inl h ↦ ap sign (sym (first_is b bs more c e h)) ∙ none
       | inr h ↦ sign-none b h
     ])
 
 -- one symbol more
-pub symbols_more : (done : List SymbolOfCode) (s : SymbolOfCode) (o : Option (List Symbol)) → option_map (λ more. line_of (done ++ s ∷ []) ++ more) o ≡ option_map (λ more. line_of done ++ more) (before (Some (symbol_of s)) o)
+pub symbols_more : (done : List SymbolOfCode) (s : SymbolOfCode) (o : Option (List Symbol)) → option_map (λ more. line_of (done ++ s ∷ []) ++ more) o ≡ option_map (λ more. line_of done ++ more) (symbol_before (Some (symbol_of s)) o)
 symbols_more done s None = refl
 symbols_more done s (Some ss) = ap Some (ap (λ l. l ++ ss) (map-append symbol_of done (s ∷ [])) ∙ append_assoc (line_of done) (symbol_of s ∷ []) ss)

@@ -12,7 +12,7 @@ use Rattle.naga_oil_ir.specs.declared.tokens.Token.TheVariants.{At, Head, Use, G
 use Rattle.naga_oil_mini.specs.Items.{◌>>=◌}
 use Rattle.naga_oil_mini.specs.Names.{last_place}
 use Rattle.naga_oil_mini.specs.Order.{anywhere, name_used, bounds_used}
-use Rattle.naga_oil_mini.specs.Symbols.{Symbol, name, opens, number, plus, comma, closes, greatest, symbol_of, line_of}
+use Rattle.naga_oil_mini.specs.Symbols.{Symbol, name, opens, number, plus, comma, closes, greatest_number, symbol_of, line_of}
 use Rattle.naga_oil_mini.specs.declared.mini.body_reader.Shape.{Shape}
 use Rattle.naga_oil_mini.specs.declared.mini.body_reader.Shape.TheVariants.{Number, Argument, Constant, CallOf, Sum, Other}
 use Rattle.naga_oil_mini.specs.declared.mini.body_reader.Part.{Part as PartOfCode}
@@ -23,7 +23,7 @@ use Rattle.naga_oil_mini.specs.declared.mini.order.Items.{Items}
 
 -- ---- expressions
 abbrev pub literal_shape : List ℕ → Shape
-literal_shape (k ∷ n ∷ []) = if (k == 1) && nat_le n greatest then Number n else Other
+literal_shape (k ∷ n ∷ []) = if (k == 1) && nat_le n greatest_number then Number n else Other
 literal_shape ns = Other
 
 abbrev pub sum_shape : List ℕ → List (Option ℕ) → Shape
@@ -104,8 +104,8 @@ abbrev pub is_absent : Option ℕ → Bool
 is_absent None = true
 is_absent (Some p) = false
 
-abbrev pub parameter : List (List ℕ) → ℕ → Option Symbol
-parameter ps k = slice_get ps k >>= λ n. if is_place k (last_place n ps) then Some (name n) else None
+abbrev pub parameter_symbol : List (List ℕ) → ℕ → Option Symbol
+parameter_symbol ps k = slice_get ps k >>= λ n. if is_place k (last_place n ps) then Some (name n) else None
 
 abbrev pub constant : Context → ℕ → Option Symbol
 constant x c = name_used x.constants c >>= λ n. if is_absent (last_place n x.parameters) then Some (name n) else None
@@ -128,7 +128,7 @@ with_call h f r = name_used r.context.functions f >>= λ n. past_call f h r.toke
 -- a term that is no call
 abbrev pub with_leaf : Shape → Reading → Option Reading
 with_leaf (Number n) r = Some (with_symbol (number n) r)
-with_leaf (Argument k) r = option_map (λ s. with_symbol s r) (parameter r.context.parameters k)
+with_leaf (Argument k) r = option_map (λ s. with_symbol s r) (parameter_symbol r.context.parameters k)
 with_leaf (Constant c) r = option_map (λ s. with_symbol s (use_constant c r)) (constant r.context c)
 with_leaf s r = None
 

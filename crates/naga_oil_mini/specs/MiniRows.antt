@@ -22,10 +22,10 @@ use Rattle.naga_oil_mini.specs.Words.{added_import, asked}
 use Rattle.naga_oil_mini.specs.Writer.{header_text, body_line, function_text, entry_text, items_text, module_text}
 use Rattle.naga_oil_mini.specs.declared.mini.words.Task.TheVariants.{Preprocess, Make}
 
--- `unfolding texts` lets `refl` compute what texts say and are
-unfoldable texts : Unit {0}
+-- `unfolding rows_unfold` lets `refl` compute what texts say and are
+unfoldable rows_unfold : Unit {0}
 unfolding is_name defined_value read_u32 read_i32 read_bool with_line parsed sum_of has_order body_line function_text entry_text items_text module_text digits trim_start chars encode ucd_perl
-texts = tt
+rows_unfold = tt
 
 -- ---- words
 pub pre_of_a_file : asked (codes "pre" ∷ codes "K=2" ∷ codes "t.txt" ∷ []) ≡ Some (record { task = Preprocess; files = codes "t.txt" ∷ []; imports = [] })
@@ -51,75 +51,75 @@ definition_first = refl
 
 -- ---- definitions
 pub number_given : definition_word (codes "K=2") ≡ Some (codes "K", def.UInt 2)
-unfolding texts
+unfolding rows_unfold
 number_given = refl
 
 pub nothing_given : definition_word (codes "K=") ≡ Some (codes "K", def.Bool true)
-unfolding texts
+unfolding rows_unfold
 nothing_given = refl
 
 pub below_zero : definition_word (codes "K=-2") ≡ Some (codes "K", def.Int (negsuc 1))
-unfolding texts
+unfolding rows_unfold
 below_zero = refl
 
 pub sign_plus : definition_word (codes "A=+1") ≡ None
-unfolding texts
+unfolding rows_unfold
 sign_plus = refl
 
 pub no_name : definition_word (codes "=1") ≡ None
-unfolding texts
+unfolding rows_unfold
 no_name = refl
 
 pub later_equals : definition_word (codes "A=1=2") ≡ None
-unfolding texts
+unfolding rows_unfold
 later_equals = refl
 
 pub in_turn : defined_by none_defined (codes "K=2" ∷ codes "t.txt" ∷ codes "K=" ∷ []) ≡ Ok (with_definition (with_definition none_defined (codes "K") (def.UInt 2)) (codes "K") (def.Bool true))
-unfolding texts
+unfolding rows_unfold
 in_turn = refl
 
 pub first_bad : defined_by none_defined (codes "A=" ∷ codes "B=x1" ∷ codes "C=x2" ∷ []) ≡ Err (codes "B=x1")
-unfolding texts
+unfolding rows_unfold
 first_bad = refl
 
 -- ---- lines
 pub symbols_row : symbols (codes "fn  f ( x ,y )=x+ 007") ≡ Some (name (codes "fn") ∷ opens (codes "f") ∷ name (codes "x") ∷ comma ∷ name (codes "y") ∷ closes ∷ equals ∷ name (codes "x") ∷ plus ∷ number 7 ∷ [])
-unfolding texts
+unfolding rows_unfold
 symbols_row = refl
 
-pub greatest_number : symbols (codes "2147483647") ≡ Some (number 2147483647 ∷ [])
-unfolding texts
-greatest_number = refl
+pub greatest_number_row : symbols (codes "2147483647") ≡ Some (number 2147483647 ∷ [])
+unfolding rows_unfold
+greatest_number_row = refl
 
 pub number_too_great : symbols (codes "2147483648") ≡ None
-unfolding texts
+unfolding rows_unfold
 number_too_great = refl
 
 pub digit_first : symbols (codes "2x") ≡ None
-unfolding texts
+unfolding rows_unfold
 digit_first = refl
 
 pub last_of_equal_names : last_place (codes "x") (codes "x" ∷ codes "y" ∷ codes "x" ∷ codes "z" ∷ []) ≡ Some 2
 last_of_equal_names = refl
 
 pub comment_is_skipped : is_skipped (codes "  // x") ≡ true
-unfolding texts
+unfolding rows_unfold
 comment_is_skipped = refl
 
 pub constant_row : with_line (codes "const N = 3") undefined start ≡ Ok (with_constant (codes "N") 3 undefined start)
-unfolding texts
+unfolding rows_unfold
 constant_row = refl
 
 pub unknown_name : with_line (codes "fn f(x) = x + g(N)") undefined start ≡ Err (unknown (codes "g"))
-unfolding texts
+unfolding rows_unfold
 unknown_name = refl
 
 pub no_sum : with_line (codes "fn f(x) = x +") undefined start ≡ Err not_understood
-unfolding texts
+unfolding rows_unfold
 no_sum = refl
 
 pub no_keyword : with_line (codes "let x = 1") undefined start ≡ Err not_understood
-unfolding texts
+unfolding rows_unfold
 no_keyword = refl
 
 -- ---- what is written
@@ -131,17 +131,26 @@ abbrev pub rewritten : List ℕ → Result (Option (List ℕ)) FaultValue
 rewritten text = elim (parsed text) [ Ok m ↦ Ok (module_text m) | Err f ↦ Err f ]
 
 pub constant_again : rewritten (codes "const N = 007") ≡ Ok (Some (codes "const N = 7" ++ 10 ∷ []))
-unfolding texts
+unfolding rows_unfold
 constant_again = refl
 
 pub sum_again : rewritten (codes " fn f(x,y)=x+1") ≡ Ok (Some (codes "fn f(x, y) = x + 1" ++ 10 ∷ []))
-unfolding texts
+unfolding rows_unfold
 sum_again = refl
 
 pub stub_and_call_again : rewritten (codes "fn f(x)" ++ 10 ∷ codes "entry main = f(f(1)+2)") ≡ Ok (Some (codes "fn f(x)" ++ 10 ∷ codes "entry main = f(f(1) + 2)" ++ 10 ∷ []))
-unfolding texts
+unfolding rows_unfold
 stub_and_call_again = refl
 
 pub second_line_refused : rewritten (codes "fn f(x)" ++ 10 ∷ codes "fn g() = h(1)") ≡ Err (record { message = codes "unknown name h"; spans = (record { start = 8; end = 21 }, []) ∷ []; notes = [] })
-unfolding texts
+unfolding rows_unfold
 second_line_refused = refl
+
+-- ---- spans of lines that end in `\r\n`
+pub lines_behind_returns : parsed (codes "const N = 3" ++ 13 ∷ 10 ∷ codes "const M = 4" ++ 13 ∷ 10 ∷ []) ≡ Ok (with_constant (codes "M") 4 (record { start = 13; end = 24 }) (with_constant (codes "N") 3 (record { start = 0; end = 11 }) start))
+unfolding rows_unfold
+lines_behind_returns = refl
+
+pub fault_behind_return : rewritten (codes "const N = 3" ++ 13 ∷ 10 ∷ codes "nonsense") ≡ Err (record { message = message not_understood; spans = (record { start = 13; end = 21 }, []) ∷ []; notes = [] })
+unfolding rows_unfold
+fault_behind_return = refl

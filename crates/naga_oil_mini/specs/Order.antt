@@ -5,13 +5,13 @@ use Rattle.naga_oil_mini.specs.declared.mini.order.Bounds.{Bounds}
 use Rattle.naga_oil_mini.specs.declared.mini.order.Room.{Room}
 
 -- the greatest u64
-abbrev pub greatest : ℕ
-greatest = 18446744073709551615
+abbrev pub greatest_count : ℕ
+greatest_count = 18446744073709551615
 
 -- ---- items of one name
 -- the place of the first equal name, where the list begins at a place
 abbrev pub place_from : ℕ → List ℕ → List (List ℕ) → ℕ
-place_from i n [] = greatest
+place_from i n [] = greatest_count
 place_from i n (m ∷ ms) = if bytes_eq n m then i else place_from (i + 1) n ms
 
 -- for each name the place of the next equal one, where the list begins at a place
@@ -22,7 +22,7 @@ next_places i (n ∷ ns) = place_from (i + 1) n ns ∷ next_places (i + 1) ns
 -- ---- what a line names
 -- nothing
 abbrev pub any : Bounds
-any = record { least = 0; most = greatest }
+any = record { least = 0; most = greatest_count }
 
 abbrev pub anywhere : Room
 anywhere = record { constants = any; functions = any }
@@ -69,4 +69,4 @@ fit (suc n) c fs es = elim (take_last fs es) [ None ↦ true | Some t ↦ fits t
 
 -- an entry point that may stand last is put there, else a function: a line that may stand last may do so also behind others
 unfoldable pub has_order : List Room → List Room → Bool
-has_order fs es = fit (length fs + length es) greatest (reverse (needing 0 fs)) (reverse es)
+has_order fs es = fit (length fs + length es) greatest_count (reverse (needing 0 fs)) (reverse es)

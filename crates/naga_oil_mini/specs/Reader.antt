@@ -1,8 +1,8 @@
 -- What a text of Mini says, line by line.
 use Rattle.std.specs.Prelude.{◌≡◌, ℕ, ◌+◌, min, Bool, ◌||◌, ◌==◌, if◌then◌else◌, List, [], ◌∷◌, ◌++◌, length, map, Option, Some, None, unwrap_or, Result, Ok, Err, codes, bytes_eq, nat_eq}
-use Rattle.std.specs.List.{starts_with, list_any}
+use Rattle.std.specs.List.{starts_with, list_any, slice_split, position_or_len, before_first, after_first}
 use Rattle.std.specs.Str.{trim_start}
-use Rattle.std.specs.Str.Lines.{lines}
+use Rattle.std.specs.Str.Lines.{strip_carriage_return}
 use Rattle.naga_oil_ir.specs.Parts.{Parts}
 use Rattle.naga_oil_ir.specs.Rows.{Row, row, TypeKind, ConstantKind}
 use Rattle.naga_oil_ir.specs.Body.{Tokens}
@@ -84,9 +84,9 @@ parameters_from (name p ∷ comma ∷ ss) = parameters_from ss >> λ r. Ok (p �
 parameters_from ss = Err not_understood
 
 -- the same, or the `)` alone
-abbrev pub parameters : List Symbol → Result (List (List ℕ) × List Symbol) LineFault
-parameters (closes ∷ ss) = Ok ([], ss)
-parameters ss = parameters_from ss
+abbrev pub read_parameters : List Symbol → Result (List (List ℕ) × List Symbol) LineFault
+read_parameters (closes ∷ ss) = Ok ([], ss)
+read_parameters ss = parameters_from ss
 
 -- `NAME = INT`
 abbrev pub constant_line : List Symbol → Span → ModuleValue → Result ModuleValue LineFault
@@ -95,7 +95,7 @@ constant_line xs at m = Err not_understood
 
 -- the function of a name and the symbols behind its `(`
 abbrev pub declared : List ℕ → List Symbol → Span → ModuleValue → Result FunctionValue LineFault
-declared n xs at m = parameters xs >> λ p. function n p.0 p.1 at m
+declared n xs at m = read_parameters xs >> λ p. function n p.0 p.1 at m
 
 -- `NAME(P, ..) = EXPR` and `NAME(P, ..)`
 abbrev pub function_line : List Symbol → Span → ModuleValue → Result ModuleValue LineFault
@@ -135,27 +135,41 @@ with_line line at m = if is_skipped line then Ok m else understood (symbols line
 abbrev pub capped : ℕ → ℕ
 capped k = min k 4294967295
 
--- the span of a line that begins at a place, and where the next one begins
+-- the span of a line that begins at a place
 abbrev pub span_at : ℕ → List ℕ → Span
-span_at at line = record { start = at; end = capped (at + length line) }
+span_at at line = record { start = capped at; end = capped (at + length line) }
 
-abbrev pub next_start : ℕ → List ℕ → ℕ
-next_start at line = capped (at + length line + 1)
+-- the lines of what stands between `\n`s, each with its place: a `\r` before a `\n` is no part of its line, but its
+-- byte counts in the places behind it, and nothing behind the last `\n` is no line
+abbrev pub placed : ℕ → List (List ℕ) → List (ℕ × List ℕ)
+placed at [] = []
+placed at (part ∷ []) = if length part == 0 then [] else (at, part) ∷ []
+placed at (part ∷ more ∷ parts) = (at, strip_carriage_return part) ∷ placed (at + length part + 1) (more ∷ parts)
+
+-- the lines of a text whose first byte has a place
+abbrev pub placed_lines : ℕ → List ℕ → List (ℕ × List ℕ)
+placed_lines at text = placed at (slice_split (λ b. b == 10) text)
 
 -- a fault of a line: its span, with an empty text, and no notes
 abbrev pub fault_at : Span → LineFault → FaultValue
 fault_at at f = record { message = message f; spans = (at, []) ∷ []; notes = [] }
 
--- a module with the lines from a place on; the first line with a fault is answered
-abbrev pub with_lines : ℕ → List (List ℕ) → ModuleValue → Result ModuleValue FaultValue
-with_lines at [] m = Ok m
-with_lines at (l ∷ ls) m = elim (with_line l (span_at at l) m) [ Ok n ↦ with_lines (next_start at l) ls n | Err f ↦ Err (fault_at (span_at at l) f) ]
+-- a module with the items of placed lines more; the first line with a fault is answered
+abbrev pub with_lines : List (ℕ × List ℕ) → ModuleValue → Result ModuleValue FaultValue
+with_lines [] m = Ok m
+with_lines (l ∷ ls) m = elim (with_line l.1 (span_at l.0 l.1) m) [ Ok n ↦ with_lines ls n | Err f ↦ Err (fault_at (span_at l.0 l.1) f) ]
 
 -- what a text says
 unfoldable pub parsed : List ℕ → Result ModuleValue FaultValue
-parsed text = with_lines 0 (lines text) start
+parsed text = with_lines (placed_lines 0 text) start
 
 -- ---- as the code has them
+-- a text's first line and what is behind its end
+abbrev pub first_line : List ℕ → List ℕ × List ℕ
+first_line text =
+    if position_or_len (λ b. b == 10) text == length text then (text, [])
+    else (strip_carriage_return (before_first (λ b. b == 10) text), after_first (λ b. b == 10) text)
+
 abbrev pub arguments_of : List FunctionArgument → List ArgumentValue
 arguments_of xs = map argument_value xs
 

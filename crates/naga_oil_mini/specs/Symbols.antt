@@ -46,12 +46,12 @@ abbrev pub is_name : List ℕ → Bool
 is_name bs = (not (length bs == 0) && not (is_ascii_digit (slice_index bs 0))) && list_all is_name_char bs
 
 -- the greatest number
-abbrev pub greatest : ℕ
-greatest = 2147483647
+abbrev pub greatest_number : ℕ
+greatest_number = 2147483647
 
 abbrev pub number_from : Option ℕ → Option Symbol
 number_from None = None
-number_from (Some n) = if nat_lt greatest n then None else Some (number n)
+number_from (Some n) = if nat_lt greatest_number n then None else Some (number n)
 
 -- the symbol of a run: a name, or a number that isn't too great
 abbrev pub word : List ℕ → Option Symbol
@@ -70,18 +70,18 @@ sign b =
     else (if b == 41 then Some closes else None)))
 
 -- a symbol before others
-abbrev pub before : Option Symbol → Option (List Symbol) → Option (List Symbol)
-before (Some s) (Some ss) = Some (s ∷ ss)
-before (Some s) None = None
-before None o = None
+abbrev pub symbol_before : Option Symbol → Option (List Symbol) → Option (List Symbol)
+symbol_before (Some s) (Some ss) = Some (s ∷ ss)
+symbol_before (Some s) None = None
+symbol_before None o = None
 
 -- the symbols of pieces, if each of them is one
 abbrev pub symbols_of : List Piece → Option (List Symbol)
 symbols_of [] = Some []
-symbols_of (run r ∷ []) = before (word r) (Some [])
-symbols_of (run r ∷ run s ∷ ps) = before (word r) (symbols_of (run s ∷ ps))
-symbols_of (run r ∷ byte b ∷ ps) = if b == 40 then before (opening r) (symbols_of ps) else before (word r) (symbols_of (byte b ∷ ps))
-symbols_of (byte b ∷ ps) = before (sign b) (symbols_of ps)
+symbols_of (run r ∷ []) = symbol_before (word r) (Some [])
+symbols_of (run r ∷ run s ∷ ps) = symbol_before (word r) (symbols_of (run s ∷ ps))
+symbols_of (run r ∷ byte b ∷ ps) = if b == 40 then symbol_before (opening r) (symbols_of ps) else symbol_before (word r) (symbols_of (byte b ∷ ps))
+symbols_of (byte b ∷ ps) = symbol_before (sign b) (symbols_of ps)
 
 -- the symbols of a line
 abbrev pub symbols : List ℕ → Option (List Symbol)

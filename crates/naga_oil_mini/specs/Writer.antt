@@ -48,16 +48,16 @@ abbrev pub cons_some : {A : Type 0} → Option A → Option (List A) → Option 
 cons_some o os = o >>= λ x. option_map (λ xs. x ∷ xs) os
 
 -- a parameter has the one type and no binding
-abbrev pub parameter : ArgumentValue → Option (List ℕ)
-parameter a = if (a.ty == 0) && is_none a.binding then valid_name a.name else None
+abbrev pub parameter_word : ArgumentValue → Option (List ℕ)
+parameter_word a = if (a.ty == 0) && is_none a.binding then valid_name a.name else None
 
-abbrev pub parameters : List ArgumentValue → Option (List (List ℕ))
-parameters [] = Some []
-parameters (a ∷ xs) = cons_some (parameter a) (parameters xs)
+abbrev pub parameter_words : List ArgumentValue → Option (List (List ℕ))
+parameter_words [] = Some []
+parameter_words (a ∷ xs) = cons_some (parameter_word a) (parameter_words xs)
 
-abbrev pub function_names : List (FunctionValue × Span) → Option (List (List ℕ))
-function_names [] = Some []
-function_names (f ∷ fs) = cons_some (valid_name f.0.name) (function_names fs)
+abbrev pub function_words : List (FunctionValue × Span) → Option (List (List ℕ))
+function_words [] = Some []
+function_words (f ∷ fs) = cons_some (valid_name f.0.name) (function_words fs)
 
 -- ---- constants
 -- the place of a constant's initialiser, if it is of the one type
@@ -130,7 +130,7 @@ header_text n ps = codes "fn " ++ n ++ codes "(" ++ parameters_text ps ++ codes 
 unfoldable pub function_text : Items → FunctionValue → Option (List ℕ × Room)
 function_text i f = do
   n ← valid_name f.name
-  ps ← parameters f.arguments
+  ps ← parameter_words f.arguments
   b ← body_line i ps f
   Some (header_text n ps ++ b.0, b.1)
 
@@ -195,7 +195,7 @@ is_plain_module m =
 unfoldable pub items_text : ModuleValue → Option (List ℕ × Items)
 items_text m = do
   cs ← constants_text m.global_expressions m.constants
-  ns ← function_names m.functions
+  ns ← function_words m.functions
   Some (cs.0, record { constants = cs.1; functions = ns })
 
 -- the text of a module, if it has one: a line each, which have an order in which each name means its item

@@ -169,8 +169,8 @@ impl<'t, 'm> BodyReader<'t, '_, 'm> {
     }
 
     // The name that means a parameter.
-    fn parameter(&self, place: usize) -> Option<Symbol<'m>>
-        ensures { option_map symbol_of result ≡ spec.parameter (spec.context_of self.now).parameters place }
+    fn parameter_symbol(&self, place: usize) -> Option<Symbol<'m>>
+        ensures { option_map symbol_of result ≡ spec.parameter_symbol (spec.context_of self.now).parameters place }
     {
         let name = *self.parameters.texts().get(place)?;
         (self.parameters.place(name) == Some(place)).then_some(Symbol::Name(name))
@@ -196,7 +196,7 @@ impl<'t, 'm> BodyReader<'t, '_, 'm> {
             Shape::CallOf(function) => return self.read_call(place, function),
             Shape::Sum(left, right) if may_be_sum => return self.read_sum(place, left, right),
             Shape::Number(value) => Some(Symbol::Number(value)),
-            Shape::Argument(parameter) => self.parameter(parameter as usize),
+            Shape::Argument(parameter) => self.parameter_symbol(parameter as usize),
             Shape::Constant(constant) => self.constant(constant),
             _ => None,
         };

@@ -46,11 +46,11 @@ fn is_skipped(line: &str) -> bool
 }
 
 // The parameters that a line's symbols begin with, up to `)`, and what follows.
-fn parameters<'s, 'a>(
+fn read_parameters<'s, 'a>(
     alloc: Global,
     symbols: &'s [Symbol<'a>],
 ) -> Result<(Names<'a>, &'s [Symbol<'a>]), Refusal<'a>>
-    ensures { Gives (λ r. (r.0, line_of r.1.now)) result (spec.parameters (line_of symbols.now)) }
+    ensures { Gives (λ r. (r.0, line_of r.1.now)) result (spec.read_parameters (line_of symbols.now)) }
 {
     let mut names = Names::new(alloc);
     if let [Symbol::Closes, rest @ ..] = symbols {
@@ -165,7 +165,7 @@ impl<'a> Reader<'a> {
         let [Symbol::Opens(name), rest @ ..] = symbols else {
             return Err(Refusal::NotUnderstood);
         };
-        let (parameters, body) = parameters(self.alloc, rest)?;
+        let (parameters, body) = read_parameters(self.alloc, rest)?;
         let function = self.function(name, &parameters, body)?;
         self.module_.functions.append(function, self.span)?;
         Ok(self.functions.push(name)?)
@@ -238,23 +238,40 @@ fn fault_at(alloc: Global, refusal: Refusal<'_>, span: Span) -> Result<ParseFaul
     })
 }
 
+// A text's first line, without its end, and what is behind.
+fn first_line(text: &str) -> (&str, &str)
+    ensures { (result.0.now, result.1.now) ≡ spec.first_line text.now }
+{
+    match text.split_once('\n') {
+        Some((line, rest)) => (line.strip_suffix('\r').unwrap_or(line), rest),
+        None => (text, ""),
+    }
+}
+
+// A place in a text, which ends at the greatest `u32`.
+fn place(bytes: usize) -> u32
+    ensures { result ≡ spec.capped bytes }
+{
+    u32::try_from(bytes).unwrap_or(u32::MAX)
+}
+
 /// What a text says.
 #[tactic(auto, unfolding(crate::specs::Reader::parsed))]
 pub fn parsed(alloc: Global, text: &str) -> Result<Module, BackendRefusal<ParseFault>>
     ensures { Answers module_value parse_fault result (spec.parsed text.now) }
 {
     let mut reader = Reader::new(alloc)?;
-    let mut start = 0;
-    let mut lines = text.lines();
-    while let Some(line) = lines.next() {
-        let len = u32::try_from(line.len()).unwrap_or(u32::MAX);
-        let span = Span::new(start, start.saturating_add(len));
+    let mut rest = text;
+    while !rest.is_empty() {
+        let (line, behind) = first_line(rest);
+        let start = text.len() - rest.len();
+        let span = Span::new(place(start), place(start + line.len()));
         reader.span = span;
         if let Err(refusal) = reader.read(line) {
             let fault = fault_at(alloc, refusal, span)?;
             return Err(BackendRefusal::Fault(fault));
         }
-        start = span.end.saturating_add(1);
+        rest = behind;
     }
     Ok(reader.module_)
 }

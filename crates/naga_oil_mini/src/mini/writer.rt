@@ -51,8 +51,8 @@ fn valid_name(name: &Option<String>) -> Written<&str>
 }
 
 // The name of a parameter, which has the one type.
-fn parameter(argument: &FunctionArgument) -> Written<&str>
-    ensures { Finds (λ n. n.now) result (spec.parameter (argument_value argument.now)) }
+fn parameter_word(argument: &FunctionArgument) -> Written<&str>
+    ensures { Finds (λ n. n.now) result (spec.parameter_word (argument_value argument.now)) }
 {
     if argument.ty.index() != 0 || argument.binding.is_some() {
         return Err(NotWritten::NotInMini);
@@ -60,18 +60,18 @@ fn parameter(argument: &FunctionArgument) -> Written<&str>
     valid_name(&argument.name)
 }
 
-fn parameters<'m>(alloc: Global, arguments: &'m [FunctionArgument]) -> Written<Names<'m>>
-    ensures { Finds (λ n. n) result (spec.parameters (map argument_value arguments.now)) }
+fn parameter_words<'m>(alloc: Global, arguments: &'m [FunctionArgument]) -> Written<Names<'m>>
+    ensures { Finds (λ n. n) result (spec.parameter_words (map argument_value arguments.now)) }
 {
     let mut names = Names::new(alloc);
     for argument in arguments {
-        names.push(parameter(argument)?)?;
+        names.push(parameter_word(argument)?)?;
     }
     Ok(names)
 }
 
-fn function_names<'m>(alloc: Global, functions: &'m [(Function, Span)]) -> Written<Names<'m>>
-    ensures { Finds (λ n. n) result (spec.function_names (spec.function_values functions.now)) }
+fn function_words<'m>(alloc: Global, functions: &'m [(Function, Span)]) -> Written<Names<'m>>
+    ensures { Finds (λ n. n) result (spec.function_words (spec.function_values functions.now)) }
 {
     let mut names = Names::new(alloc);
     for function in functions {
@@ -165,7 +165,7 @@ impl<'m> Writer<'m> {
         ensures items { OnOk result (self.new.items ≡ self.old.items) }
     {
         let name = valid_name(&function.name)?;
-        let parameters = parameters(self.alloc, function.arguments.as_slice())?;
+        let parameters = parameter_words(self.alloc, function.arguments.as_slice())?;
         let texts = parameters.texts().join(self.alloc, ", ")?;
         write!(self.text, "fn {name}({texts})")?;
         self.push_body(&parameters, function)
@@ -241,7 +241,7 @@ fn begun(alloc: Global, of: &Module) -> Written<Writer<'_>>
 {
     let mut text = String::new(alloc);
     let constants = push_constants(alloc, &mut text, of)?;
-    let functions = function_names(alloc, of.functions.as_slice())?;
+    let functions = function_words(alloc, of.functions.as_slice())?;
     let items = Items {
         constants: ItemNames::new(alloc, constants)?,
         functions: ItemNames::new(alloc, functions)?,

@@ -201,6 +201,24 @@ fn reads_each_item(rt: HostRuntime) {
     has_stub(&rt, &read(&rt, "fn f(x)\nentry main = f(1)\n"));
 }
 
+// The constants of a text have these spans.
+fn spans_are(rt: &(impl Abort + AllocGlobal), text: &str, wanted: &[Span]) {
+    let read = read(rt, text);
+    assert_eq!(rt; read.constants.len(), wanted.len(), "in {text}");
+    for (found, span) in read.constants.as_slice().iter().zip(wanted) {
+        assert_eq!(rt; found.1, *span, "in {text}");
+    }
+}
+
+#[test]
+fn spans_lie_on_their_lines(rt: HostRuntime) {
+    let ends = [Span::new(0, 11), Span::new(13, 24)];
+    spans_are(&rt, "const N = 3\r\nconst M = 4\r\n", &ends);
+    spans_are(&rt, "const N = 3\r\nconst M = 4", &ends);
+    spans_are(&rt, "const N = 3\n\nconst M = 4\n", &ends);
+    spans_are(&rt, "\r\n  const N = 3\r\n", &[Span::new(2, 15)]);
+}
+
 fn has_form(
     rt: &(impl Abort + AllocGlobal),
     text: &str,

@@ -1,13 +1,15 @@
-use Rattle.std.proofs.Common.{◌≡◌}
-use Rattle.std.specs.Str.Lines.{lines}
-use Rattle.std.specs.Str.Iter.{lines_rest}
+use Rattle.std.proofs.Common.{◌≡◌, ◌≤◌, ◌-◌, length}
 use Rattle.naga_oil_ir.specs.ModuleValue.{module_value}
-use Rattle.naga_oil_mini.specs.Reader.{with_lines, start}
+use Rattle.naga_oil_mini.specs.Reader.{with_lines, placed_lines, start}
 use Rattle.naga_oil_mini.specs.Reader.{Knows}
 use Rattle.naga_oil_mini.proofs.mini.reader.parsed.Given as goal
 
-abbrev pub invariant-loop-line : goal.invariant-loop-line
-invariant-loop-line l = record {
-  whole : with_lines l.start (lines (lines_rest l.lines)) (module_value l.reader.module_) ≡ with_lines 0 (lines l.text) start;
+abbrev pub invariant-loop-rest : goal.invariant-loop-rest
+invariant-loop-rest l = record {
+  whole : with_lines (placed_lines (length l.text - length l.rest) l.rest) (module_value l.reader.module_) ≡ with_lines (placed_lines 0 l.text) start;
+  within : length l.rest ≤ length l.text;
   known : Knows l.reader;
 }
+
+abbrev pub decreases-loop-rest : goal.decreases-loop-rest
+decreases-loop-rest l = length l.rest

@@ -50,6 +50,10 @@ fn refuses_lines(rt: HostRuntime) {
         ("fn f() =\t1", 0, 10),
         ("fn f() = 1\t\n", 0, 11),
         ("fn f() = 1\r", 0, 11),
+        // A line ends in `\n` or `\r\n`, and both are counted.
+        ("const N = 3\r\nnonsense", 13, 21),
+        ("const N = 3\r\n\r\n\nnonsense\r\n", 16, 24),
+        ("const N = 3\r\nnonsense\r\r\n", 13, 22),
         ("const\u{a0}N = 1", 0, 12),
         ("\u{3000}const N = 1", 0, 14),
     ] {
