@@ -7,7 +7,7 @@ use Rattle.std.specs.Option.{MatchOption}
 use Rattle.std.specs.List.{slice_split, position_or_len, before_first, after_first}
 use Rattle.std.specs.Str.Lines.{strip_carriage_return}
 use Rattle.std.specs.Str.Pattern.{FindsCharSuffix}
-use Rattle.std.proofs.lemmas.Bool.{cases_lt}
+use Rattle.std.proofs.lemmas.Bool.{cases_lt, eqb-false}
 use Rattle.std.proofs.lemmas.List.{length-take, length-take-le}
 use Rattle.std.proofs.lemmas.Grind.{common_steps}
 use Rattle.std.proofs.lemmas.Str.Pattern.{strip_suffix_char}
@@ -91,3 +91,7 @@ first_begins at w x rest some e =
     let is : (x, rest) ≡ (w, []) = e ∙ ap (λ t. cond t (w, []) (strip_carriage_return (before_first ends w), after_first ends w)) (eq-eqb (position_or_len ends w) (length w) all) in
     subst (λ p. Begins at w p.0 p.1) (sym is) (last_begins at w some all))
     (cases_lt (position_or_len ends w) (length w))
+
+pub has_bytes : (w : List ℕ) (none : Bool) → none ≡ eqb (length w) 0 → none ≡ false → 0 < length w
+has_bytes [] none e h = absurd (eqb-false 0 0 (sym e ∙ h) refl)
+has_bytes (b ∷ w) none e h = omega arith

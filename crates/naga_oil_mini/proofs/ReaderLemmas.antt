@@ -1,5 +1,5 @@
 -- A text's lines, one by one.
-use Rattle.std.proofs.Common.{◌≡◌, ℕ, ◌<◌, ◌+◌, min, arith, List, ◌∷◌, length, Result, Ok, Err, ap, sym, ◌∙◌, [], ◌≢◌, refl, Bor, bytes_eq, codes, false}
+use Rattle.std.proofs.Common.{◌≡◌, ℕ, ◌<◌, ◌+◌, ◌-◌, min, arith, List, ◌∷◌, length, Result, Ok, Err, ap, sym, ◌∙◌, [], ◌≢◌, refl, Bor, bytes_eq, codes, false}
 use Rattle.naga_oil_ir.specs.ModuleValue.{ModuleValue}
 use Rattle.naga_oil_ir.specs.Backend.{FaultValue}
 use Rattle.naga_oil_ir.specs.declared.backend.BackendRefusal.TheVariants.{Memory}
