@@ -103,7 +103,7 @@ from_position E f d xs ys x sp h None at p q = (
   inr (p, q),
 )
 
-fetches_list : {X : Type 0} (E : X → X → Bool) (f : X → Row) → ((a b : X) → Decides (E a b) (f a ≡ f b)) → (xs ys : List (X × Span)) (x : X) (sp : Span) (h : ℕ) → h ≡ place_of (λ e. E x e.0) xs → ys ≡ with_element (λ e. E x e.0) xs (x, sp) → FetchesList f xs ys (f x) h × IsNew xs ys (x, sp) h
+pub fetches_list : {X : Type 0} (E : X → X → Bool) (f : X → Row) → ((a b : X) → Decides (E a b) (f a ≡ f b)) → (xs ys : List (X × Span)) (x : X) (sp : Span) (h : ℕ) → h ≡ place_of (λ e. E x e.0) xs → ys ≡ with_element (λ e. E x e.0) xs (x, sp) → FetchesList f xs ys (f x) h × IsNew xs ys (x, sp) h
 fetches_list E f d xs ys x sp h p q = from_position E f d xs ys x sp h (position (λ e. E x e.0) xs) refl p q
 
 -- ---- a module, of which one arena changes

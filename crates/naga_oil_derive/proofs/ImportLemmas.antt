@@ -137,7 +137,7 @@ among_split q x r a =
     ⊎_elim (λ h. inl (a.0, sym (slice_get-append_within q (x ∷ []) a.0 h) ∙ a.1)) (λ h. let i : a.0 ≡ length q = omega arith in inr (same_Some x r (sym (slice_get-append_at q x) ∙ ap (slice_get (q ++ x ∷ [])) (sym i) ∙ a.1))) (cases_lt a.0 (length q))
 
 -- what was answered before, and what is answered now
-was_more : (source : Module) (s t : State) (q : List Request) (x : Request) → ((r : Request) → Was source s r → Was source t r) → ((r : Request) → IsAmong q r → Was source s r) → Was source t x → (r : Request) → IsAmong (q ++ x ∷ []) r → Was source t r
+pub was_more : (source : Module) (s t : State) (q : List Request) (x : Request) → ((r : Request) → Was source s r → Was source t r) → ((r : Request) → IsAmong q r → Was source s r) → Was source t x → (r : Request) → IsAmong (q ++ x ∷ []) r → Was source t r
 was_more source s t q x f w h r a = ⊎_elim (λ i. f r (w r i)) (λ e. subst (Was source t) e h) (among_split q x r a)
 
 -- requests without repeats are answered as those with repeats are

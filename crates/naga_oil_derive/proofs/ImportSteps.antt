@@ -16,6 +16,7 @@ use Rattle.naga_oil_ir.specs.declared.names.ItemPlace.{ItemPlace}
 use Rattle.naga_oil_derive.specs.World.{shifted}
 use Rattle.naga_oil_derive.specs.Copying.{IsCopying, Grows, WentSomewhere, CollectsItem, goes_under, source_world}
 use Rattle.naga_oil_derive.specs.Callees.{known_as, known_at, callee_at}
+use Rattle.naga_oil_derive.specs.CopiedFunction.{copied_function}
 use Rattle.naga_oil_derive.specs.Functions.{Copies}
 use Rattle.naga_oil_derive.specs.Naming.{Thins, Ends, Keeps, Drops}
 use Rattle.naga_oil_derive.specs.Imported.{State, state, Imported, Ready, Copied, Called, FunctionImported, meanings, IsCallable, IsAnswerable, IsImportable, with_meaning, FunctionPut, FunctionsGrow}
@@ -60,13 +61,14 @@ known_more a b bs h f (Some n) i =
     ⊎_elim (λ y. ap is_some (f cs ∙ cond-true (bytes_eq bs cs) (Some h) (get_by_text a.names cs) y)) (λ y. ap is_some (f cs ∙ cond-false (bytes_eq bs cs) (Some h) (get_by_text a.names cs) y) ∙ i) (cases_Bool (bytes_eq bs cs))
 
 -- a copy that was put last under its name
-pub put_function : (source : Module) (f g : Function) (span : Span) (m : Maps) (t : Module) (a b : Functions) (h : ℕ) (n : String Global) → Copies (went_by m source a.names) (function_value f) (function_value g) → b.copies ≡ a.copies ++ (g, shifted m.offset span) ∷ [] → h ≡ length a.copies → Some (string_bytes n) ≡ option_map string_bytes f.name → Updates string_eq a.names b.names n (Some h) → b.names.entries ≡ insert_entry string_eq a.names.entries n h → FunctionPut source f span (state m t a) (state m t b) h
-put_function source f g span m t a b h n c e l is u i =
+pub put_function : (source : Module) (f g : Function) (span : Span) (m : Maps) (t : Module) (a b : Functions) (h : ℕ) (n : String Global) → Copies (went_by m source a.names) (function_value f) (function_value g) → function_value g ≡ copied_function (went_by m source a.names) (function_value f) → b.copies ≡ a.copies ++ (g, shifted m.offset span) ∷ [] → h ≡ length a.copies → Some (string_bytes n) ≡ option_map string_bytes f.name → Updates string_eq a.names b.names n (Some h) → b.names.entries ≡ insert_entry string_eq a.names.entries n h → FunctionPut source f span (state m t a) (state m t b) h
+put_function source f g span m t a b h n c made e l is u i =
     let own = named_from f.name (string_bytes n) is in
     let after = hash_map_updates_text (string_bytes n) a.names b.names (Some h) u in
     record {
       copy = g;
       copies = c;
+      made = made;
       put = e;
       place = l;
       named = ap meanings i ∙ meaning_put string_eq (λ x y. refl) a.names.entries n h ∙ ap (λ bs. insert_entry bytes_eq (meanings a.names.entries) bs h) (sym own.2) ∙ ap (λ (o : Option (String Global)). with_meaning o h (meanings a.names.entries)) (sym own.1);

@@ -5,6 +5,14 @@ pub mod FetchLemmas
 pub mod CopyLemmas
 pub mod CollectLemmas
 pub mod CopyOneLemmas
+pub mod EqualLemmas
+pub mod PutLemmas
+pub mod CopiedLemmas
+pub mod FunctionCopies
+pub mod AnsweredValues
+pub mod DerivedValues
+pub mod PutLaws
+pub mod SourceValues
 pub mod WalkLemmas
 pub mod WalkForm
 pub mod WalkNotes

@@ -47,7 +47,7 @@ meaning_other s t (Some bs) (Some cs) h k u e f = lookup_other t bs cs h (other_
 unknown_name : (m : Module) (s : State) (f : ℕ) (e : Function × Span) → callee_at s.functions.names m.functions f ≡ None → slice_get m.functions f ≡ Some e → meant (meanings s.functions.names.entries) (option_map string_bytes e.0.name) ≡ None
 unknown_name m s f e n at = sym (known_same s.functions.names e.0.name) ∙ ap (known_at s.functions.names) (sym at) ∙ n
 
-meaning_text : (o : Option (String Global)) (h : ℕ) (ms : Meanings) → with_meaning o h ms ≡ meaning ms (option_map string_bytes o) h
+pub meaning_text : (o : Option (String Global)) (h : ℕ) (ms : Meanings) → with_meaning o h ms ≡ meaning ms (option_map string_bytes o) h
 meaning_text None h ms = refl
 meaning_text (Some n) h ms = refl
 

@@ -14,6 +14,7 @@ use Rattle.naga_oil_derive.specs.World.{Begins, shifted}
 use Rattle.naga_oil_derive.specs.Copying.{IsThere, IsCopying, Grows, CollectsItem, HasCopy, source_world, goes_under}
 use Rattle.naga_oil_derive.specs.Callees.{known_as, callee_at}
 use Rattle.naga_oil_derive.specs.Went.{went_by}
+use Rattle.naga_oil_derive.specs.CopiedFunction.{copied_function}
 use Rattle.naga_oil_derive.specs.Functions.{Copies}
 use Rattle.naga_oil_derive.specs.Naming.{function_names}
 use Rattle.naga_oil_derive.specs.declared.maps.Maps.{Maps}
@@ -83,6 +84,7 @@ pub record FunctionsGrow (a b : Functions) : Type 0 where
 pub record FunctionPut (source : Module) (f : Function) (span : Span) (s t : State) (h : ℕ) : Type 0 where
   pub copy : Function
   pub copies : Copies (went_by s.maps source s.functions.names) (function_value f) (function_value copy)
+  pub made : function_value copy ≡ copied_function (went_by s.maps source s.functions.names) (function_value f)
   pub put : t.functions.copies ≡ s.functions.copies ++ (copy, shifted s.maps.offset span) ∷ []
   pub place : h ≡ length s.functions.copies
   pub named : meanings t.functions.names.entries ≡ with_meaning f.name h (meanings s.functions.names.entries)

@@ -26,3 +26,9 @@ pub mod DerivedEntries
 pub mod Ordered
 pub mod Redirectable
 pub mod PutInOrder
+pub mod Equal
+pub mod Copied
+pub mod CopiedFunction
+pub mod Answered
+pub mod DerivedValue
+pub mod CopiedLaw

@@ -1,12 +1,12 @@
 -- A walk over a function.
-use Rattle.std.specs.Prelude.{◌≡◌, ◌<◌, ℕ, true, List, [], length, slice_get, Some, All}
+use Rattle.std.specs.Prelude.{◌≡◌, ◌<◌, ℕ, true, List, [], length, slice_get, Some, None, All, replicate}
 use Rattle.naga_oil_ir.specs.Links.{Links, lists, AreEarlier, has, started}
 use Rattle.naga_oil_ir.specs.Body.{Tokens, block_tokens}
 use Rattle.naga_oil_ir.specs.BodyForm.{kinds, operand_links}
 use Rattle.naga_oil_ir.specs.WellFormed.{initialisers}
 use Rattle.naga_oil_ir.specs.declared.form.Reading.{Reading}
 use Rattle.naga_oil_ir.specs.declared.module.Function.{Function}
-use Rattle.naga_oil_derive.specs.Walk.{walked, Notes, IsReachOrder, AreNoted, AreWithin}
+use Rattle.naga_oil_derive.specs.Walk.{walked, Notes, notes_after, IsReachOrder, AreNoted, AreWithin}
 use Rattle.naga_oil_ir.specs.declared.names.ItemPlace.{ItemPlace}
 use Rattle.naga_oil_derive.specs.declared.walk.Request.TheVariants.{Item}
 use Rattle.naga_oil_derive.specs.Naming.{item_of, IsAmong, Thins, function_names}
@@ -34,3 +34,4 @@ pub record IsWalkOf (ks : List ℕ) (ls : Links) (is : List ℕ) (ts : Tokens) (
 pub record Walks (f : Function) (w : Walk) : Type 0 where
   pub listed : IsWalkOf (kinds f.expressions) (operand_links f.expressions) (initialisers f) (block_tokens f.body) w.places.items w.began w.emitted.items
   pub requests : Thins [] (function_names f) w.requests.items
+  pub emits : w.emitted.items ≡ notes_after (kinds f.expressions) (operand_links f.expressions) (started (operand_links f.expressions) (initialisers f)) (replicate (length f.expressions) None) (block_tokens f.body)

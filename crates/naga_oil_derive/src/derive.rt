@@ -3,6 +3,7 @@ ghost use Rattle.std.specs.Prelude.{◌≡◌, ◌<◌, ◌↔◌, Some, IsTrue,
 ghost use Rattle.naga_oil_ir.specs.declared.names.ItemPlace.{ItemPlace};
 ghost use Rattle.naga_oil_derive.specs.World.{value_of, special_entries};
 ghost use Rattle.naga_oil_derive.specs.Copyable.{CopyableItems};
+ghost use Rattle.naga_oil_derive.specs.DerivedValue.{item_imported, type_renamed, source_set, place_by};
 ghost use Rattle.naga_oil_derive.specs.Derived.{Derived, nothing, cleared, mapped_span, HasItem, IsImported, IsKnown, IsRenamed, Keeps, KeepsItems, ReadsAsBefore, IsSet};
 
 use super::*;
@@ -59,6 +60,7 @@ impl<'a> DerivedModule<'a> {
     pub fn set_shader_source(&mut self, shader: &'a Module, span_offset: usize) -> Tried
         requires { CopyableItems shader.now }
         ensures set { OnOk result (IsSet (value_of shader.now) span_offset self.old self.new) }
+        ensures value { OnOk result (self.new ≡ source_set self.old (value_of shader.now) span_offset) }
         ensures err { OnErr result (self.new.source ≡ (cleared self.old).source) }
         ensures keeps { KeepsItems self.old self.new }
     {
@@ -96,6 +98,7 @@ impl<'a> DerivedModule<'a> {
         ensures imported { OnOk result ((q : ItemPlace) × IsImported self.old self.new item q) }
         ensures reads { ReadsAsBefore self.old self.new }
         ensures keeps { Keeps self.old self.new }
+        ensures value { OnOk result (self.new ≡ item_imported self.old item) }
     {
         let Some(shader) = self.shader else {
             return Ok(());
@@ -109,6 +112,8 @@ impl<'a> DerivedModule<'a> {
         ensures imported { IfOk result (λ h. IsImported self.old self.new (ItemPlace.TypeItem h_type.now) (ItemPlace.TypeItem h)) }
         ensures reads { ReadsAsBefore self.old self.new }
         ensures keeps { Keeps self.old self.new }
+        ensures value { OnOk result (self.new ≡ item_imported self.old (ItemPlace.TypeItem h_type.now)) }
+        ensures place { IfOk result (λ h. h ≡ place_by (λ m. m.types) self.new.source h_type.now) }
     {
         self.import(ItemPlace::TypeItem(*h_type))?;
         Ok(self.copying.maps.ty(*h_type))
@@ -121,6 +126,7 @@ impl<'a> DerivedModule<'a> {
         ensures known { IfOk result (λ h. IsKnown self.old self.new h_type.now h) }
         ensures renamed { IfOk result (λ h. IsRenamed self.old self.new h_type.now (option_map (λ n. Some (string_bytes n)) name) h) }
         ensures keeps { Keeps self.old self.new }
+        ensures value { OnOk result (self.new ≡ type_renamed self.old h_type.now (option_map (λ n. Some (string_bytes n)) name)) }
     {
         let Some(shader) = self.shader else {
             return Ok(*h_type);

@@ -4,6 +4,10 @@ ghost use Rattle.naga_oil_ir.specs.ModuleValue.{function_value};
 ghost use Rattle.naga_oil_derive.specs.Callees.{known_as, callee_at};
 ghost use Rattle.naga_oil_derive.specs.Copying.{AreRanked, IsCopying, Grows};
 ghost use Rattle.naga_oil_derive.specs.Functions.{Copies};
+ghost use Rattle.naga_oil_derive.specs.World.{value_of};
+ghost use Rattle.naga_oil_derive.specs.CopiedFunction.{copied_function};
+ghost use Rattle.naga_oil_derive.specs.DerivedFunctions.{requests_of};
+ghost use Rattle.naga_oil_derive.specs.Answered.{import_state, answered, called, imported as imported_value};
 ghost use Rattle.naga_oil_derive.specs.Imported.{state, IsAnswerable, IsImportable, Imported, FunctionImported, FunctionsGrow, IsAnswered};
 ghost use Rattle.naga_oil_derive.specs.Naming.{function_names};
 ghost use Rattle.naga_oil_derive.specs.Went.{went_by};
@@ -65,6 +69,7 @@ pub fn import(
     ensures grows { Grows copying.old.maps copying.new.maps copying.old.target copying.new.target }
     ensures functions { FunctionsGrow functions.old functions.new }
     ensures imported { IfOk result (FunctionImported source.now function.now span (state copying.old.maps copying.old.target functions.old) (state copying.new.maps copying.new.target functions.new)) }
+    ensures value { OnOk result (import_state copying.new.maps copying.new.target functions.new ≡ imported_value depth (value_of source.now) copying.old.maps.offset (import_state copying.old.maps copying.old.target functions.old) (function_value function.now) span) }
 {
     let copy = localize(source, function, depth, copying, functions)?;
     let name = copied_name(&function.name)?;
@@ -93,6 +98,8 @@ pub fn localize(
     ensures imported { OnOk result (Imported source.now (state copying.old.maps copying.old.target functions.old) (function_names function.now) (state copying.new.maps copying.new.target functions.new)) }
     ensures answered { OnOk result (All (IsAnswered source.now (state copying.new.maps copying.new.target functions.new)) (function_names function.now)) }
     ensures copies { IfOk result (λ f. Copies (went_by copying.new.maps source.now functions.new.names) (function_value function.now) (function_value f)) }
+    ensures copied { IfOk result (λ f. function_value f ≡ copied_function (went_by copying.new.maps source.now functions.new.names) (function_value function.now)) }
+    ensures value { OnOk result (import_state copying.new.maps copying.new.target functions.new ≡ answered depth (value_of source.now) copying.old.maps.offset (import_state copying.old.maps copying.old.target functions.old) (requests_of (function_value function.now))) }
 {
     let walk = walk_function(function, copying.alloc)?;
     for request in &walk.requests {
@@ -125,6 +132,7 @@ pub fn import_callee(
     ensures functions { FunctionsGrow functions.old functions.new }
     ensures imported { OnOk result (Imported source.now (state copying.old.maps copying.old.target functions.old) (Request.Call handle ∷ []) (state copying.new.maps copying.new.target functions.new)) }
     ensures callee { IfOk result (λ h. callee_at functions.new.names source.now.functions handle ≡ Some h) }
+    ensures value { OnOk result (import_state copying.new.maps copying.new.target functions.new ≡ called depth (value_of source.now) copying.old.maps.offset (import_state copying.old.maps copying.old.target functions.old) handle) }
 {
     let Some(callee) = source.functions.try_get(handle) else {
         return Ok(handle);

@@ -1,8 +1,9 @@
 //! Where the items of a source went.
 ghost use Rattle.std.specs.Prelude.{◌≡◌, ℕ, List, replicate, is_some, slice_get, IfOk, None};
 ghost use Rattle.std.specs.Option.{option_flatten};
-ghost use Rattle.naga_oil_derive.specs.World.{moved};
-ghost use Rattle.naga_oil_derive.specs.Copying.{goes_under, renames_under, AreLong};
+ghost use Rattle.naga_oil_derive.specs.World.{moved, value_of};
+ghost use Rattle.naga_oil_derive.specs.DerivedValue.{no_places};
+ghost use Rattle.naga_oil_derive.specs.Copying.{goes_under, renames_under, AreLong, places_of};
 
 use super::*;
 
@@ -64,6 +65,7 @@ impl Maps {
         ensures offset { IfOk result (λ m. m.offset ≡ offset) }
         ensures long { IfOk result (λ m. AreLong m source.now) }
         ensures nowhere { IfOk result (λ m. (p : ItemPlace) → goes_under m p ≡ None) }
+        ensures places { IfOk result (λ m. places_of m ≡ no_places (value_of source.now)) }
     {
         Ok(Maps {
             types: nowhere(source.types.len(), alloc)?,

@@ -2,6 +2,7 @@
 ghost use Rattle.naga_oil_derive.specs.declared.walk.Request.{Request};
 ghost use Rattle.std.specs.Prelude.{◌≡◌, ◌∷◌, ℕ, [], Ok, Some, None, IfOk, OnOk};
 ghost use Rattle.naga_oil_ir.specs.ModuleValue.{function_value};
+ghost use Rattle.naga_oil_derive.specs.DerivedValue.{function_imported, requests_answered, function_called, function_localized};
 ghost use Rattle.naga_oil_derive.specs.DerivedFunctions.{having, meant, CanCopy, CanImport, CanCall, KeepsFunctions, KeepsMeanings, IsLocalized, IsFunctionImported, MeansAt, requests_of, AreAnswered};
 
 use super::*;
@@ -38,6 +39,7 @@ impl<'a> DerivedModule<'a> {
         ensures answered { OnOk result (AreAnswered self.old (requests_of (function_value func.now)) self.new) }
         ensures copies { IfOk result (λ f. IsLocalized self.new (function_value func.now) (function_value f)) }
         ensures keeps { KeepsFunctions self.old self.new }
+        ensures value { OnOk result (self.new ≡ requests_answered self.old (requests_of (function_value func.now))) }
     {
         let source = self.shader.unwrap();
         let depth = source.functions.len();
@@ -53,6 +55,7 @@ impl<'a> DerivedModule<'a> {
         requires { CanImport self.old (function_value func.now) }
         ensures imported { IfOk result (IsFunctionImported self.old self.new (function_value func.now) span) }
         ensures keeps { KeepsFunctions self.old self.new }
+        ensures value { OnOk result (self.new ≡ function_imported self.old (function_value func.now) span) }
     {
         let source = self.shader.unwrap();
         let depth = source.functions.len();
@@ -83,6 +86,7 @@ impl<'a> DerivedModule<'a> {
         ensures answered { OnOk result (AreAnswered self.old (Request.Call h_func.now ∷ []) self.new) }
         ensures means { IfOk result (MeansAt self.new h_func.now) }
         ensures keeps { KeepsFunctions self.old self.new }
+        ensures value { OnOk result (self.new ≡ function_called self.old h_func.now) }
     {
         let source = self.shader.unwrap();
         let depth = source.functions.len();

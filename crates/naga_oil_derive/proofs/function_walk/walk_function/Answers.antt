@@ -3,7 +3,7 @@ use Rattle.std.specs.List.{flat_map}
 use Rattle.std.proofs.lemmas.List.{length-map}
 use Rattle.naga_oil_ir.specs.Links.{lists, trail, added, started}
 use Rattle.naga_oil_ir.specs.Body.{Tokens, block_tokens}
-use Rattle.naga_oil_ir.specs.BodyForm.{callees}
+use Rattle.naga_oil_ir.specs.BodyForm.{callees, kinds, operand_links}
 use Rattle.naga_oil_ir.specs.WellFormed.{initialisers, initialisers_of}
 use Rattle.naga_oil_ir.specs.declared.types.LocalVariable.{LocalVariable}
 use Rattle.naga_oil_ir.specs.declared.span.Span.{Span}
@@ -44,5 +44,6 @@ returns c =
     let emitted : w.emitted.items ≡ notes_after ks ls began none ts = c.in_ok-add_tokens.ensures.emitted ∙ ap (λ (us : Tokens). notes_after ks ls began none us) e in
     record {
       listed = walk_read f.expressions rd (initialisers f) ts w.places.items c.len-began.result w.emitted.items r (walk_of ks (callees f.expressions) ls (initialisers f) ts (plain_read f.expressions rd r) m began w.places.items c.len-began.result c.len.result none w.emitted.items w.marks.items start c.in_ok-reach_locals.ensures.ready count long empty order emitted w.marked (c.in_ok-add_tokens.ensures.over.marks ∙ sym n));
+      emits = emitted ∙ ap (λ b. notes_after ks ls b none ts) start ∙ ap (λ e. notes_after ks ls (started ls (initialisers f)) e ts) (empty ∙ ap (λ m. replicate m None) (long ∙ n ∙ r.long)) ∙ ap (λ l. notes_after ks l (started l (initialisers f)) (replicate (length f.expressions) None) ts) r.same_links ∙ ap (λ k. notes_after k (operand_links f.expressions) (started (operand_links f.expressions) (initialisers f)) (replicate (length f.expressions) None) ts) r.same_kinds;
       requests = walk_requests f rd c.as_slice.result.now c.as_slice-2.result.now c.deref.result.now c.as_slice.ensures c.in_ok-read.ensures c.as_slice-2.ensures e c.in_ok-walk.walk.requests.items c.request_types.new.requests.items c.reach_locals.new.walk.requests.items w.requests.items c.in_ok-walk.ensures.empty.1 c.in_ok-request_types.ensures c.in_ok-reach_locals.ensures.requests c.in_ok-add_tokens.ensures.requests;
     }

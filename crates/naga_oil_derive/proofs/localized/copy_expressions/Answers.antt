@@ -13,6 +13,8 @@ use Rattle.naga_oil_derive.specs.Went.{went}
 use Rattle.naga_oil_derive.proofs.CopySteps.{no_copies}
 use Rattle.naga_oil_derive.proofs.CopyLoops.{so_far_start, so_far_step}
 use Rattle.naga_oil_derive.proofs.LocalSteps.{all_placed}
+use Rattle.naga_oil_derive.specs.CopiedFunction.{expression_state}
+use Rattle.naga_oil_derive.proofs.FunctionCopies.{upto_start, upto_step, upto_all}
 use Rattle.naga_oil_derive.proofs.localized.copy_expressions.Goals as goal
 
 pub loop-at-init : goal.loop-at-init
@@ -24,6 +26,7 @@ loop-at-init c =
     let start = no_copies r es (length c.as_slice-source.result.now) t c.in_ok-nowhere.ensures in
     record {
       room = ap length c.in_ok-nowhere.ensures ∙ length-replicate (length c.as_slice-source.result.now) None;
+      state = upto_start r c.as_slice-source.result.now c.args.walk.now.places.items c.args.walk.now.began t c.new.result c.in_ok-nowhere.ensures c.new.ensures;
       placed = so_far_start r es c.args.walk.now.places.items c.args.walk.now.began t (expression_values c.new.result) (subst (λ (v : Values). AreCopies r es [] [] t v) (sym none) start) (search rules);
     }
 
@@ -42,8 +45,12 @@ loop-at-preserved c =
     let within : get_or o at 0 < length es = omega (arith, c.requires.listed.within at 0 l, room, long) in
     record {
       room = c.copy_place.ensures.room ∙ i.room;
+      state = upto_step (went c.args.names) (expression_values es) o c.args.walk.now.began at k (expression_state c.loop-at.copies.table.items c.loop-at.copies.target) (expression_state c.copy_place.new.self.table.items c.copy_place.new.self.target) is i.state c.in_ok-copy_place.ensures.copied;
       placed = so_far_step (went c.args.names) es o c.args.walk.now.began at (nat_lt at c.args.walk.now.began) c.loop-at.copies.table.items c.copy_place.new.self.table.items (expression_values c.loop-at.copies.target) (expression_values c.copy_place.new.self.target) ready l within i.room (ltb-true at c.args.walk.now.began) (ltb-false at c.args.walk.now.began) i.placed (subst (λ n. IsStep (went c.args.names) (expression_values es) (nat_lt at c.args.walk.now.began) n c.loop-at.copies.table.items (expression_values c.loop-at.copies.target) c.copy_place.new.self.table.items (expression_values c.copy_place.new.self.target)) is c.in_ok-copy_place.ensures.step);
     }
 
-pub returns : goal.returns
-returns c = all_placed (went c.args.names) c.args.function.now c.args.walk.now c.as_slice-source.result.now c.loop-at.at c.loop-at.copies.table.items c.loop-at.copies.target c.requires c.as_slice-source.ensures (omega (arith, c.loop-at-test.false, c.loop-at.auto.at-end, c.len-at-end.ensures, c.args.walk.now.places.ok.0)) c.loop-at.invariant.placed
+pub returns-clause-relation : goal.returns-clause-relation
+returns-clause-relation c = all_placed (went c.args.names) c.args.function.now c.args.walk.now c.as_slice-source.result.now c.loop-at.at c.loop-at.copies.table.items c.loop-at.copies.target c.requires c.as_slice-source.ensures (omega (arith, c.loop-at-test.false, c.loop-at.auto.at-end, c.len-at-end.ensures, c.args.walk.now.places.ok.0)) c.loop-at.invariant.placed
+
+pub returns-clause-copied : goal.returns-clause-copied
+returns-clause-copied c = upto_all (went c.args.names) c.as_slice-source.result.now c.args.function.now.expressions c.args.walk.now.places.items c.args.walk.now.began c.loop-at.at (expression_state c.loop-at.copies.table.items c.loop-at.copies.target) c.as_slice-source.ensures (omega (arith, c.loop-at-test.false, c.loop-at.auto.at-end, c.len-at-end.ensures, c.args.walk.now.places.ok.0)) c.loop-at.invariant.state

@@ -4,6 +4,9 @@ use Rattle.naga_oil_derive.specs.Collected.{Done}
 use Rattle.naga_oil_derive.specs.Copying.{IsBelowItem, WentSomewhere, goes_under, rank}
 use Rattle.naga_oil_derive.proofs.CopyLemmas.{some_of, none_of, not_some, IsCopying-step, reads-step, Grows-refl, Grows-trans, Grows-step, all_at, went_later, went_more, went_all}
 use Rattle.naga_oil_derive.proofs.CollectLemmas.{none_more, some_more, all_names, known_item, item_collects}
+use Rattle.naga_oil_derive.specs.World.{value_of}
+use Rattle.naga_oil_derive.specs.Copied.{copy_state, copied, put}
+use Rattle.naga_oil_derive.proofs.CopiedLemmas.{copied_none, copied_some, copied_all, gone, fresh}
 use Rattle.naga_oil_derive.proofs.copy.Copying.+copying.Goals as goal
 
 pub copy_names-loop-name-init : goal.copy_names-loop-name-init
@@ -13,6 +16,7 @@ copy_names-loop-name-init t c = record {
   reads = refl;
   same = λ p h. refl;
   collects = Done;
+  state = refl;
   went = All-nil (WentSomewhere (goes_under c.args.self.now.maps));
 }
 
@@ -25,6 +29,7 @@ copy_names-loop-name-preserved-in_default t c =
       grows = i.grows;
       reads = i.reads;
       same = i.same;
+      state = copied_none (copied (value_of c.args.source.now) c.args.self.now.maps.offset) (copy_state c.args.self.now.maps c.args.self.now.target) (copy_state c.loop-name.self.maps c.loop-name.self.target) c.args.list.now c.loop-name.name-index c.name-item.result c.loop-name-test.true c.name-item.is is i.state;
       collects = none_more c.args.source.now c.args.self.now.target c.loop-name.self.target c.args.self.now.maps c.args.list.now c.loop-name.name-index c.name-item.result c.loop-name-test.true c.name-item.is is i.collects;
       went = went_more (goes_under c.loop-name.self.maps) c.args.list.now c.loop-name.name-index c.name-item.result c.loop-name-test.true c.name-item.is (subst (WentSomewhere (goes_under c.loop-name.self.maps)) (sym is) tt) i.went;
     }
@@ -41,6 +46,7 @@ copy_names-loop-name-preserved t c =
       grows = Grows-trans i.grows e.grows;
       reads = e.reads ∙ i.reads;
       same = λ p h. e.above p (omega (arith, below.1)) ∙ i.same p h;
+      state = copied_some (copied (value_of c.args.source.now) c.args.self.now.maps.offset) (copy_state c.args.self.now.maps c.args.self.now.target) (copy_state c.loop-name.self.maps c.loop-name.self.target) (copy_state c.copy_item.new.self.maps c.copy_item.new.self.target) c.args.list.now c.loop-name.name-index c.name-item.result _ c.loop-name-test.true c.name-item.is c.in-Some.is i.state (c.in_ok-copy_item.ensures.copied ∙ ap (λ d. copied (value_of c.args.source.now) d (copy_state c.loop-name.self.maps c.loop-name.self.target) c.in-Some.place) i.grows.offset);
       collects = some_more c.args.source.now c.args.self.now.target c.loop-name.self.target c.copy_item.new.self.target c.args.self.now.maps c.loop-name.self.maps c.args.list.now c.loop-name.name-index c.name-item.result _ c.loop-name-test.true c.name-item.is c.in-Some.is i.reads i.grows.special i.grows.offset i.collects c.in_ok-copy_item.ensures.collects;
       went = went_more n c.args.list.now c.loop-name.name-index c.name-item.result c.loop-name-test.true c.name-item.is (subst (WentSomewhere n) (sym c.in-Some.is) c.in_ok-copy_item.ensures.went) (went_later (goes_under c.loop-name.self.maps) n e.grows.went _ i.went);
     }
@@ -100,3 +106,20 @@ copy_item-returns-clause-went t c =
     let there = c.requires.there in
     let one = c.in_ok-copy_alone.ensures.copies there.0 there.1 in
     (one.place, one.puts.at)
+
+pub copy_names-returns-clause-copied : goal.copy_names-returns-clause-copied
+copy_names-returns-clause-copied t c = copied_all (copied (value_of c.args.source.now) c.args.self.now.maps.offset) (copy_state c.args.self.now.maps c.args.self.now.target) (copy_state c.loop-name.self.maps c.loop-name.self.target) c.args.list.now c.loop-name.name-index c.loop-name-test.false c.loop-name.invariant.state
+
+pub copy_item-returns-then-has_gone-clause-copied :
+    goal.copy_item-returns-then-has_gone-clause-copied
+unfolding goes_under
+copy_item-returns-then-has_gone-clause-copied t c = gone c.args.source.now c.args.self.now.maps.offset c.requires.ranked (copy_state c.args.self.now.maps c.args.self.now.target) c.args.item.now c.requires.there c.has_gone.result c.has_gone.ensures c.if-has_gone.true
+
+pub copy_item-returns-clause-copied : goal.copy_item-returns-clause-copied
+unfolding goes_under
+copy_item-returns-clause-copied t c =
+    let old = c.args.self.now in
+    let mid = c.copy_names.new.self in
+    let new = c.copy_alone.new.self in
+    let v = value_of c.args.source.now in
+    fresh c.args.source.now old.maps.offset c.requires.ranked (copy_state old.maps old.target) (copy_state mid.maps mid.target) (copy_state new.maps new.target) c.args.item.now c.in_ok-names.names.items c.requires.there c.has_gone.result c.has_gone.ensures c.if-has_gone.false c.in_ok-names.ensures (rw c.deref.ensures.value at c.in_ok-copy_names.ensures.copied) (c.in_ok-copy_alone.ensures.put ∙ ap (λ d. put v d (copy_state mid.maps mid.target) c.args.item.now) c.copy_names.ensures.grows.offset)

@@ -6,6 +6,10 @@ use Rattle.naga_oil_derive.specs.Copying.{IsThere, WentSomewhere, goes_under, sp
 use Rattle.naga_oil_derive.proofs.CopyLemmas.{Grows-refl, Grows-trans, went_later, went_more, went_all}
 use Rattle.naga_oil_derive.proofs.CollectLemmas.{some_more, all_names}
 use Rattle.naga_oil_derive.proofs.SpecialLoops.{names_length, name_get, entry_at}
+use Rattle.std.proofs.Common.{ap}
+use Rattle.naga_oil_derive.specs.World.{value_of}
+use Rattle.naga_oil_derive.specs.Copied.{copy_state, copied}
+use Rattle.naga_oil_derive.proofs.CopiedLemmas.{copied_some, copied_all}
 use Rattle.naga_oil_derive.proofs.copy.Copying.copy_special.Goals as goal
 
 pub loop-handle-init : goal.loop-handle-init
@@ -14,6 +18,7 @@ loop-handle-init c = record {
   grows = Grows-refl c.args.self.now.maps c.args.self.now.target;
   reads = refl;
   collects = Done;
+  state = refl;
   went = All-nil (WentSomewhere (goes_under c.args.self.now.maps));
 }
 
@@ -28,6 +33,9 @@ pub loop-handle-preserved : goal.loop-handle-preserved
 loop-handle-preserved c =
     let i = c.loop-handle.invariant in
     let e = c.copy_item.ensures in
+    let v = value_of c.args.source.now in
+    let d = c.args.self.now.maps.offset in
+    let s = copy_state c.args.self.now.maps c.args.self.now.target in
     let es = c.args.entries.now in
     let ns = special_names es in
     let k = c.loop-handle.handle-index in
@@ -39,6 +47,7 @@ loop-handle-preserved c =
       copying = e.copying;
       grows = Grows-trans i.grows e.grows;
       reads = e.reads ∙ i.reads;
+      state = copied_some (copied v d) s (copy_state c.loop-handle.self.maps c.loop-handle.self.target) (copy_state c.copy_item.new.self.maps c.copy_item.new.self.target) ns k (Some p) p l g refl i.state (c.in_ok-copy_item.ensures.copied ∙ ap (λ x. copied v x (copy_state c.loop-handle.self.maps c.loop-handle.self.target) p) i.grows.offset);
       collects = some_more c.args.source.now c.args.self.now.target c.loop-handle.self.target c.copy_item.new.self.target c.args.self.now.maps c.loop-handle.self.maps ns k (Some p) p l g refl i.reads i.grows.special i.grows.offset i.collects c.in_ok-copy_item.ensures.collects;
       went = went_more n ns k (Some p) l g c.in_ok-copy_item.ensures.went (went_later (goes_under c.loop-handle.self.maps) n e.grows.went (take k ns) i.went);
     }
@@ -52,3 +61,8 @@ pub returns-clause-collects : goal.returns-clause-collects
 returns-clause-collects c =
     let es = c.args.entries.now in
     all_names c.args.source.now c.args.self.now.target c.loop-handle.self.target c.args.self.now.maps (special_names es) c.loop-handle.handle-index (subst (λ m. m ≤ c.loop-handle.handle-index) (sym (names_length es)) c.loop-handle-test.false) c.loop-handle.invariant.collects
+
+pub returns-clause-copied : goal.returns-clause-copied
+returns-clause-copied c =
+    let es = c.args.entries.now in
+    copied_all (copied (value_of c.args.source.now) c.args.self.now.maps.offset) (copy_state c.args.self.now.maps c.args.self.now.target) (copy_state c.loop-handle.self.maps c.loop-handle.self.target) (special_names es) c.loop-handle.handle-index (subst (λ m. m ≤ c.loop-handle.handle-index) (sym (names_length es)) c.loop-handle-test.false) c.loop-handle.invariant.state

@@ -1,3 +1,10 @@
+use Rattle.std.proofs.Common.{length, OnOk, sym, subst, ◌∙◌}
+use Rattle.naga_oil_ir.specs.ModuleValue.{function_value}
+use Rattle.naga_oil_derive.specs.World.{value_of}
+use Rattle.naga_oil_derive.specs.DerivedFunctions.{requests_of}
+use Rattle.naga_oil_derive.specs.Answered.{import_state, answered}
+use Rattle.naga_oil_derive.proofs.FunctionValues.{functions_length}
+use Rattle.naga_oil_derive.proofs.DerivedValues.{imported_value}
 use Rattle.std.proofs.Common.{◌≡◌, OnOk, sym, subst}
 use Rattle.naga_oil_derive.specs.Naming.{function_names}
 use Rattle.naga_oil_derive.proofs.AnsweredLemmas.{answered_ok}
@@ -49,3 +56,15 @@ returns-clause-answered c =
     let names : c.take-taken.result.names.entries ≡ s.function_names.entries = λ i. (c.take-taken.ensures.taken.1 i).entries in
     let seen : c.put.new.names.entries ≡ c.localize-copy.new.functions.names.entries = λ i. (c.put.ensures.names i).entries in
     subst (λ rs. OnOk c.localize-copy.result (AreAnswered c.args.self.now rs (derived_of s.shader c.localize-copy.new.copying.maps c.put.new.target c.put.new.names.entries))) (sym (requests_same c.args.func.now)) (answered_ok c.localize-copy.result s.shader c.unwrap-source.result s.copying.maps c.localize-copy.new.copying.maps s.copying.target c.take-taken.new.target c.localize-copy.new.copying.target c.put.new.target c.take-taken.result c.localize-copy.new.functions s.function_names.entries c.put.new.names.entries c.args.self.now (function_names c.args.func.now) c.unwrap-source.ensures c.self.view_is c.take-taken.ensures.left c.take-taken.ensures.taken.0 names c.put.ensures.target seen c.localize-copy.ensures.imported)
+
+pub returns-clause-value : goal.returns-clause-value
+returns-clause-value c =
+    let s = c.self.inside in
+    let u = c.localize-copy.new in
+    let v = value_of c.unwrap-source.result.now in
+    let d = s.copying.maps.offset in
+    let names : c.take-taken.result.names.entries ≡ s.function_names.entries = λ i. (c.take-taken.ensures.taken.1 i).entries in
+    let seen : c.put.new.names.entries ≡ u.functions.names.entries = λ i. (c.put.ensures.names i).entries in
+    let deep = c.len-depth.ensures ∙ sym (functions_length c.unwrap-source.result.now) in
+    let own = subst (λ q. OnOk c.localize-copy.result (import_state u.copying.maps u.copying.target u.functions ≡ answered q v d (import_state s.copying.maps c.take-taken.new.target c.take-taken.result) (requests_of (function_value c.args.func.now)))) deep c.localize-copy.ensures.value in
+    imported_value c.localize-copy.result s.shader c.unwrap-source.result s.copying.target c.take-taken.new.target u.copying.target c.put.new.target s.copying.maps u.copying.maps c.take-taken.result u.functions s.function_names.entries c.put.new.names.entries c.args.self.now (λ x y. answered (length x.value.functions) x.value x.offset y (requests_of (function_value c.args.func.now))) c.unwrap-source.ensures c.self.view_is c.take-taken.ensures.left c.take-taken.ensures.taken.0 names c.localize-copy.ensures.grows.offset c.put.ensures.target seen own

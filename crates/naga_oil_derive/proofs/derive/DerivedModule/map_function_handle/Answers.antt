@@ -1,3 +1,10 @@
+use Rattle.std.proofs.Common.{length, OnOk, sym, subst, ◌∙◌}
+use Rattle.naga_oil_ir.specs.ModuleValue.{function_value}
+use Rattle.naga_oil_derive.specs.World.{value_of}
+use Rattle.naga_oil_derive.specs.DerivedFunctions.{requests_of}
+use Rattle.naga_oil_derive.specs.Answered.{import_state, called}
+use Rattle.naga_oil_derive.proofs.FunctionValues.{functions_length}
+use Rattle.naga_oil_derive.proofs.DerivedValues.{imported_value}
 use Rattle.std.proofs.Common.{◌≡◌, ◌∷◌, []}
 use Rattle.naga_oil_derive.specs.declared.walk.Request.TheVariants.{Call}
 use Rattle.naga_oil_derive.proofs.AnsweredLemmas.{answered_ok}
@@ -46,3 +53,15 @@ returns-clause-answered c =
     let names : c.take-taken.result.names.entries ≡ s.function_names.entries = λ i. (c.take-taken.ensures.taken.1 i).entries in
     let seen : c.put.new.names.entries ≡ c.import_callee-handle.new.functions.names.entries = λ i. (c.put.ensures.names i).entries in
     answered_ok c.import_callee-handle.result s.shader c.unwrap-source.result s.copying.maps c.import_callee-handle.new.copying.maps s.copying.target c.take-taken.new.target c.import_callee-handle.new.copying.target c.put.new.target c.take-taken.result c.import_callee-handle.new.functions s.function_names.entries c.put.new.names.entries c.args.self.now (Call c.args.h_func.now ∷ []) c.unwrap-source.ensures c.self.view_is c.take-taken.ensures.left c.take-taken.ensures.taken.0 names c.put.ensures.target seen c.import_callee-handle.ensures.imported
+
+pub returns-clause-value : goal.returns-clause-value
+returns-clause-value c =
+    let s = c.self.inside in
+    let u = c.import_callee-handle.new in
+    let v = value_of c.unwrap-source.result.now in
+    let d = s.copying.maps.offset in
+    let names : c.take-taken.result.names.entries ≡ s.function_names.entries = λ i. (c.take-taken.ensures.taken.1 i).entries in
+    let seen : c.put.new.names.entries ≡ u.functions.names.entries = λ i. (c.put.ensures.names i).entries in
+    let deep = c.len-depth.ensures ∙ sym (functions_length c.unwrap-source.result.now) in
+    let own = subst (λ q. OnOk c.import_callee-handle.result (import_state u.copying.maps u.copying.target u.functions ≡ called q v d (import_state s.copying.maps c.take-taken.new.target c.take-taken.result) c.args.h_func.now)) deep c.import_callee-handle.ensures.value in
+    imported_value c.import_callee-handle.result s.shader c.unwrap-source.result s.copying.target c.take-taken.new.target u.copying.target c.put.new.target s.copying.maps u.copying.maps c.take-taken.result u.functions s.function_names.entries c.put.new.names.entries c.args.self.now (λ x y. called (length x.value.functions) x.value x.offset y c.args.h_func.now) c.unwrap-source.ensures c.self.view_is c.take-taken.ensures.left c.take-taken.ensures.taken.0 names c.import_callee-handle.ensures.grows.offset c.put.ensures.target seen own

@@ -1,3 +1,5 @@
+use Rattle.naga_oil_derive.specs.Copied.{copied_type}
+use Rattle.naga_oil_derive.proofs.DerivedValues.{copied_now}
 use Rattle.std.proofs.Common.{Some, option_map, string_bytes, subst, sym}
 use Rattle.naga_oil_derive.specs.Derived.{IsKnown, IsRenamed}
 use Rattle.naga_oil_derive.specs.DerivedView.{derived_of}
@@ -41,3 +43,9 @@ pub returns-clause-keeps : goal.returns-clause-keeps
 returns-clause-keeps c =
     let s = c.self.inside in
     keeps_one s.shader s.copying.target c.copy_named_type.new.self.target s.copying.maps c.copy_named_type.new.self.maps s.function_names.entries c.args.self.now c.self.view_is c.copy_named_type.ensures.grows
+
+pub returns-clause-value : goal.returns-clause-value
+returns-clause-value c =
+    let s = c.self.inside in
+    let n = c.copy_named_type.new.self in
+    copied_now s.shader c.in-Some.shader s.copying.target n.target s.copying.maps n.maps s.function_names.entries c.args.self.now (λ x y. copied_type x.value x.offset (option_map (λ z. Some (string_bytes z)) c.args.name) y c.args.h_type.now) c.in-Some.is c.self.view_is c.copy_named_type.ensures.grows.offset c.in_ok-copy_named_type.ensures.copied

@@ -1,3 +1,4 @@
+use Rattle.naga_oil_derive.proofs.SourceValues.{set_value}
 use Rattle.std.proofs.Common.{[], ◌≡◌, ◌<◌, ◌∙◌, ℕ, List, length, map, Option, Some, All, ap, sym, subst, refl, string_bytes, take, arith}
 use Rattle.std.specs.Vec.{with_items}
 use Rattle.std.proofs.lemmas.List.{with_items_is}
@@ -119,3 +120,18 @@ returns-in_err-copy_special-clause-keeps c =
     let u = c.copy_special.new.self.target in
     let g = c.copy_special.ensures.grows in
     keeps_set s.shader s.shader s.copying.maps c.copy_special.new.self.maps s.copying.target u u.special_types (λ k. k) [] s.function_names.entries c.args.self.now seen g.extends g.special refl
+
+pub returns-clause-value : goal.returns-clause-value
+returns-clause-value c =
+    let s = c.self.inside in
+    let seen = c.self.view_is ∙ c.clear_shader_source.ensures in
+    let first = c.deref.ensures.value ∙ c.in_ok-entries.ensures.entries in
+    let second = c.deref-2.ensures.value ∙ c.in_ok-entries.ensures.entries in
+    let third = c.deref-3.ensures.value ∙ c.in_ok-entries.ensures.entries in
+    let m = c.in_ok-copying.field-0 in
+    let v = with_items c.in_ok-copying.field-0.types c.keep_special.new.types in
+    let u = c.copy_special.new.self.target in
+    let n = c.copy_special.new.self.maps in
+    let long : length c.keep_special.new.types ≡ c.in_ok-copying.field-0.types.len = omega (arith, c.keep_special.auto.types, ap length c.deref_mut.ensures.value, c.in_ok-copying.field-0.types.ok.0) in
+    let kept = with_items_is c.in_ok-copying.field-0.types c.keep_special.new.types long ∙ c.keep_special.ensures ∙ ap (places_kept s.copying.target c.deref.result.now) c.deref_mut.ensures.value in
+    set_value c.args.shader s.copying.target u m n v c.set_specials.new.special c.deref.result.now c.deref-2.result.now c.deref-3.result.now c.args.span_offset s.function_names.entries s.shader s.copying.maps c.args.self.now seen c.in_ok-copying.ensures.places c.in_ok-copying.ensures.offset first second third kept c.copy_special.ensures.grows.offset c.in_ok-copy_special.ensures.copied c.in_ok-set_specials.ensures.all
