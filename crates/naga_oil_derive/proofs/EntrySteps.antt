@@ -242,7 +242,7 @@ all_below : (P : EntryValue → Type 0) (xs : List EntryPoint) → All P (map en
 all_below P [] h = All-nil (λ x. P (entry_value x))
 all_below P (x ∷ xs) h = All-cons (λ y. P (entry_value y)) x xs (All-head P (entry_value x) (map entry_value xs) h) (all_below P xs (All-tail P (entry_value x) (map entry_value xs) h))
 
-entries_seen : (s : Module) (xs : List EntryPoint) → xs ≡ s.entry_points.items → (value_of s).entry_points ≡ map entry_value xs
+pub entries_seen : (s : Module) (xs : List EntryPoint) → xs ≡ s.entry_points.items → (value_of s).entry_points ≡ map entry_value xs
 entries_seen s xs e = values_of_entries s ∙ ap (map entry_value) (sym e)
 
 pub entries_in : (o : Shader) (s : Bor Module) (m : Maps) (t : Module) (ns : FunctionNames) (d : Derived) (xs : List EntryPoint) → o ≡ Some s → derived_of o m t ns ≡ d → xs ≡ s.now.entry_points.items → CanCopyEntries d → All (λ x. CanCopyEntry d (entry_value x)) xs

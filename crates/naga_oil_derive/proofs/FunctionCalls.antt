@@ -22,6 +22,8 @@ use Rattle.naga_oil_derive.specs.Callees.{known_as, callee_at}
 use Rattle.naga_oil_derive.specs.Functions.{Copies}
 use Rattle.naga_oil_derive.specs.Went.{went_by}
 use Rattle.naga_oil_derive.specs.Naming.{function_names}
+use Rattle.naga_oil_derive.specs.CopiedFunction.{copied_function}
+use Rattle.naga_oil_derive.specs.DerivedValue.{function_localized}
 use Rattle.naga_oil_derive.specs.Imported.{State, state, meanings, IsAnswerable, IsImportable, FunctionPut, Imported, FunctionImported, FunctionsGrow}
 use Rattle.naga_oil_derive.specs.DerivedView.{source_of, derived_of, IsSpecialThere, IsDerived}
 use Rattle.naga_oil_derive.specs.Derived.{Source, Derived, KeepsSource}
@@ -132,6 +134,12 @@ localized_ok (Ok w) o s n u g qs f e q h =
     subst (λ (x : Shader). IsLocalized (derived_of x n u qs) (function_value f) (function_value w)) (sym e) (subst (λ (x : FunctionNames). Copies (going (source_at s.now n) (meanings x)) (function_value f) (function_value w)) (sym q) (subst (λ (r : Renames). Copies r (function_value f) (function_value w)) (going_same s.now n g) h))
 localized_ok (Err x) o s n u g qs f e q h = tt
 
+-- the same as a value
+pub copied_value : {B : Type 0} (r : Result Function B) (o : Shader) (s : Bor Module) (n : Maps) (u : Module) (g : Functions) (qs : FunctionNames) (f : Function) → o ≡ Some s → qs ≡ g.names.entries → IfOk r (λ w. function_value w ≡ copied_function (went_by n s.now g.names) (function_value f)) → IfOk r (λ w. function_value w ≡ function_localized (derived_of o n u qs).source (derived_of o n u qs).function_names (function_value f))
+copied_value (Ok w) o s n u g qs f e q h =
+    subst (λ (x : Shader). function_value w ≡ function_localized (derived_of x n u qs).source (derived_of x n u qs).function_names (function_value f)) (sym e) (subst (λ (x : FunctionNames). function_value w ≡ copied_function (going (source_at s.now n) (meanings x)) (function_value f)) (sym q) (h ∙ ap (λ (r : Renames). copied_function r (function_value f)) (going_same s.now n g)))
+copied_value (Err x) o s n u g qs f e q h = tt
+
 -- a copy that was put last, as its caller sees it
 stands : (d : Derived) (s u : Module) (a : State) (n b : Maps) (x : Module) (f g : Functions) (k : Function) (span : Span) (h : ℕ) → seen s a ≡ d → ((w : Text) (j : ℕ) → meant d.function_names w ≡ Some j → meant (meanings f.names.entries) w ≡ Some j) → Imported s a (function_names k) (state b x f) → FunctionPut s k span (state b x f) (state n u g) h → FunctionStands d (derived_at s n (having u g.copies) (meanings g.names.entries)) (function_value k) span h (source_at s n)
 stands d s u a n b x f g k span h e knows i p = record {
@@ -149,6 +157,11 @@ imported_ok (Ok h) o s m t w ns d e n x u g qs k span is v taken copies named le
     let own : FunctionStands d (derived_at s.now n (having x g.copies) (meanings g.names.entries)) (function_value k) span h (source_at s.now n) = stands d s.now x (state m w e) n b.maps b.target b.functions g k span h (seen_of o s m t w e ns is taken copies named ∙ v) knows i.imported i.put in
     subst (λ (y : Shader). IsFunctionImported d (derived_of y n u qs) (function_value k) span h) (sym is) (subst (λ (y : FunctionNames). FunctionStands d (derived_at s.now n u (meanings y)) (function_value k) span h (source_at s.now n)) (sym q) (subst (λ (y : Module). FunctionStands d (derived_at s.now n y (meanings g.names.entries)) (function_value k) span h (source_at s.now n)) (sym left) own))
 imported_ok (Err y) o s m t w ns d e n x u g qs k span is v taken copies named left q i = tt
+
+-- its name means it
+pub imported_means : {B : Type 0} (r : Result ℕ B) (o : Shader) (s : Bor Module) (n : Maps) (u : Module) (qs : FunctionNames) (d : Derived) (v : FunctionValue) (span : Span) → o ≡ Some s → IfOk r (IsFunctionImported d (derived_of o n u qs) v span) → IfOk r (λ h. meant (derived_of o n u qs).function_names v.name ≡ Some h)
+imported_means (Ok h) o s n u qs d v span e i = (subst (λ (x : Shader). IsFunctionImported d (derived_of x n u qs) v span h) e i).last.means
+imported_means (Err y) o s n u qs d v span e i = tt
 
 pub means_ok : {B : Type 0} (r : Result ℕ B) (o : Shader) (s : Bor Module) (n : Maps) (u : Module) (g : Functions) (qs : FunctionNames) (k : ℕ) → o ≡ Some s → qs ≡ g.names.entries → IfOk r (λ h. callee_at g.names s.now.functions k ≡ Some h) → IfOk r (MeansAt (derived_of o n u qs) k)
 means_ok (Ok h) o s n u g qs k e q i =

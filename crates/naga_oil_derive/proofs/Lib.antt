@@ -51,6 +51,7 @@ pub mod SpecialLoops
 pub mod DeriveCalls
 pub mod EntrySteps
 pub mod EntryAnswers
+pub mod EntryValues
 pub mod FormFunctions
 pub mod FormEntries
 pub mod TurnForm

@@ -31,4 +31,5 @@ pub mod Copied
 pub mod CopiedFunction
 pub mod Answered
 pub mod DerivedValue
+pub mod CopiedEntry
 pub mod CopiedLaw

@@ -127,6 +127,7 @@ impl<'a> DerivedModule<'a> {
         ensures renamed { IfOk result (λ h. IsRenamed self.old self.new h_type.now (option_map (λ n. Some (string_bytes n)) name) h) }
         ensures keeps { Keeps self.old self.new }
         ensures value { OnOk result (self.new ≡ type_renamed self.old h_type.now (option_map (λ n. Some (string_bytes n)) name)) }
+        ensures place { IfOk result (λ h. h ≡ place_by (λ m. m.types) self.new.source h_type.now) }
     {
         let Some(shader) = self.shader else {
             return Ok(*h_type);
@@ -141,6 +142,8 @@ impl<'a> DerivedModule<'a> {
         ensures imported { IfOk result (λ h. IsImported self.old self.new (ItemPlace.ConstantItem h_const.now) (ItemPlace.ConstantItem h)) }
         ensures reads { ReadsAsBefore self.old self.new }
         ensures keeps { Keeps self.old self.new }
+        ensures value { OnOk result (self.new ≡ item_imported self.old (ItemPlace.ConstantItem h_const.now)) }
+        ensures place { IfOk result (λ h. h ≡ place_by (λ m. m.constants) self.new.source h_const.now) }
     {
         self.import(ItemPlace::ConstantItem(*h_const))?;
         Ok(self.copying.maps.constant(*h_const))
@@ -152,6 +155,8 @@ impl<'a> DerivedModule<'a> {
         ensures imported { IfOk result (λ h. IsImported self.old self.new (ItemPlace.GlobalItem h_global.now) (ItemPlace.GlobalItem h)) }
         ensures reads { ReadsAsBefore self.old self.new }
         ensures keeps { Keeps self.old self.new }
+        ensures value { OnOk result (self.new ≡ item_imported self.old (ItemPlace.GlobalItem h_global.now)) }
+        ensures place { IfOk result (λ h. h ≡ place_by (λ m. m.global_variables) self.new.source h_global.now) }
     {
         self.import(ItemPlace::GlobalItem(*h_global))?;
         Ok(self.copying.maps.global(*h_global))
@@ -163,6 +168,8 @@ impl<'a> DerivedModule<'a> {
         ensures imported { IfOk result (λ h. IsImported self.old self.new (ItemPlace.ExpressionItem h_expr) (ItemPlace.ExpressionItem h)) }
         ensures reads { ReadsAsBefore self.old self.new }
         ensures keeps { Keeps self.old self.new }
+        ensures value { OnOk result (self.new ≡ item_imported self.old (ItemPlace.ExpressionItem h_expr)) }
+        ensures place { IfOk result (λ h. h ≡ place_by (λ m. m.global_expressions) self.new.source h_expr) }
     {
         self.import(ItemPlace::ExpressionItem(h_expr))?;
         Ok(self.copying.maps.expression(h_expr))
@@ -174,6 +181,8 @@ impl<'a> DerivedModule<'a> {
         ensures imported { IfOk result (λ h. IsImported self.old self.new (ItemPlace.OverrideItem h_override.now) (ItemPlace.OverrideItem h)) }
         ensures reads { ReadsAsBefore self.old self.new }
         ensures keeps { Keeps self.old self.new }
+        ensures value { OnOk result (self.new ≡ item_imported self.old (ItemPlace.OverrideItem h_override.now)) }
+        ensures place { IfOk result (λ h. h ≡ place_by (λ m. m.overrides) self.new.source h_override.now) }
     {
         self.import(ItemPlace::OverrideItem(*h_override))?;
         Ok(self.copying.maps.pipeline_override(*h_override))

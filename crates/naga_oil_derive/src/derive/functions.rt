@@ -2,7 +2,7 @@
 ghost use Rattle.naga_oil_derive.specs.declared.walk.Request.{Request};
 ghost use Rattle.std.specs.Prelude.{◌≡◌, ◌∷◌, ℕ, [], Ok, Some, None, IfOk, OnOk};
 ghost use Rattle.naga_oil_ir.specs.ModuleValue.{function_value};
-ghost use Rattle.naga_oil_derive.specs.DerivedValue.{function_imported, requests_answered, function_called, function_localized};
+ghost use Rattle.naga_oil_derive.specs.DerivedValue.{function_imported, function_imported_once, requests_answered, function_called, function_localized};
 ghost use Rattle.naga_oil_derive.specs.DerivedFunctions.{having, meant, CanCopy, CanImport, CanCall, KeepsFunctions, KeepsMeanings, IsLocalized, IsFunctionImported, MeansAt, requests_of, AreAnswered};
 
 use super::*;
@@ -40,6 +40,7 @@ impl<'a> DerivedModule<'a> {
         ensures copies { IfOk result (λ f. IsLocalized self.new (function_value func.now) (function_value f)) }
         ensures keeps { KeepsFunctions self.old self.new }
         ensures value { OnOk result (self.new ≡ requests_answered self.old (requests_of (function_value func.now))) }
+        ensures copy { IfOk result (λ f. function_value f ≡ function_localized self.new.source self.new.function_names (function_value func.now)) }
     {
         let source = self.shader.unwrap();
         let depth = source.functions.len();
@@ -56,6 +57,7 @@ impl<'a> DerivedModule<'a> {
         ensures imported { IfOk result (IsFunctionImported self.old self.new (function_value func.now) span) }
         ensures keeps { KeepsFunctions self.old self.new }
         ensures value { OnOk result (self.new ≡ function_imported self.old (function_value func.now) span) }
+        ensures means { IfOk result (λ h. meant self.new.function_names (function_value func.now).name ≡ Some h) }
     {
         let source = self.shader.unwrap();
         let depth = source.functions.len();
@@ -72,6 +74,8 @@ impl<'a> DerivedModule<'a> {
         ensures known { (h : ℕ) → meant self.old.function_names (function_value func.now).name ≡ Some h → (result ≡ Ok h) × (self.new ≡ self.old) }
         ensures imported { meant self.old.function_names (function_value func.now).name ≡ None → IfOk result (IsFunctionImported self.old self.new (function_value func.now) span) }
         ensures keeps { KeepsFunctions self.old self.new }
+        ensures value { OnOk result (self.new ≡ function_imported_once self.old (function_value func.now) span) }
+        ensures means { IfOk result (λ h. meant self.new.function_names (function_value func.now).name ≡ Some h) }
     {
         match known_as(&self.function_names, &func.name) {
             Some(known) => Ok(known),

@@ -2,6 +2,9 @@ use Rattle.std.proofs.Common.{◌≡◌, [], List, map, take, take_all, ap, sym,
 use Rattle.naga_oil_ir.specs.ModuleValue.{EntryValue, entry_value}
 use Rattle.naga_oil_ir.specs.declared.module.EntryPoint.{EntryPoint}
 use Rattle.naga_oil_derive.specs.DerivedEntries.{CanCopyEntry, EntriesCopied, NoEntries}
+use Rattle.std.proofs.Common.{◌∙◌}
+use Rattle.naga_oil_derive.specs.CopiedEntry.{entries_state, entries_copied}
+use Rattle.naga_oil_derive.proofs.EntryValues.{entries_next}
 use Rattle.naga_oil_derive.proofs.EntrySteps.{functions_same, functions_trans, entry_later, entries_step}
 use Rattle.naga_oil_derive.proofs.derive.DerivedModule.copied_entries.Goals as goal
 
@@ -19,6 +22,7 @@ loop-entry-preserved c =
     let f = c.copied_entry.new.self in
     record {
       copied = entries_step d e f c.args.entries.now c.loop-entry.entry-index c.entry-item.result c.loop-entry.copies.items c.in_ok-copied_entry.field-0 c.push.new.self.items c.loop-entry-test.true c.entry-item.is c.loop-entry.invariant.copied c.in_ok-copied_entry.ensures.copied c.in_ok-push.ensures.items;
+      value = entries_next d e f c.args.entries.now c.loop-entry.entry-index c.entry-item.result c.loop-entry.copies.items c.in_ok-copied_entry.field-0 c.push.new.self.items c.loop-entry-test.true c.entry-item.is c.loop-entry.invariant.value c.in_ok-copied_entry.ensures.value c.in_ok-push.ensures.items;
       keeps = functions_trans d e f c.loop-entry.invariant.keeps c.copied_entry.ensures.keeps;
     }
 
@@ -26,6 +30,12 @@ pub returns-clause-copied : goal.returns-clause-copied
 returns-clause-copied c =
     let xs = c.args.entries.now in
     subst (λ (ys : List EntryPoint). EntriesCopied c.args.self.now (map entry_value ys) (map entry_value c.loop-entry.copies.items) c.loop-entry.self) (take_all c.loop-entry.entry-index xs c.loop-entry-test.false) c.loop-entry.invariant.copied
+
+pub returns-clause-value : goal.returns-clause-value
+returns-clause-value c =
+    let d = c.args.self.now in
+    let xs = c.args.entries.now in
+    c.loop-entry.invariant.value ∙ ap (λ (ys : List EntryPoint). entries_copied (entries_state d []) (map entry_value ys)) (take_all c.loop-entry.entry-index xs c.loop-entry-test.false)
 
 pub returns-in_err-copied_entry-clause-keeps : goal.returns-in_err-copied_entry-clause-keeps
 returns-in_err-copied_entry-clause-keeps c = functions_trans c.args.self.now c.loop-entry.self c.copied_entry.new.self c.loop-entry.invariant.keeps c.copied_entry.ensures.keeps
@@ -38,5 +48,6 @@ loop-entry-init c =
     let d = c.args.self.now in
     record {
       copied = subst (λ (ws : List EntryPoint). EntriesCopied d [] (map entry_value ws) d) (sym c.new-copies.ensures.items) NoEntries;
+      value = ap (λ (ws : List EntryPoint). entries_state d (map entry_value ws)) c.new-copies.ensures.items;
       keeps = functions_same d;
     }

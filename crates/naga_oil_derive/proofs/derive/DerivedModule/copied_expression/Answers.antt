@@ -3,6 +3,8 @@ use Rattle.naga_oil_ir.specs.declared.names.ItemPlace.TheVariants.{ExpressionIte
 use Rattle.naga_oil_derive.specs.DerivedFunctions.{AreAnswered}
 use Rattle.naga_oil_derive.specs.DerivedEntries.{named_request}
 use Rattle.naga_oil_derive.proofs.EntryAnswers.{answered_none, answered_item}
+use Rattle.std.proofs.Common.{◌∷◌, [], refl}
+use Rattle.naga_oil_derive.specs.CopiedEntry.{items_imported}
 use Rattle.naga_oil_derive.proofs.derive.DerivedModule.copied_expression.Goals as goal
 
 pub returns-in-None-clause-answered : goal.returns-in-None-clause-answered
@@ -15,3 +17,14 @@ returns-in_ok-import_global_expression-in-Some-clause-answered c =
     let d = c.args.self.now in
     let e = c.import_global_expression.new.self in
     subst (λ (o : Option ℕ). AreAnswered d (named_request (option_map ExpressionItem o)) e) (sym c.in-Some.is) (answered_item d e (ExpressionItem c.in-Some.handle) (ExpressionItem c.in_ok-import_global_expression-in-Some.field-0) c.in_ok-import_global_expression-in-Some.ensures.imported c.import_global_expression.ensures.reads c.import_global_expression.ensures.keeps)
+
+pub returns-in-None-clause-value : goal.returns-in-None-clause-value
+returns-in-None-clause-value c =
+    let d = c.args.self.now in
+    subst (λ (o : Option ℕ). d ≡ items_imported d (option_map ExpressionItem o ∷ [])) (sym c.in-None.is) refl
+
+pub returns-in_ok-import_global_expression-in-Some-clause-value : goal.returns-in_ok-import_global_expression-in-Some-clause-value
+returns-in_ok-import_global_expression-in-Some-clause-value c =
+    let d = c.args.self.now in
+    let e = c.import_global_expression.new.self in
+    subst (λ (o : Option ℕ). e ≡ items_imported d (option_map ExpressionItem o ∷ [])) (sym c.in-Some.is) c.in_ok-import_global_expression-in-Some.ensures.value

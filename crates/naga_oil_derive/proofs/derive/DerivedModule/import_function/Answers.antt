@@ -8,6 +8,7 @@ use Rattle.naga_oil_derive.proofs.DerivedValues.{imported_value}
 use Rattle.std.proofs.Common.{◌≡◌}
 use Rattle.naga_oil_derive.proofs.FunctionCalls.{one_in, copying_in, derived_functions, keeps_functions, imported_ok}
 use Rattle.naga_oil_derive.proofs.FunctionValues.{named_there}
+use Rattle.naga_oil_derive.proofs.FunctionCalls.{imported_means}
 use Rattle.naga_oil_derive.proofs.derive.DerivedModule.import_function.Goals as goal
 
 pub import-handle-requires-clause-copying : goal.import-handle-requires-clause-copying
@@ -54,3 +55,10 @@ returns-clause-value c =
     let deep = c.len-depth.ensures ∙ sym (functions_length c.unwrap-source.result.now) in
     let own = subst (λ q. OnOk c.import-handle.result (import_state u.copying.maps u.copying.target u.functions ≡ imported q v d (import_state s.copying.maps c.take-taken.new.target c.take-taken.result) (function_value c.args.func.now) c.args.span)) deep c.import-handle.ensures.value in
     imported_value c.import-handle.result s.shader c.unwrap-source.result s.copying.target c.take-taken.new.target u.copying.target c.put.new.target s.copying.maps u.copying.maps c.take-taken.result u.functions s.function_names.entries c.put.new.names.entries c.args.self.now (λ x y. imported (length x.value.functions) x.value x.offset y (function_value c.args.func.now) c.args.span) c.unwrap-source.ensures c.self.view_is c.take-taken.ensures.left c.take-taken.ensures.taken.0 names c.import-handle.ensures.grows.offset c.put.ensures.target seen own
+
+pub returns-clause-means : goal.returns-clause-means
+returns-clause-means c =
+    let seen : c.put.new.names.entries ≡ c.import-handle.new.functions.names.entries = λ i. (c.put.ensures.names i).entries in
+    let s = c.self.inside in
+    let names : c.take-taken.result.names.entries ≡ s.function_names.entries = λ i. (c.take-taken.ensures.taken.1 i).entries in
+    imported_means c.import-handle.result s.shader c.unwrap-source.result c.import-handle.new.copying.maps c.put.new.target c.put.new.names.entries c.args.self.now (function_value c.args.func.now) c.args.span c.unwrap-source.ensures (imported_ok c.import-handle.result s.shader c.unwrap-source.result s.copying.maps s.copying.target c.take-taken.new.target s.function_names.entries c.args.self.now c.take-taken.result c.import-handle.new.copying.maps c.import-handle.new.copying.target c.put.new.target c.import-handle.new.functions c.put.new.names.entries c.args.func.now c.args.span c.unwrap-source.ensures c.self.view_is c.take-taken.ensures.left c.take-taken.ensures.taken.0 names c.put.ensures.target seen c.import-handle.ensures.imported)

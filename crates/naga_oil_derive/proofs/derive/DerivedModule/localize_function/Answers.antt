@@ -13,6 +13,7 @@ use Rattle.naga_oil_derive.specs.DerivedView.{derived_of}
 use Rattle.naga_oil_derive.proofs.FunctionValues.{requests_same}
 use Rattle.naga_oil_derive.proofs.MeaningLemmas.{keeps_meanings}
 use Rattle.naga_oil_derive.proofs.FunctionCalls.{one_in, copying_in, derived_functions, keeps_functions, localized_ok}
+use Rattle.naga_oil_derive.proofs.FunctionCalls.{copied_value}
 use Rattle.naga_oil_derive.proofs.derive.DerivedModule.localize_function.Goals as goal
 
 pub localize-copy-requires-clause-copying : goal.localize-copy-requires-clause-copying
@@ -68,3 +69,8 @@ returns-clause-value c =
     let deep = c.len-depth.ensures ∙ sym (functions_length c.unwrap-source.result.now) in
     let own = subst (λ q. OnOk c.localize-copy.result (import_state u.copying.maps u.copying.target u.functions ≡ answered q v d (import_state s.copying.maps c.take-taken.new.target c.take-taken.result) (requests_of (function_value c.args.func.now)))) deep c.localize-copy.ensures.value in
     imported_value c.localize-copy.result s.shader c.unwrap-source.result s.copying.target c.take-taken.new.target u.copying.target c.put.new.target s.copying.maps u.copying.maps c.take-taken.result u.functions s.function_names.entries c.put.new.names.entries c.args.self.now (λ x y. answered (length x.value.functions) x.value x.offset y (requests_of (function_value c.args.func.now))) c.unwrap-source.ensures c.self.view_is c.take-taken.ensures.left c.take-taken.ensures.taken.0 names c.localize-copy.ensures.grows.offset c.put.ensures.target seen own
+
+pub returns-clause-copy : goal.returns-clause-copy
+returns-clause-copy c =
+    let seen : c.put.new.names.entries ≡ c.localize-copy.new.functions.names.entries = λ i. (c.put.ensures.names i).entries in
+    copied_value c.localize-copy.result c.self.inside.shader c.unwrap-source.result c.localize-copy.new.copying.maps c.put.new.target c.localize-copy.new.functions c.put.new.names.entries c.args.func.now c.unwrap-source.ensures seen c.localize-copy.ensures.copied
