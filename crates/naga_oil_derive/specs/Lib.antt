@@ -6,10 +6,6 @@ pub mod Collected
 pub mod Copying
 pub mod Walk
 pub mod Walks
-pub mod Count
-pub mod Level
-pub mod Redirected
-pub mod LevelRows
 pub mod Copyable
 pub mod Derived
 pub mod DerivedView
@@ -23,6 +19,3 @@ pub mod Naming
 pub mod Imported
 pub mod DerivedFunctions
 pub mod DerivedEntries
-pub mod Ordered
-pub mod Redirectable
-pub mod PutInOrder
