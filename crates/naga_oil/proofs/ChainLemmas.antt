@@ -14,7 +14,7 @@ use Rattle.std.specs.Str.{bytes_eq}
 use Rattle.std.specs.String.{string_cmp}
 use Rattle.naga_oil_ir.specs.ModuleValue.{ModuleValue}
 use Rattle.naga_oil_ir.specs.RedirectFault.{RedirectFault, redirect_fault}
-use Rattle.naga_oil_derive.specs.Redirected.{matched, redirected}
+use Rattle.naga_oil_redirect.specs.Redirected.{matched, redirected}
 use Rattle.naga_oil_ir.specs.declared.redirect_error.RedirectError.{RedirectError}
 use Rattle.naga_oil_ir.specs.declared.redirect_error.RedirectError.TheVariants as code
 use Rattle.naga_oil_pre.specs.Fault.{Fault, redirection}

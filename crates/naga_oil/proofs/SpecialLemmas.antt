@@ -17,8 +17,8 @@ use Rattle.naga_oil_ir.specs.declared.parts.Named.{Named}
 use Rattle.naga_oil_ir.specs.declared.parts.Named.TheVariants.{Nothing, TypeOf, ConstantAt, OverrideAt, GlobalAt, LocalAt, ArgumentAt, FunctionAt}
 use Rattle.naga_oil_ir.specs.declared.span.Span.{Span}
 use Rattle.naga_oil_derive.specs.Copyable.{CopyableItems}
-use Rattle.naga_oil_derive.specs.Redirectable.{Redirectable}
-use Rattle.naga_oil_derive.proofs.RedirectForm.{redirectable_formed}
+use Rattle.naga_oil_redirect.specs.Redirectable.{Redirectable}
+use Rattle.naga_oil_redirect.proofs.RedirectForm.{redirectable_formed}
 
 module _ (m : Module) (s : SpecialTypes) where
   -- the module with other special types

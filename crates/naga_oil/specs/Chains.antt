@@ -1,7 +1,7 @@
 -- Calls that are sent down the functions that override another, and the stages of a shader's entry points.
 use Rattle.std.specs.Prelude.{ℕ, List, [], ◌∷◌, map, Result, Ok, Err}
 use Rattle.naga_oil_ir.specs.ModuleValue.{ModuleValue, EntryValue}
-use Rattle.naga_oil_derive.specs.Redirected.{matched, redirected}
+use Rattle.naga_oil_redirect.specs.Redirected.{matched, redirected}
 use Rattle.naga_oil_ir.specs.RedirectFault.{RedirectFault}
 use Rattle.naga_oil_pre.specs.Fault.{Fault, redirection}
 use Rattle.naga_oil_pre.specs.Recorded.{is_among}

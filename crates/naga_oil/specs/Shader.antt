@@ -3,8 +3,8 @@ use Rattle.std.specs.Prelude.{◌≡◌, Bool, [], ◌∷◌, Result, Ok, Err}
 use Rattle.naga_oil_ir.specs.Backend.{FrontEnd}
 use Rattle.naga_oil_ir.specs.ModuleValue.{ModuleValue}
 use Rattle.naga_oil_ir.specs.declared.backend.Capabilities.{Capabilities}
-use Rattle.naga_oil_derive.specs.Ordered.{ordered}
-use Rattle.naga_oil_derive.specs.PutInOrder.{IsInOrder}
+use Rattle.naga_oil_redirect.specs.Ordered.{ordered}
+use Rattle.naga_oil_redirect.specs.PutInOrder.{IsInOrder}
 use Rattle.naga_oil_ir.specs.RedirectFault.{RedirectFault}
 use Rattle.naga_oil_pre.specs.Fault.{Fault, redirection}
 use Rattle.naga_oil.specs.BuiltModule.{BuiltModule, Builds, Overriding}

@@ -50,7 +50,7 @@ use indexmap::IndexMap;
 use link::{Builds, Linker};
 use marked::{Marked, Over};
 pub use module::ComposableModule;
-use naga_oil_derive::{DerivedModule, RedirectError};
+use naga_oil_derive::DerivedModule;
 pub use naga_oil_ir::{
     Backend, BackendRefusal, Capabilities, ParseFault, ShaderLanguage, ValidFault, WriteFault,
     backend,
@@ -75,6 +75,7 @@ pub use naga_oil_pre::{ShaderDefValue, get_preprocessor_data};
 use naga_oil_pre::{
     ComposerErrorInner as Inner, PreprocessOutput, Preprocessor, PreprocessorMetaData,
 };
+use naga_oil_redirect::RedirectError;
 use std::alloc::{AllocError, Global};
 use std::collections::{BTreeMap, BTreeSet};
 use std::mem;

@@ -12,5 +12,5 @@ pub mod derive {
 
 /// Calls sent to other functions.
 pub mod redirect {
-    pub use naga_oil_derive::{RedirectError, Redirector};
+    pub use naga_oil_redirect::{RedirectError, Redirector};
 }

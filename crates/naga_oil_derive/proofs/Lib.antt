@@ -17,15 +17,6 @@ pub mod WalkLemmas
 pub mod WalkForm
 pub mod WalkNotes
 pub mod FunctionWalk
-pub mod LevelLemmas
-pub mod CountLemmas
-pub mod GoingLemmas
-pub mod LevelLoops
-pub mod OrderLemmas
-pub mod CycleLemmas
-pub mod NameLemmas
-pub mod ArgumentLemmas
-pub mod TurnLemmas
 pub mod RankLemmas
 pub mod SpecialLemmas
 pub mod DeriveLemmas
@@ -43,10 +34,6 @@ pub mod MeaningLemmas
 pub mod HavingLemmas
 pub mod AnsweredLemmas
 pub mod FunctionCalls
-pub mod SendingLemmas
-pub mod RedirectLemmas
-pub mod SentForm
-pub mod RedirectForm
 pub mod SpecialLoops
 pub mod DeriveCalls
 pub mod EntrySteps
@@ -54,4 +41,3 @@ pub mod EntryAnswers
 pub mod EntryValues
 pub mod FormFunctions
 pub mod FormEntries
-pub mod TurnForm

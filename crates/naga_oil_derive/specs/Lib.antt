@@ -6,10 +6,6 @@ pub mod Collected
 pub mod Copying
 pub mod Walk
 pub mod Walks
-pub mod Count
-pub mod Level
-pub mod Redirected
-pub mod LevelRows
 pub mod Copyable
 pub mod Derived
 pub mod DerivedView
@@ -23,9 +19,6 @@ pub mod Naming
 pub mod Imported
 pub mod DerivedFunctions
 pub mod DerivedEntries
-pub mod Ordered
-pub mod Redirectable
-pub mod PutInOrder
 pub mod Equal
 pub mod Copied
 pub mod CopiedFunction

@@ -25,7 +25,7 @@ pub(crate) fn nowhere<K>(count: usize, alloc: Global) -> Tried<Vec<Option<Index<
 }
 
 /// What a list holds at a place, if it is there.
-pub(crate) fn stands_at<T: Copy>(items: &[Option<T>], place: usize) -> Option<T>
+pub fn stands_at<T: Copy>(items: &[Option<T>], place: usize) -> Option<T>
     ensures { result ≡ option_flatten (slice_get items.now place) }
 {
     items.get(place).copied().flatten()

@@ -3,7 +3,7 @@ ghost use Rattle.std.specs.Prelude.{◌≡◌, ◌<◌, ◌↔◌, [], All, IfOk
 ghost use Rattle.naga_oil_ir.specs.ItemForm.{special_types};
 ghost use Rattle.naga_oil_ir.specs.ModuleValue.{module_value, no_items};
 ghost use Rattle.naga_oil_ir.specs.WellFormed.{WellFormed};
-ghost use Rattle.naga_oil_derive.specs.Redirectable.{Redirectable};
+ghost use Rattle.naga_oil_redirect.specs.Redirectable.{Redirectable};
 ghost use Rattle.naga_oil.specs.ByName.{HasItems};
 ghost use Rattle.naga_oil.specs.Formed.{IsMisformed, PassesApart, FailsApart};
 ghost use Rattle.naga_oil.specs.Relations.{GivesBy};

@@ -30,7 +30,7 @@ use super::error::{refused, refused_in};
 use super::formed::redirectable;
 use super::merge::{clone_imports, overwrite};
 use super::*;
-use naga_oil_derive::Redirector;
+use naga_oil_redirect::Redirector;
 
 // Why a shader isn't read: a fault of its text as it was given to be read, or of what it imports.
 #[derive(Drop)]

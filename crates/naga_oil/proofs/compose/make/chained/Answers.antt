@@ -1,7 +1,7 @@
 use Rattle.std.proofs.Common.{◌≡◌, Ok, Err, refl, sym, ap, ◌∙◌}
 use Rattle.std.proofs.lemmas.Result.{err_from_is_err_and}
 use Rattle.naga_oil_ir.specs.ModuleValue.{module_value}
-use Rattle.naga_oil_derive.specs.Ordered.{ordered}
+use Rattle.naga_oil_redirect.specs.Ordered.{ordered}
 use Rattle.naga_oil_derive.specs.World.{value_of}
 use Rattle.naga_oil.specs.BuiltModule.{overriding_of}
 use Rattle.naga_oil.specs.Chains.{all_sent_down}

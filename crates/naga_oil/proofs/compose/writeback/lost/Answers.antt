@@ -1,7 +1,7 @@
 use Rattle.std.proofs.Common.{◌≡◌, map, refl, sym, ap, ◌∙◌}
 use Rattle.std.proofs.Math.Seq.{take-length}
 use Rattle.naga_oil_ir.specs.ModuleValue.{module_value}
-use Rattle.naga_oil_derive.specs.Redirected.{function_values}
+use Rattle.naga_oil_redirect.specs.Redirected.{function_values}
 use Rattle.naga_oil.specs.BuiltModule.{built_of}
 use Rattle.naga_oil.specs.Definition.{texts}
 use Rattle.naga_oil.specs.Writeback.{named_functions}

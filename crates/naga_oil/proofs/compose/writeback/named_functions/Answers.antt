@@ -1,7 +1,7 @@
 use Rattle.std.proofs.Common.{◌≡◌, take, min, length, sym, ap, ◌∙◌, arith}
 use Rattle.std.proofs.lemmas.List.{length-take, take_min, take-map}
 use Rattle.naga_oil_ir.specs.ModuleValue.{function_value}
-use Rattle.naga_oil_derive.specs.Redirected.{function_values}
+use Rattle.naga_oil_redirect.specs.Redirected.{function_values}
 use Rattle.naga_oil.specs.Writeback.{named_functions}
 use Rattle.naga_oil.proofs.compose.writeback.named_functions.Goals as goal
 

@@ -1,6 +1,0 @@
-use Rattle.std.proofs.Common.{◌≡◌, Some, map, take}
-use Rattle.naga_oil_derive.specs.Level.{above, known}
-use Rattle.naga_oil_derive.proofs.order.level_above.Given as goal
-
-abbrev pub invariant-loop-callee : goal.invariant-loop-callee
-invariant-loop-callee l = above (map (known l.levels) (take l.callee-index l.callees)) ≡ Some l.above

@@ -1,0 +1,14 @@
+pub mod LevelLemmas
+pub mod CountLemmas
+pub mod GoingLemmas
+pub mod LevelLoops
+pub mod OrderLemmas
+pub mod CycleLemmas
+pub mod NameLemmas
+pub mod ArgumentLemmas
+pub mod TurnLemmas
+pub mod SendingLemmas
+pub mod RedirectLemmas
+pub mod SentForm
+pub mod RedirectForm
+pub mod TurnForm

@@ -1,0 +1,138 @@
+-- Functions that are imported in their order can be, and so can the entry points then.
+use Rattle.std.proofs.Common.{◌≡◌, ◌∙◌, ⊎_elim, inl, ℕ, zero, suc, ◌+◌, ◌<◌, ◌||◌, ◌==◌, true, List, [], ◌∷◌, length, take, get_or, slice_get, Option, Some, None, IsSome, is_some, IfSome, option_map, Ok, All, refl, ap, sym, subst, arith}
+use Rattle.std.proofs.lemmas.Bool.{or_cases, false≢true}
+use Rattle.std.proofs.lemmas.List.{take_more}
+use Rattle.std.proofs.lemmas.List.Elements.{All-nil, All-cons, All-head, All-tail}
+use Rattle.std.proofs.lemmas.Option.{slice_get_within, slice_get-get_or, slice_get-map, same_Some}
+use Rattle.naga_oil_ir.specs.Body.{Tokens, block_tokens}
+use Rattle.naga_oil_ir.specs.BodyForm.{IsTokenFine}
+use Rattle.naga_oil_ir.specs.Links.{linked, has}
+use Rattle.naga_oil_ir.specs.ModuleValue.{ModuleValue, FunctionValue, function_value, module_value}
+use Rattle.naga_oil_ir.specs.WellFormed.{FunctionForm}
+use Rattle.naga_oil_ir.specs.declared.module.Function.{Function}
+use Rattle.naga_oil_ir.specs.declared.module.Module.{Module}
+use Rattle.naga_oil_ir.specs.declared.span.Span.{Span}
+use Rattle.naga_oil_ir.specs.declared.tokens.Token.TheVariants.{Callee}
+use Rattle.naga_oil_ir.proofs.LinkLemmas.{or_left, or_right, eq_eqb, has-append, only, linked-map}
+use Rattle.naga_oil_derive.specs.World.{value_of}
+use Rattle.naga_oil_derive.specs.Derived.{Source, Derived, KeepsSource, Sets, IsSet}
+use Rattle.naga_oil_derive.specs.DerivedFunctions.{Meanings, meant, meant_at, MayCopy, MayCall, CanImport, KeepsFunctions, FunctionStands, IsFunctionImported}
+use Rattle.naga_oil_derive.specs.DerivedEntries.{CanCopyEntries}
+use Rattle.naga_oil_redirect.specs.Level.{StayWithin}
+use Rattle.naga_oil_redirect.specs.Ordered.{callees_of, calls_of, ordered}
+use Rattle.naga_oil_redirect.specs.PutInOrder.{IsImportedInTurn}
+use Rattle.naga_oil_redirect.specs.Redirectable.{Redirectable}
+use Rattle.naga_oil_redirect.specs.Redirected.{function_values}
+use Rattle.naga_oil_derive.proofs.EntrySteps.{meant_later}
+use Rattle.naga_oil_derive.proofs.FormEntries.{HasSource, source_copy, entries_can}
+use Rattle.naga_oil_derive.proofs.FormFunctions.{CallsIn, form_copy, function_named}
+use Rattle.naga_oil_derive.proofs.FunctionValues.{seen, functions_length, functions_at}
+use Rattle.naga_oil_redirect.proofs.RedirectForm.{stay_within}
+use Rattle.naga_oil_redirect.proofs.TurnLemmas.{callees_before, each_in_order, InTurn-more}
+
+-- ---- the source stays
+
+source_on : (v : ModuleValue) (a b : Option Source) → KeepsSource a b → IsSome a × IfSome a (λ s. s.value ≡ v) → IsSome b × IfSome b (λ s. s.value ≡ v)
+source_on v None b k h = absurd (false≢true h.0)
+source_on v (Some s) None k h = absurd k
+source_on v (Some s) (Some t) k h = (refl, k.value ∙ h.1)
+
+pub source_kept : (v : ModuleValue) (d e : Derived) → KeepsFunctions d e → HasSource v d → HasSource v e
+source_kept v d e k h = source_on v d.source e.source k.source h
+
+-- ---- functions that are known
+
+-- the names of the functions at some places are known
+abbrev pub AreKnown : ModuleValue → List ℕ → Derived → Type 0
+AreKnown v ks d = (k : ℕ) → has ks k ≡ true → IsSome (meant_at d.function_names (slice_get v.functions k))
+
+pub none_known : (v : ModuleValue) (d : Derived) → AreKnown v [] d
+none_known v d k h = absurd (false≢true h)
+
+name_means : (o : Option Source) (d e : Derived) (f : FunctionValue) (span : Span) (h : ℕ) → IsSome o → IfSome o (FunctionStands d e f span h) → IsSome (meant e.function_names f.name)
+name_means None d e f span h s i = absurd (false≢true s)
+name_means (Some x) d e f span h s i = ap is_some i.last.means
+
+-- one function more
+pub known_more : (v : ModuleValue) (d e : Derived) (ks : List ℕ) (i h : ℕ) (g : FunctionValue × Span) → i < length ks → AreKnown v (take i ks) d → slice_get v.functions (get_or ks i 0) ≡ Some g → KeepsFunctions d e → IsSome e.source → IsFunctionImported d e g.0 g.1 h → AreKnown v (take (i + 1) ks) e
+known_more v d e ks i h g l so_far at keeps there imported k among =
+    let split : (has (take i ks) k || has (get_or ks i 0 ∷ []) k) ≡ true = sym (has-append (take i ks) (get_or ks i 0 ∷ []) k) ∙ ap (λ xs. has xs k) (sym (take_more ks i 0 l)) ∙ among in
+    let own = λ (same : get_or ks i 0 ≡ k). subst (λ (o : Option (FunctionValue × Span)). IsSome (meant_at e.function_names o)) (sym at ∙ ap (slice_get v.functions) same) (name_means e.source d e g.0 g.1 h there imported) in
+    ⊎_elim (λ a. meant_later d.function_names e.function_names (slice_get v.functions k) keeps.names (so_far k a)) (λ a. own (only (get_or ks i 0) k a)) (or_cases (has (take i ks) k) (has (get_or ks i 0 ∷ []) k) split)
+
+-- ---- a function whose callees are known
+
+known_call : (m : ModuleValue) (ns : Meanings) (n k : ℕ) → IsSome (meant_at ns (slice_get m.functions k)) → MayCall m ns n k
+known_call m ns zero k h = h
+known_call m ns (suc n) k h = inl h
+
+calls_known : (m : Module) (P : ℕ → Type 0) (n : ℕ) (ts : Tokens) → All (IsTokenFine (length m.functions) n) ts → ((g : ℕ) → g < length m.functions → has (callees_of ts) g ≡ true → P g) → All (CallsIn m P) ts
+calls_known m P n [] h known = All-nil (CallsIn m P)
+calls_known m P n (Callee f ∷ ts) h known =
+    let l : f < length m.functions = All-head (IsTokenFine (length m.functions) n) (Callee f) ts h in
+    All-cons (CallsIn m P) (Callee f) ts (l, known f l (or_left (f == f) (has (callees_of ts) f) (eq_eqb f f refl))) (calls_known m P n ts (All-tail (IsTokenFine (length m.functions) n) (Callee f) ts h) (λ g i c. known g i (or_right (f == g) (has (callees_of ts) g) c)))
+calls_known m P n (t ∷ ts) h known = All-cons (CallsIn m P) t ts tt (calls_known m P n ts (All-tail (IsTokenFine (length m.functions) n) t ts h) known)
+
+turn_copy : (m : Module) (ns : Meanings) (n : ℕ) (f : Function) → FunctionForm m (length m.functions) n f → ((g : ℕ) → g < length m.functions → has (callees_of (block_tokens f.body)) g ≡ true → IsSome (meant_at ns (slice_get (value_of m).functions g))) → MayCopy (value_of m) (MayCall (value_of m) ns (length (value_of m).functions)) (function_value f)
+turn_copy m ns n f h known =
+    let P = MayCall (value_of m) ns (length (value_of m).functions) in
+    form_copy m P (length m.functions) n f h (calls_known m P n (block_tokens f.body) h.statements (λ g l c. known_call (value_of m) ns (length (value_of m).functions) g (known g l c)))
+
+values_at : (m : Module) → (value_of m).functions ≡ function_values m.functions
+unfolding value_of
+values_at m = refl
+
+-- ---- in turn
+
+-- what the function at a place calls
+callees_at : (m : Module) (k : ℕ) (e : Function × Span) → slice_get m.functions k ≡ Some e → linked (calls_of (value_of m).functions) k ≡ callees_of (block_tokens e.0.body)
+callees_at m k e at =
+    let calls = λ (x : FunctionValue × Span). callees_of x.0.body in
+    let there : slice_get (function_values m.functions) k ≡ Some (seen e) = slice_get-map seen m.functions k ∙ ap (option_map seen) at in
+    ap (λ (fs : List (FunctionValue × Span)). linked (calls_of fs) k) (values_at m) ∙ linked-map calls (function_values m.functions) k (seen e) there
+
+at_place : (m : Module) (P : Function × Span → Type 0) (k : ℕ) (e : Function × Span) → slice_get m.functions k ≡ Some e → All P m.functions → P e
+at_place m P k e at h =
+    let l = slice_get_within m.functions k e at in
+    subst P (same_Some (get_or m.functions k e) e (sym (slice_get-get_or m.functions k e l) ∙ at)) (h k e l)
+
+-- where the functions before a place are known, the one there can be imported
+pub turn_import : (m : Module) (d : Derived) (os : List ℕ) (i : ℕ) (e : Function × Span) → Redirectable m → HasSource (value_of m) d → ordered (value_of m).functions ≡ Ok os → i < length os → slice_get m.functions (get_or os i 0) ≡ Some e → AreKnown (value_of m) (take i os) d → CanImport d (function_value e.0)
+turn_import m d os i e h own order l at known =
+    let k = get_or os i 0 in
+    let stay = subst (λ (fs : List (FunctionValue × Span)). StayWithin (calls_of fs)) (sym (values_at m)) (stay_within m h) in
+    let form = at_place m (λ x. FunctionForm m (length m.functions) 4294967295 x.0) k e at h.functions in
+    let callees = λ (g : ℕ) (c : has (callees_of (block_tokens e.0.body)) g ≡ true). known g (callees_before (value_of m).functions stay os i order l g (ap (λ xs. has xs g) (callees_at m k e at) ∙ c)) in
+    (source_copy m d (function_value e.0) own (turn_copy m d.function_names 4294967295 e.0 form (λ g j c. callees g c)), function_named m k e at h.names.named)
+
+-- where all are known, the entry points can be copied
+pub turn_entries : (m : Module) (d : Derived) (os : List ℕ) → Redirectable m → HasSource (value_of m) d → ordered (value_of m).functions ≡ Ok os → AreKnown (value_of m) os d → CanCopyEntries d
+turn_entries m d os h own order known =
+    let there = λ (g : ℕ) (l : g < length m.functions). each_in_order (value_of m).functions os order g (let size = functions_length m in omega (arith, l, size)) in
+    entries_can m d 4294967295 own (λ f form. source_copy m d (function_value f) own (turn_copy m d.function_names 4294967295 f form (λ g l c. known g (there g l)))) h.entry_points
+
+-- ---- one function after another
+
+set_in : (v : ModuleValue) (shift : ℕ) (d e : Derived) (o : Option Source) → IsSome o → IfSome o (Sets v shift d e) → IsSome o × IfSome o (λ s. s.value ≡ v)
+set_in v shift d e None h i = (h, tt)
+set_in v shift d e (Some s) h i = (h, i.value)
+
+pub set_source : (v : ModuleValue) (shift : ℕ) (d e : Derived) → IsSet v shift d e → HasSource v e
+set_source v shift d e h = set_in v shift d e e.source h.0 h.1
+
+-- what stands at a place of the order
+pub entry_of : (fs : List (Function × Span)) (k : ℕ) (e : Function × Span) → k < length fs → e ≡ get_or fs k e → slice_get fs k ≡ Some e
+entry_of fs k e l is = slice_get-get_or fs k e l ∙ ap Some (sym is)
+
+pub value_entry : (m : Module) (k : ℕ) (e : Function × Span) → slice_get m.functions k ≡ Some e → slice_get (value_of m).functions k ≡ Some (seen e)
+value_entry m k e at = functions_at m k ∙ ap (option_map seen) at
+
+pub in_turn_more : (v : ModuleValue) (d e f : Derived) (ks : List ℕ) (i h : ℕ) (g : FunctionValue × Span) → i < length ks → IsImportedInTurn v (take i ks) d e → slice_get v.functions (get_or ks i 0) ≡ Some g → KeepsFunctions e f → IsFunctionImported e f g.0 g.1 h → IsImportedInTurn v (take (i + 1) ks) d f
+in_turn_more v d e f ks i h g l so_far at keeps imported = record { start = so_far.start; special = so_far.special; functions = InTurn-more ks i h g l so_far.functions at keeps imported }
+
+pub order_value : (m : Module) (os : List ℕ) → ordered (function_values m.functions) ≡ Ok os → ordered (value_of m).functions ≡ Ok os
+order_value m os e = ap ordered (values_at m) ∙ e
+
+pub value_seen : (m : Module) (v : ModuleValue) → module_value m ≡ v → value_of m ≡ v
+unfolding value_of
+value_seen m v e = e

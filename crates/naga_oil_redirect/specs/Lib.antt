@@ -1,0 +1,8 @@
+-- The definitions that the contracts of this crate cite.
+pub mod Count
+pub mod Level
+pub mod Redirected
+pub mod LevelRows
+pub mod Ordered
+pub mod Redirectable
+pub mod PutInOrder

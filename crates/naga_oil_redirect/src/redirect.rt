@@ -1,0 +1,210 @@
+//! A module whose calls can be sent to other functions.
+ghost use Rattle.std.specs.Prelude.{◌≡◌, ◌<◌, ◌↔◌, Ok, IsErr, IsSome, length, map, IfOk, OnOk, OnErr, nat_eq};
+ghost use Rattle.std.specs.List.{enumerate_from};
+ghost use Rattle.std.specs.BTreeSet.{contains_text};
+ghost use Rattle.std.specs.Cmp.Lexicographic.{pointwise};
+ghost use Rattle.naga_oil_ir.specs.ModuleValue.{module_value, function_value, entry_value};
+ghost use Rattle.naga_oil_redirect.specs.Redirectable.{Redirectable};
+ghost use Rattle.naga_oil_ir.specs.RedirectFault.{Gives};
+ghost use Rattle.naga_oil_redirect.specs.Level.{HasCycle};
+ghost use Rattle.naga_oil_redirect.specs.Ordered.{calls_of, ordered};
+ghost use Rattle.naga_oil_derive.specs.World.{value_of};
+ghost use Rattle.naga_oil_derive.specs.DerivedEntries.{CanCopyEntries};
+ghost use Rattle.naga_oil_redirect.specs.PutInOrder.{IsImportedInTurn, IsInOrder, PutsInOrder};
+ghost use Rattle.naga_oil_redirect.specs.Redirected.{function_values, is_named, same_results, found, matched, send_at, send_entry, redirected};
+
+use super::*;
+pub use naga_oil_ir::RedirectError;
+
+/// The handles of a function and its replacement.
+pub type Pair = (Handle<Function>, Handle<Function>);
+
+fn is_named(function: &Function, name: &str) -> bool
+    ensures { result ≡ is_named (pointwise nat_eq name.now) (function_value function.now).name }
+{
+    let own = function.name.as_ref();
+    own.is_some_and(|own| name == own.as_str())
+}
+
+fn is_omitted(function: &Function, omit: &BTreeSet<String>) -> bool
+    ensures { result ≡ is_named (contains_text omit.now) (function_value function.now).name }
+{
+    let own = function.name.as_ref();
+    own.is_some_and(|own| omit.contains(own.as_str()))
+}
+
+fn same_arguments(a: &[FunctionArgument], b: &[FunctionArgument]) -> bool
+    ensures { result ≡ pointwise nat_eq (map (λ x. x.ty) a.now) (map (λ x. x.ty) b.now) }
+{
+    a.len() == b.len() && a.iter().zip(b).all(|(x, y)| x.ty == y.ty)
+}
+
+fn same_results(original: &Function, replacement: &Function) -> bool
+    ensures { result ≡ same_results (function_value original.now) (function_value replacement.now) }
+{
+    original.result.map(|gives| gives.ty) == replacement.result.map(|gives| gives.ty)
+}
+
+/// Sends the calls of all functions but the one that they go to and the omitted ones.
+fn send_functions(arena: &mut Arena<Function>, pair: Pair, omit: &BTreeSet<String>, alloc: Global)
+    ensures { function_values arena.new ≡ map (send_at pair.0 pair.1 (contains_text omit.now)) (enumerate_from 0 (function_values arena.old)) }
+{
+    let mut items = mem::replace(arena, Arena::new(alloc)).into_items();
+    for place in 0..items.len() {
+        if place != pair.1.index() && !is_omitted(&items[place].0, omit) {
+            send_calls(&mut items[place].0, pair.0, pair.1, alloc);
+        }
+    }
+    *arena = Arena::from_items(items);
+}
+
+/// Sends the calls of all entry points.
+fn send_entries(entries: &mut Vec<EntryPoint>, pair: Pair, alloc: Global)
+    ensures { map entry_value entries.new.items ≡ map (send_entry pair.0 pair.1) (map entry_value entries.old.items) }
+{
+    for entry in entries.iter_mut() {
+        send_calls(&mut entry.function, pair.0, pair.1, alloc);
+    }
+}
+
+/// Sets a module as the source, and imports its functions in their order.
+fn import_in_turn<'a>(derived: &mut DerivedModule<'a>, source: &'a Module, order: &[usize]) -> Tried
+    requires source { Redirectable source.now }
+    requires order { ordered (function_values source.now.functions) ≡ Ok order.now }
+    ensures imported { OnOk result (IsImportedInTurn (value_of source.now) order.now derived.old derived.new) }
+    ensures set { OnOk result (IsSome derived.new.source) }
+    ensures entries { OnOk result (CanCopyEntries derived.new) }
+{
+    derived.set_shader_source(source, 0)?;
+    let functions = source.functions.as_slice();
+    for place in order {
+        let entry = &functions[*place];
+        derived.import_function(&entry.0, entry.1)?;
+    }
+    Ok(())
+}
+
+/// A module with its functions in their order.
+fn in_order(source: &Module, order: &[usize], alloc: Global) -> Tried<Module>
+    requires source { Redirectable source.now }
+    requires order { ordered (function_values source.now.functions) ≡ Ok order.now }
+    ensures { IfOk result (λ m. IsInOrder (value_of source.now) (value_of m)) }
+{
+    let mut derived = DerivedModule::new(alloc);
+    import_in_turn(&mut derived, source, order)?;
+    derived.into_module_with_entrypoints()
+}
+
+/// A module whose calls can be sent to other functions.
+#[derive(Drop)]
+pub struct Redirector {
+    module: Module,
+    alloc: Global,
+}
+
+impl Model for Redirector {
+    ghost use Rattle.naga_oil_ir.specs.ModuleValue.{ModuleValue, module_value};
+    ghost use Rattle.naga_oil_redirect.specs.Redirectable.{Redirectable};
+
+    ghost Value = { ModuleValue };
+
+    ghost view = { λ r. module_value r.module };
+
+    ghost invariant = { λ r. Redirectable r.module };
+}
+
+impl Redirector {
+    /// A redirector of a module that passes the test of form, but that calls may go to any function.
+    pub fn new(alloc: Global, shader: Module) -> Self
+        requires { Redirectable shader }
+        ensures { result ≡ module_value shader }
+    {
+        #[rattlefmt::skip]
+        Redirector { module: shader, alloc }
+    }
+
+    /// The first function of a name, with its place.
+    fn find(&self, name: &str) -> Result<(usize, &Function), RedirectError>
+        ensures found { Gives (λ f. (f.0, function_value f.1.now)) result (found name.now self.now.functions) }
+        ensures within { IfOk result (λ f. f.0 < length self.now.functions) }
+    {
+        let functions = self.module.functions.as_slice();
+        for (place, entry) in functions.iter().enumerate() {
+            if is_named(&entry.0, name) {
+                return Ok((place, &entry.0));
+            }
+        }
+        let name = String::from_str(self.alloc, name)?;
+        Err(RedirectError::FunctionNotFound(name))
+    }
+
+    /// The handles of a function and its replacement, if that may stand for it.
+    fn matched(&self, original: &str, replacement: &str) -> Result<Pair, RedirectError>
+        ensures matched { Gives (λ pair. (pair.0, pair.1)) result (matched self.now.functions original.now replacement.now) }
+        ensures within { IfOk result (λ pair. pair.1 < length self.now.functions) }
+    {
+        let (from, function) = self.find(original)?;
+        let (to, other) = self.find(replacement)?;
+        let arguments = same_arguments(&function.arguments, &other.arguments);
+        if arguments && same_results(function, other) {
+            return Ok((Index::new(from), Index::new(to)));
+        }
+        let original = String::from_str(self.alloc, original)?;
+        let replacement = String::from_str(self.alloc, replacement)?;
+        Err(if arguments {
+            RedirectError::ReturnTypeMismatch(replacement, original)
+        } else {
+            RedirectError::ArgumentMismatch(replacement, original)
+        })
+    }
+
+    /// Sends the calls of one function, by name, to another one, its replacement: in all entry points, and in all functions
+    /// but the replacement and the omitted ones. It answers the handles of both.
+    ///
+    /// # Errors
+    /// Where the original isn't found, else the replacement, else where their arguments differ in number or types, else
+    /// where their results do, or there is no memory. Refused, it changes nothing.
+    pub fn redirect_function(
+        &mut self,
+        original: &str,
+        replacement: &str,
+        omit: &BTreeSet<String>,
+    ) -> Result<Pair, RedirectError>
+        ensures handles { Gives (λ pair. (pair.0, pair.1)) result (matched self.old.functions original.now replacement.now) }
+        ensures redirected { IfOk result (λ pair. self.new ≡ redirected self.old pair.0 pair.1 (contains_text omit.now)) }
+        ensures err { OnErr result (self.new ≡ self.old) }
+    {
+        let (from, to) = self.matched(original, replacement)?;
+        send_functions(&mut self.module.functions, (from, to), omit, self.alloc);
+        send_entries(&mut self.module.entry_points, (from, to), self.alloc);
+        Ok((from, to))
+    }
+
+    /// The module with its functions in an order in which each stands behind what it calls: by their levels, then by place.
+    /// Items are there that functions, entry points or special types reach.
+    ///
+    /// # Errors
+    /// Where functions call each other in a circle, or there is no memory. The module is dropped then.
+    pub fn into_module(self) -> Result<Module, RedirectError>
+        ensures order { PutsInOrder self result }
+        ensures cycle { IsErr (ordered self.functions) ↔ HasCycle (calls_of self.functions) }
+    {
+        let order = ordered(self.module.functions.as_slice(), self.alloc)?;
+        Ok(in_order(&self.module, &order, self.alloc)?)
+    }
+}
+
+impl TryFrom<Redirector> for Module {
+    type Error = RedirectError;
+
+    ghost use Rattle.naga_oil_redirect.specs.PutInOrder.{PutsInOrder};
+
+    ghost try_from_gives = { PutsInOrder };
+
+    fn try_from(redirector: Redirector) -> Result<Module, RedirectError> {
+        redirector.into_module()
+    }
+}
+
+#[cfg(test)]
+mod tests;
