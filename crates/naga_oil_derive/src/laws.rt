@@ -1,0 +1,29 @@
+// What holds of every copy.
+ghost use Rattle.naga_oil_derive.specs.CopiedLaw.{CopyableLaw, SpecialLaw, PutLaw, TypePutLaw, CopiedLaw, AllCopiedLaw, AgainLaw, TypeCopiedLaw, TypeAgainLaw};
+
+/// Of a module whose items can be copied the value says so: each item stands in the arena of its kind, and names what
+/// is there, of lower rank.
+pub fn copyable_values()
+    ensures items { CopyableLaw }
+    ensures special { SpecialLaw }
+{}
+
+/// An item that is put, when what it names went somewhere, is one copy.
+pub fn one_copy()
+    ensures item { PutLaw }
+    ensures named { TypePutLaw }
+{}
+
+/// An item is copied with what it names, once: the module gets the first occurrences of what it reaches, and the copy
+/// reads as the item to every depth.
+pub fn copies_with_names()
+    ensures item { CopiedLaw }
+    ensures all { AllCopiedLaw }
+    ensures again { AgainLaw }
+{}
+
+/// A type that is copied under a name reads so from then on.
+pub fn copies_under_a_name()
+    ensures named { TypeCopiedLaw }
+    ensures again { TypeAgainLaw }
+{}
