@@ -22,7 +22,7 @@ pub is_some_mapped : {A B : Type 0} (f : A → B) (o : Option A) → is_some (op
 is_some_mapped f None = refl
 is_some_mapped f (Some x) = refl
 
-flat_none : (n k : ℕ) → ◌≡◌ {A = Option ℕ} (option_flatten (slice_get (replicate n None) k)) None
+pub flat_none : (n k : ℕ) → ◌≡◌ {A = Option ℕ} (option_flatten (slice_get (replicate n None) k)) None
 flat_none zero k = refl
 flat_none (suc n) zero = refl
 flat_none (suc n) (suc k) = flat_none n k

@@ -14,6 +14,7 @@ pub mod DerivedValues
 pub mod PutLaws
 pub mod KindLaws
 pub mod CopiedLaws
+pub mod DerivedLaws
 pub mod SourceValues
 pub mod WalkLemmas
 pub mod WalkForm

@@ -1,5 +1,6 @@
 // What holds of every copy.
 ghost use Rattle.naga_oil_derive.specs.CopiedLaw.{CopyableLaw, SpecialLaw, PutLaw, TypePutLaw, CopiedLaw, AllCopiedLaw, AgainLaw, TypeCopiedLaw, TypeAgainLaw};
+ghost use Rattle.naga_oil_derive.specs.DerivedLaw.{NothingLaw, ClearedLaw, PlacedLaw, ImportLaw, RenameLaw};
 
 /// Of a module whose items can be copied the value says so: each item stands in the arena of its kind, and names what
 /// is there, of lower rank.
@@ -26,4 +27,18 @@ pub fn copies_with_names()
 pub fn copies_under_a_name()
     ensures named { TypeCopiedLaw }
     ensures again { TypeAgainLaw }
+{}
+
+/// A module of nothing is a derivation, and each stays one without its source; in a derivation what went somewhere
+/// reads there as its source.
+pub fn derivations()
+    ensures nothing { NothingLaw }
+    ensures cleared { ClearedLaw }
+    ensures placed { PlacedLaw }
+{}
+
+/// An item of the source is imported, a type under a name if one is given; then the module is a derivation still.
+pub fn derivations_with_items()
+    ensures import { ImportLaw }
+    ensures rename { RenameLaw }
 {}
