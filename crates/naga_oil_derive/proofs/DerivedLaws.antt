@@ -80,7 +80,7 @@ placed_law first d s p q i e g = placed_in first d.source d.target s p q d.funct
 
 -- ---- a source of which some was copied
 
-there_later : (t u : ModuleValue) → Extends t u → AreThere t → AreThere u
+pub there_later : (t u : ModuleValue) → Extends t u → AreThere t → AreThere u
 there_later t u e h k q w =
     let r = h k q (ap (λ s. special_at s k) (sym (special_same t u e)) ∙ w) in
     (r.0, Extends-stays t u e (TypeItem q) r.0 r.1)

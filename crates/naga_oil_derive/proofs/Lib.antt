@@ -15,6 +15,7 @@ pub mod PutLaws
 pub mod KindLaws
 pub mod CopiedLaws
 pub mod DerivedLaws
+pub mod SetLaws
 pub mod SourceValues
 pub mod WalkLemmas
 pub mod WalkForm

@@ -1,6 +1,6 @@
 // What holds of every copy.
 ghost use Rattle.naga_oil_derive.specs.CopiedLaw.{CopyableLaw, SpecialLaw, PutLaw, TypePutLaw, CopiedLaw, AllCopiedLaw, AgainLaw, TypeCopiedLaw, TypeAgainLaw};
-ghost use Rattle.naga_oil_derive.specs.DerivedLaw.{NothingLaw, ClearedLaw, PlacedLaw, ImportLaw, RenameLaw};
+ghost use Rattle.naga_oil_derive.specs.DerivedLaw.{NothingLaw, ClearedLaw, PlacedLaw, ImportLaw, RenameLaw, SetLaw};
 
 /// Of a module whose items can be copied the value says so: each item stands in the arena of its kind, and names what
 /// is there, of lower rank.
@@ -41,4 +41,10 @@ pub fn derivations()
 pub fn derivations_with_items()
     ensures import { ImportLaw }
     ensures rename { RenameLaw }
+{}
+
+/// A module of which items can be copied is set as the source; then each of its special types stands where one of its
+/// key stands.
+pub fn derivations_with_a_source()
+    ensures { SetLaw }
 {}
