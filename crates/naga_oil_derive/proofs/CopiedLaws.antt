@@ -1,5 +1,5 @@
 -- What copying an item with what it names does, over values alone.
-use Rattle.std.proofs.Common.{◌≡◌, ◌⊎◌, inl, inr, ⊎_elim, ℕ, zero, suc, ◌<◌, ◌+◌, ◌*◌, Bool, List, [], ◌∷◌, ◌++◌, length, Option, Some, None, option_map, is_some, if◌then◌else◌, refl, ap, sym, ◌∙◌, subst, arith, All, IfSome, Contains}
+use Rattle.std.proofs.Common.{◌≡◌, ◌⊎◌, inl, inr, ⊎_elim, ℕ, zero, suc, ◌<◌, ◌+◌, ◌*◌, List, [], ◌∷◌, ◌++◌, length, Option, Some, None, option_map, is_some, if◌then◌else◌, refl, ap, sym, ◌∙◌, subst, arith, All, IfSome, Contains}
 use Rattle.std.proofs.lemmas.List.Elements.{All-head, All-tail, All-weaker, All-cons, All-nil, Contains-append_left, Contains-append_right, Contains-push, Contains-push_cases, Contains-append_cases}
 use Rattle.naga_oil_ir.specs.Rows.{Row, Text}
 use Rattle.naga_oil_ir.specs.ModuleValue.{ModuleValue}
@@ -7,9 +7,9 @@ use Rattle.naga_oil_ir.specs.declared.names.ItemPlace.{ItemPlace}
 use Rattle.naga_oil_ir.specs.declared.names.ItemPlace.TheVariants.{TypeItem}
 use Rattle.naga_oil_ir.specs.declared.span.Span.{Span}
 use Rattle.naga_oil_derive.specs.Tree.{World, Kept, ReadsAs}
-use Rattle.naga_oil_derive.specs.World.{Places, goes, world, span_at, named_world, renamed_at, under_name}
-use Rattle.naga_oil_derive.specs.Collected.{Collects, Done, Known, Fresh, Comes, depth, reached, names_trail}
-use Rattle.naga_oil_derive.specs.Copying.{Goes, IsSound, AreCopied, WentSomewhere}
+use Rattle.naga_oil_derive.specs.World.{goes, world, renamed_at, under_name}
+use Rattle.naga_oil_derive.specs.Collected.{Collects, Done, Known, Fresh, depth, names_trail}
+use Rattle.naga_oil_derive.specs.Copying.{IsSound, AreCopied, WentSomewhere}
 use Rattle.naga_oil_derive.specs.Copied.{CopyState, Copier, put, put_type, copied_names, copied_row, copied_by, copied_within, copied, all_copied, copied_type}
 use Rattle.naga_oil_derive.specs.CopiedLaw.{IsKinded, kind_number, place_number, HasAt, IsBelowIn, IsRankedBy, IsCopyable, reads_now, spans_by, IsMidway, PutsOne, GrowsBy, HasCopyNow, trail_in}
 use Rattle.naga_oil_derive.proofs.TreeLemmas.{reads, same_or_not, puts_keeps, IsSound-copy, AreCopied-step, AreCopied-named}

@@ -1,26 +1,24 @@
 -- What the methods of a derived module do, over values alone.
-use Rattle.std.proofs.Common.{◌≡◌, ◌⊎◌, inl, inr, ⊎_elim, ℕ, ◌<◌, List, [], ◌∷◌, length, map, replicate, Option, Some, None, option_map, slice_get, unwrap_or, refl, ap, sym, ◌∙◌, subst, arith, All, IfSome, is_some, true, false}
-use Rattle.std.specs.Option.{option_flatten}
+use Rattle.std.proofs.Common.{◌≡◌, ℕ, List, Option, Some, None, refl, ap, sym, ◌∙◌, subst, IfSome}
 use Rattle.std.proofs.lemmas.Bool.{false≢true}
-use Rattle.naga_oil_ir.specs.Rows.{Row, Text}
+use Rattle.naga_oil_ir.specs.Rows.{Text}
 use Rattle.naga_oil_ir.specs.ModuleValue.{ModuleValue, no_items}
 use Rattle.naga_oil_ir.specs.declared.names.ItemPlace.{ItemPlace}
 use Rattle.naga_oil_ir.specs.declared.names.ItemPlace.TheVariants.{TypeItem}
 use Rattle.naga_oil_ir.specs.declared.span.Span.{Span}
-use Rattle.naga_oil_derive.specs.declared.special.SpecialKey.{SpecialKey}
 use Rattle.naga_oil_derive.specs.Tree.{World, Kept, ReadsAs}
-use Rattle.naga_oil_derive.specs.World.{Places, goes, world, Extends, renamed_at, kept_of, special_at}
+use Rattle.naga_oil_derive.specs.World.{goes, world, Extends, renamed_at, kept_of, special_at}
 use Rattle.naga_oil_derive.specs.Collected.{Collects, Done, Known, Fresh}
-use Rattle.naga_oil_derive.specs.Copying.{IsSound, AreCopied, WentSomewhere, handle_under}
+use Rattle.naga_oil_derive.specs.Copying.{handle_under}
 use Rattle.naga_oil_derive.specs.Copied.{CopyState, copied, copied_type}
-use Rattle.naga_oil_derive.specs.CopiedLaw.{IsKinded, HasAt, IsCopyable, reads_now, spans_by, IsMidway, GrowsBy, HasCopyNow, trail_in}
-use Rattle.naga_oil_derive.specs.Derived.{Source, Derived, nothing, cleared, as_read, kept, HasItem, Imports, IsImported, IsKnown, IsRenamed, Keeps, ReadsAsBefore}
-use Rattle.naga_oil_derive.specs.DerivedValue.{copying_of, after_copying, item_imported, type_renamed}
+use Rattle.naga_oil_derive.specs.CopiedLaw.{HasAt, IsMidway, GrowsBy}
+use Rattle.naga_oil_derive.specs.Derived.{Source, Derived, nothing, cleared, as_read, kept, HasItem, Keeps}
+use Rattle.naga_oil_derive.specs.DerivedValue.{after_copying, item_imported, type_renamed}
 use Rattle.naga_oil_derive.specs.DerivedLaw.{IsSourceOf, AreThere, IsDerivation, ReadsIn, ImportsOnly, RenamesOnly, type_place}
 use Rattle.naga_oil_derive.proofs.TreeLemmas.{AreCopied-kept}
 use Rattle.naga_oil_derive.proofs.WorldLemmas.{Extends-stays, Extends-refl, Extends-trans}
 use Rattle.naga_oil_derive.proofs.CopyLemmas.{none_some}
-use Rattle.naga_oil_derive.proofs.DeriveLemmas.{world_empty, nothing_some, special_none, no_place, flat_some}
+use Rattle.naga_oil_derive.proofs.DeriveLemmas.{world_empty, nothing_some, special_none, no_place}
 use Rattle.naga_oil_derive.proofs.PutLaws.{goes_renamed}
 use Rattle.naga_oil_derive.proofs.CopiedLaws.{placed_reads, copied_item, copied_named, type_again}
 

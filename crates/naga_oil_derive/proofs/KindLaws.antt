@@ -1,19 +1,17 @@
 -- A module of which items can be copied has a value that says so.
-use Rattle.std.proofs.Common.{◌≡◌, ℕ, Option, Some, None, refl, sym, ◌∙◌, All, IfSome}
-use Rattle.std.proofs.lemmas.List.Elements.{All-weaker}
-use Rattle.naga_oil_ir.specs.Rows.{Row, Kind, TypeKind, ConstantKind, OverrideKind, GlobalKind, ExpressionKind}
+use Rattle.std.proofs.Common.{◌≡◌, refl, ◌∙◌, All}
+use Rattle.naga_oil_ir.specs.Rows.{Kind, TypeKind, ConstantKind, OverrideKind, GlobalKind, ExpressionKind}
 use Rattle.naga_oil_ir.specs.ModuleValue.{special_value}
 use Rattle.naga_oil_ir.specs.declared.module.Module.{Module}
 use Rattle.naga_oil_ir.specs.declared.names.ItemPlace.{ItemPlace}
 use Rattle.naga_oil_ir.specs.declared.names.ItemPlace.TheVariants.{TypeItem, ConstantItem, OverrideItem, GlobalItem, ExpressionItem}
-use Rattle.naga_oil_derive.specs.World.{value_of, world, special_entries, HaveDistinctKeys}
-use Rattle.naga_oil_derive.specs.Copying.{IsThere, IsBelowItem, rank}
+use Rattle.naga_oil_derive.specs.World.{value_of, special_entries, HaveDistinctKeys}
+use Rattle.naga_oil_derive.specs.Copying.{rank}
 use Rattle.naga_oil_derive.specs.Copyable.{CopyableItems}
-use Rattle.naga_oil_derive.specs.CopiedLaw.{kind_number, place_number, IsKinded, HasAt, IsBelowIn, IsCopyable, AreSpecial}
+use Rattle.naga_oil_derive.specs.CopiedLaw.{kind_number, place_number, IsKinded, HasAt, IsCopyable, AreSpecial}
 use Rattle.naga_oil_derive.proofs.WorldLemmas.{kind_code, place_code, world_code}
 use Rattle.naga_oil_derive.proofs.RankLemmas.{ranked}
 use Rattle.naga_oil_derive.proofs.SpecialLemmas.{Entry}
-use Rattle.naga_oil_derive.proofs.DeriveLemmas.{special_of}
 use Rattle.naga_oil_derive.proofs.DeriveCalls.{entries_are_there}
 
 kind_same : (k : Kind) → kind_number k ≡ kind_code k

@@ -1,5 +1,5 @@
 -- What setting a source does, over values alone.
-use Rattle.std.proofs.Common.{◌≡◌, ◌⊎◌, inl, inr, ⊎_elim, ℕ, zero, suc, ◌<◌, List, [], ◌∷◌, length, map, replicate, Option, Some, None, option_map, slice_get, unwrap_or, refl, ap, sym, ◌∙◌, subst, arith, All, IfSome, ◌==◌, if◌then◌else◌, is_some}
+use Rattle.std.proofs.Common.{◌≡◌, ⊎_elim, ℕ, ◌<◌, List, [], ◌∷◌, length, replicate, Option, Some, None, option_map, slice_get, unwrap_or, refl, ap, sym, ◌∙◌, subst, All, IfSome, ◌==◌, if◌then◌else◌}
 use Rattle.std.specs.Option.{option_flatten}
 use Rattle.std.proofs.lemmas.List.{length-replicate}
 use Rattle.std.proofs.lemmas.List.Elements.{All-head, All-tail, All-cons, All-nil, All-weaker}
@@ -11,17 +11,16 @@ use Rattle.naga_oil_ir.specs.declared.names.ItemPlace.TheVariants.{TypeItem, Con
 use Rattle.naga_oil_ir.specs.declared.span.Span.{Span}
 use Rattle.naga_oil_ir.proofs.LinkLemmas.{eq_eqb}
 use Rattle.naga_oil_derive.specs.declared.special.SpecialKey.{SpecialKey}
-use Rattle.naga_oil_derive.specs.Tree.{World, Kept, ReadsAs}
-use Rattle.naga_oil_derive.specs.World.{Places, goes, world, Extends, named_world, kept_in, kept_of, or_option, special_at, special_entries, with_specials, HaveDistinctKeys}
+use Rattle.naga_oil_derive.specs.Tree.{Kept, ReadsAs}
+use Rattle.naga_oil_derive.specs.World.{Places, goes, world, Extends, named_world, kept_in, kept_of, special_at, special_entries, with_specials}
 use Rattle.naga_oil_derive.specs.Collected.{Collects, depth, reached, names_trail}
-use Rattle.naga_oil_derive.specs.Copying.{IsSound, AreCopied, WentSomewhere, handle_under, kept_over, special_names}
-use Rattle.naga_oil_derive.specs.Copied.{CopyState, all_copied}
-use Rattle.naga_oil_derive.specs.CopiedLaw.{IsKinded, HasAt, IsCopyable, AreSpecial, AreRoomy, reads_now, spans_by, IsMidway, GrowsBy, trail_in}
-use Rattle.naga_oil_derive.specs.Derived.{Source, Derived, as_read, kept, Sets, type_under, with_special_types, special_places, KeepsItems}
-use Rattle.naga_oil_derive.specs.DerivedValue.{no_places, first_places, special_copied, set_with, source_set}
-use Rattle.naga_oil_derive.specs.DerivedLaw.{IsSourceOf, AreThere, IsDerivation, Settles, SetsOnly}
+use Rattle.naga_oil_derive.specs.Copying.{IsSound, AreCopied, WentSomewhere, handle_under, special_names}
+use Rattle.naga_oil_derive.specs.Copied.{CopyState}
+use Rattle.naga_oil_derive.specs.CopiedLaw.{HasAt, IsCopyable, AreSpecial, AreRoomy, reads_now, spans_by, IsMidway}
+use Rattle.naga_oil_derive.specs.Derived.{Source, Derived, as_read, kept, type_under, with_special_types}
+use Rattle.naga_oil_derive.specs.DerivedValue.{first_places, special_copied, source_set}
+use Rattle.naga_oil_derive.specs.DerivedLaw.{AreThere, IsDerivation, Settles, SetsOnly}
 use Rattle.naga_oil_derive.proofs.TreeLemmas.{AreCopied-start}
-use Rattle.naga_oil_derive.proofs.WorldLemmas.{Extends-stays}
 use Rattle.naga_oil_derive.proofs.CopyLemmas.{none_some, flat_none as nothing_there}
 use Rattle.naga_oil_derive.proofs.SpecialLemmas.{Entry, EachEntry, IsSettled, kept_over_get, length-kept_over, settled, kept_settled, kept_none_more, specials_keep, or_none}
 use Rattle.naga_oil_derive.proofs.DeriveLemmas.{kept_key, kept_handle, or_nothing, some_mapped, named_there, more_there, flat_some, mapped_none}
