@@ -116,7 +116,7 @@ none_there : (r : Row) (q q2 : ItemPlace) (v : World) → q2 ≡ q → v q ≡ N
 none_there r q q2 v e f g = let a : v q ≡ Some r = sym (ap v e) ∙ g in cc
 
 -- a copy that was appended reads as no item that was there
-new_first : (w v u : World) (kept m n : Goes) (p q : ItemPlace) (s : Row) → AreCopied w v kept m → IsSound v → AreCopied w u kept n → IsSound u → n p ≡ Some q → Fetches v u s q → v q ≡ None → Stands w kept v p → ⊥
+pub new_first : (w v u : World) (kept m n : Goes) (p q : ItemPlace) (s : Row) → AreCopied w v kept m → IsSound v → AreCopied w u kept n → IsSound u → n p ≡ Some q → Fetches v u s q → v q ≡ None → Stands w kept v p → ⊥
 new_first w v u kept m n p q s a i b j g f free_place st =
     let q2 = st.0 in
     let wv = i.whole q2 st.1.0 st.1.1 in
@@ -126,7 +126,7 @@ new_first w v u kept m n p q s a i b j g f free_place st =
     let e : tree k u q2 ≡ tree k u q = tree-later v u f.stays wv.0 k q2 wv.1 ∙ st.2 k ∙ sym (reading-later w v u kept hk f.stays k p) ∙ sym (reads w u kept n b k p q g) in
     none_there st.1.0 q q2 v (same_place u j.once k q2 q wu.1 e) free_place st.1.1
 
-others_of : (v u : World) (s : Row) (q : ItemPlace) → Fetches v u s q → (x : ItemPlace) (r : Row) → u x ≡ Some r → (v x ≡ Some r) ⊎ (x ≡ q)
+pub others_of : (v u : World) (s : Row) (q : ItemPlace) → Fetches v u s q → (x : ItemPlace) (r : Row) → u x ≡ Some r → (v x ≡ Some r) ⊎ (x ≡ q)
 others_of v u s q f x r e = ⊎_elim inl (λ n. inr n.0) (f.only x r e)
 
 -- one copy is one step of the collection, if the source reads as it did
@@ -189,7 +189,7 @@ lowers source t m a p r e =
     let s = named_names (world (value_of source)) (world (value_of t)) (goes_under m) p r e in
     subst (λ ns. All (λ o. IfSome o (λ q. rank source q < rank source p)) ns) (sym s.2) (All-weaker (IsBelowItem source p) (λ o. IfSome o (λ q. rank source q < rank source p)) (lower_name source p) s.0.names (a.names p s.0 s.1))
 
-step_at : (w : World) (kept : Kept) (rank_of : ItemPlace → ℕ) → Lowers w rank_of → (d e : ℕ) → d ≡ suc e → (p : ItemPlace) (r : Row) → rank_of p < d → w p ≡ Some r → kept p ≡ None → names_trail (reached d w kept) r.names ++ p ∷ [] ≡ reached d w kept p
+pub step_at : (w : World) (kept : Kept) (rank_of : ItemPlace → ℕ) → Lowers w rank_of → (d e : ℕ) → d ≡ suc e → (p : ItemPlace) (r : Row) → rank_of p < d → w p ≡ Some r → kept p ≡ None → names_trail (reached d w kept) r.names ++ p ∷ [] ≡ reached d w kept p
 unfolding reached
 step_at w kept rank_of l d e is p r bound at no_kept =
     let same = same_trails rank_of (rank_of p) (reached d w kept) (reached e w kept) (λ q h. reached-enough w kept rank_of l d e q (omega arith) (omega (arith, is))) r.names (l p r at) in
@@ -236,20 +236,20 @@ row_agrees : (w : World) (rank_of : ItemPlace → ℕ) → Lowers w rank_of → 
 row_agrees w rank_of l b f g e q h None at = refl
 row_agrees w rank_of l b f g e q h (Some r) at = ap (Item r.label) (trees_same (λ y. rank_of y < rank_of q) f g (λ y i. e y (omega (arith, h, i))) r.names (l q r at))
 
-reading_agrees : (w x v : World) (kept : Kept) (rank_of : ItemPlace → ℕ) → Lowers w rank_of → (b : ℕ) → ((q : ItemPlace) → rank_of q < b → x q ≡ w q) → (n : ℕ) (q : ItemPlace) → rank_of q < b → reading n x v kept q ≡ reading n w v kept q
+pub reading_agrees : (w x v : World) (kept : Kept) (rank_of : ItemPlace → ℕ) → Lowers w rank_of → (b : ℕ) → ((q : ItemPlace) → rank_of q < b → x q ≡ w q) → (n : ℕ) (q : ItemPlace) → rank_of q < b → reading n x v kept q ≡ reading n w v kept q
 unfolding reading
 reading_agrees w x v kept rank_of l b e zero q h = refl
 reading_agrees w x v kept rank_of l b e (suc n) q h =
     ap (λ o. kept_tree (tree (suc n) v) (kept q) (row_tree (reading n x v kept) o)) (e q h) ∙ ap (kept_tree (tree (suc n) v) (kept q)) (row_agrees w rank_of l b (reading n x v kept) (reading n w v kept) (λ y i. reading_agrees w x v kept rank_of l b e n y i) q h (w q) refl)
 
-reached_agrees : (w x : World) (kept : Kept) (rank_of : ItemPlace → ℕ) → Lowers w rank_of → (b : ℕ) → ((q : ItemPlace) → rank_of q < b → x q ≡ w q) → (n : ℕ) (q : ItemPlace) → rank_of q < b → reached n x kept q ≡ reached n w kept q
+pub reached_agrees : (w x : World) (kept : Kept) (rank_of : ItemPlace → ℕ) → Lowers w rank_of → (b : ℕ) → ((q : ItemPlace) → rank_of q < b → x q ≡ w q) → (n : ℕ) (q : ItemPlace) → rank_of q < b → reached n x kept q ≡ reached n w kept q
 unfolding reached
 reached_agrees w x kept rank_of l b e zero q h = refl
 reached_agrees w x kept rank_of l b e (suc n) q h =
     ap (λ o. kept_trail (kept q) (row_trail (reached n x kept) o ++ q ∷ [])) (e q h) ∙ ap (λ t. kept_trail (kept q) (t ++ q ∷ [])) (same_row_trail w rank_of l q (reached n x kept) (reached n w kept) (λ y i. reached_agrees w x kept rank_of l b e n y (omega (arith, h, i))) (w q) refl)
 
 -- what an item of some rank reaches has no higher rank
-below_names : (rank_of : ItemPlace → ℕ) (b c : ℕ) (f : ItemPlace → List ItemPlace) → c ≤ b → ((q : ItemPlace) → rank_of q < b → EachPlace (λ y. rank_of y < b) (f q)) → (ps : List (Option ItemPlace)) → All (λ o. IfSome o (λ q. rank_of q < c)) ps → EachPlace (λ y. rank_of y < b) (names_trail f ps)
+pub below_names : (rank_of : ItemPlace → ℕ) (b c : ℕ) (f : ItemPlace → List ItemPlace) → c ≤ b → ((q : ItemPlace) → rank_of q < b → EachPlace (λ y. rank_of y < b) (f q)) → (ps : List (Option ItemPlace)) → All (λ o. IfSome o (λ q. rank_of q < c)) ps → EachPlace (λ y. rank_of y < b) (names_trail f ps)
 below_names rank_of b c f l h [] a = tt
 below_names rank_of b c f l h (None ∷ ps) a = below_names rank_of b c f l h ps (All-tail (λ o. IfSome o (λ q. rank_of q < c)) None ps a)
 below_names rank_of b c f l h (Some p ∷ ps) a =
@@ -264,7 +264,7 @@ below_kept : (rank_of : ItemPlace → ℕ) (b : ℕ) (o : Option ItemPlace) (ps 
 below_kept rank_of b None ps h = h
 below_kept rank_of b (Some q) ps h = tt
 
-reached_below : (w : World) (kept : Kept) (rank_of : ItemPlace → ℕ) → Lowers w rank_of → (b n : ℕ) (q : ItemPlace) → rank_of q < b → EachPlace (λ y. rank_of y < b) (reached n w kept q)
+pub reached_below : (w : World) (kept : Kept) (rank_of : ItemPlace → ℕ) → Lowers w rank_of → (b n : ℕ) (q : ItemPlace) → rank_of q < b → EachPlace (λ y. rank_of y < b) (reached n w kept q)
 unfolding reached
 reached_below w kept rank_of l b zero q h = tt
 reached_below w kept rank_of l b (suc n) q h = below_kept rank_of b (kept q) (row_trail (reached n w kept) (w q) ++ q ∷ []) (EachPlace-append (λ y. rank_of y < b) (row_trail (reached n w kept) (w q)) (q ∷ []) (below_row w rank_of l b (reached n w kept) (reached_below w kept rank_of l b n) q h (w q) refl) (h, tt))
@@ -283,7 +283,7 @@ comes_agrees w x kept spans m n p e c = record {
   first = λ s. c.first (stands_agrees x w (world m) kept p (λ k. sym (e (world m) k)) s);
 }
 
-Collects-agrees : (w x : World) (kept : Kept) (spans : ItemPlace → Option Span) (P : ItemPlace → Type 0) → ((p : ItemPlace) → P p → (v : World) (k : ℕ) → reading k x v kept p ≡ reading k w v kept p) → {m n : ModuleValue} {ps : List ItemPlace} → EachPlace P ps → Collects w kept spans m ps n → Collects x kept spans m ps n
+pub Collects-agrees : (w x : World) (kept : Kept) (spans : ItemPlace → Option Span) (P : ItemPlace → Type 0) → ((p : ItemPlace) → P p → (v : World) (k : ℕ) → reading k x v kept p ≡ reading k w v kept p) → {m n : ModuleValue} {ps : List ItemPlace} → EachPlace P ps → Collects w kept spans m ps n → Collects x kept spans m ps n
 Collects-agrees w x kept spans P e h Done = Done
 Collects-agrees w x kept spans P e {m} h (Known {p} s c) = Known (stands_agrees w x (world m) kept p (e p h.0 (world m)) s) (Collects-agrees w x kept spans P e h.1 c)
 Collects-agrees w x kept spans P e {m} h (Fresh {l} {p} s c) = Fresh (comes_agrees w x kept spans m l p (e p h.0) s) (Collects-agrees w x kept spans P e h.1 c)

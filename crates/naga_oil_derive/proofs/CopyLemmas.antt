@@ -22,7 +22,7 @@ pub is_some_mapped : {A B : Type 0} (f : A → B) (o : Option A) → is_some (op
 is_some_mapped f None = refl
 is_some_mapped f (Some x) = refl
 
-flat_none : (n k : ℕ) → ◌≡◌ {A = Option ℕ} (option_flatten (slice_get (replicate n None) k)) None
+pub flat_none : (n k : ℕ) → ◌≡◌ {A = Option ℕ} (option_flatten (slice_get (replicate n None) k)) None
 flat_none zero k = refl
 flat_none (suc n) zero = refl
 flat_none (suc n) (suc k) = flat_none n k
@@ -94,7 +94,7 @@ pub copied_row : (o : Option Text) (r row copy : Row) → row ≡ under_name o r
 copied_row None r row copy e l = ap (λ v. under_name (Some v.name) r) l ∙ ap (λ (v : Row). under_name (Some v.label.name) r) e ∙ sym e
 copied_row (Some k) r row copy e l = ap (λ v. under_name (Some v.name) r) l ∙ ap (λ (v : Row). under_name (Some v.label.name) r) e ∙ sym e
 
-world_here : (w u : World) (n : Goes) (p q : ItemPlace) (o : Option Text) (r row copy : Row) → n p ≡ Some q → u q ≡ Some copy → w p ≡ Some r → row ≡ under_name o r → copy.label ≡ row.label → named_world w u n p ≡ Some row
+pub world_here : (w u : World) (n : Goes) (p q : ItemPlace) (o : Option Text) (r row copy : Row) → n p ≡ Some q → u q ≡ Some copy → w p ≡ Some r → row ≡ under_name o r → copy.label ≡ row.label → named_world w u n p ≡ Some row
 world_here w u n p q o r row copy e f g h l = named_some w u n p q r copy e f g ∙ ap Some (copied_row o r row copy h l)
 
 names_agree : (v u : World) (m n : Goes) (x : ItemPlace) → ((y : ItemPlace) → m x ≡ Some y → (t : Row) × (v y ≡ Some t)) → ((y : ItemPlace) (t : Row) → v y ≡ Some t → u y ≡ Some t) → n x ≡ m x → (o : Option ItemPlace) → m x ≡ o → name_at v (m x) ≡ name_at u (n x)
@@ -103,7 +103,7 @@ names_agree v u m n x there stays same (Some y) e =
     let t = there y e in
     ap (name_at v) e ∙ ap (option_map (λ (r : Row). r.label.name)) t.1 ∙ sym (ap (option_map (λ (r : Row). r.label.name)) (stays y t.0 t.1)) ∙ sym (ap (name_at u) (same ∙ e))
 
-world_there : (w v u : World) (m n : Goes) (x : ItemPlace) → ((y : ItemPlace) → m x ≡ Some y → (t : Row) × (v y ≡ Some t)) → ((y : ItemPlace) (t : Row) → v y ≡ Some t → u y ≡ Some t) → n x ≡ m x → named_world w u n x ≡ named_world w v m x
+pub world_there : (w v u : World) (m n : Goes) (x : ItemPlace) → ((y : ItemPlace) → m x ≡ Some y → (t : Row) × (v y ≡ Some t)) → ((y : ItemPlace) (t : Row) → v y ≡ Some t → u y ≡ Some t) → n x ≡ m x → named_world w u n x ≡ named_world w v m x
 world_there w v u m n x there stays same = named_same w v u m n x (names_agree v u m n x there stays same (m x) refl)
 
 -- ---- the state between calls

@@ -54,7 +54,7 @@ value_empty m s t f r = λ i. record {
   doc_comments = option_map (λ (v : Vec ℕ Global). v.items) (r.2 i);
 }
 
-world_empty : (p : ItemPlace) → world no_items p ≡ None
+pub world_empty : (p : ItemPlace) → world no_items p ≡ None
 unfolding world
 world_empty (TypeItem k) = refl
 world_empty (ConstantItem k) = refl
@@ -62,7 +62,7 @@ world_empty (OverrideItem k) = refl
 world_empty (GlobalItem k) = refl
 world_empty (ExpressionItem k) = refl
 
-nothing_some : (o : Option Row) (r : Row) → o ≡ None → o ≡ Some r → ⊥
+pub nothing_some : (o : Option Row) (r : Row) → o ≡ None → o ≡ Some r → ⊥
 nothing_some o r e f = let g : None ≡ Some r = sym e ∙ f in cc
 
 pub sound_empty : (m : Module) → value_of m ≡ no_items → IsSound (world (value_of m))
@@ -71,7 +71,7 @@ sound_empty m e = record {
   once = λ p q r h i. absurd (nothing_some (world (value_of m) p) r (ap (λ v. world v p) e ∙ world_empty p) h);
 }
 
-special_none : (key : SpecialKey) → special_at no_items.special_types key ≡ None
+pub special_none : (key : SpecialKey) → special_at no_items.special_types key ≡ None
 special_none RayDesc = refl
 special_none RayIntersection = refl
 special_none RayVertexReturn = refl
@@ -81,7 +81,7 @@ pub special_of : (m : Module) → special_value m.special_types ≡ (value_of m)
 unfolding value_of
 special_of m = refl
 
-no_place : (o : Option ℕ) (q : ℕ) → o ≡ None → o ≡ Some q → ⊥
+pub no_place : (o : Option ℕ) (q : ℕ) → o ≡ None → o ≡ Some q → ⊥
 no_place o q e f = let g : None ≡ Some q = sym e ∙ f in cc
 
 pub special_empty : (m : Module) → value_of m ≡ no_items → IsSpecialThere m
@@ -94,7 +94,7 @@ kept_key_step f key (Some x) q ih b e = ih e
 kept_key_step f key None q ih true e = (key, e)
 kept_key_step f key None q ih false e = cc
 
-kept_key : (f : SpecialKey → Option ℕ) (es : List Entry) (h q : ℕ) → kept_in f es h ≡ Some q → (k : SpecialKey) × (f k ≡ Some q)
+pub kept_key : (f : SpecialKey → Option ℕ) (es : List Entry) (h q : ℕ) → kept_in f es h ≡ Some q → (k : SpecialKey) × (f k ≡ Some q)
 kept_key f [] h q e = cc
 kept_key f (x ∷ es) h q e = kept_key_step f x.0 (kept_in f es h) q (kept_key f es h q) (x.1 == h) e
 
@@ -103,7 +103,7 @@ kept_handle_step P f x (Some y) h q here ih b g e = ih e
 kept_handle_step P f x None h q here ih true g e = subst P (eqb_eq x.1 h g) here
 kept_handle_step P f x None h q here ih false g e = cc
 
-kept_handle : (P : ℕ → Type 0) (f : SpecialKey → Option ℕ) (es : List Entry) (h q : ℕ) → All (λ e. P e.1) es → kept_in f es h ≡ Some q → P h
+pub kept_handle : (P : ℕ → Type 0) (f : SpecialKey → Option ℕ) (es : List Entry) (h q : ℕ) → All (λ e. P e.1) es → kept_in f es h ≡ Some q → P h
 kept_handle P f [] h q a e = cc
 kept_handle P f (x ∷ es) h q a e =
     kept_handle_step P f x (kept_in f es h) h q (All-head (λ v. P v.1) x es a) (λ i. kept_handle P f es h q (All-tail (λ v. P v.1) x es a) i) (x.1 == h) refl e
@@ -132,11 +132,11 @@ entries_there P s a =
 
 -- ---- a source that is set: what is kept stands, and nothing else went
 
-flat_none : (o : Option ℕ) → option_map TypeItem o ≡ None → o ≡ None
+pub flat_none : (o : Option ℕ) → option_map TypeItem o ≡ None → o ≡ None
 flat_none None e = refl
 flat_none (Some x) e = cc
 
-or_nothing : (a b : Option ℕ) → b ≡ None → or_option a b ≡ a
+pub or_nothing : (a b : Option ℕ) → b ≡ None → or_option a b ≡ a
 or_nothing None b e = e
 or_nothing (Some x) b e = refl
 
@@ -151,7 +151,7 @@ goes_kept s t m v none within is (OverrideItem j) = none (OverrideItem j)
 goes_kept s t m v none within is (GlobalItem j) = none (GlobalItem j)
 goes_kept s t m v none within is (ExpressionItem j) = none (ExpressionItem j)
 
-some_mapped : (o : Option ℕ) (q : ItemPlace) → option_map TypeItem o ≡ Some q → (k : ℕ) × (o ≡ Some k) × (q ≡ TypeItem k)
+pub some_mapped : (o : Option ℕ) (q : ItemPlace) → option_map TypeItem o ≡ Some q → (k : ℕ) × (o ≡ Some k) × (q ≡ TypeItem k)
 some_mapped None q e = cc
 some_mapped (Some k) q e = let g : TypeItem k ≡ q = cc in (k, refl, sym g)
 
@@ -176,7 +176,7 @@ kept_known s t a (OverrideItem j) q e = cc
 kept_known s t a (GlobalItem j) q e = cc
 kept_known s t a (ExpressionItem j) q e = cc
 
-named_there : (w v : World) (m : Goes) (p : ItemPlace) (r : Row) → w p ≡ Some r → (x : Row) × (named_world w v m p ≡ Some x)
+pub named_there : (w v : World) (m : Goes) (p : ItemPlace) (r : Row) → w p ≡ Some r → (x : Row) × (named_world w v m p ≡ Some x)
 unfolding named_world
 named_there w v m p r e = (under_name (name_at v (m p)) r, ap (option_map (under_name (name_at v (m p)))) e)
 
@@ -227,7 +227,7 @@ set_there P s key x here none h k q e =
 one_there : (P : ℕ → Type 0) (s : SpecialValue) (f : ℕ → ℕ) (x : Entry) → P (f x.1) → ((k : SpecialKey) (q : ℕ) → special_at s k ≡ Some q → P q) → (k : SpecialKey) (q : ℕ) → special_at (if is_some (special_at s x.0) then s else with_special s x.0 (f x.1)) k ≡ Some q → P q
 one_there P s f x here h = more_case s f x (λ t. (k : SpecialKey) (q : ℕ) → special_at t k ≡ Some q → P q) (λ y g. h) (λ g k q e. set_there P s x.0 (f x.1) here g h k q e) (special_at s x.0) refl
 
-more_there : (P : ℕ → Type 0) (s : SpecialValue) (f : ℕ → ℕ) (es : List Entry) → All (λ e. P (f e.1)) es → ((k : SpecialKey) (q : ℕ) → special_at s k ≡ Some q → P q) → (k : SpecialKey) (q : ℕ) → special_at (with_specials s f es) k ≡ Some q → P q
+pub more_there : (P : ℕ → Type 0) (s : SpecialValue) (f : ℕ → ℕ) (es : List Entry) → All (λ e. P (f e.1)) es → ((k : SpecialKey) (q : ℕ) → special_at s k ≡ Some q → P q) → (k : SpecialKey) (q : ℕ) → special_at (with_specials s f es) k ≡ Some q → P q
 more_there P s f [] a h k q e = h k q e
 more_there P s f (x ∷ es) a h k q e =
     more_there P (if is_some (special_at s x.0) then s else with_special s x.0 (f x.1)) f es (All-tail (λ v. P (f v.1)) x es a) (one_there P s f x (All-head (λ v. P (f v.1)) x es a) h) k q e
@@ -246,7 +246,7 @@ set_special_there u n x es xs there went special is = λ k q e. subst (λ w. (r 
 
 -- ---- all keys are settled: what is kept then stands
 
-flat_some : (o : Option ℕ) (q : ℕ) → option_map TypeItem o ≡ Some (TypeItem q) → o ≡ Some q
+pub flat_some : (o : Option ℕ) (q : ℕ) → option_map TypeItem o ≡ Some (TypeItem q) → o ≡ Some q
 flat_some None q e = cc
 flat_some (Some k) q e = let g : k ≡ q = cc in ap Some g
 
@@ -276,7 +276,7 @@ stands_now s u n x i distinct went is (OverrideItem h) q e = cc
 stands_now s u n x i distinct went is (GlobalItem h) q e = cc
 stands_now s u n x i distinct went is (ExpressionItem h) q e = cc
 
-mapped_none : (o : Option ℕ) → option_map TypeItem o ≡ None → o ≡ None
+pub mapped_none : (o : Option ℕ) → option_map TypeItem o ≡ None → o ≡ None
 mapped_none None e = refl
 mapped_none (Some k) e = cc
 

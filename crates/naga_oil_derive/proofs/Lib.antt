@@ -12,6 +12,10 @@ pub mod FunctionCopies
 pub mod AnsweredValues
 pub mod DerivedValues
 pub mod PutLaws
+pub mod KindLaws
+pub mod CopiedLaws
+pub mod DerivedLaws
+pub mod SetLaws
 pub mod SourceValues
 pub mod WalkLemmas
 pub mod WalkForm

@@ -183,7 +183,7 @@ or_some : (a b : Option ℕ) (q : ℕ) → or_option a b ≡ Some q → (a ≡ S
 or_some None b q e = inr (refl, e)
 or_some (Some a) b q e = inl e
 
-or_none : (a b : Option ℕ) → or_option a b ≡ None → (a ≡ None) × (b ≡ None)
+pub or_none : (a b : Option ℕ) → or_option a b ≡ None → (a ≡ None) × (b ≡ None)
 or_none None b e = (refl, e)
 or_none (Some a) b e = absurd (some_none (Some a) a refl e)
 

@@ -26,3 +26,4 @@ pub mod Answered
 pub mod DerivedValue
 pub mod CopiedEntry
 pub mod CopiedLaw
+pub mod DerivedLaw

@@ -10,6 +10,7 @@ pub mod copy;
 pub mod derive;
 pub mod function_walk;
 pub mod import;
+pub mod laws;
 pub mod localized;
 pub mod maps;
 pub mod renamed_items;

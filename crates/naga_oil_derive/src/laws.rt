@@ -1,0 +1,50 @@
+// What holds of every copy.
+ghost use Rattle.naga_oil_derive.specs.CopiedLaw.{CopyableLaw, SpecialLaw, PutLaw, TypePutLaw, CopiedLaw, AllCopiedLaw, AgainLaw, TypeCopiedLaw, TypeAgainLaw};
+ghost use Rattle.naga_oil_derive.specs.DerivedLaw.{NothingLaw, ClearedLaw, PlacedLaw, ImportLaw, RenameLaw, SetLaw};
+
+/// Of a module whose items can be copied the value says so: each item stands in the arena of its kind, and names what
+/// is there, of lower rank.
+pub fn copyable_values()
+    ensures items { CopyableLaw }
+    ensures special { SpecialLaw }
+{}
+
+/// An item that is put, when what it names went somewhere, is one copy.
+pub fn one_copy()
+    ensures item { PutLaw }
+    ensures named { TypePutLaw }
+{}
+
+/// An item is copied with what it names, once: the module gets the first occurrences of what it reaches, and the copy
+/// reads as the item to every depth.
+pub fn copies_with_names()
+    ensures item { CopiedLaw }
+    ensures all { AllCopiedLaw }
+    ensures again { AgainLaw }
+{}
+
+/// A type that is copied under a name reads so from then on.
+pub fn copies_under_a_name()
+    ensures named { TypeCopiedLaw }
+    ensures again { TypeAgainLaw }
+{}
+
+/// A module of nothing is a derivation, and each stays one without its source; in a derivation what went somewhere
+/// reads there as its source.
+pub fn derivations()
+    ensures nothing { NothingLaw }
+    ensures cleared { ClearedLaw }
+    ensures placed { PlacedLaw }
+{}
+
+/// An item of the source is imported, a type under a name if one is given; then the module is a derivation still.
+pub fn derivations_with_items()
+    ensures import { ImportLaw }
+    ensures rename { RenameLaw }
+{}
+
+/// A module of which items can be copied is set as the source; then each of its special types stands where one of its
+/// key stands.
+pub fn derivations_with_a_source()
+    ensures { SetLaw }
+{}
