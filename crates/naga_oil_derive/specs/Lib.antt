@@ -26,4 +26,5 @@ pub mod Answered
 pub mod DerivedValue
 pub mod CopiedEntry
 pub mod CopiedLaw
+pub mod Putting
 pub mod DerivedLaw
