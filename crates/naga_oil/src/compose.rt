@@ -56,10 +56,9 @@ use naga_oil_pre::{
     ComposerErrorInner as Inner, PreprocessOutput, Preprocessor, PreprocessorMetaData,
 };
 use naga_oil_redirect::RedirectError;
-pub use naga_oil_registry::report;
 pub use naga_oil_registry::{
     ComposableModuleDefinition, ComposableModuleDescriptor, NagaModuleDescriptor, OwnedShaderDefs,
-    ShaderType,
+    ShaderType, report,
 };
 use naga_oil_registry::{Checked, Definition, Defs, Import, Marked, Names, Tried, Use};
 use std::alloc::{AllocError, Global};
