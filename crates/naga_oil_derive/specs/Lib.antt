@@ -33,3 +33,4 @@ pub mod Answered
 pub mod DerivedValue
 pub mod CopiedLaw
 pub mod DerivedLaw
+pub mod AnsweredLaw
