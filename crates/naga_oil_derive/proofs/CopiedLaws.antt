@@ -266,7 +266,8 @@ type_behind m shift kept rank s t k o r kinds a is i fresh g went =
     let agrees : (y : ItemPlace) → rank y < rank p → new y ≡ old y = λ y h. elsewhere y (λ e. let q = ap rank e in absurd (omega (arith, h, q))) in
     let before = collects_agrees m shift kept rank old new (rank p) s t r.names l agrees ns g.collects in
     let among = trails_agree m kept rank old new (rank p) r.names l agrees ns in
-    let copied_t = AreCopied-named (reads_now m t) new (world t.target) kept (goes t.places) g.midway.copied (λ x y h. elsewhere x (λ e. none_some y (sym fresh_t ∙ ap (goes t.places) (sym e) ∙ h)) ∙ ap (λ w. w x) (sym g.reads)) in
+    let unnamed : (x y : ItemPlace) → goes t.places x ≡ Some y → new x ≡ reads_now m t x = λ x y h. subst (λ w. new x ≡ w x) (sym g.reads) (elsewhere x (λ e. none_some y (sym fresh_t ∙ ap (goes t.places) (sym e) ∙ h))) in
+    let copied_t = AreCopied-named (reads_now m t) new (world t.target) kept (goes t.places) g.midway.copied unnamed in
     let one = grows_one m shift kept new t u p row copied_t g.midway.sound j now fresh_t c in
     let l_new : Lowers new rank = subst (λ w. Lowers w rank) now (lowers m rank u a) in
     let at : new p ≡ Some row = ap (λ w. w p) (sym now) ∙ here m t u p o r row (spans_by m shift p) c is refl in

@@ -13,6 +13,7 @@ pub mod AnsweredValues
 pub mod DerivedValues
 pub mod PutLaws
 pub mod KindLaws
+pub mod ViewLaws
 pub mod CopiedLaws
 pub mod DerivedLaws
 pub mod SetLaws

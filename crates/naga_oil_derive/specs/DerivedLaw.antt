@@ -33,6 +33,14 @@ pub record IsDerivation (first : Kept) (d : Derived) : Type 0 where
   pub special : AreThere d.target
   pub source : IfSome d.source (λ s. IsSourceOf first s d.target)
 
+-- the places that a derived module has for special types of its source
+abbrev pub kept_in_source : Option Source → ModuleValue → Kept
+kept_in_source None t = λ p. None
+kept_in_source (Some s) t = kept s t
+
+abbrev pub kept_by : Derived → Kept
+kept_by d = kept_in_source d.source d.target
+
 -- LAW: a module of nothing is a derivation
 abbrev pub NothingLaw : Type 0
 NothingLaw = (first : Kept) → IsDerivation first nothing
