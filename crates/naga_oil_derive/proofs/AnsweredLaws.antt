@@ -1,5 +1,5 @@
 -- What answering requests and importing functions do, over values alone.
-use Rattle.std.proofs.Common.{◌≡◌, ◌⊎◌, inl, inr, ⊎_elim, ℕ, zero, suc, ◌<◌, Bool, true, false, cond, List, [], ◌∷◌, ◌++◌, length, map, slice_get, Option, Some, None, IsSome, is_some, if◌then◌else◌, refl, ap, sym, ◌∙◌, subst, arith, All, IfSome, bytes_eq}
+use Rattle.std.proofs.Common.{◌≡◌, ⊎_elim, ℕ, zero, suc, ◌<◌, Bool, true, false, cond, List, [], ◌∷◌, ◌++◌, length, slice_get, Option, Some, None, IsSome, is_some, if◌then◌else◌, refl, ap, sym, ◌∙◌, subst, arith, All, IfSome, bytes_eq}
 use Rattle.std.specs.Map.{lookup}
 use Rattle.std.proofs.lemmas.Bool.{cases_Bool, cond-true, cond-false, false≢true}
 use Rattle.std.proofs.lemmas.List.Elements.{All-head, All-tail, All-weaker}
@@ -16,14 +16,14 @@ use Rattle.naga_oil_derive.specs.declared.walk.Request.TheVariants.{Item, Call}
 use Rattle.naga_oil_derive.specs.Tree.{Kept}
 use Rattle.naga_oil_derive.specs.World.{goes, world, shifted, named_world}
 use Rattle.naga_oil_derive.specs.Copying.{IsSound, AreCopied}
-use Rattle.naga_oil_derive.specs.Copied.{CopyState, Copier, of_item, put_type, put, copied_names, copied_row, copied_by, copied_within, copied, with_type, with_constant, with_override, with_global, with_expression, renames_by}
+use Rattle.naga_oil_derive.specs.Copied.{CopyState, Copier, of_item, put_type, put, copied_names, copied_row, copied_within, copied, with_type, with_constant, with_override, with_global, with_expression, renames_by}
 use Rattle.naga_oil_derive.specs.CopiedFunction.{copied_function}
-use Rattle.naga_oil_derive.specs.CopiedLaw.{HasAt, IsMidway}
+use Rattle.naga_oil_derive.specs.CopiedLaw.{HasAt}
 use Rattle.naga_oil_derive.specs.Collected.{depth}
-use Rattle.naga_oil_derive.specs.Derived.{Source, Derived, Keeps}
-use Rattle.naga_oil_derive.specs.DerivedFunctions.{Meanings, meant, meant_at, meaning, requests_of, MayAsk, MayCopy, MayCall, CanImport, CanCall, KeepsFunctions, KeepsMeanings, ComesLast, Answers, AllAnswered, ItemCopied, NameKnown, FunctionCopied, FunctionStands, MeansAt}
+use Rattle.naga_oil_derive.specs.Derived.{Source, Derived}
+use Rattle.naga_oil_derive.specs.DerivedFunctions.{Meanings, meant, meant_at, meaning, requests_of, MayAsk, MayCopy, MayCall, CanImport, CanCall, KeepsFunctions, ComesLast, Answers, AllAnswered, ItemCopied, NameKnown, FunctionCopied, MeansAt}
 use Rattle.naga_oil_derive.specs.DerivedValue.{item_imported, importing_of, after_copying, after_importing, requests_answered, function_imported, function_called}
-use Rattle.naga_oil_derive.specs.DerivedLaw.{IsSourceOf, IsDerivation}
+use Rattle.naga_oil_derive.specs.DerivedLaw.{IsDerivation}
 use Rattle.naga_oil_derive.specs.Answered.{ImportState, Caller, goes_by, answered_one, answered_by, with_function, imported_by, called_by, called}
 use Rattle.naga_oil_derive.specs.AnsweredLaw.{HasForm, HasCopies, HaveCopies, CanAnswer, AnswersOnly, ImportsFunction}
 use Rattle.naga_oil_derive.specs.Renames.{rename, rename_row}

@@ -1,5 +1,5 @@
 -- What holds of the value of each derived module.
-use Rattle.std.proofs.Common.{◌≡◌, ℕ, List, length, map, Option, Some, None, sym, ◌∙◌, String, Global}
+use Rattle.std.proofs.Common.{ℕ, List, Option, Some, None, sym, ◌∙◌, String, Global}
 use Rattle.std.specs.Borrow.{Bor}
 use Rattle.std.proofs.lemmas.List.{length-map}
 use Rattle.naga_oil_ir.specs.declared.module.Module.{Module}

@@ -1,5 +1,5 @@
 -- What answered requests and imported functions are: laws of the values of a derived module.
-use Rattle.std.specs.Prelude.{ℕ, ◌≡◌, List, [], ◌∷◌, map, slice_get, Option, Some, None, All, IsSome, IfSome}
+use Rattle.std.specs.Prelude.{ℕ, ◌≡◌, List, [], ◌∷◌, map, slice_get, Some, All, IsSome, IfSome}
 use Rattle.naga_oil_ir.specs.BodyForm.{callee, MayStand}
 use Rattle.naga_oil_ir.specs.ModuleValue.{FunctionValue}
 use Rattle.naga_oil_ir.specs.declared.span.Span.{Span}
@@ -7,7 +7,7 @@ use Rattle.naga_oil_derive.specs.declared.walk.Request.{Request}
 use Rattle.naga_oil_derive.specs.declared.walk.Request.TheVariants.{Call}
 use Rattle.naga_oil_derive.specs.Copies.{value_links}
 use Rattle.naga_oil_derive.specs.CopiedFunction.{copied_function}
-use Rattle.naga_oil_derive.specs.Derived.{Source, Derived}
+use Rattle.naga_oil_derive.specs.Derived.{Derived}
 use Rattle.naga_oil_derive.specs.DerivedFunctions.{kinds_in, named_in, initialisers_in, MayAsk, MayReach, CanImport, CanCall, KeepsFunctions, KeepsMeanings, AreAnswered, IsFunctionImported, MeansAt}
 use Rattle.naga_oil_derive.specs.DerivedLaw.{IsDerivation}
 use Rattle.naga_oil_derive.specs.DerivedValue.{requests_answered, function_imported, function_called}
