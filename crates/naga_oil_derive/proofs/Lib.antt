@@ -13,9 +13,11 @@ pub mod AnsweredValues
 pub mod DerivedValues
 pub mod PutLaws
 pub mod KindLaws
+pub mod ViewLaws
 pub mod CopiedLaws
 pub mod DerivedLaws
 pub mod SetLaws
+pub mod AnsweredLaws
 pub mod SourceValues
 pub mod WalkLemmas
 pub mod WalkForm
