@@ -20,7 +20,7 @@ Names = List (ℕ × List ℕ)
 -- ---- tests
 
 -- the first of two, if it is there
-first_of : Option (List ℕ) → Option (List ℕ) → Option (List ℕ)
+abbrev first_of : Option (List ℕ) → Option (List ℕ) → Option (List ℕ)
 first_of None b = b
 first_of (Some x) b = Some x
 

@@ -91,7 +91,7 @@ grown_at s d o xs es fs a = record {
   keeps = a.keeps;
 }
 
-token_at : (ks : List ℕ) (ls : Links) → IsPlain ks ls → AreEarlier ls → (n : ℕ) (fs : List (Option ℕ)) (s d o : List ℕ) (es : Notes) (t : Token) → length s ≤ length o → IsUnder ks ls s d o → AreWithin (length s) o es → length es ≡ n → IsFine n ks fs ls s d t → TokenAt ks ls s d o es t
+pub token_at : (ks : List ℕ) (ls : Links) → IsPlain ks ls → AreEarlier ls → (n : ℕ) (fs : List (Option ℕ)) (s d o : List ℕ) (es : Notes) (t : Token) → length s ≤ length o → IsUnder ks ls s d o → AreWithin (length s) o es → length es ≡ n → IsFine n ks fs ls s d t → TokenAt ks ls s d o es t
 token_at ks ls p a n fs s d o es (Emitted r) l u w long f =
     let ps = places r in
     let xs = externals ks (flat_map (linked ls) ps) in
