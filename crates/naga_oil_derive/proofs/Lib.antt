@@ -16,7 +16,9 @@ pub mod KindLaws
 pub mod CopiedLaws
 pub mod DerivedLaws
 pub mod SetLaws
+pub mod PuttingLemmas
 pub mod SourceValues
+pub mod Derivations
 pub mod WalkLemmas
 pub mod WalkForm
 pub mod WalkNotes
