@@ -1,9 +1,9 @@
 //! Items that are copied with what they name.
-ghost use Rattle.std.specs.Prelude.{◌≡◌, ◌≤◌, ◌+◌, All, Some, None, IfOk, OnOk, OnErr, option_map, option_copied, string_bytes};
-ghost use Rattle.naga_oil_ir.specs.Rows.{Row};
-ghost use Rattle.naga_oil_derive.specs.World.{value_of, world, under_name, renamed_at};
+ghost use Rattle.std.specs.Prelude.{◌≡◌, All, Some, IfOk, OnOk, OnErr, option_map, option_copied, string_bytes};
+ghost use Rattle.naga_oil_derive.specs.World.{value_of, world};
 ghost use Rattle.naga_oil_derive.specs.Copied.{copy_state, put_type, put, copied, all_copied, copied_type};
-ghost use Rattle.naga_oil_derive.specs.Copying.{IsThere, AreRanked, IsBelowItem, AreLong, IsCopying, Grows, IsSameFrom, WentSomewhere, AreNames, NamesWent, CopiesOne, CollectsItem, CollectsNames, CollectsNamed, special_names, goes_under, source_world, rank};
+ghost use Rattle.naga_oil_derive.specs.Copying.{IsThere, AreRanked, IsBelowItem, AreLong, IsCopying, AreNames, special_names};
+ghost use Rattle.naga_oil_derive.specs.Putting.{Putting, TypePutting};
 
 use super::*;
 
@@ -56,9 +56,8 @@ impl Copying {
     fn copy_type(&mut self, source: &Module, handle: Handle<Type>, name: Name) -> Tried
         requires there { IsThere source.now (ItemPlace.TypeItem handle) }
         requires long { AreLong self.old.maps source.now }
-        requires ready { NamesWent source.now self.old.maps (ItemPlace.TypeItem handle) }
-        ensures copies { OnOk result ((r : Row) → world (value_of source.now) (ItemPlace.TypeItem handle) ≡ Some r → CopiesOne source.now self.old.target self.new.target self.old.maps self.new.maps (ItemPlace.TypeItem handle) (under_name (option_map (λ n. Some (string_bytes n)) name) r)) }
         ensures put { OnOk result (copy_state self.new.maps self.new.target ≡ put_type (value_of source.now) self.old.maps.offset (option_map (λ n. Some (string_bytes n)) name) (copy_state self.old.maps self.old.target) handle) }
+        ensures offset { self.new.maps.offset ≡ self.old.maps.offset }
         ensures err { OnErr result ((self.new.target ≡ self.old.target) × (self.new.maps ≡ self.old.maps)) }
     {
         let Some(item) = source.types.get_handle(handle) else {
@@ -76,9 +75,8 @@ impl Copying {
     fn copy_alone(&mut self, source: &Module, item: ItemPlace) -> Tried
         requires there { IsThere source.now item }
         requires long { AreLong self.old.maps source.now }
-        requires ready { NamesWent source.now self.old.maps item }
-        ensures copies { OnOk result ((r : Row) → world (value_of source.now) item ≡ Some r → CopiesOne source.now self.old.target self.new.target self.old.maps self.new.maps item r) }
         ensures put { OnOk result (copy_state self.new.maps self.new.target ≡ put (value_of source.now) self.old.maps.offset (copy_state self.old.maps self.old.target) item) }
+        ensures offset { self.new.maps.offset ≡ self.old.maps.offset }
         ensures err { OnErr result ((self.new.target ≡ self.old.target) × (self.new.maps ≡ self.old.maps)) }
     {
         match item {
@@ -96,13 +94,9 @@ impl Copying {
         requires ranked { AreRanked source.now }
         requires below { All (IsBelowItem source.now item.now) list.now }
         requires copying { IsCopying source.now self.old.target self.old.maps }
-        ensures copying { IsCopying source.now self.new.target self.new.maps }
-        ensures grows { Grows self.old.maps self.new.maps self.old.target self.new.target }
-        ensures reads { source_world source.now self.new.target self.new.maps ≡ source_world source.now self.old.target self.old.maps }
-        ensures above { IsSameFrom source.now (rank source.now item.now) self.old.maps self.new.maps }
-        ensures went { OnOk result (All (WentSomewhere (goes_under self.new.maps)) list.now) }
-        ensures collects { OnOk result (CollectsNames source.now self.old.maps self.old.target list.now self.new.target) }
         ensures copied { OnOk result (copy_state self.new.maps self.new.target ≡ all_copied (value_of source.now) self.old.maps.offset (copy_state self.old.maps self.old.target) list.now) }
+        ensures putting { Putting (value_of source.now) self.old.maps.offset (copy_state self.old.maps self.old.target) (copy_state self.new.maps self.new.target) }
+        ensures offset { self.new.maps.offset ≡ self.old.maps.offset }
     {
         for name in list {
             let Some(place) = name else { continue };
@@ -117,13 +111,9 @@ impl Copying {
         requires there { IsThere source.now item.now }
         requires ranked { AreRanked source.now }
         requires copying { IsCopying source.now self.old.target self.old.maps }
-        ensures copying { IsCopying source.now self.new.target self.new.maps }
-        ensures grows { Grows self.old.maps self.new.maps self.old.target self.new.target }
-        ensures reads { source_world source.now self.new.target self.new.maps ≡ source_world source.now self.old.target self.old.maps }
-        ensures above { IsSameFrom source.now (rank source.now item.now + 1) self.old.maps self.new.maps }
-        ensures went { OnOk result (WentSomewhere (goes_under self.new.maps) (Some item.now)) }
-        ensures collects { OnOk result (CollectsItem source.now self.old.maps self.old.target item.now self.new.target) }
         ensures copied { OnOk result (copy_state self.new.maps self.new.target ≡ copied (value_of source.now) self.old.maps.offset (copy_state self.old.maps self.old.target) item.now) }
+        ensures putting { Putting (value_of source.now) self.old.maps.offset (copy_state self.old.maps self.old.target) (copy_state self.new.maps self.new.target) }
+        ensures offset { self.new.maps.offset ≡ self.old.maps.offset }
     {
         if self.maps.has_gone(*item) {
             return Ok(());
@@ -139,13 +129,9 @@ impl Copying {
         requires there { IsThere source.now (ItemPlace.TypeItem handle) }
         requires ranked { AreRanked source.now }
         requires copying { IsCopying source.now self.old.target self.old.maps }
-        ensures copying { IsCopying source.now self.new.target self.new.maps }
-        ensures grows { Grows self.old.maps self.new.maps self.old.target self.new.target }
-        ensures known { (q : ItemPlace) → goes_under self.old.maps (ItemPlace.TypeItem handle) ≡ Some q → (self.new.target ≡ self.old.target) × (self.new.maps ≡ self.old.maps) }
-        ensures went { OnOk result (WentSomewhere (goes_under self.new.maps) (Some (ItemPlace.TypeItem handle))) }
-        ensures reads { OnOk result (goes_under self.old.maps (ItemPlace.TypeItem handle) ≡ None → source_world source.now self.new.target self.new.maps ≡ renamed_at (source_world source.now self.old.target self.old.maps) handle (option_map (λ n. Some (string_bytes n)) name)) }
-        ensures collects { OnOk result (goes_under self.old.maps (ItemPlace.TypeItem handle) ≡ None → CollectsNamed source.now self.old.maps self.old.target (ItemPlace.TypeItem handle) (source_world source.now self.new.target self.new.maps) self.new.target) }
         ensures copied { OnOk result (copy_state self.new.maps self.new.target ≡ copied_type (value_of source.now) self.old.maps.offset (option_map (λ n. Some (string_bytes n)) name) (copy_state self.old.maps self.old.target) handle) }
+        ensures putting { TypePutting (value_of source.now) self.old.maps.offset (option_map (λ n. Some (string_bytes n)) name) handle (copy_state self.old.maps self.old.target) (copy_state self.new.maps self.new.target) }
+        ensures offset { self.new.maps.offset ≡ self.old.maps.offset }
     {
         let item = ItemPlace::TypeItem(handle);
         if self.maps.has_gone(item) {
@@ -162,12 +148,9 @@ impl Copying {
         requires ranked { AreRanked source.now }
         requires there { All (λ e. IsThere source.now (ItemPlace.TypeItem e.1)) entries.now }
         requires copying { IsCopying source.now self.old.target self.old.maps }
-        ensures copying { IsCopying source.now self.new.target self.new.maps }
-        ensures grows { Grows self.old.maps self.new.maps self.old.target self.new.target }
-        ensures reads { source_world source.now self.new.target self.new.maps ≡ source_world source.now self.old.target self.old.maps }
-        ensures went { OnOk result (All (WentSomewhere (goes_under self.new.maps)) (special_names entries.now)) }
-        ensures collects { OnOk result (CollectsNames source.now self.old.maps self.old.target (special_names entries.now) self.new.target) }
         ensures copied { OnOk result (copy_state self.new.maps self.new.target ≡ all_copied (value_of source.now) self.old.maps.offset (copy_state self.old.maps self.old.target) (special_names entries.now)) }
+        ensures putting { Putting (value_of source.now) self.old.maps.offset (copy_state self.old.maps self.old.target) (copy_state self.new.maps self.new.target) }
+        ensures offset { self.new.maps.offset ≡ self.old.maps.offset }
     {
         for (_, handle) in entries {
             self.copy_item(source, &ItemPlace::TypeItem(*handle))?;
