@@ -8,7 +8,7 @@ use Rattle.naga_oil_ir.specs.declared.names.ItemPlace.{ItemPlace}
 use Rattle.naga_oil_ir.specs.declared.names.ItemPlace.TheVariants.{TypeItem}
 use Rattle.naga_oil_derive.specs.declared.maps.Maps.{Maps}
 use Rattle.naga_oil_derive.specs.Tree.{Kept}
-use Rattle.naga_oil_derive.specs.World.{goes, value_of, world, special_at, special_entries, HaveDistinctKeys}
+use Rattle.naga_oil_derive.specs.World.{value_of, kept_of, special_at, special_entries, HaveDistinctKeys}
 use Rattle.naga_oil_derive.specs.Copyable.{CopyableItems}
 use Rattle.naga_oil_derive.specs.Copying.{AreRanked, IsCopying, Grows, WentSomewhere, places_of, goes_under, handle_under, kept_between, kept_over, special_names}
 use Rattle.naga_oil_derive.specs.Copied.{copy_state, all_copied}
@@ -87,25 +87,23 @@ sets_over m shift d e None w = tt
 sets_over m shift d e (Some s) w = record { value = w.value; offset = w.offset; stands = w.stands; reads = w.reads; special = w.special; collects = w.collects }
 
 -- the source that is set, as callers see it
-pub record HasSet (m : ModuleValue) (shift : ℕ) (first : Kept) (d e : Derived) : Type 0 where
-  pub derivation : IsDerivation first e
+pub record HasSet (m : ModuleValue) (shift : ℕ) (d e : Derived) : Type 0 where
+  pub derivation : IsDerivation (kept_of m.special_types d.target.special_types) e
   pub set : IsSet m shift d e
   pub keeps : KeepsItems d e
 
-pub sets_law : (o : Shader) (k : Maps) (t : Module) (ns : FunctionNames) (d e : Derived) (m : Module) (es : List Entry) (shift : ℕ) → derived_of o k t ns ≡ cleared d → IsDerived o k t → CopyableItems m → HaveDistinctKeys es → es ≡ special_entries (special_value m.special_types) → e ≡ source_set d (value_of m) shift → (first : Kept) × HasSet (value_of m) shift first d e
+pub sets_law : (o : Shader) (k : Maps) (t : Module) (ns : FunctionNames) (d e : Derived) (m : Module) (es : List Entry) (shift : ℕ) → derived_of o k t ns ≡ cleared d → IsDerived o k t → CopyableItems m → HaveDistinctKeys es → es ≡ special_entries (special_value m.special_types) → e ≡ source_set d (value_of m) shift → HasSet (value_of m) shift d e
 sets_law o k t ns d e m es shift v i c distinct entries is =
     let law = set_law (kept_for o t) (cleared d) (value_of m) shift (derivation_seen o k t ns (cleared d) v i) (value_copyable m c) (value_special m c (distinct_in m (subst HaveDistinctKeys entries distinct))) in
-    let made = source_set d (value_of m) shift in (
-      _,
-      subst (λ y. HasSet (value_of m) shift _ d y) (sym is) (record {
-        derivation = law.derivation;
-        set = (refl, sets_over (value_of m) shift d made made.source law.set.1);
-        keeps = record { items = law.keeps.items; special = law.keeps.special; names = law.keeps.names };
-      }),
-    )
+    let made = source_set d (value_of m) shift in
+    subst (HasSet (value_of m) shift d) (sym is) (record {
+      derivation = law.derivation;
+      set = (refl, sets_over (value_of m) shift d made made.source law.set.1);
+      keeps = record { items = law.keeps.items; special = law.keeps.special; names = law.keeps.names };
+    })
 
-pub derived_set : (s : Bor Module) (n : Maps) (u : Module) (ns : FunctionNames) (m : ModuleValue) (shift : ℕ) (d : Derived) → AreRanked s.now → (first : Kept) × HasSet m shift first d (derived_of (Some s) n u ns) → IsDerived (Some s) n u
-derived_set s n u ns m shift d a w = derived_by w.0 s n u ns a w.1.derivation
+pub derived_set : (s : Bor Module) (n : Maps) (u : Module) (ns : FunctionNames) (m : ModuleValue) (shift : ℕ) (d : Derived) → AreRanked s.now → HasSet m shift d (derived_of (Some s) n u ns) → IsDerived (Some s) n u
+derived_set s n u ns m shift d a w = derived_by _ s n u ns a w.derivation
 
 -- ---- while its special types are copied
 

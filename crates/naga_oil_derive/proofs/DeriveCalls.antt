@@ -93,8 +93,6 @@ imported_in (Some s) d e (Some b) m t ns p v k w =
 pub imported_at : (d e : Derived) (o : Shader) (m : Maps) (t : Module) (ns : FunctionNames) (p : ItemPlace) → derived_of o m t ns ≡ e → Keeps d e → (q : ItemPlace) × IsImported d e p q → IsImported d e p (rename_place (renames_under m) p)
 imported_at d e o m t ns p v k w = imported_in d.source d e o m t ns p v k.source w
 
--- ---- types under a name
-
 -- ---- a source that is set
 
 pub left_source : (o : Shader) (m : Maps) → option_map (source_of m) o ≡ None → o ≡ None

@@ -138,7 +138,7 @@ returns-clause-set c =
     let seen = c.self.view_is ∙ c.clear_shader_source.ensures in
     let distinct = subst HaveDistinctKeys (sym c.deref.ensures.value) c.in_ok-entries.ensures.distinct in
     let law = sets_law s.shader s.copying.maps s.copying.target s.function_names.entries c.args.self.now _ c.args.shader.now c.deref.result.now c.args.span_offset seen c.self.invariant c.requires distinct (c.deref.ensures.value ∙ c.in_ok-entries.ensures.entries) (returns-clause-value c) in
-    law.1.set
+    law.set
 
 pub returns-clause-keeps : goal.returns-clause-keeps
 returns-clause-keeps c =
@@ -146,7 +146,7 @@ returns-clause-keeps c =
     let seen = c.self.view_is ∙ c.clear_shader_source.ensures in
     let distinct = subst HaveDistinctKeys (sym c.deref.ensures.value) c.in_ok-entries.ensures.distinct in
     let law = sets_law s.shader s.copying.maps s.copying.target s.function_names.entries c.args.self.now _ c.args.shader.now c.deref.result.now c.args.span_offset seen c.self.invariant c.requires distinct (c.deref.ensures.value ∙ c.in_ok-entries.ensures.entries) (returns-clause-value c) in
-    law.1.keeps
+    law.keeps
 
 pub invariant_of-self-2 : goal.invariant_of-self-2
 invariant_of-self-2 c =
