@@ -38,7 +38,7 @@ first_places ks ls is ts o n e l = let g = added-grows (flat_map (listed ks ls) 
 
 -- ---- runs of numbers
 
-run_length : (n a : ℕ) → length (run a n) ≡ n
+pub run_length : (n a : ℕ) → length (run a n) ≡ n
 run_length zero a = refl
 run_length (suc n) a = ap suc (run_length n (suc a))
 
@@ -82,7 +82,7 @@ one_place : (n m c : ℕ) (r : ℕ × ℕ) (o : Option (ℕ × ℕ)) → r.1 ≤
 one_place n m c r None h = places_empty (c, c) (omega arith)
 one_place n m c r (Some p) h = ap (λ v. places (brought n m p.0, if v then brought n m p.1 else brought n m p.0)) (le-ltb r.0 r.1 h) ∙ places_empty (brought n m p.0, brought n m p.0) (omega arith)
 
-wide : (es : Notes) (n m c : ℕ) (r : ℕ × ℕ) (b e : ℕ) → r.0 < r.1 → slice_get es r.0 ≡ Some (Some (b, e)) → range_under es n m c r ≡ (brought n m b, brought n m e)
+pub wide : (es : Notes) (n m c : ℕ) (r : ℕ × ℕ) (b e : ℕ) → r.0 < r.1 → slice_get es r.0 ≡ Some (Some (b, e)) → range_under es n m c r ≡ (brought n m b, brought n m e)
 wide es n m c r b e h at = ap (λ q. brought_range n m c r (option_flatten q)) at ∙ ap (λ v. let p : ℕ × ℕ = (brought n m b, if v then brought n m e else brought n m b) in p) (lt-ltb r.0 r.1 h)
 
 covered_token : (t : Table) (es : Notes) (s o x : List ℕ) (n m c : ℕ) (k : Token) → length x ≡ n → map (place_under t) o ≡ x ++ run m (length o - n) → AreWithin n o es → IsNoted s o es k → IsCovered t (range_under es n m c) s k

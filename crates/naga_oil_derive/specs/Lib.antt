@@ -28,3 +28,4 @@ pub mod CopiedEntry
 pub mod CopiedLaw
 pub mod Putting
 pub mod DerivedLaw
+pub mod CopiedFunctionLaw
