@@ -17,11 +17,15 @@ pub record CanPut (m : ModuleValue) (s : CopyState) (p : ItemPlace) : Type 0 whe
   pub nowhere : goes s.places p ≡ None
   pub names : All (WentSomewhere (goes s.places)) row.names
 
--- items are put one after another, types under a name if one is given
+-- items are put one after another
 pub data Putting (m : ModuleValue) (shift : ℕ) : CopyState → CopyState → Type 0 where
   NothingPut : {s : CopyState} → Putting m shift s s
   ItemPut : {s u : CopyState} (p : ItemPlace) → CanPut m s p → Putting m shift (put m shift s p) u → Putting m shift s u
-  TypePut : {s u : CopyState} (k : ℕ) (name : Option Text) → CanPut m s (TypeItem k) → Putting m shift (put_type m shift name s k) u → Putting m shift s u
+
+-- items are put, and a type comes last under a name, if one is given, or does not come
+pub data TypePutting (m : ModuleValue) (shift : ℕ) (name : Option Text) (k : ℕ) : CopyState → CopyState → Type 0 where
+  NoType : {s u : CopyState} → Putting m shift s u → TypePutting m shift name k s u
+  TypeLast : {s t u : CopyState} → Putting m shift s t → CanPut m t (TypeItem k) → u ≡ put_type m shift name t k → TypePutting m shift name k s u
 
 -- items are put, and copies of functions come last, one after another
 pub data Adding (m : ModuleValue) (shift : ℕ) : ImportState → ImportState → Type 0 where

@@ -3,7 +3,7 @@ ghost use Rattle.std.specs.Prelude.{◌≡◌, All, Some, IfOk, OnOk, OnErr, opt
 ghost use Rattle.naga_oil_derive.specs.World.{value_of, world};
 ghost use Rattle.naga_oil_derive.specs.Copied.{copy_state, put_type, put, copied, all_copied, copied_type};
 ghost use Rattle.naga_oil_derive.specs.Copying.{IsThere, AreRanked, IsBelowItem, AreLong, IsCopying, AreNames, special_names};
-ghost use Rattle.naga_oil_derive.specs.Putting.{Putting};
+ghost use Rattle.naga_oil_derive.specs.Putting.{Putting, TypePutting};
 
 use super::*;
 
@@ -130,7 +130,7 @@ impl Copying {
         requires ranked { AreRanked source.now }
         requires copying { IsCopying source.now self.old.target self.old.maps }
         ensures copied { OnOk result (copy_state self.new.maps self.new.target ≡ copied_type (value_of source.now) self.old.maps.offset (option_map (λ n. Some (string_bytes n)) name) (copy_state self.old.maps self.old.target) handle) }
-        ensures putting { Putting (value_of source.now) self.old.maps.offset (copy_state self.old.maps self.old.target) (copy_state self.new.maps self.new.target) }
+        ensures putting { TypePutting (value_of source.now) self.old.maps.offset (option_map (λ n. Some (string_bytes n)) name) handle (copy_state self.old.maps self.old.target) (copy_state self.new.maps self.new.target) }
         ensures offset { self.new.maps.offset ≡ self.old.maps.offset }
     {
         let item = ItemPlace::TypeItem(handle);
