@@ -53,7 +53,7 @@ kinds_step : (m : ModuleValue) (s u : CopyState) (p : ItemPlace) (row : Row) (sp
 kinds_step m s u p row span k c e x r h =
     ⊎_elim (λ old. k x r old) (λ new. (let same : c.copy ≡ r = same_rows c.copy r (world u.target c.place) c.fetches.at (ap (world u.target) (sym new.0) ∙ h) in ap (λ (v : Row). kind_number v.label.kind) (sym same) ∙ ap (λ v. kind_number v.kind) c.copies.label ∙ e ∙ sym c.kind ∙ ap place_number (sym new.0))) (c.fetches.only x r h)
 
-midway_step : (m : ModuleValue) (kept : Kept) (s u : CopyState) (p : ItemPlace) (o : Option Text) (r row : Row) (span : Option Span) → IsKinded m → IsMidway m kept s → goes s.places p ≡ None → PutsOne m s u p row span → world m p ≡ Some r → row ≡ under_name o r → IsMidway m kept u
+pub midway_step : (m : ModuleValue) (kept : Kept) (s u : CopyState) (p : ItemPlace) (o : Option Text) (r row : Row) (span : Option Span) → IsKinded m → IsMidway m kept s → goes s.places p ≡ None → PutsOne m s u p row span → world m p ≡ Some r → row ≡ under_name o r → IsMidway m kept u
 midway_step m kept s u p o r row span k i fresh c is e =
     let w = reads_now m u in
     let nk : kept p ≡ None = free kept (goes s.places) i.copied.stand p (kept p) refl fresh in

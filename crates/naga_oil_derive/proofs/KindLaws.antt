@@ -6,7 +6,7 @@ use Rattle.naga_oil_ir.specs.declared.module.Module.{Module}
 use Rattle.naga_oil_ir.specs.declared.names.ItemPlace.{ItemPlace}
 use Rattle.naga_oil_ir.specs.declared.names.ItemPlace.TheVariants.{TypeItem, ConstantItem, OverrideItem, GlobalItem, ExpressionItem}
 use Rattle.naga_oil_derive.specs.World.{value_of, special_entries, HaveDistinctKeys}
-use Rattle.naga_oil_derive.specs.Copying.{rank}
+use Rattle.naga_oil_derive.specs.Copying.{AreRanked, rank}
 use Rattle.naga_oil_derive.specs.Copyable.{CopyableItems}
 use Rattle.naga_oil_derive.specs.CopiedLaw.{kind_number, place_number, IsKinded, HasAt, IsCopyable, AreSpecial}
 use Rattle.naga_oil_derive.proofs.WorldLemmas.{kind_code, place_code, world_code}
@@ -35,14 +35,15 @@ special : (m : Module) → CopyableItems m → All (λ (e : Entry). HasAt (value
 unfolding value_of
 special m c = entries_are_there m (special_entries (special_value m.special_types)) c refl
 
+pub ranked_copyable : (m : Module) → AreRanked m → IsCopyable (value_of m)
+ranked_copyable m a = record {
+  kinds = value_kinds m;
+  rank = rank m;
+  ranked = record { names = λ p r e. a.names p r e; within = λ p r e. a.within p (r, e) };
+}
+
 pub value_copyable : (m : Module) → CopyableItems m → IsCopyable (value_of m)
-value_copyable m c =
-    let a = ranked m c in
-    record {
-      kinds = value_kinds m;
-      rank = rank m;
-      ranked = record { names = λ p r e. a.names p r e; within = λ p r e. a.within p (r, e) };
-    }
+value_copyable m c = ranked_copyable m (ranked m c)
 
 pub value_special : (m : Module) → CopyableItems m → HaveDistinctKeys (special_entries (value_of m).special_types) → AreSpecial (value_of m)
 value_special m c d = record { there = special m c; distinct = d }

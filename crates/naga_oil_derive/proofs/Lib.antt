@@ -36,7 +36,7 @@ pub mod Localizing
 pub mod LocalSteps
 pub mod NamingLemmas
 pub mod ReachSteps
-pub mod ImportLemmas
+pub mod AddingLemmas
 pub mod ImportSteps
 pub mod FunctionValues
 pub mod MeaningLemmas
