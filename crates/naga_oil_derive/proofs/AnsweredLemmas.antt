@@ -37,7 +37,7 @@ use Rattle.naga_oil_derive.proofs.HavingLemmas.{world_having, source_having, cop
 abbrev pub given : ModuleValue → List (FunctionValue × Span) → ModuleValue
 given m fs = record m { functions = fs }
 
-world_given_at : (m : ModuleValue) (fs : List (FunctionValue × Span)) (p : ItemPlace) → world (given m fs) p ≡ world m p
+pub world_given_at : (m : ModuleValue) (fs : List (FunctionValue × Span)) (p : ItemPlace) → world (given m fs) p ≡ world m p
 unfolding world
 world_given_at m fs (TypeItem k) = refl
 world_given_at m fs (ConstantItem k) = refl
@@ -45,7 +45,7 @@ world_given_at m fs (OverrideItem k) = refl
 world_given_at m fs (GlobalItem k) = refl
 world_given_at m fs (ExpressionItem k) = refl
 
-world_given : (m : ModuleValue) (fs : List (FunctionValue × Span)) → world (given m fs) ≡ world m
+pub world_given : (m : ModuleValue) (fs : List (FunctionValue × Span)) → world (given m fs) ≡ world m
 world_given m fs = λ i p. world_given_at m fs p i
 
 span_given : (m : ModuleValue) (fs : List (FunctionValue × Span)) (p : ItemPlace) → span_at (given m fs) p ≡ span_at m p

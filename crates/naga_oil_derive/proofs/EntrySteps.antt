@@ -115,7 +115,7 @@ pub meant_later : (ns qs : Meanings) (o : Option (FunctionValue × Span)) → Kn
 meant_later ns qs None k h = h
 meant_later ns qs (Some e) k h = k e.0.name h
 
-ask_weaker : (m : ModuleValue) (P Q : ℕ → Type 0) → ((k : ℕ) → P k → Q k) → (r : Request) → MayAsk m P r → MayAsk m Q r
+pub ask_weaker : (m : ModuleValue) (P Q : ℕ → Type 0) → ((k : ℕ) → P k → Q k) → (r : Request) → MayAsk m P r → MayAsk m Q r
 ask_weaker m P Q w (Item p) h = h
 ask_weaker m P Q w (Call f) h = (h.0, w f h.1)
 
@@ -126,7 +126,7 @@ there_weaker : (m : ModuleValue) (P Q : ℕ → Type 0) → ((k : ℕ) → P k �
 there_weaker m P Q w None h = tt
 there_weaker m P Q w (Some e) h = (h.0, copy_weaker m P Q w e.0 h.1)
 
-call_later : (m : ModuleValue) (ns qs : Meanings) → KnowsMore ns qs → (n k : ℕ) → MayCall m ns n k → MayCall m qs n k
+pub call_later : (m : ModuleValue) (ns qs : Meanings) → KnowsMore ns qs → (n k : ℕ) → MayCall m ns n k → MayCall m qs n k
 call_later m ns qs w zero k h = meant_later ns qs (slice_get m.functions k) w h
 call_later m ns qs w (suc n) k h =
     ⊎_elim (λ s. inl (meant_later ns qs (slice_get m.functions k) w s)) (λ s. inr (there_weaker m (MayCall m ns n) (MayCall m qs n) (call_later m ns qs w n) (slice_get m.functions k) s)) h

@@ -21,6 +21,7 @@ pub mod KindLaws
 pub mod CopiedLaws
 pub mod DerivedLaws
 pub mod SetLaws
+pub mod AnsweredLaws
 pub mod SourceValues
 pub mod WalkLemmas
 pub mod WalkForm

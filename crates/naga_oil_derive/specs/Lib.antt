@@ -29,3 +29,4 @@ pub mod CopiedLaw
 pub mod Putting
 pub mod DerivedLaw
 pub mod CopiedFunctionLaw
+pub mod AnsweredLaw

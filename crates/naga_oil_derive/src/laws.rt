@@ -1,6 +1,7 @@
 // What holds of every copy.
 ghost use Rattle.naga_oil_derive.specs.CopiedLaw.{CopyableLaw, SpecialLaw, PutLaw, TypePutLaw, CopiedLaw, AllCopiedLaw, AgainLaw, TypeCopiedLaw, TypeAgainLaw};
 ghost use Rattle.naga_oil_derive.specs.DerivedLaw.{NothingLaw, ClearedLaw, PlacedLaw, ImportLaw, RenameLaw, SetLaw};
+ghost use Rattle.naga_oil_derive.specs.AnsweredLaw.{AnswerLaw, CallLaw, FunctionLaw};
 
 /// Of a module whose items can be copied the value says so: each item stands in the arena of its kind, and names what
 /// is there, of lower rank.
@@ -47,4 +48,11 @@ pub fn derivations_with_items()
 /// key stands.
 pub fn derivations_with_a_source()
     ensures { SetLaw }
+{}
+
+/// Requests are answered, and functions imported behind what they name; then the module is a derivation still.
+pub fn derivations_with_functions()
+    ensures answers { AnswerLaw }
+    ensures call { CallLaw }
+    ensures function { FunctionLaw }
 {}
