@@ -1,5 +1,5 @@
 -- What stays while items and functions are added.
-use Rattle.std.proofs.Common.{◌≡◌, ℕ, length, Option, None, IsSome, is_some, option_map, string_bytes, String, Global, refl, ap, sym, ◌∙◌, subst}
+use Rattle.std.proofs.Common.{◌≡◌, ℕ, length, Option, Some, None, IsSome, is_some, option_map, string_bytes, String, Global, refl, ap, sym, ◌∙◌, subst}
 use Rattle.std.proofs.lemmas.List.{length-map}
 use Rattle.naga_oil_ir.specs.Rows.{Text}
 use Rattle.naga_oil_ir.specs.ModuleValue.{ModuleValue}
@@ -68,6 +68,9 @@ Adding-append NothingAdded b = b
 Adding-append (ItemsAdded p a) b = ItemsAdded p (Adding-append a b)
 Adding-append (FunctionAdded v span a) b = FunctionAdded v span (Adding-append a b)
 Adding-append (CopyAdded v span a) b = CopyAdded v span (Adding-append a b)
+
+pub items_added : {m : ModuleValue} {shift : ℕ} {s : ImportState} {c : CopyState} → Putting m shift s.copying c → Adding m shift s (record s { copying = c })
+items_added p = ItemsAdded p NothingAdded
 
 -- ---- as the code holds it
 

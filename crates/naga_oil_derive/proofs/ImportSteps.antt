@@ -29,7 +29,7 @@ use Rattle.naga_oil_derive.specs.declared.walk.Request.{Request}
 use Rattle.naga_oil_derive.specs.declared.walk.Request.TheVariants.{Item, Call}
 use Rattle.naga_oil_derive.proofs.KindLaws.{ranked_copyable}
 use Rattle.naga_oil_derive.proofs.CopiedLaws.{copied_item}
-use Rattle.naga_oil_derive.proofs.AddingLemmas.{KnowsNames, midway_of}
+use Rattle.naga_oil_derive.proofs.AddingLemmas.{KnowsNames, midway_of, names_added}
 use Rattle.naga_oil_derive.proofs.FunctionValues.{known_same}
 use Rattle.naga_oil_derive.proofs.HavingLemmas.{going_same}
 use Rattle.naga_oil_derive.proofs.MeaningLemmas.{meaning_put, meaning_same}
@@ -69,8 +69,13 @@ thins_kept P Ends a = a
 thins_kept P (Keeps {xs = xs} {ys = ys} {x = x} th) a = All-cons P x ys (All-head P x xs a) (thins_kept P th (All-tail P x xs a))
 thins_kept P (Drops {xs = xs} {x = x} i th) a = thins_kept P th (All-tail P x xs a)
 
-pub request_at : (source : Module) (a b : Functions) (n : ℕ) (fs rs : List Request) (i : ℕ) (r : Request) → Thins [] fs rs → All (IsAnswerable source a n) fs → KnowsNames a b → i < length rs → r ≡ get_or rs i r → IsAnswerable source b n r
+request_at : (source : Module) (a b : Functions) (n : ℕ) (fs rs : List Request) (i : ℕ) (r : Request) → Thins [] fs rs → All (IsAnswerable source a n) fs → KnowsNames a b → i < length rs → r ≡ get_or rs i r → IsAnswerable source b n r
 request_at source a b n fs rs i r th al g l e = answerable_later source a b n g r (subst (IsAnswerable source a n) (sym e) (thins_kept (IsAnswerable source a n) th al i r l))
+
+-- a request at hand can be answered by what was added so far
+pub request_added : (source t u : Module) (m n : Maps) (a b : Functions) (shift depth : ℕ) (ns xs ys : List Request) (i : ℕ) (r : Request) → IsCopying source t m → Adding (value_of source) shift (import_state m t a) (import_state n u b) → All (IsAnswerable source a depth) ns → Thins [] ns ys → xs ≡ ys → i < length xs → r ≡ get_or xs i r → IsAnswerable source b depth r
+request_added source t u m n a b shift depth ns xs ys i r copying adding may th e l is =
+    request_at source a b depth ns xs i r (subst (Thins [] ns) (sym e) th) may (names_added source t u m n a b shift copying adding) l is
 
 -- an item that is copied went somewhere
 pub item_went : (source t u : Module) (m n : Maps) (p : ItemPlace) (shift : ℕ) → AreRanked source → IsCopying source t m → IsThere source p → copy_state n u ≡ copied (value_of source) shift (copy_state m t) p → WentSomewhere (goes (copy_state n u).places) (Some p)

@@ -9,16 +9,16 @@ use Rattle.naga_oil_derive.specs.Copying.{AreRanked, IsCopying, kept_between}
 use Rattle.naga_oil_derive.specs.Copied.{CopyState, copy_state, copied}
 use Rattle.naga_oil_derive.specs.DerivedFunctions.{requests_of, meant}
 use Rattle.naga_oil_derive.specs.Imported.{IsImportable, IsAnswerable}
-use Rattle.naga_oil_derive.specs.Naming.{function_names, Thins}
+use Rattle.naga_oil_derive.specs.Naming.{function_names}
 use Rattle.naga_oil_derive.specs.Answered.{ImportState, import_state, answered_one, answered, called, with_function}
-use Rattle.naga_oil_derive.specs.Putting.{Putting, Adding, NothingAdded, ItemsAdded}
+use Rattle.naga_oil_derive.specs.Putting.{Putting, Adding, NothingAdded}
 use Rattle.naga_oil_derive.specs.declared.copy.Copying.{Copying}
 use Rattle.naga_oil_derive.specs.declared.import.Functions.{Functions}
 use Rattle.naga_oil_derive.specs.declared.walk.Request.{Request}
 use Rattle.naga_oil_derive.specs.declared.walk.Request.TheVariants.{Item, Call}
 use Rattle.naga_oil_derive.proofs.KindLaws.{value_kinds}
-use Rattle.naga_oil_derive.proofs.AddingLemmas.{Added, adding_adds, Adding-append, midway_of, copying_added, names_added}
-use Rattle.naga_oil_derive.proofs.ImportSteps.{request_at, item_went, entry_at, entry_of, put_value, name_means, copy_value, function_added, copy_added, on_ok, if_ok_same, callee_from, none_if, unknown_callee, unnamed}
+use Rattle.naga_oil_derive.proofs.AddingLemmas.{Added, adding_adds, Adding-append, items_added, midway_of, copying_added}
+use Rattle.naga_oil_derive.proofs.ImportSteps.{request_added, item_went, entry_at, entry_of, put_value, name_means, copy_value, function_added, copy_added, on_ok, if_ok_same, callee_from, none_if, unknown_callee, unnamed}
 use Rattle.naga_oil_derive.proofs.FunctionValues.{requests_same, known_same, callee_value, functions_at, seen}
 use Rattle.naga_oil_derive.proofs.AnsweredValues.{Trail, Still, Step, trail-more, was_later, thin_answered, known, called_fresh, on_ok_same}
 use Rattle.naga_oil_derive.proofs.import.+importing.Goals as goal
@@ -93,6 +93,9 @@ import_callee-import-requires t c =
     let form : IsImportable c.args.source.now c.args.functions.now (c.args.depth - 1) f = subst (λ n. IsImportable c.args.source.now c.args.functions.now n f) same there.3 in
     search rules
 
+pub import_callee-returns-in-Some-known_as-clause-adding : goal.import_callee-returns-in-Some-known_as-clause-adding
+import_callee-returns-in-Some-known_as-clause-adding t c = NothingAdded
+
 pub import_callee-returns-in-Some-known_as-clause-value : goal.import_callee-returns-in-Some-known_as-clause-value
 import_callee-returns-in-Some-known_as-clause-value t c =
     let source = c.args.source.now in
@@ -125,9 +128,52 @@ import_callee-returns-clause-value t c =
 
 -- ---- what a function names
 
--- the request at hand can be answered
-at_hand : (t : ℕ) (c : goal.localize-loop-request t) → IsAnswerable c.args.source.now c.loop-request.functions c.args.depth c.request-item.result
-at_hand t c = ?
+pub localize-copy_item-requires-clause-there : goal.localize-copy_item-requires-clause-there
+localize-copy_item-requires-clause-there t c =
+    let source = c.args.source.now in
+    let old = c.args.copying.now in
+    let now = c.loop-request.copying in
+    let fs = c.loop-request.functions in
+    let r = request_added source old.target now.target old.maps now.maps c.args.functions.now fs old.maps.offset c.args.depth (function_names c.args.function.now) c.deref-request-items.result.now c.in_ok-walk.walk.requests.items c.loop-request.request-index c.request-item.result c.requires.copying c.loop-request.invariant.adding c.requires.form.requests c.in_ok-walk.ensures.requests c.deref-request-items.ensures.value c.loop-request-test.true c.request-item.is in
+    subst (IsAnswerable source fs c.args.depth) c.in-Item.is r
+
+pub localize-copy_item-requires-clause-copying : goal.localize-copy_item-requires-clause-copying
+localize-copy_item-requires-clause-copying t c =
+    let old = c.args.copying.now in
+    let now = c.loop-request.copying in
+    copying_added c.args.source.now old.target now.target old.maps now.maps c.args.functions.now c.loop-request.functions old.maps.offset c.requires.copying c.loop-request.invariant.adding
+
+pub localize-import_callee-requires : goal.localize-import_callee-requires
+localize-import_callee-requires t c =
+    let source = c.args.source.now in
+    let old = c.args.copying.now in
+    let now = c.loop-request.copying in
+    let fs = c.loop-request.functions in
+    let own = c.args.functions.now in
+    let r = request_added source old.target now.target old.maps now.maps own fs old.maps.offset c.args.depth (function_names c.args.function.now) c.deref-request-items.result.now c.in_ok-walk.walk.requests.items c.loop-request.request-index c.request-item.result c.requires.copying c.loop-request.invariant.adding c.requires.form.requests c.in_ok-walk.ensures.requests c.deref-request-items.ensures.value c.loop-request-test.true c.request-item.is in
+    let one : IsAnswerable source fs c.args.depth (Call c.in-Call.handle) = subst (IsAnswerable source fs c.args.depth) c.in-Call.is r in
+    let ranked : AreRanked source = c.requires.ranked in
+    let copying : IsCopying source now.target now.maps = copying_added source old.target now.target old.maps now.maps own fs old.maps.offset c.requires.copying c.loop-request.invariant.adding in
+    search rules
+
+pub localize-returns-in_err-walk-clause-adding : goal.localize-returns-in_err-walk-clause-adding
+localize-returns-in_err-walk-clause-adding t c = NothingAdded
+
+pub localize-returns-in_err-copy_item-in-Item-clause-adding :
+    goal.localize-returns-in_err-copy_item-in-Item-clause-adding
+localize-returns-in_err-copy_item-in-Item-clause-adding t c =
+    let i = c.loop-request.invariant in
+    let now = c.loop-request.copying in
+    let n = c.copy_item.new.self in
+    Adding-append i.adding (items_added (subst (λ z. Putting (value_of c.args.source.now) z (copy_state now.maps now.target) (copy_state n.maps n.target)) i.offset c.copy_item.ensures.putting))
+
+pub localize-returns-in_err-import_callee-in-Call-clause-adding :
+    goal.localize-returns-in_err-import_callee-in-Call-clause-adding
+localize-returns-in_err-import_callee-in-Call-clause-adding t c =
+    let i = c.loop-request.invariant in
+    let now = c.loop-request.copying in
+    let n = c.import_callee.new.copying in
+    Adding-append i.adding (subst (λ z. Adding (value_of c.args.source.now) z (import_state now.maps now.target c.loop-request.functions) (import_state n.maps n.target c.import_callee.new.functions)) i.offset c.import_callee.ensures.adding)
 
 pub localize-loop-request-init : goal.localize-loop-request-init
 localize-loop-request-init t c = record { adding = NothingAdded; offset = refl; trail = Still }
@@ -159,8 +205,10 @@ localize-loop-request-preserved t c =
           let p = w.in-Item.item in
           let u = import_state n.maps n.target fs in
           let is : copy_state n.maps n.target ≡ copied v d (copy_state now.maps now.target) p = e.copied ∙ ap (λ z. copied v z (copy_state now.maps now.target) p) i.offset in
-          let more : Adding v d m u = ItemsAdded (subst (λ z. Putting v z (copy_state now.maps now.target) (copy_state n.maps n.target)) i.offset e.putting) NothingAdded in
-          let next : Trail v F m (x ∷ []) u = subst (λ (r : Request). Trail v F m (r ∷ []) u) (sym w.in-Item.is) (Step (ap (λ (y : CopyState). record m { copying = y }) is) (was_later v kept m u (added u more)) ? Still) in
+          let more : Adding v d m u = items_added (subst (λ z. Putting v z (copy_state now.maps now.target) (copy_state n.maps n.target)) i.offset e.putting) in
+          let r = request_added source old.target now.target old.maps now.maps own fs d c.args.depth (function_names c.args.function.now) xs c.in_ok-walk.walk.requests.items k x c.requires.copying i.adding c.requires.form.requests c.in_ok-walk.ensures.requests c.deref-request-items.ensures.value c.loop-request-test.true c.request-item.is in
+          let went = item_went source now.target n.target now.maps n.maps p d c.requires.ranked copying (subst (IsAnswerable source fs c.args.depth) w.in-Item.is r) is in
+          let next : Trail v F m (x ∷ []) u = subst (λ (r : Request). Trail v F m (r ∷ []) u) (sym w.in-Item.is) (Step (ap (λ (y : CopyState). record m { copying = y }) is) (was_later v kept m u (added u more)) went Still) in
           record {
             adding = subst (λ (y : Copying). Adding v d s (import_state y.maps y.target c.match-request.functions)) (sym w.copying-is) (subst (λ (y : Functions). Adding v d s (import_state n.maps n.target y)) (sym w.functions-is) (Adding-append i.adding more));
             offset = ap (λ (y : Copying). y.maps.offset) w.copying-is ∙ e.offset ∙ i.offset;
