@@ -1,7 +1,6 @@
-use Rattle.std.proofs.Common.{Bool, true, false, ◌==◌, if◌then◌else◌, ◌⊎◌, inl, inr, ⊎_elim, ◌≡◌, ℕ, zero, suc, ◌<◌, ◌≤◌, ◌+◌, ◌*◌, List, [], ◌∷◌, ◌++◌, Option, Some, None, option_map, refl, ap, sym, ◌∙◌, subst, arith, All, IfSome, append-nil, append_assoc, take, get_or, length, take_all}
+use Rattle.std.proofs.Common.{Bool, true, false, ◌==◌, if◌then◌else◌, ◌⊎◌, inl, inr, ⊎_elim, ◌≡◌, ℕ, zero, suc, ◌<◌, ◌≤◌, ◌+◌, List, [], ◌∷◌, ◌++◌, Option, Some, None, option_map, refl, ap, sym, ◌∙◌, subst, arith, All, IfSome}
 use Rattle.std.specs.List.{AllZip}
-use Rattle.std.proofs.lemmas.List.{take_more}
-use Rattle.std.proofs.lemmas.List.Elements.{All-head, All-tail, All-weaker}
+use Rattle.std.proofs.lemmas.List.Elements.{All-head, All-tail}
 use Rattle.naga_oil_ir.specs.Rows.{Row}
 use Rattle.naga_oil_ir.specs.ModuleValue.{ModuleValue}
 use Rattle.naga_oil_ir.specs.declared.module.Module.{Module}
@@ -9,16 +8,15 @@ use Rattle.naga_oil_ir.specs.declared.span.Span.{Span}
 use Rattle.naga_oil_ir.specs.declared.names.ItemPlace.{ItemPlace}
 use Rattle.naga_oil_derive.specs.declared.maps.Maps.{Maps}
 use Rattle.naga_oil_derive.specs.Tree.{World, Kept, Tree, Then, Absent, Item, tree, trees, row_tree, kept_tree, reading}
-use Rattle.naga_oil_derive.specs.World.{value_of, world, span_at, shifted}
+use Rattle.naga_oil_derive.specs.World.{value_of, world}
 use Rattle.naga_oil_derive.specs.Collected.{names_trail, row_trail, kept_trail, reached, depth, Stands, Collects, Done, Known, Fresh, Comes}
-use Rattle.naga_oil_derive.specs.Copying.{IsWhole, Goes, NameGoesTo, AreCopied, IsSound, Fetches, goes_under, source_world, kept_between, copied_span, rank, AreRanked, IsBelowItem, IsCopying, AreNames, Grows, CopiesOne, IsCollected, trail_of, CollectsItem, CollectsNames, CollectsNamed}
-use Rattle.naga_oil_derive.proofs.TreeLemmas.{reads, same_place, same_or_not, tree-later, trees_same, AreCopied-named}
+use Rattle.naga_oil_derive.specs.Copying.{IsWhole, Goes, NameGoesTo, AreCopied, IsSound, Fetches, goes_under, source_world, kept_between, copied_span, rank, IsCopying, trail_of, CollectsItem}
+use Rattle.naga_oil_derive.proofs.TreeLemmas.{reads, same_place, tree-later, trees_same}
 use Rattle.naga_oil_ir.proofs.LinkLemmas.{eqb_eq, eq_eqb}
 use Rattle.naga_oil_ir.specs.declared.names.ItemPlace.TheVariants.{TypeItem, ConstantItem, OverrideItem, GlobalItem, ExpressionItem}
 use Rattle.naga_oil_ir.specs.Rows.{Text}
 use Rattle.naga_oil_derive.specs.World.{renamed_at, under_name}
-use Rattle.naga_oil_derive.proofs.WorldLemmas.{named_none, named_names}
-use Rattle.naga_oil_derive.proofs.CopyLemmas.{free, none_some, kept_same, source_here, source_there, IsCopying-step, reads-step}
+use Rattle.naga_oil_derive.proofs.CopyLemmas.{free}
 
 pub Collects-append : {w : World} {kept : Kept} {spans : ItemPlace → Option Span} {v t u : ModuleValue} {xs : List ItemPlace} (ys : List ItemPlace) → Collects w kept spans v xs t → Collects w kept spans t ys u → Collects w kept spans v (xs ++ ys) u
 Collects-append ys Done c = c
@@ -129,106 +127,17 @@ new_first w v u kept m n p q s a i b j g f free_place st =
 pub others_of : (v u : World) (s : Row) (q : ItemPlace) → Fetches v u s q → (x : ItemPlace) (r : Row) → u x ≡ Some r → (v x ≡ Some r) ⊎ (x ≡ q)
 others_of v u s q f x r e = ⊎_elim inl (λ n. inr n.0) (f.only x r e)
 
--- one copy is one step of the collection, if the source reads as it did
-pub Collects-step : (source t u : Module) (m n : Maps) (p : ItemPlace) (row : Row) (w : World) (kept : Kept) → AreCopied w (world (value_of t)) kept (goes_under m) → IsSound (world (value_of t)) → AreCopied w (world (value_of u)) kept (goes_under n) → IsSound (world (value_of u)) → CopiesOne source t u m n p row → Collects w kept (copied_span source m) (value_of t) (p ∷ []) (value_of u)
-Collects-step source t u m n p row w kept a i b j c =
-    let reads_here = λ (k : ℕ). reads w (world (value_of u)) kept (goes_under n) b k p c.place c.puts.at in
-    ⊎_elim (λ e. subst (λ v. Collects w kept (copied_span source m) v (p ∷ []) (value_of u)) e (Known (c.place, (c.copy, c.fetches.at), reads_here) Done)) (λ l. Fresh (record { at = c.place; free = l.0; extends = c.extends; others = others_of (world (value_of t)) (world (value_of u)) c.copy c.place c.fetches; reads = reads_here; span = l.1; first = new_first w (world (value_of t)) (world (value_of u)) kept (goes_under m) (goes_under n) p c.place c.copy a i b j c.puts.at c.fetches l.0 }) Done) c.last
-
 -- ---- requests
-
-names_trail-append : (f : ItemPlace → List ItemPlace) (xs ys : List (Option ItemPlace)) → names_trail f (xs ++ ys) ≡ names_trail f xs ++ names_trail f ys
-names_trail-append f [] ys = refl
-names_trail-append f (None ∷ xs) ys = names_trail-append f xs ys
-names_trail-append f (Some p ∷ xs) ys = ap (λ t. f p ++ t) (names_trail-append f xs ys) ∙ sym (append_assoc (f p) (names_trail f xs) (names_trail f ys))
-
-more_names : (f : ItemPlace → List ItemPlace) (ns : List (Option ItemPlace)) (i : ℕ) (o : Option ItemPlace) → i < length ns → o ≡ get_or ns i o → names_trail f (take (i + 1) ns) ≡ names_trail f (take i ns) ++ names_trail f (o ∷ [])
-more_names f ns i o l e = ap (names_trail f) (take_more ns i o l) ∙ names_trail-append f (take i ns) (get_or ns i o ∷ []) ∙ ap (λ v. names_trail f (take i ns) ++ names_trail f (v ∷ [])) (sym e)
-
-pub none_more : (source t u : Module) (m : Maps) (ns : List (Option ItemPlace)) (i : ℕ) (o : Option ItemPlace) → i < length ns → o ≡ get_or ns i o → o ≡ None → CollectsNames source m t (take i ns) u → CollectsNames source m t (take (i + 1) ns) u
-none_more source t u m ns i o l e is c =
-    let f = trail_of source t m in
-    let q : names_trail f (take i ns) ≡ names_trail f (take (i + 1) ns) = sym (more_names f ns i o l e ∙ ap (λ v. names_trail f (take i ns) ++ names_trail f (v ∷ [])) is ∙ append-nil (names_trail f (take i ns))) in
-    subst (λ ps. IsCollected source m t ps u) q c
-
-pub span_same : (source : Module) (m n : Maps) → n.offset ≡ m.offset → copied_span source n ≡ copied_span source m
-unfolding copied_span
-span_same source m n e = ap (λ k. λ p. option_map (shifted k) (span_at (value_of source) p)) e
-
--- a request from a later state, told from an earlier one
-later_request : (source t u x : Module) (m n : Maps) (p : ItemPlace) → source_world source u n ≡ source_world source t m → u.special_types ≡ t.special_types → n.offset ≡ m.offset → CollectsItem source n u p x → Collects (source_world source t m) (kept_between source t) (copied_span source m) (value_of u) (trail_of source t m p) (value_of x)
-unfolding trail_of
-later_request source t u x m n p world_is special offset c =
-    let d = depth (value_of source) in
-    let a = subst (λ w. Collects w (kept_between source u) (copied_span source n) (value_of u) (reached d w (kept_between source u) p) (value_of x)) world_is c in
-    let b = subst (λ k. Collects (source_world source t m) k (copied_span source n) (value_of u) (reached d (source_world source t m) k p) (value_of x)) (kept_same source t u special) a in
-    subst (λ s. Collects (source_world source t m) (kept_between source t) s (value_of u) (reached d (source_world source t m) (kept_between source t) p) (value_of x)) (span_same source m n offset) b
-
-pub some_more : (source t u x : Module) (m n : Maps) (ns : List (Option ItemPlace)) (i : ℕ) (o : Option ItemPlace) (p : ItemPlace) → i < length ns → o ≡ get_or ns i o → o ≡ Some p → source_world source u n ≡ source_world source t m → u.special_types ≡ t.special_types → n.offset ≡ m.offset → CollectsNames source m t (take i ns) u → CollectsItem source n u p x → CollectsNames source m t (take (i + 1) ns) x
-some_more source t u x m n ns i o p l e is world_is special offset c d =
-    let f = trail_of source t m in
-    let step = later_request source t u x m n p world_is special offset d in
-    let q : names_trail f (take i ns) ++ f p ≡ names_trail f (take (i + 1) ns) = sym (more_names f ns i o l e ∙ ap (λ v. names_trail f (take i ns) ++ names_trail f (v ∷ [])) is ∙ ap (λ v. names_trail f (take i ns) ++ v) (append-nil (f p))) in
-    subst (λ ps. IsCollected source m t ps x) q (Collects-append (f p) c step)
-
-pub all_names : (source t u : Module) (m : Maps) (ns : List (Option ItemPlace)) (i : ℕ) → length ns ≤ i → CollectsNames source m t (take i ns) u → CollectsNames source m t ns u
-all_names source t u m ns i l c = subst (λ v. CollectsNames source m t v u) (take_all i ns l) c
 
 pub known_item : (source t : Module) (m : Maps) (p q : ItemPlace) → IsCopying source t m → goes_under m p ≡ Some q → CollectsItem source m t p t
 unfolding trail_of
 known_item source t m p q i g = Collects-copied (source_world source t m) (value_of t) (kept_between source t) (goes_under m) (copied_span source m) i.copied (depth (value_of source)) p q g
-
-lower_name : (m : Module) (p : ItemPlace) (o : Option ItemPlace) → IsBelowItem m p o → IfSome o (λ q. rank m q < rank m p)
-lower_name m p None h = tt
-lower_name m p (Some q) h = h.1
-
--- in a source as it reads, items name items of lower rank
-lowers : (source t : Module) (m : Maps) → AreRanked source → Lowers (source_world source t m) (rank source)
-unfolding source_world
-lowers source t m a p r e =
-    let s = named_names (world (value_of source)) (world (value_of t)) (goes_under m) p r e in
-    subst (λ ns. All (λ o. IfSome o (λ q. rank source q < rank source p)) ns) (sym s.2) (All-weaker (IsBelowItem source p) (λ o. IfSome o (λ q. rank source q < rank source p)) (lower_name source p) s.0.names (a.names p s.0 s.1))
 
 pub step_at : (w : World) (kept : Kept) (rank_of : ItemPlace → ℕ) → Lowers w rank_of → (d e : ℕ) → d ≡ suc e → (p : ItemPlace) (r : Row) → rank_of p < d → w p ≡ Some r → kept p ≡ None → names_trail (reached d w kept) r.names ++ p ∷ [] ≡ reached d w kept p
 unfolding reached
 step_at w kept rank_of l d e is p r bound at no_kept =
     let same = same_trails rank_of (rank_of p) (reached d w kept) (reached e w kept) (λ q h. reached-enough w kept rank_of l d e q (omega arith) (omega (arith, is))) r.names (l p r at) in
     ap (λ t. t ++ p ∷ []) (same ∙ sym (ap (row_trail (reached e w kept)) at)) ∙ sym (ap (λ o. kept_trail o (row_trail (reached e w kept) (w p) ++ p ∷ [])) no_kept) ∙ sym (ap (λ n. reached n w kept p) is)
-
-one_less : (m : Module) → depth (value_of m) ≡ suc (2 * length (value_of m).types + 2 * length (value_of m).global_expressions + 1)
-one_less m = omega arith
-
-trail-step : (source t : Module) (m : Maps) → AreRanked source → (p : ItemPlace) (r : Row) → source_world source t m p ≡ Some r → rank source p < depth (value_of source) → kept_between source t p ≡ None → names_trail (trail_of source t m) r.names ++ p ∷ [] ≡ trail_of source t m p
-unfolding trail_of
-trail-step source t m a p r at bound no_kept = step_at (source_world source t m) (kept_between source t) (rank source) (lowers source t m a) (depth (value_of source)) _ (one_less source) p r bound at no_kept
-
-abbrev pub names_at_row : List (Option ItemPlace) → Row → Type 0
-names_at_row ns r = ns ≡ r.names
-
--- what a request for an item adds, after what its names add and its copy, of the row that it reads as
-pub fresh_item : (source t u x : Module) (m n k : Maps) (p : ItemPlace) (row : Row) → AreRanked source → rank source p < depth (value_of source) → IsCopying source u n → IsCopying source x k → CopiesOne source u x n k p row → goes_under n p ≡ None → (w : World) → w ≡ source_world source x k → u.special_types ≡ t.special_types → n.offset ≡ m.offset → w p ≡ Some row → Lowers w (rank source) → AreCopied w (world (value_of u)) (kept_between source t) (goes_under n) → (ps : List ItemPlace) → ps ≡ names_trail (reached (depth (value_of source)) w (kept_between source t)) row.names → Collects w (kept_between source t) (copied_span source m) (value_of t) ps (value_of u) → Collects w (kept_between source t) (copied_span source m) (value_of t) (reached (depth (value_of source)) w (kept_between source t) p) (value_of x)
-fresh_item source t u x m n k p row a bound i j c fresh w after special offset at l iu ps is d =
-    let kept = kept_between source t in
-    let kx = kept_same source t x (c.special ∙ special) in
-    let ix : AreCopied w (world (value_of x)) kept (goes_under k) = subst (λ v. AreCopied v (world (value_of x)) kept (goes_under k)) (sym after) (subst (λ v. AreCopied (source_world source x k) (world (value_of x)) v (goes_under k)) kx j.copied) in
-    let step = subst (λ s. Collects w kept s (value_of u) (p ∷ []) (value_of x)) (span_same source m n offset) (Collects-step source u x n k p row w kept iu i.sound ix j.sound c) in
-    let nk : kept p ≡ None = free kept (goes_under n) iu.stand p (kept p) refl fresh in
-    let q : ps ++ p ∷ [] ≡ reached (depth (value_of source)) w kept p = ap (λ v. v ++ p ∷ []) is ∙ step_at w kept (rank source) l (depth (value_of source)) _ (one_less source) p row bound at nk in
-    subst (λ v. Collects w kept (copied_span source m) (value_of t) v (value_of x)) q (Collects-append (p ∷ []) d step)
-
-names_are : (o : Option Row) (r : Row) (ns : List (Option ItemPlace)) → AreNames o ns → o ≡ Some r → ns ≡ r.names
-names_are o r ns a e = subst (λ v. AreNames v ns) e a
-
--- a copy under its own name, after the copies of what it names
-pub item_collects : (s t u x : Module) (m n k : Maps) (p : ItemPlace) (r : Row) (ns : List (Option ItemPlace)) → AreRanked s → IsCopying s t m → IsCopying s u n → Grows m n t u → source_world s u n ≡ source_world s t m → goes_under m p ≡ None → goes_under n p ≡ None → world (value_of s) p ≡ Some r → AreNames (world (value_of s) p) ns → CollectsNames s m t ns u → CopiesOne s u x n k p r → CollectsItem s m t p x
-unfolding trail_of source_world
-item_collects s t u x m n k p r ns a i j g reads_same was fresh is named c one =
-    let w = source_world s t m in
-    let after = reads-step s u x n k p r j fresh one is ∙ reads_same in
-    let nj = IsCopying-step s u x n k p None r r j fresh one is refl in
-    let here : w p ≡ Some r = named_none (world (value_of s)) (world (value_of t)) (goes_under m) p was ∙ is in
-    let jj = subst (λ v. AreCopied v (world (value_of u)) (kept_between s t) (goes_under n)) reads_same (subst (λ v. AreCopied (source_world s u n) (world (value_of u)) v (goes_under n)) (kept_same s t u g.special) j.copied) in
-    fresh_item s t u x m n k p r a (a.within p (r, is)) j nj one fresh w (sym after) g.special g.offset here (lowers s t m a) jj _ (ap (names_trail (trail_of s t m)) (names_are _ r ns named is)) c
 
 -- ---- a source that reads otherwise, but not below a rank
 
@@ -288,32 +197,6 @@ Collects-agrees w x kept spans P e h Done = Done
 Collects-agrees w x kept spans P e {m} h (Known {p} s c) = Known (stands_agrees w x (world m) kept p (e p h.0 (world m)) s) (Collects-agrees w x kept spans P e h.1 c)
 Collects-agrees w x kept spans P e {m} h (Fresh {l} {p} s c) = Fresh (comes_agrees w x kept spans m l p (e p h.0) s) (Collects-agrees w x kept spans P e h.1 c)
 
-under_names : (o : Option Text) (r : Row) → (under_name o r).names ≡ r.names
-under_names None r = refl
-under_names (Some n) r = refl
-
--- a copy under a name, after the copies of what it names
-pub named_collects : (s t u x : Module) (m n k : Maps) (p : ItemPlace) (o : Option Text) (r row : Row) (ns : List (Option ItemPlace)) → AreRanked s → IsCopying s t m → IsCopying s u n → Grows m n t u → source_world s u n ≡ source_world s t m → goes_under m p ≡ None → goes_under n p ≡ None → world (value_of s) p ≡ Some r → row ≡ under_name o r → AreNames (world (value_of s) p) ns → CollectsNames s m t ns u → CopiesOne s u x n k p row → CollectsNamed s m t p (source_world s x k) x
-unfolding trail_of
-named_collects s t u x m n k p o r row ns a i j g reads_same was fresh is named names_named c one =
-    let d = depth (value_of s) in
-    let kept = kept_between s t in
-    let old = source_world s t m in
-    let new = source_world s x k in
-    let l = lowers s t m a in
-    let nj = IsCopying-step s u x n k p o r row j fresh one is named in
-    let elsewhere : (y : ItemPlace) → (y ≡ p → ⊥) → new y ≡ source_world s u n y = source_there s u x n k p row j one in
-    let agrees : (y : ItemPlace) → rank s y < rank s p → new y ≡ old y = λ y h. elsewhere y (λ e. let q = ap (rank s) e in absurd (omega (arith, h, q))) ∙ ap (λ w. w y) reads_same in
-    let lower : All (λ q. IfSome q (λ y. rank s y < rank s p)) r.names = All-weaker (IsBelowItem s p) (λ q. IfSome q (λ y. rank s y < rank s p)) (lower_name s p) r.names (a.names p r is) in
-    let ns_are : ns ≡ r.names = names_are _ r ns names_named is in
-    let lower_ns = subst (All (λ q. IfSome q (λ y. rank s y < rank s p))) (sym ns_are) lower in
-    let under = below_names (rank s) (rank s p) (rank s p) (reached d old kept) (omega arith) (reached_below old kept (rank s) l (rank s p) d) ns lower_ns in
-    let before = Collects-agrees old new kept (copied_span s m) (λ y. rank s y < rank s p) (λ y h v e. reading_agrees old new v kept (rank s) l (rank s p) agrees e y h) under c in
-    let row_names : row.names ≡ r.names = ap (λ (v : Row). v.names) named ∙ under_names o r in
-    let trails : names_trail (reached d old kept) ns ≡ names_trail (reached d new kept) row.names = same_trails (rank s) (rank s p) (reached d old kept) (reached d new kept) (λ y h. sym (reached_agrees old new kept (rank s) l (rank s p) agrees d y h)) ns lower_ns ∙ ap (names_trail (reached d new kept)) (ns_are ∙ sym row_names) in
-    let copied_before = AreCopied-named (source_world s u n) new (world (value_of u)) (kept_between s u) (goes_under n) j.copied (λ y z h. elsewhere y (λ e. absurd (none_some z (sym fresh ∙ ap (goes_under n) (sym e) ∙ h)))) in
-    fresh_item s t u x m n k p row a (a.within p (r, is)) j nj one fresh new refl g.special g.offset (source_here s u x n k p o r row one is named) (lowers s x k a) (subst (λ v. AreCopied new (world (value_of u)) v (goes_under n)) (kept_same s t u g.special) copied_before) _ trails before
-
 -- ---- a name that is given
 
 pub renamed_here : (w : World) (k : ℕ) (n : Option Text) → renamed_at w k n (TypeItem k) ≡ option_map (under_name n) (w (TypeItem k))
@@ -331,12 +214,3 @@ renamed_there w k n (ConstantItem j) d = refl
 renamed_there w k n (OverrideItem j) d = refl
 renamed_there w k n (GlobalItem j) d = refl
 renamed_there w k n (ExpressionItem j) d = refl
-
--- how a source reads after a copy of a type under a name
-pub named_reads : (s t u x : Module) (m n k : Maps) (h : ℕ) (o : Option Text) (r row : Row) → IsCopying s u n → source_world s u n ≡ source_world s t m → goes_under m (TypeItem h) ≡ None → world (value_of s) (TypeItem h) ≡ Some r → row ≡ under_name o r → CopiesOne s u x n k (TypeItem h) row → source_world s x k ≡ renamed_at (source_world s t m) h o
-unfolding source_world
-named_reads s t u x m n k h o r row j reads_same was is named one =
-    let p = TypeItem h in
-    let here : source_world s x k p ≡ renamed_at (source_world s t m) h o p = source_here s u x n k p o r row one is named ∙ ap Some named ∙ sym (ap (option_map (under_name o)) (named_none (world (value_of s)) (world (value_of t)) (goes_under m) p was ∙ is)) ∙ sym (renamed_here (source_world s t m) h o) in
-    let same : (y : ItemPlace) → source_world s x k y ≡ renamed_at (source_world s t m) h o y = λ y. ⊎_elim (λ e. subst (λ z. source_world s x k z ≡ renamed_at (source_world s t m) h o z) (sym e) here) (λ d. source_there s u x n k p row j one y d ∙ ap (λ w. w y) reads_same ∙ sym (renamed_there (source_world s t m) h o y d)) (same_or_not y p) in
-    λ i y. same y i

@@ -29,7 +29,7 @@ there : (m : ModuleValue) (kept : Kept) (s u : CopyState) (p : ItemPlace) (row :
 there m kept s u p row span i c x d = world_there (world m) (world s.target) (world u.target) (goes s.places) (goes u.places) x (i.copied.there x) c.fetches.stays (c.puts.others x d)
 
 -- a copy under its own name leaves the source as it reads
-reads_step : (m : ModuleValue) (kept : Kept) (s u : CopyState) (p : ItemPlace) (r : Row) (span : Option Span) → IsMidway m kept s → goes s.places p ≡ None → PutsOne m s u p r span → world m p ≡ Some r → reads_now m u ≡ reads_now m s
+pub reads_step : (m : ModuleValue) (kept : Kept) (s u : CopyState) (p : ItemPlace) (r : Row) (span : Option Span) → IsMidway m kept s → goes s.places p ≡ None → PutsOne m s u p r span → world m p ≡ Some r → reads_now m u ≡ reads_now m s
 reads_step m kept s u p r span i fresh c is =
     let same : (x : ItemPlace) → reads_now m u x ≡ reads_now m s x = λ x. ⊎_elim (λ e. subst (λ y. reads_now m u y ≡ reads_now m s y) (sym e) (here m s u p None r r span c is refl ∙ sym is ∙ sym (named_none (world m) (world s.target) (goes s.places) p fresh))) (λ d. there m kept s u p r span i c x d) (same_or_not x p) in
     λ i x. same x i
@@ -114,11 +114,11 @@ lower_name : (m : ModuleValue) (rank : ItemPlace → ℕ) (p : ItemPlace) (o : O
 lower_name m rank p None h = tt
 lower_name m rank p (Some q) h = h.1
 
-lower_names : (m : ModuleValue) (rank : ItemPlace → ℕ) (p : ItemPlace) (ps : List (Option ItemPlace)) → All (IsBelowIn m rank p) ps → All (λ o. IfSome o (λ q. rank q < rank p)) ps
+pub lower_names : (m : ModuleValue) (rank : ItemPlace → ℕ) (p : ItemPlace) (ps : List (Option ItemPlace)) → All (IsBelowIn m rank p) ps → All (λ o. IfSome o (λ q. rank q < rank p)) ps
 lower_names m rank p ps a = All-weaker (IsBelowIn m rank p) (λ o. IfSome o (λ q. rank q < rank p)) (lower_name m rank p) ps a
 
 -- in a source as it reads, items name items of lower rank
-lowers : (m : ModuleValue) (rank : ItemPlace → ℕ) (s : CopyState) → IsRankedBy m rank → Lowers (reads_now m s) rank
+pub lowers : (m : ModuleValue) (rank : ItemPlace → ℕ) (s : CopyState) → IsRankedBy m rank → Lowers (reads_now m s) rank
 lowers m rank s a p r e =
     let n = named_names (world m) (world s.target) (goes s.places) p r e in
     subst (λ ns. All (λ o. IfSome o (λ q. rank q < rank p)) ns) (sym n.2) (lower_names m rank p n.0.names (a.names p n.0 n.1))
@@ -153,10 +153,10 @@ names_grow m shift kept w f P h (Some p ∷ ps) a s i e =
 -- ---- an item with what it names
 
 -- a place that went nowhere, and isn't among what was asked for, goes nowhere
-still_nowhere : (m : ModuleValue) (shift : ℕ) (kept : Kept) (w : World) (s t : CopyState) (xs : List ItemPlace) (p : ItemPlace) → GrowsBy m shift kept w s t xs → (Contains xs p → ⊥) → goes s.places p ≡ None → goes t.places p ≡ None
+pub still_nowhere : (m : ModuleValue) (shift : ℕ) (kept : Kept) (w : World) (s t : CopyState) (xs : List ItemPlace) (p : ItemPlace) → GrowsBy m shift kept w s t xs → (Contains xs p → ⊥) → goes s.places p ≡ None → goes t.places p ≡ None
 still_nowhere m shift kept w s t xs p g n e = ⊎_elim (λ h. h ∙ e) (λ h. absurd (n h.0)) (g.places p)
 
-not_among : (m : ModuleValue) (kept : Kept) (w : World) (rank : ItemPlace → ℕ) (p : ItemPlace) (ps : List (Option ItemPlace)) → Lowers w rank → All (λ o. IfSome o (λ q. rank q < rank p)) ps → Contains (names_trail (trail_in m kept w) ps) p → ⊥
+pub not_among : (m : ModuleValue) (kept : Kept) (w : World) (rank : ItemPlace → ℕ) (p : ItemPlace) (ps : List (Option ItemPlace)) → Lowers w rank → All (λ o. IfSome o (λ q. rank q < rank p)) ps → Contains (names_trail (trail_in m kept w) ps) p → ⊥
 not_among m kept w rank p ps l a h =
     let below = below_names rank (rank p) (rank p) (trail_in m kept w) (omega arith) (reached_below w kept rank l (rank p) (depth m)) ps a in
     let self = of_each (λ y. rank y < rank p) p (names_trail (trail_in m kept w) ps) below h in

@@ -1,20 +1,18 @@
-use Rattle.std.proofs.Common.{◌≡◌, ⊎_elim, ℕ, zero, suc, ◌<◌, ◌≤◌, ◌+◌, List, [], ◌∷◌, map, Option, Some, None, option_map, slice_get, unwrap_or, refl, ap, sym, ◌∙◌, subst, All, Bool, true, false, is_some, get_or, take, take_all, length, replicate}
+use Rattle.std.proofs.Common.{◌≡◌, ℕ, zero, suc, ◌<◌, List, Option, Some, None, option_map, slice_get, unwrap_or, refl, ap, sym, ◌∙◌, subst, All, Bool, false, is_some, get_or, length, replicate}
 use Rattle.std.proofs.lemmas.Bool.{false≢true}
-use Rattle.std.specs.List.{AllZip}
 use Rattle.std.specs.Option.{option_flatten}
-use Rattle.std.proofs.lemmas.List.Elements.{All-head, All-tail, All-weaker, All-more}
 use Rattle.naga_oil_ir.specs.Rows.{Row, Text}
 use Rattle.naga_oil_ir.specs.ModuleValue.{special_value}
 use Rattle.naga_oil_ir.specs.declared.module.Module.{Module}
 use Rattle.naga_oil_ir.specs.declared.names.ItemPlace.{ItemPlace}
 use Rattle.naga_oil_ir.specs.declared.names.ItemPlace.TheVariants.{TypeItem, ConstantItem, OverrideItem, GlobalItem, ExpressionItem}
 use Rattle.naga_oil_derive.specs.declared.maps.Maps.{Maps}
-use Rattle.naga_oil_derive.specs.Renames.{rename_place, rename_row}
+use Rattle.naga_oil_derive.specs.Renames.{rename_place}
 use Rattle.naga_oil_derive.specs.Tree.{World}
 use Rattle.naga_oil_derive.specs.World.{value_of, world, goes, named_world, under_name, name_at, kept_of}
-use Rattle.naga_oil_derive.specs.Copying.{Goes, NameGoesTo, IsCopyOf, AreCopied, goes_under, renames_under, source_world, kept_between, WentSomewhere, IsCopying, Grows, CopiesOne, HasCopy}
-use Rattle.naga_oil_derive.proofs.TreeLemmas.{reads, same_or_not, puts_keeps, IsSound-copy, AreCopied-step, AreCopied-named}
-use Rattle.naga_oil_derive.proofs.WorldLemmas.{named_none, named_some, named_same, Extends-refl, Extends-trans}
+use Rattle.naga_oil_derive.specs.Copying.{Goes, goes_under, renames_under, source_world, kept_between, WentSomewhere, IsCopying, Grows, HasCopy}
+use Rattle.naga_oil_derive.proofs.TreeLemmas.{reads}
+use Rattle.naga_oil_derive.proofs.WorldLemmas.{named_some, named_same, Extends-refl, Extends-trans}
 
 -- ---- maps
 
@@ -52,18 +50,6 @@ goes_renamed m (OverrideItem k) q e = under OverrideItem (option_flatten (slice_
 goes_renamed m (GlobalItem k) q e = under GlobalItem (option_flatten (slice_get m.global_variables.items k)) k q e
 goes_renamed m (ExpressionItem k) q e = under ExpressionItem (option_flatten (slice_get m.global_expressions.items k)) k q e
 
-name_goes : (m : Maps) (o : Option ItemPlace) → WentSomewhere (goes_under m) o → NameGoesTo (goes_under m) o (option_map (rename_place (renames_under m)) o)
-name_goes m None w = tt
-name_goes m (Some p) w = goes_renamed m p w.0 w.1
-
-names_go : (m : Maps) (ps : List (Option ItemPlace)) → All (WentSomewhere (goes_under m)) ps → AllZip (NameGoesTo (goes_under m)) ps (map (option_map (rename_place (renames_under m))) ps)
-names_go m [] a = tt
-names_go m (p ∷ ps) a = (name_goes m p (All-head (WentSomewhere (goes_under m)) p ps a), names_go m ps (All-tail (WentSomewhere (goes_under m)) p ps a))
-
--- a row that is renamed is a copy, if what it names went somewhere
-pub IsCopyOf-rename : (m : Maps) (r : Row) → All (WentSomewhere (goes_under m)) r.names → IsCopyOf (goes_under m) r (rename_row (renames_under m) r)
-IsCopyOf-rename m r a = record { label = refl; names = names_go m r.names a }
-
 -- ---- what an option holds
 
 is_none : (o : Option ItemPlace) → is_some o ≡ false → o ≡ None
@@ -73,10 +59,6 @@ is_none (Some p) e = absurd (false≢true (sym e))
 pub none_of : (o : Option ItemPlace) (b : Bool) → b ≡ is_some o → b ≡ false → o ≡ None
 none_of o b e f = is_none o (sym e ∙ f)
 
-pub some_of : (o : Option ItemPlace) (b : Bool) → b ≡ is_some o → b ≡ true → (q : ItemPlace) × (o ≡ Some q)
-some_of None b e f = absurd (false≢true (sym e ∙ f))
-some_of (Some q) b e f = (q, refl)
-
 pub not_some : (o : Option ItemPlace) → ((p : ItemPlace) → o ≡ Some p → ⊥) → o ≡ None
 not_some None h = refl
 not_some (Some p) h = absurd (h p refl)
@@ -85,9 +67,6 @@ pub same_rows : (r s : Row) (o : Option Row) → o ≡ Some r → o ≡ Some s �
 same_rows r s o e f = let g : Some r ≡ Some s = sym e ∙ f in cc
 
 -- ---- the source, as it reads after one copy
-
-under_own : (r : Row) → under_name (Some r.label.name) r ≡ r
-under_own r = refl
 
 -- the name of a copy is that of its row
 pub copied_row : (o : Option Text) (r row copy : Row) → row ≡ under_name o r → copy.label ≡ row.label → under_name (Some copy.label.name) r ≡ row
@@ -115,39 +94,9 @@ free kept m s p (Some q) e f = let h = s p q e in cc
 pub none_some : (q : ItemPlace) → None ≡ Some q → ⊥
 none_some q e = cc
 
--- one copy, of an item under a name: where the item goes, its row is read
-pub source_here : (source t u : Module) (m n : Maps) (p : ItemPlace) (o : Option Text) (r row : Row) → CopiesOne source t u m n p row → world (value_of source) p ≡ Some r → row ≡ under_name o r → source_world source u n p ≡ Some row
-unfolding source_world
-source_here source t u m n p o r row c is e = world_here (world (value_of source)) (world (value_of u)) (goes_under n) p c.place o r row c.copy c.puts.at c.fetches.at is e c.copies.label
-
--- and elsewhere nothing changes
-pub source_there : (source t u : Module) (m n : Maps) (p : ItemPlace) (row : Row) → IsCopying source t m → CopiesOne source t u m n p row → (x : ItemPlace) → (x ≡ p → ⊥) → source_world source u n x ≡ source_world source t m x
-unfolding source_world
-source_there source t u m n p row i c x d = world_there (world (value_of source)) (world (value_of t)) (world (value_of u)) (goes_under m) (goes_under n) x (i.copied.there x) c.fetches.stays (c.puts.others x d)
-
-pub kept_same : (source t u : Module) → u.special_types ≡ t.special_types → kept_between source u ≡ kept_between source t
+pub kept_same : (source t u : Module) → special_value u.special_types ≡ special_value t.special_types → kept_between source u ≡ kept_between source t
 unfolding kept_between
-kept_same source t u e = ap (λ s. kept_of (special_value source.special_types) (special_value s)) e
-
-pub IsCopying-step : (source t u : Module) (m n : Maps) (p : ItemPlace) (o : Option Text) (r row : Row) → IsCopying source t m → goes_under m p ≡ None → CopiesOne source t u m n p row → world (value_of source) p ≡ Some r → row ≡ under_name o r → IsCopying source u n
-IsCopying-step source t u m n p o r row i fresh c is e =
-    let kept = kept_between source t in
-    let nk : kept p ≡ None = free kept (goes_under m) i.copied.stand p (kept p) refl fresh in
-    let w = source_world source u n in
-    let here = source_here source t u m n p o r row c is e in
-    let named = AreCopied-named (source_world source t m) w (world (value_of t)) kept (goes_under m) i.copied (λ x y g. source_there source t u m n p row i c x (λ h. none_some y (sym fresh ∙ ap (goes_under m) (sym h) ∙ g))) in
-    record {
-      long = c.long;
-      sound = IsSound-copy w (world (value_of t)) (world (value_of u)) kept (goes_under m) row c.copy c.place named i.sound c.copies c.fetches;
-      copied = subst (λ k. AreCopied w (world (value_of u)) k (goes_under n)) (sym (kept_same source t u c.special)) (AreCopied-step w (world (value_of t)) (world (value_of u)) kept (goes_under m) (goes_under n) p c.place row c.copy named c.puts fresh nk here c.copies c.fetches);
-    }
-
--- a copy under its own name leaves the source as it reads
-pub reads-step : (source t u : Module) (m n : Maps) (p : ItemPlace) (r : Row) → IsCopying source t m → goes_under m p ≡ None → CopiesOne source t u m n p r → world (value_of source) p ≡ Some r → source_world source u n ≡ source_world source t m
-unfolding source_world
-reads-step source t u m n p r i fresh c is =
-    let same : (x : ItemPlace) → source_world source u n x ≡ source_world source t m x = λ x. ⊎_elim (λ e. subst (λ y. source_world source u n y ≡ source_world source t m y) (sym e) (source_here source t u m n p None r r c is refl ∙ sym is ∙ sym (named_none (world (value_of source)) (world (value_of t)) (goes_under m) p fresh))) (λ d. source_there source t u m n p r i c x d) (same_or_not x p) in
-    λ i x. same x i
+kept_same source t u e = ap (kept_of (special_value source.special_types)) e
 
 pub Grows-refl : (m : Maps) (t : Module) → Grows m m t t
 Grows-refl m t = record { went = λ p q g. g; offset = refl; extends = Extends-refl (value_of t); special = refl }
@@ -155,26 +104,10 @@ Grows-refl m t = record { went = λ p q g. g; offset = refl; extends = Extends-r
 pub Grows-trans : {m n o : Maps} {t u v : Module} → Grows m n t u → Grows n o u v → Grows m o t v
 Grows-trans {t} {u} {v} a b = record { went = λ p q g. b.went p q (a.went p q g); offset = b.offset ∙ a.offset; extends = Extends-trans (value_of t) (value_of u) (value_of v) a.extends b.extends; special = b.special ∙ a.special }
 
-pub Grows-step : (source t u : Module) (m n : Maps) (p : ItemPlace) (row : Row) → goes_under m p ≡ None → CopiesOne source t u m n p row → Grows m n t u
-Grows-step source t u m n p row fresh c = record { went = puts_keeps (goes_under m) (goes_under n) p c.place fresh c.puts; offset = c.offset; extends = c.extends; special = c.special }
-
 -- ---- names
 
 pub all_at : (P : Option ItemPlace → Type 0) (xs : List (Option ItemPlace)) (i : ℕ) (x : Option ItemPlace) → i < length xs → x ≡ get_or xs i x → All P xs → P x
 all_at P xs i x l e a = subst P (sym e) (a i x l)
-
-went_name : (m n : Goes) → ((p q : ItemPlace) → m p ≡ Some q → n p ≡ Some q) → (o : Option ItemPlace) → WentSomewhere m o → WentSomewhere n o
-went_name m n g None w = w
-went_name m n g (Some p) w = (w.0, g p w.0 w.1)
-
-pub went_later : (m n : Goes) → ((p q : ItemPlace) → m p ≡ Some q → n p ≡ Some q) → (os : List (Option ItemPlace)) → All (WentSomewhere m) os → All (WentSomewhere n) os
-went_later m n g os a = All-weaker (WentSomewhere m) (WentSomewhere n) (went_name m n g) os a
-
-pub went_more : (m : Goes) (os : List (Option ItemPlace)) (i : ℕ) (o : Option ItemPlace) → i < length os → o ≡ get_or os i o → WentSomewhere m o → All (WentSomewhere m) (take i os) → All (WentSomewhere m) (take (i + 1) os)
-went_more m os i o l e w a = All-more (WentSomewhere m) os i o l a (subst (WentSomewhere m) e w)
-
-pub went_all : (m : Goes) (os : List (Option ItemPlace)) (i : ℕ) → length os ≤ i → All (WentSomewhere m) (take i os) → All (WentSomewhere m) os
-went_all m os i l a = subst (All (WentSomewhere m)) (take_all i os l) a
 
 -- what was copied has a copy that reads as it
 pub HasCopy-went : (source target : Module) (m : Maps) (p : ItemPlace) → IsCopying source target m → WentSomewhere (goes_under m) (Some p) → HasCopy source target m p

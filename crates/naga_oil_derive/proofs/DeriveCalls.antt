@@ -1,11 +1,9 @@
 -- What the calls of a derived module show their callers.
-use Rattle.std.proofs.Common.{◌≡◌, ◌<◌, ℕ, List, [], length, map, Option, Some, None, option_map, unwrap_or, refl, ap, sym, ◌∙◌, subst, All, IfSome, is_some, true, Global, Vec, String, string_bytes, Result, Ok, Err, OnOk, take}
+use Rattle.std.proofs.Common.{◌≡◌, ◌<◌, ℕ, List, [], length, map, Option, Some, None, option_map, refl, ap, sym, ◌∙◌, subst, All, IfSome, Global, String, string_bytes, take}
 use Rattle.std.specs.Borrow.{Bor}
-use Rattle.std.proofs.lemmas.Bool.{false≢true}
 use Rattle.std.proofs.lemmas.List.{take-map}
 use Rattle.std.proofs.lemmas.List.Elements.{All-take, All-weaker}
 use Rattle.naga_oil_ir.specs.ItemForm.{IsThere as IsPlaceThere, special_types}
-use Rattle.naga_oil_ir.specs.Rows.{Row, Text}
 use Rattle.naga_oil_ir.specs.ModuleValue.{ModuleValue, SpecialValue, special_value, no_items}
 use Rattle.naga_oil_ir.specs.declared.module.Module.{Module}
 use Rattle.naga_oil_ir.specs.declared.module.SpecialTypes.{SpecialTypes}
@@ -14,16 +12,16 @@ use Rattle.naga_oil_ir.specs.declared.names.ItemPlace.TheVariants.{TypeItem}
 use Rattle.naga_oil_derive.specs.declared.maps.Maps.{Maps}
 use Rattle.naga_oil_derive.specs.declared.special.SpecialKey.{SpecialKey}
 use Rattle.naga_oil_derive.specs.Renames.{rename_place}
-use Rattle.naga_oil_derive.specs.World.{goes, value_of, world, Extends, renamed_at, special_at, special_entries, HaveDistinctKeys, with_specials}
-use Rattle.naga_oil_derive.specs.Copying.{IsSound, IsThere, AreRanked, AreLong, IsCopying, Grows, WentSomewhere, CollectsItem, CollectsNames, CollectsNamed, places_of, goes_under, handle_under, renames_under, source_world, kept_over, special_names}
+use Rattle.naga_oil_derive.specs.World.{goes, value_of, world, Extends, special_at, special_entries, with_specials}
+use Rattle.naga_oil_derive.specs.Copying.{IsSound, IsThere, AreRanked, AreLong, IsCopying, Grows, WentSomewhere, places_of, goes_under, handle_under, renames_under, source_world, kept_over, special_names}
 use Rattle.naga_oil_derive.specs.Copyable.{CopyableItems}
-use Rattle.naga_oil_derive.specs.Derived.{Source, Derived, nothing, cleared, as_read, HasItem, Imports, IsImported, IsKnown, IsRenamed, KeepsSource, Keeps, ReadsAsBefore, with_special_types, KeepsItems, Sets}
+use Rattle.naga_oil_derive.specs.Derived.{Source, Derived, nothing, cleared, as_read, HasItem, Imports, IsImported, KeepsSource, Keeps, ReadsAsBefore, with_special_types, KeepsItems}
 use Rattle.naga_oil_derive.specs.DerivedView.{source_of, derived_of, IsSpecialThere, IsDerived}
 use Rattle.naga_oil_derive.proofs.WorldLemmas.{Extends-stays}
 use Rattle.naga_oil_derive.proofs.CopyLemmas.{goes_renamed}
 use Rattle.naga_oil_derive.proofs.SpecialLemmas.{Entry}
-use Rattle.naga_oil_derive.proofs.RankLemmas.{place_there, ranked}
-use Rattle.naga_oil_derive.proofs.DeriveLemmas.{source_at, derived_at, import_one, rename_one, later_source, aside, special_stays, world_same, set_special_there, IsCopying-set, entries_there, special_of, IsCopying-start, set_one}
+use Rattle.naga_oil_derive.proofs.RankLemmas.{place_there}
+use Rattle.naga_oil_derive.proofs.DeriveLemmas.{source_at, later_source, aside, special_stays, world_same, set_special_there, entries_there, special_of}
 
 abbrev pub Shader : Type 0
 Shader = Option (Bor Module)
@@ -44,13 +42,8 @@ entries_seen o m t ns d v = ap special_entries (special_of t) ∙ ap (λ (x : De
 pub source_in : (o : Shader) (s : Bor Module) (m : Maps) (t : Module) → o ≡ Some s → IsDerived o m t → IsCopying s.now t m × AreRanked s.now
 source_in o s m t e d = subst (λ (x : Shader). IfSome x (λ b. IsCopying b.now t m × AreRanked b.now)) e d.source
 
-pub there_in : (o : Shader) (s : Bor Module) (m : Maps) (t : Module) (ns : FunctionNames) (d : Derived) (p : ItemPlace) → o ≡ Some s → derived_of o m t ns ≡ d → HasItem d p → IsThere s.now p
-there_in o s m t ns d p e v h =
-    let w = subst (λ (x : Derived). HasItem x p) (sym v) h in
-    subst (λ (x : Shader). IfSome (option_map (source_of m) x) (λ b. (r : Row) × (world b.value p ≡ Some r))) e w.1
-
-pub special_later : (t u : Module) → Extends (value_of t) (value_of u) → u.special_types ≡ t.special_types → IsSpecialThere t → IsSpecialThere u
-special_later t u x e h = λ k q w. let r = h k q (ap (λ (s : SpecialTypes). special_at (special_value s) k) (sym e) ∙ w) in (r.0, Extends-stays (value_of t) (value_of u) x (TypeItem q) r.0 r.1)
+pub special_later : (t u : Module) → Extends (value_of t) (value_of u) → special_value u.special_types ≡ special_value t.special_types → IsSpecialThere t → IsSpecialThere u
+special_later t u x e h = λ k q w. let r = h k q (ap (λ (s : SpecialValue). special_at s k) (sym e) ∙ w) in (r.0, Extends-stays (value_of t) (value_of u) x (TypeItem q) r.0 r.1)
 
 pub derived_later : (o : Shader) (s : Bor Module) (t u : Module) (m n : Maps) → o ≡ Some s → IsDerived o m t → IsCopying s.now u n → Grows m n t u → IsDerived o n u
 derived_later o s t u m n e d i g = record {
@@ -60,15 +53,6 @@ derived_later o s t u m n e d i g = record {
 }
 
 -- ---- items that are copied
-
-pub imports_one : (o : Shader) (s : Bor Module) (t u : Module) (m n : Maps) (ns : FunctionNames) (d : Derived) (p : ItemPlace) → o ≡ Some s → derived_of o m t ns ≡ d → IsCopying s.now u n → Grows m n t u → source_world s.now u n ≡ source_world s.now t m → WentSomewhere (goes_under n) (Some p) → CollectsItem s.now m t p u → (q : ItemPlace) × IsImported d (derived_of o n u ns) p q
-imports_one o s t u m n ns d p e v i g r w c =
-    let names = map (λ (x : String Global × ℕ). (string_bytes x.0, x.1)) ns in
-    subst (λ (x : Derived). (q : ItemPlace) × IsImported x (derived_of o n u ns) p q) v (subst (λ (x : Shader). (q : ItemPlace) × IsImported (derived_of x m t ns) (derived_of x n u ns) p q) (sym e) (import_one s.now t u m n names p i g r w c))
-
-pub imports_ok : {T E : Type 0} (a : Result T E) (o : Shader) (s : Bor Module) (t u : Module) (m n : Maps) (ns : FunctionNames) (d : Derived) (p : ItemPlace) → o ≡ Some s → derived_of o m t ns ≡ d → IsCopying s.now u n → Grows m n t u → source_world s.now u n ≡ source_world s.now t m → OnOk a (WentSomewhere (goes_under n) (Some p)) → OnOk a (CollectsItem s.now m t p u) → OnOk a ((q : ItemPlace) × IsImported d (derived_of o n u ns) p q)
-imports_ok (Ok x) o s t u m n ns d p e v i g r w c = imports_one o s t u m n ns d p e v i g r w c
-imports_ok (Err x) o s t u m n ns d p e v i g r w c = tt
 
 pub reads_same : (s t u : Module) (m n : Maps) → source_world s u n ≡ source_world s t m → as_read (source_at s n) (value_of u) ≡ as_read (source_at s m) (value_of t)
 unfolding source_world goes_under
@@ -84,12 +68,6 @@ keeps_source (Some s) t u m n g = later_source s.now t u m n g
 
 pub keeps_one : (o : Shader) (t u : Module) (m n : Maps) (ns : FunctionNames) (d : Derived) → derived_of o m t ns ≡ d → Grows m n t u → Keeps d (derived_of o n u ns)
 keeps_one o t u m n ns d v g = subst (λ (x : Derived). Keeps x (derived_of o n u ns)) v (record { items = g.extends; names = refl; source = keeps_source o t u m n g })
-
--- with no source there is no item
-pub no_source : (o : Shader) (m : Maps) (t : Module) (ns : FunctionNames) (d : Derived) (p : ItemPlace) → o ≡ None → derived_of o m t ns ≡ d → HasItem d p → ⊥
-no_source o m t ns d p e v h =
-    let w = subst (λ (x : Derived). HasItem x p) (sym v) h in
-    false≢true (subst (λ (x : Shader). is_some (option_map (source_of m) x) ≡ true) e w.0)
 
 -- what is there can be asked for
 pub has_item : (o : Shader) (s : Bor Module) (m : Maps) (t : Module) (ns : FunctionNames) (d : Derived) (p : ItemPlace) → o ≡ Some s → derived_of o m t ns ≡ d → IsPlaceThere s.now p → HasItem d p
@@ -117,23 +95,6 @@ imported_at d e o m t ns p v k w = imported_in d.source d e o m t ns p v k.sourc
 
 -- ---- types under a name
 
-known_in : (s t u : Module) (m n : Maps) (k : ℕ) → ((q : ItemPlace) → goes_under m (TypeItem k) ≡ Some q → (u ≡ t) × (n ≡ m)) → (q : ItemPlace) → goes (places_of m) (TypeItem k) ≡ Some q → (q ≡ TypeItem (handle_under n.types.items k)) × (u ≡ t) × (n ≡ m)
-unfolding goes_under
-known_in s t u m n k f q e = let w = f q e in (gone m (TypeItem k) q e ∙ ap (λ (x : Maps). TypeItem (handle_under x.types.items k)) (sym w.1), w.0, w.1)
-
-pub knows_one : (o : Shader) (s : Bor Module) (t u : Module) (m n : Maps) (ns : FunctionNames) (d : Derived) (k : ℕ) → o ≡ Some s → derived_of o m t ns ≡ d → ((q : ItemPlace) → goes_under m (TypeItem k) ≡ Some q → (u ≡ t) × (n ≡ m)) → IsKnown d (derived_of o n u ns) k (handle_under n.types.items k)
-knows_one o s t u m n ns d k e v f =
-    subst (λ (x : Derived). IsKnown x (derived_of o n u ns) k (handle_under n.types.items k)) v (subst (λ (x : Shader). IsKnown (derived_of x m t ns) (derived_of x n u ns) k (handle_under n.types.items k)) (sym e) (λ q g. let w = known_in s.now t u m n k f q g in (w.0, λ i. derived_of (Some s) (w.2 i) (w.1 i) ns)))
-
-renames_core : (s t u : Module) (m n : Maps) (ns : List (List ℕ × ℕ)) (k : ℕ) (name : Option Text) → IsCopying s u n → Grows m n t u → WentSomewhere (goes_under n) (Some (TypeItem k)) → (goes_under m (TypeItem k) ≡ None → source_world s u n ≡ renamed_at (source_world s t m) k name) → (goes_under m (TypeItem k) ≡ None → CollectsNamed s m t (TypeItem k) (source_world s u n) u) → goes (places_of m) (TypeItem k) ≡ None → Imports (source_at s m) (renamed_at (as_read (source_at s m) (value_of t)) k name) (derived_at s m t ns) (derived_at s n u ns) (TypeItem k) (TypeItem (handle_under n.types.items k)) × (as_read (source_at s n) (value_of u) ≡ renamed_at (as_read (source_at s m) (value_of t)) k name)
-unfolding source_world goes_under
-renames_core s t u m n ns k name i g w r c was = (rename_one s t u m n ns k name i g (r was) w (c was), r was)
-
-pub renames_one : (o : Shader) (s : Bor Module) (t u : Module) (m n : Maps) (ns : FunctionNames) (d : Derived) (k : ℕ) (name : Option Text) → o ≡ Some s → derived_of o m t ns ≡ d → IsCopying s.now u n → Grows m n t u → WentSomewhere (goes_under n) (Some (TypeItem k)) → (goes_under m (TypeItem k) ≡ None → source_world s.now u n ≡ renamed_at (source_world s.now t m) k name) → (goes_under m (TypeItem k) ≡ None → CollectsNamed s.now m t (TypeItem k) (source_world s.now u n) u) → IsRenamed d (derived_of o n u ns) k name (handle_under n.types.items k)
-renames_one o s t u m n ns d k name e v i g w r c =
-    let names = map (λ (x : String Global × ℕ). (string_bytes x.0, x.1)) ns in
-    subst (λ (x : Derived). IsRenamed x (derived_of o n u ns) k name (handle_under n.types.items k)) v (subst (λ (x : Shader). IsRenamed (derived_of x m t ns) (derived_of x n u ns) k name (handle_under n.types.items k)) (sym e) (renames_core s.now t u m n names k name i g w r c))
-
 -- ---- a source that is set
 
 pub left_source : (o : Shader) (m : Maps) → option_map (source_of m) o ≡ None → o ≡ None
@@ -148,13 +109,13 @@ derived_none o m t e s h = record {
   source = subst (λ (x : Shader). IfSome x (λ b. IsCopying b.now t m × AreRanked b.now)) (sym e) tt;
 }
 
-keeps_special : (t u : Module) (x : SpecialTypes) (f : ℕ → ℕ) (xs : List Entry) (v : ModuleValue) → value_of t ≡ v → u.special_types ≡ t.special_types → special_value x ≡ with_specials (special_value u.special_types) f xs → (k : SpecialKey) (q : ℕ) → special_at v.special_types k ≡ Some q → special_at (value_of (record u { special_types = x })).special_types k ≡ Some q
+keeps_special : (t u : Module) (x : SpecialTypes) (f : ℕ → ℕ) (xs : List Entry) (v : ModuleValue) → value_of t ≡ v → special_value u.special_types ≡ special_value t.special_types → special_value x ≡ with_specials (special_value u.special_types) f xs → (k : SpecialKey) (q : ℕ) → special_at v.special_types k ≡ Some q → special_at (value_of (record u { special_types = x })).special_types k ≡ Some q
 unfolding value_of
 keeps_special t u x f xs v tv same is k q h =
-    special_stays v.special_types u.special_types x f xs (ap special_value same ∙ ap (λ (y : ModuleValue). y.special_types) tv) is k q h
+    special_stays v.special_types u.special_types x f xs (same ∙ ap (λ (y : ModuleValue). y.special_types) tv) is k q h
 
 -- while a source is set, items and special types only come
-pub keeps_set : (o w : Shader) (m n : Maps) (t u : Module) (x : SpecialTypes) (f : ℕ → ℕ) (xs : List Entry) (ns : FunctionNames) (d : Derived) → derived_of o m t ns ≡ cleared d → Extends (value_of t) (value_of u) → u.special_types ≡ t.special_types → special_value x ≡ with_specials (special_value u.special_types) f xs → KeepsItems d (derived_of w n (record u { special_types = x }) ns)
+pub keeps_set : (o w : Shader) (m n : Maps) (t u : Module) (x : SpecialTypes) (f : ℕ → ℕ) (xs : List Entry) (ns : FunctionNames) (d : Derived) → derived_of o m t ns ≡ cleared d → Extends (value_of t) (value_of u) → special_value u.special_types ≡ special_value t.special_types → special_value x ≡ with_specials (special_value u.special_types) f xs → KeepsItems d (derived_of w n (record u { special_types = x }) ns)
 keeps_set o w m n t u x f xs ns d v ext same is =
     let tv : value_of t ≡ d.target = ap (λ (y : Derived). y.target) v in
     record {
@@ -164,20 +125,10 @@ keeps_set o w m n t u x f xs ns d v ext same is =
     }
 
 -- a beginning of the special types is set, and there is no source yet
-pub derived_part : (s t u : Module) (n : Maps) (o : Shader) (w : Maps) (x : SpecialTypes) (es : List Entry) (k : ℕ) → o ≡ None → IsCopying s u n → Extends (value_of t) (value_of u) → u.special_types ≡ t.special_types → IsSpecialThere t → All (WentSomewhere (goes_under n)) (special_names es) → special_value x ≡ with_specials (special_value u.special_types) (handle_under n.types.items) (take k es) → IsDerived o w (record u { special_types = x })
+pub derived_part : (s t u : Module) (n : Maps) (o : Shader) (w : Maps) (x : SpecialTypes) (es : List Entry) (k : ℕ) → o ≡ None → IsCopying s u n → Extends (value_of t) (value_of u) → special_value u.special_types ≡ special_value t.special_types → IsSpecialThere t → All (WentSomewhere (goes_under n)) (special_names es) → special_value x ≡ with_specials (special_value u.special_types) (handle_under n.types.items) (take k es) → IsDerived o w (record u { special_types = x })
 derived_part s t u n o w x es k e i ext same special went is =
     let part = subst (All (WentSomewhere (goes_under n))) (take-map (λ (y : Entry). Some (TypeItem y.1)) k es) (All-take (WentSomewhere (goes_under n)) k (special_names es) went) in
     derived_none o w (record u { special_types = x }) e (subst IsSound (sym (world_same u x)) i.sound) (set_special_there u n x es (take k es) i.copied.there part (special_later t u ext same special) is)
-
--- the source is set
-pub derived_set : (s : Bor Module) (t u : Module) (n : Maps) (x : SpecialTypes) → IsCopying s.now u n → AreRanked s.now → Extends (value_of t) (value_of u) → u.special_types ≡ t.special_types → IsSpecialThere t → HaveDistinctKeys (special_entries (special_value s.now.special_types)) → All (WentSomewhere (goes_under n)) (special_names (special_entries (special_value s.now.special_types))) → special_value x ≡ with_specials (special_value u.special_types) (handle_under n.types.items) (special_entries (special_value s.now.special_types)) → IsDerived (Some s) n (record u { special_types = x })
-derived_set s t u n x i ranked ext same special distinct went is =
-    let es = special_entries (special_value s.now.special_types) in
-    record {
-      sound = subst IsSound (sym (world_same u x)) i.sound;
-      special = set_special_there u n x es es i.copied.there went (special_later t u ext same special) is;
-      source = (IsCopying-set s.now u n x i distinct went is, ranked);
-    }
 
 -- ---- what copying from a source may ask
 
@@ -191,20 +142,5 @@ entries_are_there s es c e =
 
 -- ---- a source that is set, by its entries as they were listed
 
-abbrev pub entries_of : Module → List Entry
-entries_of s = special_entries (special_value s.special_types)
-
 abbrev pub places_kept : Module → List Entry → List (Option ℕ) → List (Option ℕ)
 places_kept t es ts = kept_over (special_at (special_value t.special_types)) es ts
-
-pub copying_begun : (s t : Module) (m : Maps) (v : Vec (Option ℕ) Global) (es : List Entry) → es ≡ entries_of s → CopyableItems s → IsSound (world (value_of t)) → IsSpecialThere t → AreLong m s → ((p : ItemPlace) → goes_under m p ≡ None) → v.items ≡ places_kept t es m.types.items → IsCopying s t (record m { types = v })
-copying_begun s t m v es e c sound special long none is =
-    IsCopying-start s t m v sound special (entries_are_there s (entries_of s) c refl) long none (entries_within s m (entries_of s) c long refl) (is ∙ ap (λ (xs : List Entry). places_kept t xs m.types.items) e)
-
-pub source_set : (s : Bor Module) (t u : Module) (n : Maps) (x : SpecialTypes) (es : List Entry) → es ≡ entries_of s.now → CopyableItems s.now → IsCopying s.now u n → Extends (value_of t) (value_of u) → u.special_types ≡ t.special_types → IsSpecialThere t → HaveDistinctKeys es → All (WentSomewhere (goes_under n)) (special_names es) → special_value x ≡ with_specials (special_value u.special_types) (handle_under n.types.items) es → IsDerived (Some s) n (record u { special_types = x })
-source_set s t u n x es e c i ext same special distinct went is =
-    derived_set s t u n x i (ranked s.now c) ext same special (subst HaveDistinctKeys e distinct) (subst (λ (xs : List Entry). All (WentSomewhere (goes_under n)) (special_names xs)) e went) (is ∙ ap (with_specials (special_value u.special_types) (handle_under n.types.items)) e)
-
-pub sets_source : (s t u : Module) (m : Maps) (v : Vec (Option ℕ) Global) (n : Maps) (x : SpecialTypes) (ns : List (List ℕ × ℕ)) (d : Derived) (shift : ℕ) (es : List Entry) → es ≡ entries_of s → CopyableItems s → AreLong m s → d.target ≡ value_of t → ((p : ItemPlace) → goes_under m p ≡ None) → v.items ≡ places_kept t es m.types.items → m.offset ≡ shift → IsCopying s u n → Grows (record m { types = v }) n t u → source_world s u n ≡ source_world s t (record m { types = v }) → CollectsNames s (record m { types = v }) t (special_names es) u → HaveDistinctKeys es → All (WentSomewhere (goes_under n)) (special_names es) → special_value x ≡ with_specials (special_value u.special_types) (handle_under n.types.items) es → Sets (value_of s) shift d (derived_at s n (record u { special_types = x }) ns) (source_at s n)
-sets_source s t u m v n x ns d shift es e c long target none kept_is shift_is i g r coll distinct went is =
-    set_one s t u m v n x ns d shift target none (entries_within s m (entries_of s) c long refl) (kept_is ∙ ap (λ (xs : List Entry). places_kept t xs m.types.items) e) shift_is i g r (subst (λ (xs : List Entry). CollectsNames s (record m { types = v }) t (special_names xs) u) e coll) (subst HaveDistinctKeys e distinct) (subst (λ (xs : List Entry). All (WentSomewhere (goes_under n)) (special_names xs)) e went) (is ∙ ap (with_specials (special_value u.special_types) (handle_under n.types.items)) e)

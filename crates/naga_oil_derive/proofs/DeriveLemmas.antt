@@ -1,14 +1,11 @@
-use Rattle.std.proofs.Common.{◌≡◌, ◌⊎◌, inl, inr, ⊎_elim, ℕ, ◌<◌, ◌+◌, Bool, true, false, List, [], ◌∷◌, ◌++◌, map, length, take, Option, Some, None, option_map, option_to_list, slice_get, unwrap_or, is_some, if◌then◌else◌, ◌==◌, refl, ap, sym, ◌∙◌, subst, arith, All, IfSome, Vec, Global, String, string_bytes}
-use Rattle.std.specs.Option.{option_flatten}
-use Rattle.std.specs.Borrow.{Bor}
+use Rattle.std.proofs.Common.{◌≡◌, ◌⊎◌, inl, inr, ⊎_elim, ℕ, ◌+◌, Bool, true, false, List, [], ◌∷◌, ◌++◌, map, Option, Some, None, option_map, option_to_list, is_some, if◌then◌else◌, ◌==◌, refl, ap, sym, ◌∙◌, subst, All, Vec, Global}
 use Rattle.std.proofs.lemmas.List.{append_assoc}
 use Rattle.std.proofs.lemmas.List.Elements.{All-head, All-tail, All-cons, All-nil}
 use Rattle.naga_oil_ir.specs.ItemForm.{special_types}
 use Rattle.naga_oil_ir.specs.Parts.{parts}
-use Rattle.naga_oil_ir.specs.Rows.{Row, Text, type_row, constant_row, override_row, global_row}
+use Rattle.naga_oil_ir.specs.Rows.{Row, type_row, constant_row, override_row, global_row}
 use Rattle.naga_oil_ir.specs.ModuleValue.{ModuleValue, SpecialValue, special_value, entry_value, function_value, no_items}
 use Rattle.naga_oil_ir.specs.declared.expression.Expression.{Expression}
-use Rattle.naga_oil_ir.specs.declared.module.EntryPoint.{EntryPoint}
 use Rattle.naga_oil_ir.specs.declared.module.Function.{Function}
 use Rattle.naga_oil_ir.specs.declared.module.Module.{Module}
 use Rattle.naga_oil_ir.specs.declared.module.SpecialTypes.{SpecialTypes}
@@ -22,19 +19,15 @@ use Rattle.naga_oil_ir.specs.declared.names.ItemPlace.TheVariants.{TypeItem, Con
 use Rattle.naga_oil_derive.specs.declared.maps.Maps.{Maps}
 use Rattle.naga_oil_derive.specs.declared.special.SpecialKey.{SpecialKey}
 use Rattle.naga_oil_derive.specs.declared.special.SpecialKey.TheVariants.{RayDesc, RayIntersection, RayVertexReturn, Predeclared}
-use Rattle.naga_oil_derive.specs.Tree.{World, Kept, ReadsAs}
-use Rattle.naga_oil_derive.specs.World.{Places, goes, value_of, world, span_at, Begins, Extends, named_world, renamed_at, under_name, name_at, special_entry, special_entries, special_at, or_option, kept_in, kept_of, HaveDistinctKeys, with_special, with_specials}
-use Rattle.naga_oil_derive.specs.Collected.{Collects, depth, reached, names_trail}
-use Rattle.naga_oil_derive.specs.Copying.{Goes, IsSound, AreCopied, IsThere, AreRanked, AreLong, IsCopying, Grows, WentSomewhere, CollectsItem, CollectsNamed, CollectsNames, HasCopy, places_of, goes_under, handle_under, renames_under, source_world, kept_between, copied_span, kept_over, special_names, trail_of}
-use Rattle.naga_oil_derive.specs.Copyable.{CopyableItems}
-use Rattle.naga_oil_derive.specs.Derived.{Source, Derived, as_read, kept, copied_spans, Imports, IsLaterSource, Sets, type_under, with_special_types, special_places}
+use Rattle.naga_oil_derive.specs.Tree.{World, ReadsAs}
+use Rattle.naga_oil_derive.specs.World.{goes, value_of, world, named_world, under_name, name_at, special_entry, special_entries, special_at, or_option, kept_in, with_special, with_specials}
+use Rattle.naga_oil_derive.specs.Copying.{Goes, IsSound, IsThere, IsCopying, Grows, WentSomewhere, CollectsItem, places_of, goes_under, handle_under, source_world, kept_between, copied_span, special_names, trail_of}
+use Rattle.naga_oil_derive.specs.Derived.{Source, Derived, as_read, Imports, IsLaterSource, with_special_types}
 use Rattle.naga_oil_derive.specs.DerivedView.{IsSpecialThere}
-use Rattle.naga_oil_derive.proofs.TreeLemmas.{reads, same_number, AreCopied-start, AreCopied-kept, AreCopied-named}
+use Rattle.naga_oil_derive.proofs.TreeLemmas.{reads, same_number}
 use Rattle.naga_oil_ir.proofs.LinkLemmas.{eqb_eq}
-use Rattle.naga_oil_derive.proofs.WorldLemmas.{Extends-stays}
 use Rattle.naga_oil_derive.proofs.CopyLemmas.{kept_same, goes_renamed, HasCopy-went}
-use Rattle.naga_oil_derive.proofs.CollectLemmas.{span_same}
-use Rattle.naga_oil_derive.proofs.SpecialLemmas.{Entry, coded, entries_nested, EachEntry, IsSettled, more_case, special_set, special_others, kept_over_get, length-kept_over, settled, kept_settled, kept_none_more, specials_keep}
+use Rattle.naga_oil_derive.proofs.SpecialLemmas.{Entry, coded, entries_nested, more_case, special_set, special_others, specials_keep}
 
 -- ---- the module of nothing
 
@@ -132,66 +125,17 @@ entries_there P s a =
 
 -- ---- a source that is set: what is kept stands, and nothing else went
 
-pub flat_none : (o : Option ℕ) → option_map TypeItem o ≡ None → o ≡ None
-flat_none None e = refl
-flat_none (Some x) e = cc
-
 pub or_nothing : (a b : Option ℕ) → b ≡ None → or_option a b ≡ a
 or_nothing None b e = e
 or_nothing (Some x) b e = refl
-
-goes_kept : (s t : Module) (m : Maps) (v : Vec (Option ℕ) Global) → ((p : ItemPlace) → goes_under m p ≡ None) → All (λ e. e.1 < length m.types.items) (special_entries (special_value s.special_types)) → v.items ≡ kept_over (special_at (special_value t.special_types)) (special_entries (special_value s.special_types)) m.types.items → (p : ItemPlace) → goes_under (record m { types = v }) p ≡ kept_between s t p
-unfolding goes_under goes kept_between kept_of
-goes_kept s t m v none within is (TypeItem j) =
-    let f = special_at (special_value t.special_types) in
-    let es = special_entries (special_value s.special_types) in
-    ap (option_map TypeItem) (ap (λ xs. option_flatten (slice_get xs j)) is ∙ kept_over_get f es m.types.items j within ∙ or_nothing (kept_in f es j) (option_flatten (slice_get m.types.items j)) (flat_none _ (none (TypeItem j))))
-goes_kept s t m v none within is (ConstantItem j) = none (ConstantItem j)
-goes_kept s t m v none within is (OverrideItem j) = none (OverrideItem j)
-goes_kept s t m v none within is (GlobalItem j) = none (GlobalItem j)
-goes_kept s t m v none within is (ExpressionItem j) = none (ExpressionItem j)
 
 pub some_mapped : (o : Option ℕ) (q : ItemPlace) → option_map TypeItem o ≡ Some q → (k : ℕ) × (o ≡ Some k) × (q ≡ TypeItem k)
 some_mapped None q e = cc
 some_mapped (Some k) q e = let g : TypeItem k ≡ q = cc in (k, refl, sym g)
 
-kept_there : (s t : Module) → IsSpecialThere t → (p q : ItemPlace) → kept_between s t p ≡ Some q → (r : Row) × (world (value_of t) q ≡ Some r)
-unfolding kept_between kept_of
-kept_there s t h (TypeItem j) q e =
-    let k = some_mapped _ q e in
-    let key = kept_key (special_at (special_value t.special_types)) (special_entries (special_value s.special_types)) j k.0 k.1 in
-    subst (IsThere t) (sym k.2) (h key.0 k.0 key.1)
-kept_there s t h (ConstantItem j) q e = cc
-kept_there s t h (OverrideItem j) q e = cc
-kept_there s t h (GlobalItem j) q e = cc
-kept_there s t h (ExpressionItem j) q e = cc
-
-kept_known : (s t : Module) → All (λ e. IsThere s (TypeItem e.1)) (special_entries (special_value s.special_types)) → (p q : ItemPlace) → kept_between s t p ≡ Some q → (r : Row) × (world (value_of s) p ≡ Some r)
-unfolding kept_between kept_of
-kept_known s t a (TypeItem j) q e =
-    let k = some_mapped _ q e in
-    kept_handle (λ h. IsThere s (TypeItem h)) (special_at (special_value t.special_types)) (special_entries (special_value s.special_types)) j k.0 a k.1
-kept_known s t a (ConstantItem j) q e = cc
-kept_known s t a (OverrideItem j) q e = cc
-kept_known s t a (GlobalItem j) q e = cc
-kept_known s t a (ExpressionItem j) q e = cc
-
 pub named_there : (w v : World) (m : Goes) (p : ItemPlace) (r : Row) → w p ≡ Some r → (x : Row) × (named_world w v m p ≡ Some x)
 unfolding named_world
 named_there w v m p r e = (under_name (name_at v (m p)) r, ap (option_map (under_name (name_at v (m p)))) e)
-
-pub IsCopying-start : (s t : Module) (m : Maps) (v : Vec (Option ℕ) Global) → IsSound (world (value_of t)) → IsSpecialThere t → All (λ e. IsThere s (TypeItem e.1)) (special_entries (special_value s.special_types)) → AreLong m s → ((p : ItemPlace) → goes_under m p ≡ None) → All (λ e. e.1 < length m.types.items) (special_entries (special_value s.special_types)) → v.items ≡ kept_over (special_at (special_value t.special_types)) (special_entries (special_value s.special_types)) m.types.items → IsCopying s t (record m { types = v })
-unfolding source_world
-IsCopying-start s t m v sound special there long none within is =
-    let n = record m { types = v } in
-    let w = source_world s t n in
-    let goes_same : goes_under n ≡ kept_between s t = λ i p. goes_kept s t m v none within is p i in
-    let known = λ (p q : ItemPlace) (e : kept_between s t p ≡ Some q). (let r = kept_known s t there p q e in named_there (world (value_of s)) (world (value_of t)) (goes_under n) p r.0 r.1) in
-    record {
-      long = record { types = ap length is ∙ length-kept_over (special_at (special_value t.special_types)) (special_entries (special_value s.special_types)) m.types.items ∙ long.types; constants = long.constants; overrides = long.overrides; globals = long.globals; expressions = long.expressions };
-      sound = sound;
-      copied = subst (AreCopied w (world (value_of t)) (kept_between s t)) (sym goes_same) (AreCopied-start w (world (value_of t)) (kept_between s t) (kept_there s t special) known);
-    }
 
 -- ---- special types that are set
 
@@ -236,10 +180,6 @@ all_there : (u : Module) (n : Maps) (xs : List Entry) → ((p q : ItemPlace) →
 all_there u n [] there a = All-nil (λ (e : Entry). IsThere u (TypeItem (handle_under n.types.items e.1)))
 all_there u n (x ∷ xs) there a = All-cons (λ (e : Entry). IsThere u (TypeItem (handle_under n.types.items e.1))) x xs (went_handle u n x.1 there (All-head (WentSomewhere (goes_under n)) (Some (TypeItem x.1)) (special_names xs) a)) (all_there u n xs there (All-tail (WentSomewhere (goes_under n)) (Some (TypeItem x.1)) (special_names xs) a))
 
-all_went : (n : Maps) (xs : List Entry) → All (WentSomewhere (goes_under n)) (special_names xs) → All (λ e. WentSomewhere (goes_under n) (Some (TypeItem e.1))) xs
-all_went n [] a = All-nil (λ (e : Entry). WentSomewhere (goes_under n) (Some (TypeItem e.1)))
-all_went n (x ∷ xs) a = All-cons (λ (e : Entry). WentSomewhere (goes_under n) (Some (TypeItem e.1))) x xs (All-head (WentSomewhere (goes_under n)) (Some (TypeItem x.1)) (special_names xs) a) (all_went n xs (All-tail (WentSomewhere (goes_under n)) (Some (TypeItem x.1)) (special_names xs) a))
-
 -- a beginning of the special types is set, each there
 pub set_special_there : (u : Module) (n : Maps) (x : SpecialTypes) (es xs : List Entry) → ((p q : ItemPlace) → goes_under n p ≡ Some q → (r : Row) × (world (value_of u) q ≡ Some r)) → All (WentSomewhere (goes_under n)) (special_names xs) → IsSpecialThere u → special_value x ≡ with_specials (special_value u.special_types) (handle_under n.types.items) xs → IsSpecialThere (record u { special_types = x })
 set_special_there u n x es xs there went special is = λ k q e. subst (λ w. (r : Row) × (w (TypeItem q) ≡ Some r)) (sym (world_same u x)) (more_there (λ h. IsThere u (TypeItem h)) (special_value u.special_types) (handle_under n.types.items) xs (all_there u n xs there went) special k q (sym (ap (λ s. special_at s k) is) ∙ e))
@@ -250,61 +190,9 @@ pub flat_some : (o : Option ℕ) (q : ℕ) → option_map TypeItem o ≡ Some (T
 flat_some None q e = cc
 flat_some (Some k) q e = let g : k ≡ q = cc in ap Some g
 
-handle_is : (m : Maps) (h q : ℕ) → goes_under m (TypeItem h) ≡ Some (TypeItem q) → handle_under m.types.items h ≡ q
-unfolding goes_under goes
-handle_is m h q e = ap (λ o. unwrap_or o h) (flat_some _ q e)
-
-kept_stands : (s u : Module) (n : Maps) → IsCopying s u n → (h q : ℕ) → kept_in (special_at (special_value u.special_types)) (special_entries (special_value s.special_types)) h ≡ Some q → handle_under n.types.items h ≡ q
-unfolding kept_between kept_of
-kept_stands s u n i h q e = handle_is n h q (i.copied.stand (TypeItem h) (TypeItem q) (ap (option_map TypeItem) e))
-
-stands_now : (s u : Module) (n : Maps) (x : SpecialTypes) → IsCopying s u n → HaveDistinctKeys (special_entries (special_value s.special_types)) → All (WentSomewhere (goes_under n)) (special_names (special_entries (special_value s.special_types))) → special_value x ≡ with_specials (special_value u.special_types) (handle_under n.types.items) (special_entries (special_value s.special_types)) → (p q : ItemPlace) → kept_between s (record u { special_types = x }) p ≡ Some q → goes_under n p ≡ Some q
-unfolding kept_between kept_of
-stands_now s u n x i distinct went is (TypeItem h) q e =
-    let es = special_entries (special_value s.special_types) in
-    let f = handle_under n.types.items in
-    let old = special_value u.special_types in
-    let k = some_mapped _ q e in
-    let all = settled old f es distinct in
-    let now = subst (λ v. EachEntry (λ y. IsSettled old v f y) es) (sym is) all in
-    let keeps = λ (y : SpecialKey) (z : ℕ) (g : special_at old y ≡ Some z). ap (λ v. special_at v y) is ∙ specials_keep old f es y z g in
-    let same = kept_settled old (special_value x) f es keeps now (kept_stands s u n i) h k.0 k.1 in
-    let w = kept_handle (λ z. WentSomewhere (goes_under n) (Some (TypeItem z))) (special_at (special_value x)) es h k.0 (all_went n es went) k.1 in
-    goes_renamed n (TypeItem h) w.0 w.1 ∙ ap (λ z. Some (TypeItem z)) same ∙ ap Some (sym k.2)
-stands_now s u n x i distinct went is (ConstantItem h) q e = cc
-stands_now s u n x i distinct went is (OverrideItem h) q e = cc
-stands_now s u n x i distinct went is (GlobalItem h) q e = cc
-stands_now s u n x i distinct went is (ExpressionItem h) q e = cc
-
 pub mapped_none : (o : Option ℕ) → option_map TypeItem o ≡ None → o ≡ None
 mapped_none None e = refl
 mapped_none (Some k) e = cc
-
-still_none : (s u : Module) (f : ℕ → ℕ) (x : SpecialTypes) → special_value x ≡ with_specials (special_value u.special_types) f (special_entries (special_value s.special_types)) → (p : ItemPlace) → kept_between s (record u { special_types = x }) p ≡ None → kept_between s u p ≡ None
-unfolding kept_between kept_of
-still_none s u f x is (TypeItem h) e =
-    let es = special_entries (special_value s.special_types) in
-    let keeps = λ (y : SpecialKey) (z : ℕ) (g : special_at (special_value u.special_types) y ≡ Some z). ap (λ v. special_at v y) is ∙ specials_keep (special_value u.special_types) f es y z g in
-    ap (option_map TypeItem) (kept_none_more (special_value u.special_types) (special_value x) keeps es h (mapped_none _ e))
-still_none s u f x is (ConstantItem h) e = refl
-still_none s u f x is (OverrideItem h) e = refl
-still_none s u f x is (GlobalItem h) e = refl
-still_none s u f x is (ExpressionItem h) e = refl
-
-pub reads_special : (s u : Module) (n : Maps) (x : SpecialTypes) → source_world s (record u { special_types = x }) n ≡ source_world s u n
-unfolding source_world
-reads_special s u n x = ap (λ v. named_world (world (value_of s)) v (goes_under n)) (world_same u x)
-
--- a source that is set is ready to be copied from
-pub IsCopying-set : (s u : Module) (n : Maps) (x : SpecialTypes) → IsCopying s u n → HaveDistinctKeys (special_entries (special_value s.special_types)) → All (WentSomewhere (goes_under n)) (special_names (special_entries (special_value s.special_types))) → special_value x ≡ with_specials (special_value u.special_types) (handle_under n.types.items) (special_entries (special_value s.special_types)) → IsCopying s (record u { special_types = x }) n
-IsCopying-set s u n x i distinct went is =
-    let v = record u { special_types = x } in
-    let a = AreCopied-kept (source_world s u n) (world (value_of u)) (kept_between s u) (kept_between s v) (goes_under n) i.copied (stands_now s u n x i distinct went is) (still_none s u (handle_under n.types.items) x is) in
-    record {
-      long = i.long;
-      sound = subst IsSound (sym (world_same u x)) i.sound;
-      copied = subst (λ w. AreCopied w (world (value_of v)) (kept_between s v) (goes_under n)) (sym (reads_special s u n x)) (subst (λ w. AreCopied (source_world s u n) w (kept_between s v) (goes_under n)) (sym (world_same u x)) a);
-    }
 
 -- ---- what callers see
 
@@ -326,71 +214,14 @@ import_one s t u m n ns p i g reads_same w c =
       },
     )
 
-pub rename_one : (s t u : Module) (m n : Maps) (ns : List (List ℕ × ℕ)) (k : ℕ) (o : Option Text) → IsCopying s u n → Grows m n t u → source_world s u n ≡ renamed_at (source_world s t m) k o → WentSomewhere (goes_under n) (Some (TypeItem k)) → CollectsNamed s m t (TypeItem k) (source_world s u n) u → Imports (source_at s m) (renamed_at (as_read (source_at s m) (value_of t)) k o) (derived_at s m t ns) (derived_at s n u ns) (TypeItem k) (TypeItem (handle_under n.types.items k))
-unfolding source_world goes_under kept_between copied_span value_of
-rename_one s t u m n ns k o i g reads_same w c =
-    let p = TypeItem k in
-    let q = TypeItem (handle_under n.types.items k) in
-    let h = goes_renamed n p w.0 w.1 in
-    let r : ReadsAs (source_world s u n) (world (value_of u)) (kept_between s u) p q = λ x. reads (source_world s u n) (world (value_of u)) (kept_between s u) (goes_under n) i.copied x p q h in
-    record {
-      reads = subst (λ y. ReadsAs (renamed_at (source_world s t m) k o) (world (value_of u)) y p q) (kept_same s t u g.special) (subst (λ v. ReadsAs v (world (value_of u)) (kept_between s u) p q) reads_same r);
-      collects = subst (λ v. Collects v (kept_between s t) (copied_span s m) (value_of t) (reached (depth (value_of s)) v (kept_between s t) p) (value_of u)) reads_same c;
-      goes = h;
-    }
-
 pub later_source : (s t u : Module) (m n : Maps) → Grows m n t u → IsLaterSource (source_at s m) (source_at s n)
 unfolding goes_under
 later_source s t u m n g = record { value = refl; offset = g.offset; went = g.went }
 
 -- the special types aside, the target is as it was before they were set
-pub aside : (t u : Module) (x : SpecialTypes) → u.special_types ≡ t.special_types → with_special_types (value_of (record u { special_types = x })) (value_of t) ≡ value_of u
+pub aside : (t u : Module) (x : SpecialTypes) → special_value u.special_types ≡ special_value t.special_types → with_special_types (value_of (record u { special_types = x })) (value_of t) ≡ value_of u
 unfolding value_of
-aside t u x is = ap (λ (s : SpecialTypes). record (value_of u) { special_types = special_value s }) (sym is)
+aside t u x is = ap (λ (s : SpecialValue). record (value_of u) { special_types = s }) (sym is)
 
 pub special_stays : (t : SpecialValue) (u x : SpecialTypes) (f : ℕ → ℕ) (xs : List Entry) → special_value u ≡ t → special_value x ≡ with_specials (special_value u) f xs → (k : SpecialKey) (q : ℕ) → special_at t k ≡ Some q → special_at (special_value x) k ≡ Some q
 special_stays t u x f xs e is k q h = ap (λ v. special_at v k) is ∙ specials_keep (special_value u) f xs k q (ap (λ v. special_at v k) e ∙ h)
-
-first_world : (s t : Module) (w : Maps) → goes_under w ≡ kept_between s t → source_world s t w ≡ named_world (world (value_of s)) (world (value_of t)) (kept_between s t)
-unfolding source_world
-first_world s t w e = ap (λ m. named_world (world (value_of s)) (world (value_of t)) m) e
-
-set_kept : (s u : Module) (n : Maps) (x : SpecialTypes) → IsCopying s u n → HaveDistinctKeys (special_entries (special_value s.special_types)) → All (WentSomewhere (goes_under n)) (special_names (special_entries (special_value s.special_types))) → special_value x ≡ with_specials (special_value u.special_types) (handle_under n.types.items) (special_entries (special_value s.special_types)) → (p q : ItemPlace) → kept (source_at s n) (value_of (record u { special_types = x })) p ≡ Some q → goes (places_of n) p ≡ Some q
-unfolding goes_under kept_between value_of
-set_kept s u n x i distinct went is = stands_now s u n x i distinct went is
-
-set_reads : (s t u : Module) (n : Maps) (x : SpecialTypes) (d : Derived) → d.target ≡ value_of t → source_world s (record u { special_types = x }) n ≡ named_world (world (value_of s)) (world (value_of t)) (kept_between s t) → as_read (source_at s n) (value_of (record u { special_types = x })) ≡ named_world (world (value_of s)) (world d.target) (kept (source_at s n) d.target)
-unfolding source_world goes_under kept_between value_of
-set_reads s t u n x d e now = now ∙ ap (λ v. named_world (world (value_of s)) (world v) (kept_of (special_value s.special_types) v.special_types)) (sym e)
-
-set_special_value : (s t u : Module) (n : Maps) (x : SpecialTypes) (d : Derived) → d.target ≡ value_of t → u.special_types ≡ t.special_types → special_value x ≡ with_specials (special_value u.special_types) (handle_under n.types.items) (special_entries (special_value s.special_types)) → (value_of (record u { special_types = x })).special_types ≡ with_specials d.target.special_types (type_under (places_of n)) (special_entries (value_of s).special_types)
-unfolding value_of
-set_special_value s t u n x d e same is = is ∙ ap (λ v. with_specials (special_value v) (handle_under n.types.items) (special_entries (special_value s.special_types))) same ∙ ap (λ (v : ModuleValue). with_specials v.special_types (handle_under n.types.items) (special_entries (special_value s.special_types))) (sym e)
-
-set_collects : (s t u : Module) (w n : Maps) (x : SpecialTypes) (d : Derived) → d.target ≡ value_of t → source_world s (record u { special_types = x }) n ≡ source_world s t w → Grows w n t u → CollectsNames s w t (special_names (special_entries (special_value s.special_types))) u → Collects (as_read (source_at s n) (value_of (record u { special_types = x }))) (kept (source_at s n) d.target) (copied_spans (source_at s n)) d.target (names_trail (reached (depth (value_of s)) (as_read (source_at s n) (value_of (record u { special_types = x }))) (kept (source_at s n) d.target)) (special_places (value_of s))) (with_special_types (value_of (record u { special_types = x })) d.target)
-unfolding source_world goes_under kept_between copied_span trail_of value_of
-set_collects s t u w n x d e now g c =
-    let es = special_names (special_entries (special_value s.special_types)) in
-    let d_is = depth (value_of s) in
-    let a = subst (λ k. Collects (source_world s t w) (kept_between s t) k (value_of t) (names_trail (reached d_is (source_world s t w) (kept_between s t)) es) (value_of u)) (sym (span_same s w n g.offset)) c in
-    let b = subst (λ r. Collects r (kept_between s t) (copied_span s n) (value_of t) (names_trail (reached d_is r (kept_between s t)) es) (value_of u)) (sym now) a in
-    let f = subst (Collects (source_world s (record u { special_types = x }) n) (kept_between s t) (copied_span s n) (value_of t) (names_trail (reached d_is (source_world s (record u { special_types = x }) n) (kept_between s t)) es)) (sym (aside t u x g.special)) b in
-    subst (λ v. Collects (source_world s (record u { special_types = x }) n) (kept_of (special_value s.special_types) v.special_types) (copied_span s n) v (names_trail (reached d_is (source_world s (record u { special_types = x }) n) (kept_of (special_value s.special_types) v.special_types)) es) (with_special_types (value_of (record u { special_types = x })) v)) (sym e) f
-
--- the source that is set, as callers see it
-pub set_one : (s t u : Module) (m : Maps) (v : Vec (Option ℕ) Global) (n : Maps) (x : SpecialTypes) (ns : List (List ℕ × ℕ)) (d : Derived) (offset : ℕ) → d.target ≡ value_of t → ((p : ItemPlace) → goes_under m p ≡ None) → All (λ e. e.1 < length m.types.items) (special_entries (special_value s.special_types)) → v.items ≡ kept_over (special_at (special_value t.special_types)) (special_entries (special_value s.special_types)) m.types.items → m.offset ≡ offset → IsCopying s u n → Grows (record m { types = v }) n t u → source_world s u n ≡ source_world s t (record m { types = v }) → CollectsNames s (record m { types = v }) t (special_names (special_entries (special_value s.special_types))) u → HaveDistinctKeys (special_entries (special_value s.special_types)) → All (WentSomewhere (goes_under n)) (special_names (special_entries (special_value s.special_types))) → special_value x ≡ with_specials (special_value u.special_types) (handle_under n.types.items) (special_entries (special_value s.special_types)) → Sets (value_of s) offset d (derived_at s n (record u { special_types = x }) ns) (source_at s n)
-unfolding trail_of
-set_one s t u m v n x ns d offset is_target none within kept_is offset_is i g reads_same c distinct went is =
-    let w = record m { types = v } in
-    let es = special_entries (special_value s.special_types) in
-    let now = reads_special s u n x ∙ reads_same in
-    let places : goes_under w ≡ kept_between s t = λ j p. goes_kept s t m v none within kept_is p j in
-    let first = first_world s t w places in
-    record {
-      value = refl;
-      offset = g.offset ∙ offset_is;
-      stands = set_kept s u n x i distinct went is;
-      reads = set_reads s t u n x d is_target (now ∙ first);
-      special = set_special_value s t u n x d is_target g.special is;
-      collects = set_collects s t u w n x d is_target now g c;
-    }

@@ -22,7 +22,9 @@ pub mod CopiedLaws
 pub mod DerivedLaws
 pub mod SetLaws
 pub mod AnsweredLaws
+pub mod PuttingLemmas
 pub mod SourceValues
+pub mod Derivations
 pub mod WalkLemmas
 pub mod WalkForm
 pub mod WalkNotes

@@ -53,7 +53,7 @@ type_within m k h = within_by m k (slice_get m.types k) h.0 refl h.1
 entries_within : (m : ModuleValue) → AreSpecial m → All (λ (e : Entry). e.1 < length m.types) (entries_in m)
 entries_within m a = All-weaker (λ (e : Entry). HasAt m (TypeItem e.1)) (λ (e : Entry). e.1 < length m.types) (λ e h. type_within m e.1 h) (entries_in m) a.there
 
-as_names : (P : ItemPlace → Type 0) (es : List Entry) → All (λ (e : Entry). P (TypeItem e.1)) es → All (λ o. IfSome o P) (special_names es)
+pub as_names : (P : ItemPlace → Type 0) (es : List Entry) → All (λ (e : Entry). P (TypeItem e.1)) es → All (λ o. IfSome o P) (special_names es)
 as_names P [] a = All-nil (λ o. IfSome o P)
 as_names P (e ∷ es) a = All-cons (λ o. IfSome o P) (Some (TypeItem e.1)) (special_names es) (All-head (λ (x : Entry). P (TypeItem x.1)) e es a) (as_names P es (All-tail (λ (x : Entry). P (TypeItem x.1)) e es a))
 
@@ -116,10 +116,10 @@ first_known m t a (OverrideItem j) q e = cc
 first_known m t a (GlobalItem j) q e = cc
 first_known m t a (ExpressionItem j) q e = cc
 
-abbrev start : Derived → ModuleValue → CopyState
+abbrev pub start : Derived → ModuleValue → CopyState
 start d m = record { places = first_places d m; target = d.target }
 
-midway_first : (first : Kept) (d : Derived) (m : ModuleValue) → IsDerivation first d → AreSpecial m → IsMidway m (first_in m d.target) (start d m)
+pub midway_first : (first : Kept) (d : Derived) (m : ModuleValue) → IsDerivation first d → AreSpecial m → IsMidway m (first_in m d.target) (start d m)
 midway_first first d m i a =
     let f = first_in m d.target in
     let w = reads_now m (start d m) in

@@ -162,7 +162,7 @@ pub record Grows (m n : Maps) (t u : Module) : Type 0 where
   pub went : (p q : ItemPlace) → goes_under m p ≡ Some q → goes_under n p ≡ Some q
   pub offset : n.offset ≡ m.offset
   pub extends : Extends (value_of t) (value_of u)
-  pub special : u.special_types ≡ t.special_types
+  pub special : special_value u.special_types ≡ special_value t.special_types
 
 -- the maps agree from a rank on
 abbrev pub IsSameFrom : Module → ℕ → Maps → Maps → Type 0

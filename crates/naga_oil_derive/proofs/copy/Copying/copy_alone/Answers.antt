@@ -1,20 +1,15 @@
-use Rattle.std.proofs.Common.{arith, ◌≡◌, ◌∙◌, ap, sym, subst, refl, None, Some, slice_set, OnOk}
+use Rattle.std.proofs.Common.{arith, ◌≡◌, ◌∙◌, ap, sym, subst, Some, slice_set, OnOk}
 use Rattle.std.specs.Vec.{with_item}
-use Rattle.naga_oil_ir.specs.Parts.{parts}
-use Rattle.naga_oil_ir.specs.Rows.{parts_row}
-use Rattle.naga_oil_derive.specs.World.{shifted, world, value_of}
-use Rattle.naga_oil_derive.specs.Copying.{IsThere, NamesWent, CopiesOne, renames_under}
-use Rattle.naga_oil_derive.proofs.CopyOneLemmas.{found, not_found, parts_row-rename}
-use Rattle.naga_oil_derive.proofs.CopyOneLemmas.{constant_absent, constant_fits, constant_made}
-use Rattle.naga_oil_derive.proofs.CopyOneLemmas.{override_absent, override_fits, override_made}
-use Rattle.naga_oil_derive.proofs.CopyOneLemmas.{global_absent, global_fits, global_made}
-use Rattle.naga_oil_derive.proofs.CopyOneLemmas.{expression_absent, expression_fits, expression_made}
+use Rattle.naga_oil_derive.specs.World.{shifted, value_of}
+use Rattle.naga_oil_derive.specs.Copying.{IsThere}
+use Rattle.naga_oil_derive.proofs.CopyOneLemmas.{found, not_found}
+use Rattle.naga_oil_derive.proofs.CopyOneLemmas.{constant_absent, constant_fits}
+use Rattle.naga_oil_derive.proofs.CopyOneLemmas.{override_absent, override_fits}
+use Rattle.naga_oil_derive.proofs.CopyOneLemmas.{global_absent, global_fits}
+use Rattle.naga_oil_derive.proofs.CopyOneLemmas.{expression_absent, expression_fits}
 use Rattle.naga_oil_derive.specs.Copied.{copy_state, put}
 use Rattle.naga_oil_derive.proofs.PutLemmas.{constant_put, override_put, global_put, expression_put}
 use Rattle.naga_oil_derive.proofs.copy.Copying.copy_alone.Goals as goal
-
-pub returns-in_default-clause-copies : goal.returns-in_default-clause-copies
-returns-in_default-clause-copies c = absurd (constant_absent c.args.source.now c.in-ConstantItem.h (not_found _ _ c.try_get.ensures c.in_default.not-Some) (subst (IsThere c.args.source.now) c.in-ConstantItem.is c.requires.there))
 
 pub index_mut-requires : goal.index_mut-requires
 index_mut-requires c =
@@ -22,29 +17,11 @@ index_mut-requires c =
     let e = c.index.ensures in
     omega (arith, fits, e)
 
-pub returns-in_ok-place-in-ConstantItem-clause-copies : goal.returns-in_ok-place-in-ConstantItem-clause-copies
-returns-in_ok-place-in-ConstantItem-clause-copies c = λ r here.
-    let is = c.in-ConstantItem.is in
-    let made = constant_made c.args.source.now c.args.self.now.target c.args.self.now.maps c.in-ConstantItem.h c.in-Some.item.now c.in_ok-copy-in-ConstantItem.copy None c.span-span.result c.in_ok-place-in-ConstantItem.place c.fetch_or_append.new.self (with_item c.args.self.now.maps.constants c.index.result (Some c.in_ok-place-in-ConstantItem.place)) (subst (IsThere c.args.source.now) is c.requires.there) c.requires.long (subst (NamesWent c.args.source.now c.args.self.now.maps) is c.requires.ready) (found _ _ c.in-Some.item c.try_get.ensures c.in-Some.is) c.in_ok-copy-in-ConstantItem.ensures (c.span-span.ensures ∙ ap (shifted c.args.self.now.maps.offset) c.get_span.ensures) c.in_ok-place-in-ConstantItem.ensures.place c.in_ok-place-in-ConstantItem.ensures.items (ap (λ i. slice_set c.args.self.now.maps.constants.items i (Some c.in_ok-place-in-ConstantItem.place)) c.index.ensures) r (subst (λ p. world (value_of c.args.source.now) p ≡ Some r) is here) in
-    subst (λ p. CopiesOne c.args.source.now c.args.self.now.target (record c.args.self.now.target { constants = c.fetch_or_append.new.self }) c.args.self.now.maps (record c.args.self.now.maps { constants = (with_item c.args.self.now.maps.constants c.index.result (Some c.in_ok-place-in-ConstantItem.place)) }) p r) (sym is) made
-
-pub returns-in_default-try_get-clause-copies : goal.returns-in_default-try_get-clause-copies
-returns-in_default-try_get-clause-copies c = absurd (override_absent c.args.source.now c.in-OverrideItem.h (not_found _ _ c.try_get-in-OverrideItem.ensures c.in_default-try_get.not-Some) (subst (IsThere c.args.source.now) c.in-OverrideItem.is c.requires.there))
-
 pub index_mut-requires-in-OverrideItem : goal.index_mut-requires-in-OverrideItem
 index_mut-requires-in-OverrideItem c =
     let fits = override_fits c.args.source.now c.args.self.now.maps c.in-OverrideItem.h (subst (IsThere c.args.source.now) c.in-OverrideItem.is c.requires.there) c.requires.long in
     let e = c.index-in-OverrideItem.ensures in
     omega (arith, fits, e)
-
-pub returns-in_ok-place-in-OverrideItem-clause-copies : goal.returns-in_ok-place-in-OverrideItem-clause-copies
-returns-in_ok-place-in-OverrideItem-clause-copies c = λ r here.
-    let is = c.in-OverrideItem.is in
-    let made = override_made c.args.source.now c.args.self.now.target c.args.self.now.maps c.in-OverrideItem.h c.in-Some-try_get.item.now c.in_ok-copy-in-OverrideItem.copy None c.span-span-in-OverrideItem.result c.in_ok-place-in-OverrideItem.place c.fetch_or_append-in-OverrideItem.new.self (with_item c.args.self.now.maps.overrides c.index-in-OverrideItem.result (Some c.in_ok-place-in-OverrideItem.place)) (subst (IsThere c.args.source.now) is c.requires.there) c.requires.long (subst (NamesWent c.args.source.now c.args.self.now.maps) is c.requires.ready) (found _ _ c.in-Some-try_get.item c.try_get-in-OverrideItem.ensures c.in-Some-try_get.is) c.in_ok-copy-in-OverrideItem.ensures (c.span-span-in-OverrideItem.ensures ∙ ap (shifted c.args.self.now.maps.offset) c.get_span-in-OverrideItem.ensures) c.in_ok-place-in-OverrideItem.ensures.place c.in_ok-place-in-OverrideItem.ensures.items (ap (λ i. slice_set c.args.self.now.maps.overrides.items i (Some c.in_ok-place-in-OverrideItem.place)) c.index-in-OverrideItem.ensures) r (subst (λ p. world (value_of c.args.source.now) p ≡ Some r) is here) in
-    subst (λ p. CopiesOne c.args.source.now c.args.self.now.target (record c.args.self.now.target { overrides = c.fetch_or_append-in-OverrideItem.new.self }) c.args.self.now.maps (record c.args.self.now.maps { overrides = (with_item c.args.self.now.maps.overrides c.index-in-OverrideItem.result (Some c.in_ok-place-in-OverrideItem.place)) }) p r) (sym is) made
-
-pub returns-in_default-try_get-2-clause-copies : goal.returns-in_default-try_get-2-clause-copies
-returns-in_default-try_get-2-clause-copies c = absurd (global_absent c.args.source.now c.in-GlobalItem.h (not_found _ _ c.try_get-in-GlobalItem.ensures c.in_default-try_get-2.not-Some) (subst (IsThere c.args.source.now) c.in-GlobalItem.is c.requires.there))
 
 pub index_mut-requires-in-GlobalItem : goal.index_mut-requires-in-GlobalItem
 index_mut-requires-in-GlobalItem c =
@@ -52,26 +29,11 @@ index_mut-requires-in-GlobalItem c =
     let e = c.index-in-GlobalItem.ensures in
     omega (arith, fits, e)
 
-pub returns-in_ok-place-in-GlobalItem-clause-copies : goal.returns-in_ok-place-in-GlobalItem-clause-copies
-returns-in_ok-place-in-GlobalItem-clause-copies c = λ r here.
-    let is = c.in-GlobalItem.is in
-    let made = global_made c.args.source.now c.args.self.now.target c.args.self.now.maps c.in-GlobalItem.h c.in-Some-try_get-2.item.now c.in_ok-copy-in-GlobalItem.copy None c.span-span-in-GlobalItem.result c.in_ok-place-in-GlobalItem.place c.fetch_or_append-in-GlobalItem.new.self (with_item c.args.self.now.maps.global_variables c.index-in-GlobalItem.result (Some c.in_ok-place-in-GlobalItem.place)) (subst (IsThere c.args.source.now) is c.requires.there) c.requires.long (subst (NamesWent c.args.source.now c.args.self.now.maps) is c.requires.ready) (found _ _ c.in-Some-try_get-2.item c.try_get-in-GlobalItem.ensures c.in-Some-try_get-2.is) c.in_ok-copy-in-GlobalItem.ensures (c.span-span-in-GlobalItem.ensures ∙ ap (shifted c.args.self.now.maps.offset) c.get_span-in-GlobalItem.ensures) c.in_ok-place-in-GlobalItem.ensures.place c.in_ok-place-in-GlobalItem.ensures.items (ap (λ i. slice_set c.args.self.now.maps.global_variables.items i (Some c.in_ok-place-in-GlobalItem.place)) c.index-in-GlobalItem.ensures) r (subst (λ p. world (value_of c.args.source.now) p ≡ Some r) is here) in
-    subst (λ p. CopiesOne c.args.source.now c.args.self.now.target (record c.args.self.now.target { global_variables = c.fetch_or_append-in-GlobalItem.new.self }) c.args.self.now.maps (record c.args.self.now.maps { global_variables = (with_item c.args.self.now.maps.global_variables c.index-in-GlobalItem.result (Some c.in_ok-place-in-GlobalItem.place)) }) p r) (sym is) made
-
-pub returns-in_default-try_get-3-clause-copies : goal.returns-in_default-try_get-3-clause-copies
-returns-in_default-try_get-3-clause-copies c = absurd (expression_absent c.args.source.now c.in-ExpressionItem.h (not_found _ _ c.try_get-in-ExpressionItem.ensures c.in_default-try_get-3.not-Some) (subst (IsThere c.args.source.now) c.in-ExpressionItem.is c.requires.there))
-
 pub index_mut-requires-in-ExpressionItem : goal.index_mut-requires-in-ExpressionItem
 index_mut-requires-in-ExpressionItem c =
     let fits = expression_fits c.args.source.now c.args.self.now.maps c.in-ExpressionItem.h (subst (IsThere c.args.source.now) c.in-ExpressionItem.is c.requires.there) c.requires.long in
     let e = c.index-in-ExpressionItem.ensures in
     omega (arith, fits, e)
-
-pub returns-in_ok-place-in-ExpressionItem-clause-copies : goal.returns-in_ok-place-in-ExpressionItem-clause-copies
-returns-in_ok-place-in-ExpressionItem-clause-copies c = λ r here.
-    let is = c.in-ExpressionItem.is in
-    let made = expression_made c.args.source.now c.args.self.now.target c.args.self.now.maps c.in-ExpressionItem.h c.in-Some-try_get-3.item.now c.in_ok-copy-in-ExpressionItem.copy None c.span-span-in-ExpressionItem.result c.in_ok-place-in-ExpressionItem.place c.fetch_or_append-in-ExpressionItem.new.self (with_item c.args.self.now.maps.global_expressions c.index-in-ExpressionItem.result (Some c.in_ok-place-in-ExpressionItem.place)) (subst (IsThere c.args.source.now) is c.requires.there) c.requires.long (subst (NamesWent c.args.source.now c.args.self.now.maps) is c.requires.ready) (found _ _ c.in-Some-try_get-3.item c.try_get-in-ExpressionItem.ensures c.in-Some-try_get-3.is) (ap parts_row c.in_ok-copy-in-ExpressionItem.ensures ∙ parts_row-rename (renames_under c.args.self.now.maps) (parts c.in-Some-try_get-3.item.now) (λ h. refl)) (c.span-span-in-ExpressionItem.ensures ∙ ap (shifted c.args.self.now.maps.offset) c.get_span-in-ExpressionItem.ensures) c.in_ok-place-in-ExpressionItem.ensures.place c.in_ok-place-in-ExpressionItem.ensures.items (ap (λ i. slice_set c.args.self.now.maps.global_expressions.items i (Some c.in_ok-place-in-ExpressionItem.place)) c.index-in-ExpressionItem.ensures) r (subst (λ p. world (value_of c.args.source.now) p ≡ Some r) is here) in
-    subst (λ p. CopiesOne c.args.source.now c.args.self.now.target (record c.args.self.now.target { global_expressions = c.fetch_or_append-in-ExpressionItem.new.self }) c.args.self.now.maps (record c.args.self.now.maps { global_expressions = (with_item c.args.self.now.maps.global_expressions c.index-in-ExpressionItem.result (Some c.in_ok-place-in-ExpressionItem.place)) }) p r) (sym is) made
 
 pub returns-in_default-clause-put : goal.returns-in_default-clause-put
 returns-in_default-clause-put c = absurd (constant_absent c.args.source.now c.in-ConstantItem.h (not_found _ _ c.try_get.ensures c.in_default.not-Some) (subst (IsThere c.args.source.now) c.in-ConstantItem.is c.requires.there))

@@ -1,22 +1,15 @@
 use Rattle.std.proofs.Common.{arith, ◌∙◌, ap, option_map, string_bytes, Some, slice_set}
 use Rattle.std.specs.Vec.{with_item}
 use Rattle.naga_oil_derive.specs.World.{shifted}
-use Rattle.naga_oil_derive.proofs.CopyOneLemmas.{found, not_found, type_absent, type_fits, type_made}
+use Rattle.naga_oil_derive.proofs.CopyOneLemmas.{found, not_found, type_absent, type_fits}
 use Rattle.naga_oil_derive.proofs.PutLemmas.{type_put}
 use Rattle.naga_oil_derive.proofs.copy.Copying.copy_type.Goals as goal
-
-pub returns-in_default-clause-copies : goal.returns-in_default-clause-copies
-returns-in_default-clause-copies c = absurd (type_absent c.args.source.now c.args.handle (not_found _ _ c.get_handle.ensures c.in_default.not-Some) c.requires.there)
 
 pub index_mut-requires : goal.index_mut-requires
 index_mut-requires c =
     let fits = type_fits c.args.source.now c.args.self.now.maps c.args.handle c.requires.there c.requires.long in
     let e = c.index.ensures in
     omega (arith, fits, e)
-
-pub returns-clause-copies : goal.returns-clause-copies
-returns-clause-copies c =
-    type_made c.args.source.now c.args.self.now.target c.args.self.now.maps c.args.handle c.in-Some.item.now c.in_ok-copy.copy (option_map (λ n. Some (string_bytes n)) c.args.name) c.span-span.result c.in_ok-place.place c.insert.new.self _ c.requires.there c.requires.long c.requires.ready (found _ _ c.in-Some.item c.get_handle.ensures c.in-Some.is) c.in_ok-copy.ensures (c.span-span.ensures ∙ ap (shifted c.args.self.now.maps.offset) c.get_span.ensures) c.in_ok-place.ensures.place c.in_ok-place.ensures.items (ap (λ i. slice_set c.args.self.now.maps.types.items i (Some c.in_ok-place.place)) c.index.ensures)
 
 pub returns-in_default-clause-put : goal.returns-in_default-clause-put
 returns-in_default-clause-put c = absurd (type_absent c.args.source.now c.args.handle (not_found _ _ c.get_handle.ensures c.in_default.not-Some) c.requires.there)

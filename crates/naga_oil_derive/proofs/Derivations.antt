@@ -1,0 +1,127 @@
+-- The laws of derivations, for the fields of a derived module.
+use Rattle.std.proofs.Common.{◌≡◌, ℕ, List, [], Option, Some, None, option_map, refl, ap, sym, ◌∙◌, subst, All, IfSome, Vec, Global, Result, Ok, Err, OnOk}
+use Rattle.std.specs.Borrow.{Bor}
+use Rattle.naga_oil_ir.specs.Rows.{Text}
+use Rattle.naga_oil_ir.specs.ModuleValue.{ModuleValue, special_value}
+use Rattle.naga_oil_ir.specs.declared.module.Module.{Module}
+use Rattle.naga_oil_ir.specs.declared.names.ItemPlace.{ItemPlace}
+use Rattle.naga_oil_ir.specs.declared.names.ItemPlace.TheVariants.{TypeItem}
+use Rattle.naga_oil_derive.specs.declared.maps.Maps.{Maps}
+use Rattle.naga_oil_derive.specs.Tree.{Kept}
+use Rattle.naga_oil_derive.specs.World.{goes, value_of, world, special_at, special_entries, HaveDistinctKeys}
+use Rattle.naga_oil_derive.specs.Copyable.{CopyableItems}
+use Rattle.naga_oil_derive.specs.Copying.{AreRanked, IsCopying, Grows, WentSomewhere, places_of, goes_under, handle_under, kept_between, kept_over, special_names}
+use Rattle.naga_oil_derive.specs.Copied.{copy_state, all_copied}
+use Rattle.naga_oil_derive.specs.CopiedLaw.{HasAt, IsMidway}
+use Rattle.naga_oil_derive.specs.Putting.{Putting}
+use Rattle.naga_oil_derive.specs.Derived.{Source, Derived, cleared, HasItem, IsImported, IsSet, Sets, KeepsItems}
+use Rattle.naga_oil_derive.specs.DerivedView.{source_of, derived_of, IsSpecialThere, IsDerived}
+use Rattle.naga_oil_derive.specs.DerivedValue.{no_places, item_imported, type_renamed, source_set}
+use Rattle.naga_oil_derive.specs.DerivedLaw.{IsSourceOf, AreThere, IsDerivation, RenamesOnly, type_place, SetsOnly}
+use Rattle.naga_oil_derive.proofs.SpecialLemmas.{Entry}
+use Rattle.naga_oil_derive.proofs.DeriveCalls.{Shader, FunctionNames}
+use Rattle.naga_oil_derive.proofs.KindLaws.{value_kinds, ranked_copyable, value_copyable, value_special}
+use Rattle.naga_oil_derive.proofs.DerivedLaws.{midway_now, import_law, rename_law}
+use Rattle.naga_oil_derive.proofs.SetLaws.{as_names, midway_first, start, set_law}
+use Rattle.naga_oil_derive.proofs.SourceValues.{copying_starts}
+use Rattle.naga_oil_derive.proofs.PuttingLemmas.{midway_of, copying_of, putting_copying, putting_grows, names_went}
+
+-- ---- what holds of the fields says that the value is a derivation
+
+-- the places kept for the special types of the source, if one is set
+abbrev kept_for : Shader → Module → Kept
+kept_for None t = λ p. None
+kept_for (Some s) t = kept_between s.now t
+
+source_holds : (s : Bor Module) (m : Maps) (t : Module) → IsCopying s.now t m → AreRanked s.now → IsSourceOf (kept_between s.now t) (source_of m s) (value_of t)
+unfolding kept_between goes_under value_of
+source_holds s m t i a = record { copyable = ranked_copyable s.now a; midway = midway_of s.now t m i; stand = i.copied.stand; still = λ p q h. h }
+
+special_seen : (t : Module) → IsSpecialThere t → AreThere (value_of t)
+unfolding value_of
+special_seen t h = h
+
+special_unseen : (t : Module) → AreThere (value_of t) → IsSpecialThere t
+unfolding value_of
+special_unseen t h = h
+
+derivation_of : (o : Shader) (m : Maps) (t : Module) (ns : FunctionNames) → IsDerived o m t → IsDerivation (kept_for o t) (derived_of o m t ns)
+derivation_of None m t ns d = record { kinds = value_kinds t; sound = d.sound; special = special_seen t d.special; source = tt }
+derivation_of (Some s) m t ns d = record { kinds = value_kinds t; sound = d.sound; special = special_seen t d.special; source = source_holds s m t d.source.0 d.source.1 }
+
+derivation_seen : (o : Shader) (m : Maps) (t : Module) (ns : FunctionNames) (d : Derived) → derived_of o m t ns ≡ d → IsDerived o m t → IsDerivation (kept_for o t) d
+derivation_seen o m t ns d v i = subst (IsDerivation (kept_for o t)) v (derivation_of o m t ns i)
+
+midway_between : (first : Kept) (s : Bor Module) (n : Maps) (u : Module) → IsSourceOf first (source_of n s) (value_of u) → IsMidway (value_of s.now) (kept_between s.now u) (copy_state n u)
+unfolding kept_between value_of
+midway_between first s n u i = midway_now first (source_of n s) (value_of u) i
+
+-- and the other way
+derived_by : (first : Kept) (s : Bor Module) (n : Maps) (u : Module) (ns : FunctionNames) → AreRanked s.now → IsDerivation first (derived_of (Some s) n u ns) → IsDerived (Some s) n u
+derived_by first s n u ns a d = record { sound = d.sound; special = special_unseen u d.special; source = (copying_of s.now u n (midway_between first s n u d.source), a) }
+
+-- ---- items
+
+pub imports_law : {A B : Type 0} (a : Result A B) (o : Shader) (m : Maps) (t : Module) (ns : FunctionNames) (d e : Derived) (p : ItemPlace) → derived_of o m t ns ≡ d → IsDerived o m t → HasItem d p → OnOk a (e ≡ item_imported d p) → OnOk a ((q : ItemPlace) × IsImported d e p q)
+imports_law (Ok x) o m t ns d e p v i h is = subst (λ y. (q : ItemPlace) × IsImported d y p q) (sym is) (import_law (kept_for o t) d p (derivation_seen o m t ns d v i) h).imported
+imports_law (Err x) o m t ns d e p v i h is = tt
+
+-- ---- types under a name
+
+pub renames_law : (o : Shader) (m : Maps) (t : Module) (ns : FunctionNames) (d e : Derived) (k : ℕ) (name : Option Text) → derived_of o m t ns ≡ d → IsDerived o m t → HasItem d (TypeItem k) → e ≡ type_renamed d k name → RenamesOnly (kept_for o t) d e k name (type_place e k)
+renames_law o m t ns d e k name v i h is =
+    subst (λ y. RenamesOnly (kept_for o t) d y k name (type_place y k)) (sym is) (rename_law (kept_for o t) d k name (derivation_seen o m t ns d v i) h)
+
+pub type_at : (o : Shader) (s : Bor Module) (n : Maps) (u : Module) (ns : FunctionNames) (k h : ℕ) → o ≡ Some s → h ≡ handle_under n.types.items k → type_place (derived_of o n u ns) k ≡ h
+type_at o s n u ns k h e is = subst (λ (x : Shader). type_place (derived_of x n u ns) k ≡ handle_under n.types.items k) (sym e) refl ∙ sym is
+
+-- ---- a source
+
+distinct_in : (m : Module) → HaveDistinctKeys (special_entries (special_value m.special_types)) → HaveDistinctKeys (special_entries (value_of m).special_types)
+unfolding value_of
+distinct_in m d = d
+
+-- what a source is set over doesn't matter
+sets_over : (m : ModuleValue) (shift : ℕ) (d e : Derived) (o : Option Source) → IfSome o (Sets m shift (cleared d) e) → IfSome o (Sets m shift d e)
+sets_over m shift d e None w = tt
+sets_over m shift d e (Some s) w = record { value = w.value; offset = w.offset; stands = w.stands; reads = w.reads; special = w.special; collects = w.collects }
+
+-- the source that is set, as callers see it
+pub record HasSet (m : ModuleValue) (shift : ℕ) (first : Kept) (d e : Derived) : Type 0 where
+  pub derivation : IsDerivation first e
+  pub set : IsSet m shift d e
+  pub keeps : KeepsItems d e
+
+pub sets_law : (o : Shader) (k : Maps) (t : Module) (ns : FunctionNames) (d e : Derived) (m : Module) (es : List Entry) (shift : ℕ) → derived_of o k t ns ≡ cleared d → IsDerived o k t → CopyableItems m → HaveDistinctKeys es → es ≡ special_entries (special_value m.special_types) → e ≡ source_set d (value_of m) shift → (first : Kept) × HasSet (value_of m) shift first d e
+sets_law o k t ns d e m es shift v i c distinct entries is =
+    let law = set_law (kept_for o t) (cleared d) (value_of m) shift (derivation_seen o k t ns (cleared d) v i) (value_copyable m c) (value_special m c (distinct_in m (subst HaveDistinctKeys entries distinct))) in
+    let made = source_set d (value_of m) shift in (
+      _,
+      subst (λ y. HasSet (value_of m) shift _ d y) (sym is) (record {
+        derivation = law.derivation;
+        set = (refl, sets_over (value_of m) shift d made made.source law.set.1);
+        keeps = record { items = law.keeps.items; special = law.keeps.special; names = law.keeps.names };
+      }),
+    )
+
+pub derived_set : (s : Bor Module) (n : Maps) (u : Module) (ns : FunctionNames) (m : ModuleValue) (shift : ℕ) (d : Derived) → AreRanked s.now → (first : Kept) × HasSet m shift first d (derived_of (Some s) n u ns) → IsDerived (Some s) n u
+derived_set s n u ns m shift d a w = derived_by w.0 s n u ns a w.1.derivation
+
+-- ---- while its special types are copied
+
+begun_midway : (s : Module) (o : Shader) (k : Maps) (t : Module) → CopyableItems s → IsDerived o k t → HaveDistinctKeys (special_entries (special_value s.special_types)) → IsMidway (value_of s) (kept_between s t) (start (derived_of o k t []) (value_of s))
+unfolding kept_between value_of
+begun_midway s o k t c i distinct = midway_first (kept_for o t) (derived_of o k t []) (value_of s) (derivation_of o k t [] i) (value_special s c distinct)
+
+-- the state from which they are copied
+pub copying_begun : (s : Module) (o : Shader) (k m : Maps) (t : Module) (v : Vec (Option ℕ) Global) (es : List Entry) → CopyableItems s → IsDerived o k t → HaveDistinctKeys es → es ≡ special_entries (special_value s.special_types) → places_of m ≡ no_places (value_of s) → v.items ≡ kept_over (special_at (special_value t.special_types)) es m.types.items → IsCopying s t (record m { types = v })
+copying_begun s o k m t v es c i distinct entries fresh kept =
+    let n = record m { types = v } in
+    copying_of s t n (subst (IsMidway (value_of s) (kept_between s t)) (sym (copying_starts s t m v es (derived_of o k t []) refl fresh entries kept)) (begun_midway s o k t c i (subst HaveDistinctKeys entries distinct)))
+
+all_there : (s : Module) (es : List Entry) → CopyableItems s → HaveDistinctKeys es → es ≡ special_entries (special_value s.special_types) → All (λ o. IfSome o (HasAt (value_of s))) (special_names es)
+unfolding value_of
+all_there s es c distinct entries = subst (λ (xs : List Entry). All (λ o. IfSome o (HasAt (value_of s))) (special_names xs)) (sym entries) (as_names (HasAt (value_of s)) (special_entries (special_value s.special_types)) (value_special s c (subst HaveDistinctKeys entries distinct)).there)
+
+pub special_went : (s t u : Module) (m n : Maps) (es : List Entry) → CopyableItems s → AreRanked s → HaveDistinctKeys es → es ≡ special_entries (special_value s.special_types) → IsCopying s t m → copy_state n u ≡ all_copied (value_of s) m.offset (copy_state m t) (special_names es) → All (WentSomewhere (goes_under n)) (special_names es)
+special_went s t u m n es c a distinct entries i is = names_went s t u m n (special_names es) a i (all_there s es c distinct entries) is
