@@ -9,9 +9,9 @@ use Rattle.naga_oil_ir.specs.declared.span.Span.{Span}
 use Rattle.naga_oil_derive.specs.Tree.{World, Kept, ReadsAs}
 use Rattle.naga_oil_derive.specs.World.{goes, world, renamed_at, under_name}
 use Rattle.naga_oil_derive.specs.Collected.{Collects, Done, Known, Fresh, depth, names_trail}
-use Rattle.naga_oil_derive.specs.Copying.{IsSound, AreCopied, WentSomewhere}
+use Rattle.naga_oil_derive.specs.Copying.{Goes, IsSound, AreCopied, WentSomewhere}
 use Rattle.naga_oil_derive.specs.Copied.{CopyState, Copier, put, put_type, copied_names, copied_row, copied_by, copied_within, copied, all_copied, copied_type}
-use Rattle.naga_oil_derive.specs.CopiedLaw.{IsKinded, kind_number, place_number, HasAt, IsBelowIn, IsRankedBy, IsCopyable, reads_now, spans_by, IsMidway, PutsOne, GrowsBy, HasCopyNow, trail_in}
+use Rattle.naga_oil_derive.specs.CopiedLaw.{IsKinded, kind_number, place_number, HasAt, IsBelowIn, IsRankedBy, IsCopyable, reads_now, spans_by, IsMidway, PutsOne, PlacesAmong, GrowsBy, HasCopyNow, trail_in}
 use Rattle.naga_oil_derive.proofs.TreeLemmas.{reads, same_or_not, puts_keeps, IsSound-copy, AreCopied-step, AreCopied-named}
 use Rattle.naga_oil_derive.proofs.WorldLemmas.{named_none, named_names}
 use Rattle.naga_oil_derive.proofs.CopyLemmas.{world_here, world_there, free, none_some, same_rows}
@@ -76,12 +76,16 @@ collects_step m shift kept w s u p row a i b j c =
 pub grows_refl : (m : ModuleValue) (shift : ℕ) (kept : Kept) (w : World) (s : CopyState) → IsMidway m kept s → reads_now m s ≡ w → GrowsBy m shift kept w s s []
 grows_refl m shift kept w s i e = record { midway = i; reads = e; went = λ p q g. g; places = λ p. inl refl; collects = Done }
 
+pub places_both : (k m n : Goes) (xs ys zs : List ItemPlace) → xs ++ ys ≡ zs → PlacesAmong k m xs → PlacesAmong m n ys → PlacesAmong k n zs
+places_both k m n xs ys zs e a b p =
+    ⊎_elim (λ same. ⊎_elim (λ f. inl (same ∙ f)) (λ f. inr (subst (λ v. Contains v p) e (Contains-append_left xs ys p f.0), (f.1.0, same ∙ f.1.1))) (a p)) (λ f. inr (subst (λ v. Contains v p) e (Contains-append_right xs ys p f.0), f.1)) (b p)
+
 pub grows_trans : (m : ModuleValue) (shift : ℕ) (kept : Kept) (w : World) (s t u : CopyState) (xs ys : List ItemPlace) → GrowsBy m shift kept w s t xs → GrowsBy m shift kept w t u ys → GrowsBy m shift kept w s u (xs ++ ys)
 grows_trans m shift kept w s t u xs ys a b = record {
   midway = b.midway;
   reads = b.reads;
   went = λ p q g. b.went p q (a.went p q g);
-  places = λ p. ⊎_elim (λ e. ⊎_elim (λ f. inl (e ∙ f)) (λ f. inr (Contains-append_left xs ys p f.0, (f.1.0, e ∙ f.1.1))) (a.places p)) (λ e. inr (Contains-append_right xs ys p e.0, e.1)) (b.places p);
+  places = places_both (goes s.places) (goes t.places) (goes u.places) xs ys (xs ++ ys) refl a.places b.places;
   collects = Collects-append ys a.collects b.collects;
 }
 
@@ -266,7 +270,8 @@ type_behind m shift kept rank s t k o r kinds a is i fresh g went =
     let agrees : (y : ItemPlace) → rank y < rank p → new y ≡ old y = λ y h. elsewhere y (λ e. let q = ap rank e in absurd (omega (arith, h, q))) in
     let before = collects_agrees m shift kept rank old new (rank p) s t r.names l agrees ns g.collects in
     let among = trails_agree m kept rank old new (rank p) r.names l agrees ns in
-    let copied_t = AreCopied-named (reads_now m t) new (world t.target) kept (goes t.places) g.midway.copied (λ x y h. elsewhere x (λ e. none_some y (sym fresh_t ∙ ap (goes t.places) (sym e) ∙ h)) ∙ ap (λ w. w x) (sym g.reads)) in
+    let unnamed : (x y : ItemPlace) → goes t.places x ≡ Some y → new x ≡ reads_now m t x = λ x y h. subst (λ w. new x ≡ w x) (sym g.reads) (elsewhere x (λ e. none_some y (sym fresh_t ∙ ap (goes t.places) (sym e) ∙ h))) in
+    let copied_t = AreCopied-named (reads_now m t) new (world t.target) kept (goes t.places) g.midway.copied unnamed in
     let one = grows_one m shift kept new t u p row copied_t g.midway.sound j now fresh_t c in
     let l_new : Lowers new rank = subst (λ w. Lowers w rank) now (lowers m rank u a) in
     let at : new p ≡ Some row = ap (λ w. w p) (sym now) ∙ here m t u p o r row (spans_by m shift p) c is refl in
@@ -277,7 +282,7 @@ type_behind m shift kept rank s t k o r kinds a is i fresh g went =
         midway = j;
         reads = now;
         went = λ x y h. one.went x y (g.went x y h);
-        places = λ x. ⊎_elim (λ e. ⊎_elim (λ f. inl (e ∙ f)) (λ f. inr (subst (λ xs. Contains xs x) same (Contains-append_left (names_trail (trail_in m kept new) r.names) (p ∷ []) x (subst (λ xs. Contains xs x) among f.0)), (f.1.0, e ∙ f.1.1))) (g.places x)) (λ e. inr (subst (λ xs. Contains xs x) same (Contains-append_right (names_trail (trail_in m kept new) r.names) (p ∷ []) x e.0), e.1)) (one.places x);
+        places = places_both (goes s.places) (goes t.places) (goes u.places) (names_trail (trail_in m kept new) r.names) (p ∷ []) (trail_in m kept new p) same (subst (PlacesAmong (goes s.places) (goes t.places)) among g.places) one.places;
         collects = subst (λ xs. Collects new kept (spans_by m shift) s.target xs u.target) same (Collects-append (p ∷ []) before one.collects);
       },
       (c.place, c.puts.at),

@@ -1,5 +1,5 @@
 -- What the methods of a derived module do, over values alone.
-use Rattle.std.proofs.Common.{◌≡◌, ℕ, List, Option, Some, None, refl, ap, sym, ◌∙◌, subst, IfSome}
+use Rattle.std.proofs.Common.{inl, ◌≡◌, ℕ, List, Option, Some, None, refl, ap, sym, ◌∙◌, subst, IfSome}
 use Rattle.std.proofs.lemmas.Bool.{false≢true}
 use Rattle.naga_oil_ir.specs.Rows.{Text}
 use Rattle.naga_oil_ir.specs.ModuleValue.{ModuleValue, no_items}
@@ -32,7 +32,7 @@ Collects-extends {m} {n} (Fresh {l} s c) = Extends-trans m l n s.extends (Collec
 pub special_same : (m n : ModuleValue) → Extends m n → n.special_types ≡ m.special_types
 special_same m n e = ap (λ (v : ModuleValue). v.special_types) e.rest
 
-kept_as : (s : Source) (t u : ModuleValue) → Extends t u → kept s u ≡ kept s t
+pub kept_as : (s : Source) (t u : ModuleValue) → Extends t u → kept s u ≡ kept s t
 kept_as s t u e = ap (kept_of s.value.special_types) (special_same t u e)
 
 -- ---- derivations
@@ -116,6 +116,7 @@ import_some first s t ns p i r =
     let b = copied_item s.value s.offset (kept s t) c p i.source.copyable (midway_now first s t i.source) r in
     record {
       derivation = derived_after first s t ns (as_read s t) (copied s.value s.offset c p) _ i a.0;
+      places = b.0.places;
       imported = (b.1.0, record { reads = b.1.2; collects = b.0.collects; goes = b.1.1 });
       reads = a.0.reads;
       keeps = keeps_after first s t ns (as_read s t) (copied s.value s.offset c p) _ a.0;
@@ -143,6 +144,7 @@ rename_known first s t ns k name q i g =
     let same : type_renamed d k name ≡ d = ap (after_copying d s) (type_again s.value s.offset c k name (q, g)) in
     subst (λ (e : Derived). RenamesOnly first d e k name (type_place e k)) (sym same) (record {
       derivation = i;
+      places = λ p. inl refl;
       known = λ x h. (same_place (goes s.places (TypeItem k)) x (TypeItem (handle_under s.places.types k)) h (goes_renamed s.offset s.places (TypeItem k) x h), refl);
       renamed = λ n. absurd (some_place (goes s.places (TypeItem k)) q n g);
       keeps = record { items = Extends-refl t; names = refl; source = record { value = refl; offset = refl; went = λ x y h. h } };
@@ -160,6 +162,7 @@ rename_fresh first s t ns k name i r n =
     let is : b.1.0 ≡ q = same_place (goes u.places (TypeItem k)) b.1.0 q b.1.1 at in
     record {
       derivation = derived_after first s t ns w u _ i a.0;
+      places = b.0.places;
       known = λ x h. absurd (some_place (goes s.places (TypeItem k)) x n h);
       renamed = λ m. (record { reads = subst (ReadsAs w (world u.target) (kept s t) (TypeItem k)) is b.1.2; collects = b.0.collects; goes = at }, a.0.reads);
       keeps = keeps_after first s t ns w u _ a.0;

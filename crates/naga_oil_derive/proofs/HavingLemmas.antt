@@ -33,6 +33,22 @@ use Rattle.naga_oil_derive.proofs.CopyLemmas.{kept_same}
 use Rattle.naga_oil_derive.proofs.DeriveLemmas.{source_at, derived_at, later_source}
 use Rattle.naga_oil_derive.proofs.FunctionValues.{known_same, callee_same, callee_means, may_copy_all, may_call}
 
+-- ---- a module with other functions
+
+abbrev pub given : ModuleValue → List (FunctionValue × Span) → ModuleValue
+given m fs = record m { functions = fs }
+
+pub world_given_at : (m : ModuleValue) (fs : List (FunctionValue × Span)) (p : ItemPlace) → world (given m fs) p ≡ world m p
+unfolding world
+world_given_at m fs (TypeItem k) = refl
+world_given_at m fs (ConstantItem k) = refl
+world_given_at m fs (OverrideItem k) = refl
+world_given_at m fs (GlobalItem k) = refl
+world_given_at m fs (ExpressionItem k) = refl
+
+pub world_given : (m : ModuleValue) (fs : List (FunctionValue × Span)) → world (given m fs) ≡ world m
+world_given m fs = λ i p. world_given_at m fs p i
+
 -- ---- the items of a module don't depend on its functions
 
 world_at : (t : Module) (fs : List (Function × Span)) (p : ItemPlace) → world (value_of (having t fs)) p ≡ world (value_of t) p

@@ -13,7 +13,7 @@ use Rattle.naga_oil_ir.specs.declared.module.Function.{Function}
 use Rattle.naga_oil_ir.specs.declared.span.Span.{Span}
 use Rattle.naga_oil_ir.specs.declared.names.ItemPlace.{ItemPlace}
 use Rattle.naga_oil_derive.specs.World.{goes, value_of, shifted}
-use Rattle.naga_oil_derive.specs.Copying.{IsThere, AreRanked, IsCopying, WentSomewhere, kept_between}
+use Rattle.naga_oil_derive.specs.Copying.{IsThere, AreRanked, IsCopying, WentSomewhere, places_of, goes_under}
 use Rattle.naga_oil_derive.specs.Callees.{known_as, known_at, callee_at}
 use Rattle.naga_oil_derive.specs.Copied.{CopyState, copy_state, copied}
 use Rattle.naga_oil_derive.specs.CopiedFunction.{copied_function}
@@ -27,9 +27,8 @@ use Rattle.naga_oil_derive.specs.declared.maps.Maps.{Maps}
 use Rattle.naga_oil_derive.specs.declared.import.Functions.{Functions}
 use Rattle.naga_oil_derive.specs.declared.walk.Request.{Request}
 use Rattle.naga_oil_derive.specs.declared.walk.Request.TheVariants.{Item, Call}
-use Rattle.naga_oil_derive.proofs.KindLaws.{ranked_copyable}
-use Rattle.naga_oil_derive.proofs.CopiedLaws.{copied_item}
-use Rattle.naga_oil_derive.proofs.AddingLemmas.{KnowsNames, midway_of, names_added}
+use Rattle.naga_oil_derive.proofs.PuttingLemmas.{copied_went}
+use Rattle.naga_oil_derive.proofs.AddingLemmas.{KnowsNames, names_added}
 use Rattle.naga_oil_derive.proofs.FunctionValues.{known_same}
 use Rattle.naga_oil_derive.proofs.HavingLemmas.{going_same}
 use Rattle.naga_oil_derive.proofs.MeaningLemmas.{meaning_put, meaning_same}
@@ -78,10 +77,9 @@ request_added source t u m n a b shift depth ns xs ys i r copying adding may th 
     request_at source a b depth ns xs i r (subst (Thins [] ns) (sym e) th) may (names_added source t u m n a b shift copying adding) l is
 
 -- an item that is copied went somewhere
-pub item_went : (source t u : Module) (m n : Maps) (p : ItemPlace) (shift : ℕ) → AreRanked source → IsCopying source t m → IsThere source p → copy_state n u ≡ copied (value_of source) shift (copy_state m t) p → WentSomewhere (goes (copy_state n u).places) (Some p)
-item_went source t u m n p shift ranked i there e =
-    let g = copied_item (value_of source) shift (kept_between source t) (copy_state m t) p (ranked_copyable source ranked) (midway_of source t m i) there in
-    subst (λ (c : CopyState). WentSomewhere (goes c.places) (Some p)) (sym e) (g.1.0, g.1.1)
+pub item_went : (source t u : Module) (m n : Maps) (p : ItemPlace) → AreRanked source → IsCopying source t m → IsThere source p → copy_state n u ≡ copied (value_of source) m.offset (copy_state m t) p → WentSomewhere (goes (places_of n)) (Some p)
+unfolding goes_under
+item_went source t u m n p ranked i there e = copied_went source t u m n p ranked i there e
 
 -- ---- functions of a source
 

@@ -1,5 +1,6 @@
 -- A module of which items can be copied has a value that says so.
-use Rattle.std.proofs.Common.{◌≡◌, refl, ◌∙◌, All}
+use Rattle.std.specs.List.{IsDistinct}
+use Rattle.std.proofs.Common.{map, nat_eq, ◌≡◌, refl, ◌∙◌, All}
 use Rattle.naga_oil_ir.specs.Rows.{Kind, TypeKind, ConstantKind, OverrideKind, GlobalKind, ExpressionKind}
 use Rattle.naga_oil_ir.specs.ModuleValue.{special_value}
 use Rattle.naga_oil_ir.specs.declared.module.Module.{Module}
@@ -11,7 +12,7 @@ use Rattle.naga_oil_derive.specs.Copyable.{CopyableItems}
 use Rattle.naga_oil_derive.specs.CopiedLaw.{kind_number, place_number, IsKinded, HasAt, IsCopyable, AreSpecial}
 use Rattle.naga_oil_derive.proofs.WorldLemmas.{kind_code, place_code, world_code}
 use Rattle.naga_oil_derive.proofs.RankLemmas.{ranked}
-use Rattle.naga_oil_derive.proofs.SpecialLemmas.{Entry}
+use Rattle.naga_oil_derive.proofs.SpecialLemmas.{Entry, entries_distinct}
 use Rattle.naga_oil_derive.proofs.DeriveCalls.{entries_are_there}
 
 kind_same : (k : Kind) → kind_number k ≡ kind_code k
@@ -35,6 +36,11 @@ special : (m : Module) → CopyableItems m → All (λ (e : Entry). HasAt (value
 unfolding value_of
 special m c = entries_are_there m (special_entries (special_value m.special_types)) c refl
 
+-- the keys of a map are distinct
+keys : (m : Module) → IsDistinct nat_eq (map (λ e. e.0) m.special_types.predeclared_types.entries) → HaveDistinctKeys (special_entries (value_of m).special_types)
+unfolding value_of
+keys m d = entries_distinct (special_value m.special_types) d
+
 pub ranked_copyable : (m : Module) → AreRanked m → IsCopyable (value_of m)
 ranked_copyable m a = record {
   kinds = value_kinds m;
@@ -45,5 +51,5 @@ ranked_copyable m a = record {
 pub value_copyable : (m : Module) → CopyableItems m → IsCopyable (value_of m)
 value_copyable m c = ranked_copyable m (ranked m c)
 
-pub value_special : (m : Module) → CopyableItems m → HaveDistinctKeys (special_entries (value_of m).special_types) → AreSpecial (value_of m)
-value_special m c d = record { there = special m c; distinct = d }
+pub value_special : (m : Module) → CopyableItems m → IsDistinct nat_eq (map (λ e. e.0) m.special_types.predeclared_types.entries) → AreSpecial (value_of m)
+value_special m c d = record { there = special m c; distinct = keys m d }

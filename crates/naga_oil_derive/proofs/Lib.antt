@@ -18,6 +18,7 @@ pub mod AnsweredValues
 pub mod DerivedValues
 pub mod PutLaws
 pub mod KindLaws
+pub mod ViewLaws
 pub mod CopiedLaws
 pub mod DerivedLaws
 pub mod SetLaws
@@ -40,11 +41,11 @@ pub mod LocalSteps
 pub mod NamingLemmas
 pub mod ReachSteps
 pub mod AddingLemmas
+pub mod AddingLaws
 pub mod ImportSteps
 pub mod FunctionValues
 pub mod MeaningLemmas
 pub mod HavingLemmas
-pub mod AnsweredLemmas
 pub mod FunctionCalls
 pub mod SpecialLoops
 pub mod DeriveCalls

@@ -16,7 +16,7 @@ use Rattle.naga_oil_derive.specs.World.{Places, goes, world, Extends, named_worl
 use Rattle.naga_oil_derive.specs.Collected.{Collects, depth, reached, names_trail}
 use Rattle.naga_oil_derive.specs.Copying.{IsSound, AreCopied, WentSomewhere, handle_under, special_names}
 use Rattle.naga_oil_derive.specs.Copied.{CopyState}
-use Rattle.naga_oil_derive.specs.CopiedLaw.{HasAt, IsCopyable, AreSpecial, AreRoomy, reads_now, spans_by, IsMidway}
+use Rattle.naga_oil_derive.specs.CopiedLaw.{HasAt, IsCopyable, AreSpecial, AreRoomy, reads_now, spans_by, IsMidway, PlacesAmong, trail_in}
 use Rattle.naga_oil_derive.specs.Derived.{Source, Derived, as_read, kept, type_under, with_special_types}
 use Rattle.naga_oil_derive.specs.DerivedValue.{first_places, special_copied, source_set}
 use Rattle.naga_oil_derive.specs.DerivedLaw.{AreThere, IsDerivation, Settles, SetsOnly}
@@ -290,6 +290,7 @@ set_law first d m shift i c a =
         special = there_set m f u all.0.midway went (there_later d.target u.target ext i.special);
         source = record { copyable = c; midway = midway; stand = stand; still = λ p q h. still_by f (kept_of m.special_types x) (goes u.places) stand begun (none_before m d.target.special_types x u.places is) p q h (kept_of m.special_types x p) refl };
       };
+      places = subst (λ v. PlacesAmong f (goes u.places) (names_trail (reached (depth m) v f) (special_names es))) (sym reads) (subst (λ v. PlacesAmong v (goes u.places) (names_trail (trail_in m f w) (special_names es))) (goes_as_first d m a) all.0.places);
       set = (
         refl,
         record {

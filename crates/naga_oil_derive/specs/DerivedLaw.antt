@@ -5,11 +5,12 @@ use Rattle.naga_oil_ir.specs.ModuleValue.{ModuleValue}
 use Rattle.naga_oil_ir.specs.declared.names.ItemPlace.{ItemPlace}
 use Rattle.naga_oil_ir.specs.declared.names.ItemPlace.TheVariants.{TypeItem}
 use Rattle.naga_oil_derive.specs.declared.special.SpecialKey.{SpecialKey}
-use Rattle.naga_oil_derive.specs.Tree.{Kept, ReadsAs}
-use Rattle.naga_oil_derive.specs.World.{goes, world, kept_of, special_at, special_entries}
+use Rattle.naga_oil_derive.specs.Tree.{World, Kept, ReadsAs}
+use Rattle.naga_oil_derive.specs.World.{goes, world, renamed_at, kept_of, special_at, special_entries}
+use Rattle.naga_oil_derive.specs.Collected.{depth, reached, names_trail}
 use Rattle.naga_oil_derive.specs.Copying.{IsSound}
-use Rattle.naga_oil_derive.specs.CopiedLaw.{IsKinded, HasAt, IsCopyable, AreSpecial, IsMidway}
-use Rattle.naga_oil_derive.specs.Derived.{Source, Derived, nothing, cleared, as_read, kept, HasItem, IsImported, IsKnown, IsRenamed, Keeps, ReadsAsBefore, KeepsItems, IsSet}
+use Rattle.naga_oil_derive.specs.CopiedLaw.{IsKinded, HasAt, IsCopyable, AreSpecial, IsMidway, PlacesAmong}
+use Rattle.naga_oil_derive.specs.Derived.{Source, Derived, nothing, cleared, as_read, kept, HasItem, IsImported, IsKnown, IsRenamed, Keeps, ReadsAsBefore, KeepsItems, IsSet, special_places}
 use Rattle.naga_oil_derive.specs.DerivedValue.{item_imported, type_renamed, source_set, place_by}
 
 -- ---- between calls
@@ -33,6 +34,14 @@ pub record IsDerivation (first : Kept) (d : Derived) : Type 0 where
   pub special : AreThere d.target
   pub source : IfSome d.source (λ s. IsSourceOf first s d.target)
 
+-- the places that a derived module has for special types of its source
+abbrev pub kept_in_source : Option Source → ModuleValue → Kept
+kept_in_source None t = λ p. None
+kept_in_source (Some s) t = kept s t
+
+abbrev pub kept_by : Derived → Kept
+kept_by d = kept_in_source d.source d.target
+
 -- LAW: a module of nothing is a derivation
 abbrev pub NothingLaw : Type 0
 NothingLaw = (first : Kept) → IsDerivation first nothing
@@ -54,9 +63,15 @@ abbrev pub PlacedLaw : Type 0
 PlacedLaw = (first : Kept) (d : Derived) (s : Source) (p q : ItemPlace) →
     IsDerivation first d → d.source ≡ Some s → goes s.places p ≡ Some q → ReadsIn first d s p q
 
+-- between two sources only what the item at p reaches, where d's source reads by f, went somewhere
+abbrev pub MovesOnly : (Source → World) → Derived → Derived → ItemPlace → Type 0
+MovesOnly f d e p = IfSome d.source (λ s. IfSome e.source (λ t.
+    PlacesAmong (goes s.places) (goes t.places) (reached (depth s.value) (f s) (kept s d.target) p)))
+
 -- an item was imported, and all else stayed
 pub record ImportsOnly (first : Kept) (d e : Derived) (p : ItemPlace) : Type 0 where
   pub derivation : IsDerivation first e
+  pub places : MovesOnly (λ s. as_read s d.target) d e p
   pub imported : (q : ItemPlace) × IsImported d e p q
   pub reads : ReadsAsBefore d e
   pub keeps : Keeps d e
@@ -69,6 +84,7 @@ ImportLaw = (first : Kept) (d : Derived) (p : ItemPlace) →
 -- a type was copied under a name to h, or it was known there, and all else stayed
 pub record RenamesOnly (first : Kept) (d e : Derived) (k : ℕ) (name : Option Text) (h : ℕ) : Type 0 where
   pub derivation : IsDerivation first e
+  pub places : MovesOnly (λ s. renamed_at (as_read s d.target) k name) d e (TypeItem k)
   pub known : IsKnown d e k h
   pub renamed : IsRenamed d e k name h
   pub keeps : Keeps d e
@@ -99,8 +115,15 @@ pub record Settles (d e : Derived) (s : Source) (entry : SpecialKey × ℕ) : Ty
 abbrev pub SettlesAll : ModuleValue → Derived → Derived → Type 0
 SettlesAll m d e = IfSome e.source (λ s. All (Settles d e s) (special_entries m.special_types))
 
+-- of its items only the special types went somewhere, with what they reach
+abbrev pub BeginsOnly : ModuleValue → Derived → Derived → Type 0
+BeginsOnly m d e = IfSome e.source (λ s.
+    PlacesAmong (kept s d.target) (goes s.places)
+    (names_trail (reached (depth m) (as_read s e.target) (kept s d.target)) (special_places m)))
+
 -- m was set as the source, and all else stayed
 pub record SetsOnly (m : ModuleValue) (shift : ℕ) (d e : Derived) : Type 0 where
+  pub places : BeginsOnly m d e
   pub derivation : IsDerivation (kept_of m.special_types d.target.special_types) e
   pub set : IsSet m shift d e
   pub settles : SettlesAll m d e

@@ -1,14 +1,29 @@
 // What holds of every copy.
-ghost use Rattle.naga_oil_derive.specs.CopiedLaw.{CopyableLaw, SpecialLaw, PutLaw, TypePutLaw, CopiedLaw, AllCopiedLaw, AgainLaw, TypeCopiedLaw, TypeAgainLaw};
+ghost use Rattle.naga_oil_derive.specs.World.{value_of};
+ghost use Rattle.naga_oil_derive.specs.Copyable.{CopyableItems};
+ghost use Rattle.naga_oil_derive.specs.CopiedLaw.{AreSpecial};
+ghost use Rattle.naga_oil_derive.specs.DerivedLaw.{IsDerivation, kept_by};
+ghost use Rattle.naga_oil_derive.specs.CopiedLaw.{CopyableLaw, KindLaw, PutLaw, TypePutLaw, CopiedLaw, AllCopiedLaw, AgainLaw, TypeCopiedLaw, TypeAgainLaw};
 ghost use Rattle.naga_oil_derive.specs.DerivedLaw.{NothingLaw, ClearedLaw, PlacedLaw, ImportLaw, RenameLaw, SetLaw};
-ghost use Rattle.naga_oil_derive.specs.AnsweredLaw.{AnswerLaw, CallLaw, FunctionLaw};
+ghost use Rattle.naga_oil_derive.specs.AnsweredLaw.{AnswerLaw, CallLaw, FunctionLaw, AddingLaw};
 
-/// Of a module whose items can be copied the value says so: each item stands in the arena of its kind, and names what
-/// is there, of lower rank.
+use super::*;
+
+/// In a value each item stands in the arena of its kind; where items can be copied, each names what is there, of lower
+/// rank.
 pub fn copyable_values()
+    ensures kinds { KindLaw }
     ensures items { CopyableLaw }
-    ensures special { SpecialLaw }
 {}
+
+/// The special types of a module are there, no two of them for the same.
+pub fn are_special(source: &Module)
+    requires { CopyableItems source.now }
+    ensures { AreSpecial (value_of source.now) }
+{
+    // a map whose keys are read has none twice
+    let _keys = source.special_types.predeclared_types.iter();
+}
 
 /// An item that is put, when what it names went somewhere, is one copy.
 pub fn one_copy()
@@ -29,6 +44,14 @@ pub fn copies_under_a_name()
     ensures named { TypeCopiedLaw }
     ensures again { TypeAgainLaw }
 {}
+
+/// Each derived module is a derivation, by the special types that it has now.
+pub fn is_derivation(derived: &DerivedModule<'_>)
+    ensures { IsDerivation (kept_by derived.now) derived.now }
+{
+    // what holds of a value is known where it is read
+    let _source = derived.shader;
+}
 
 /// A module of nothing is a derivation, and each stays one without its source; in a derivation what went somewhere
 /// reads there as its source.
@@ -55,4 +78,5 @@ pub fn derivations_with_functions()
     ensures answers { AnswerLaw }
     ensures call { CallLaw }
     ensures function { FunctionLaw }
+    ensures adding { AddingLaw }
 {}

@@ -17,7 +17,8 @@ use Rattle.naga_oil_derive.specs.declared.import.Functions.{Functions}
 use Rattle.naga_oil_derive.specs.declared.walk.Request.{Request}
 use Rattle.naga_oil_derive.specs.declared.walk.Request.TheVariants.{Item, Call}
 use Rattle.naga_oil_derive.proofs.KindLaws.{value_kinds}
-use Rattle.naga_oil_derive.proofs.AddingLemmas.{Added, adding_adds, Adding-append, items_added, midway_of, copying_added}
+use Rattle.naga_oil_derive.proofs.PuttingLemmas.{midway_of}
+use Rattle.naga_oil_derive.proofs.AddingLemmas.{Added, adding_adds, Adding-append, items_added, copying_added}
 use Rattle.naga_oil_derive.proofs.ImportSteps.{request_added, item_went, entry_at, entry_of, put_value, name_means, copy_value, function_added, copy_added, on_ok, if_ok_same, callee_from, none_if, unknown_callee, unnamed}
 use Rattle.naga_oil_derive.proofs.FunctionValues.{requests_same, known_same, callee_value, functions_at, seen}
 use Rattle.naga_oil_derive.proofs.AnsweredValues.{Trail, Still, Step, trail-more, was_later, thin_answered, known, called_fresh, on_ok_same}
@@ -207,7 +208,7 @@ localize-loop-request-preserved t c =
           let is : copy_state n.maps n.target ≡ copied v d (copy_state now.maps now.target) p = e.copied ∙ ap (λ z. copied v z (copy_state now.maps now.target) p) i.offset in
           let more : Adding v d m u = items_added (subst (λ z. Putting v z (copy_state now.maps now.target) (copy_state n.maps n.target)) i.offset e.putting) in
           let r = request_added source old.target now.target old.maps now.maps own fs d c.args.depth (function_names c.args.function.now) xs c.in_ok-walk.walk.requests.items k x c.requires.copying i.adding c.requires.form.requests c.in_ok-walk.ensures.requests c.deref-request-items.ensures.value c.loop-request-test.true c.request-item.is in
-          let went = item_went source now.target n.target now.maps n.maps p d c.requires.ranked copying (subst (IsAnswerable source fs c.args.depth) w.in-Item.is r) is in
+          let went = item_went source now.target n.target now.maps n.maps p c.requires.ranked copying (subst (IsAnswerable source fs c.args.depth) w.in-Item.is r) e.copied in
           let next : Trail v F m (x ∷ []) u = subst (λ (r : Request). Trail v F m (r ∷ []) u) (sym w.in-Item.is) (Step (ap (λ (y : CopyState). record m { copying = y }) is) (was_later v kept m u (added u more)) went Still) in
           record {
             adding = subst (λ (y : Copying). Adding v d s (import_state y.maps y.target c.match-request.functions)) (sym w.copying-is) (subst (λ (y : Functions). Adding v d s (import_state n.maps n.target y)) (sym w.functions-is) (Adding-append i.adding more));

@@ -1,5 +1,5 @@
-use Rattle.naga_oil_derive.proofs.KindLaws.{value_copyable, value_special}
+use Rattle.naga_oil_derive.proofs.KindLaws.{value_kinds, value_copyable}
 use Rattle.naga_oil_derive.proofs.laws.copyable_values.Goals as goal
 
 pub returns : goal.returns
-returns c = record { items = value_copyable; special = value_special }
+returns c = record { kinds = value_kinds; items = value_copyable }
