@@ -1,13 +1,10 @@
 -- What holds of a derived module while items and functions are added to it, also where that was refused.
-use Rattle.std.proofs.Common.{◌≡◌, ℕ, List, [], Option, Some, None, refl, ap, sym, ◌∙◌, subst}
-use Rattle.naga_oil_ir.specs.ModuleValue.{ModuleValue, FunctionValue}
-use Rattle.naga_oil_ir.specs.declared.names.ItemPlace.{ItemPlace}
-use Rattle.naga_oil_ir.specs.declared.span.Span.{Span}
+use Rattle.std.proofs.Common.{◌≡◌, [], Option, Some, refl, ap, sym, ◌∙◌, subst}
+use Rattle.naga_oil_ir.specs.ModuleValue.{ModuleValue}
 use Rattle.naga_oil_derive.specs.Tree.{Kept}
-use Rattle.naga_oil_derive.specs.World.{Extends}
 use Rattle.naga_oil_derive.specs.Copied.{CopyState}
 use Rattle.naga_oil_derive.specs.Derived.{Source, Derived}
-use Rattle.naga_oil_derive.specs.DerivedFunctions.{Meanings, with_functions, KeepsFunctions}
+use Rattle.naga_oil_derive.specs.DerivedFunctions.{Meanings, KeepsFunctions}
 use Rattle.naga_oil_derive.specs.DerivedValue.{after_copying, importing_of, after_importing}
 use Rattle.naga_oil_derive.specs.DerivedLaw.{IsDerivation}
 use Rattle.naga_oil_derive.specs.Answered.{ImportState}

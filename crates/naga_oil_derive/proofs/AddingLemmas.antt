@@ -1,5 +1,5 @@
 -- What stays while items and functions are added.
-use Rattle.std.proofs.Common.{◌≡◌, ℕ, length, Option, Some, None, IsSome, is_some, option_map, string_bytes, String, Global, refl, ap, sym, ◌∙◌, subst}
+use Rattle.std.proofs.Common.{ℕ, length, Option, IsSome, is_some, option_map, string_bytes, String, Global, refl, ap, sym, ◌∙◌, subst}
 use Rattle.naga_oil_ir.specs.Rows.{Text}
 use Rattle.naga_oil_ir.specs.ModuleValue.{ModuleValue}
 use Rattle.naga_oil_ir.specs.declared.module.Module.{Module}

@@ -1,12 +1,9 @@
 -- What answering requests and importing functions do, over values alone.
-use Rattle.std.proofs.Common.{◌≡◌, ⊎_elim, ℕ, zero, suc, ◌<◌, Bool, true, false, cond, List, [], ◌∷◌, ◌++◌, length, slice_get, Option, Some, None, IsSome, is_some, if◌then◌else◌, refl, ap, sym, ◌∙◌, subst, arith, All, IfSome, bytes_eq}
-use Rattle.std.specs.Map.{lookup}
-use Rattle.std.proofs.lemmas.Bool.{cases_Bool, cond-true, cond-false, false≢true}
+use Rattle.std.proofs.Common.{◌≡◌, ⊎_elim, ℕ, zero, suc, ◌<◌, Bool, true, false, List, [], ◌∷◌, ◌++◌, length, slice_get, Option, Some, None, IsSome, is_some, if◌then◌else◌, refl, ap, sym, ◌∙◌, subst, arith, All, IfSome}
+use Rattle.std.proofs.lemmas.Bool.{false≢true}
 use Rattle.std.proofs.lemmas.List.Elements.{All-head, All-tail, All-weaker}
 use Rattle.std.proofs.lemmas.Option.{slice_get_cases}
-use Rattle.std.proofs.lemmas.Slice.Eq.{bytes_eq-Decides}
-use Rattle.indexmap.specs.IndexMap.{insert_entry}
-use Rattle.naga_oil_ir.specs.Rows.{Row, Text}
+use Rattle.naga_oil_ir.specs.Rows.{Row}
 use Rattle.naga_oil_ir.specs.ModuleValue.{ModuleValue, FunctionValue}
 use Rattle.naga_oil_ir.specs.declared.names.ItemPlace.{ItemPlace}
 use Rattle.naga_oil_ir.specs.declared.names.ItemPlace.TheVariants.{TypeItem, ConstantItem, OverrideItem, GlobalItem, ExpressionItem}
@@ -21,7 +18,7 @@ use Rattle.naga_oil_derive.specs.CopiedFunction.{copied_function}
 use Rattle.naga_oil_derive.specs.CopiedLaw.{HasAt}
 use Rattle.naga_oil_derive.specs.Collected.{depth}
 use Rattle.naga_oil_derive.specs.Derived.{Source, Derived}
-use Rattle.naga_oil_derive.specs.DerivedFunctions.{Meanings, meant, meant_at, meaning, requests_of, MayAsk, MayCopy, MayCall, CanImport, CanCall, KeepsFunctions, ComesLast, Answers, AllAnswered, ItemCopied, NameKnown, FunctionCopied, MeansAt}
+use Rattle.naga_oil_derive.specs.DerivedFunctions.{Meanings, meant, meant_at, requests_of, MayAsk, MayCopy, MayCall, CanImport, CanCall, KeepsFunctions, ComesLast, Answers, AllAnswered, ItemCopied, NameKnown, FunctionCopied, MeansAt}
 use Rattle.naga_oil_derive.specs.DerivedValue.{item_imported, importing_of, after_copying, after_importing, requests_answered, function_imported, function_called}
 use Rattle.naga_oil_derive.specs.DerivedLaw.{IsDerivation}
 use Rattle.naga_oil_derive.specs.Answered.{ImportState, Caller, goes_by, answered_one, answered_by, with_function, imported_by, called_by, called}

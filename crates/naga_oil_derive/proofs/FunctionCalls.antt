@@ -1,16 +1,15 @@
 -- Calls that copy functions, as their callers see them.
-use Rattle.std.proofs.Common.{◌≡◌, ℕ, List, [], ◌∷◌, length, map, slice_get, Option, Some, None, IsSome, is_some, option_map, refl, ap, sym, ◌∙◌, subst, IfSome, All, Result, Ok, Err, OnOk, IfOk, String, string_bytes, Global}
+use Rattle.std.proofs.Common.{◌≡◌, ℕ, [], ◌∷◌, length, slice_get, Option, Some, None, IsSome, option_map, refl, ap, sym, ◌∙◌, subst, IfSome, All, Result, Ok, Err, OnOk, IfOk, String, string_bytes, Global}
 use Rattle.std.specs.Borrow.{Bor}
 use Rattle.std.proofs.lemmas.Bool.{false≢true}
 use Rattle.std.proofs.lemmas.Option.{none-some, same_Some}
 use Rattle.indexmap.specs.IndexMap.{IndexMap}
-use Rattle.naga_oil_ir.specs.ModuleValue.{ModuleValue, FunctionValue, function_value}
+use Rattle.naga_oil_ir.specs.ModuleValue.{FunctionValue, function_value}
 use Rattle.naga_oil_ir.specs.declared.module.Module.{Module}
 use Rattle.naga_oil_ir.specs.declared.module.Function.{Function}
 use Rattle.naga_oil_ir.specs.declared.span.Span.{Span}
 use Rattle.naga_oil_derive.specs.declared.maps.Maps.{Maps}
 use Rattle.naga_oil_derive.specs.declared.import.Functions.{Functions}
-use Rattle.naga_oil_derive.specs.declared.walk.Request.{Request}
 use Rattle.naga_oil_derive.specs.declared.walk.Request.TheVariants.{Call}
 use Rattle.naga_oil_derive.specs.Tree.{Kept}
 use Rattle.naga_oil_derive.specs.World.{value_of}
@@ -23,7 +22,7 @@ use Rattle.naga_oil_derive.specs.CopiedFunction.{copied_function}
 use Rattle.naga_oil_derive.specs.Imported.{meanings, IsAnswerable, IsImportable}
 use Rattle.naga_oil_derive.specs.Derived.{Source, Derived}
 use Rattle.naga_oil_derive.specs.DerivedView.{source_of, derived_of, IsDerived}
-use Rattle.naga_oil_derive.specs.DerivedFunctions.{Meanings, meant, meant_at, going, having, requests_of, MayAsk, MayCopy, MayCall, MayReach, CanCopy, CanImport, CanCall, KeepsFunctions, KeepsMeanings, AreAnswered, IsLocalized, FunctionStands, IsFunctionImported, MeansAt}
+use Rattle.naga_oil_derive.specs.DerivedFunctions.{Meanings, meant, meant_at, going, having, requests_of, MayAsk, MayCopy, MayCall, MayReach, CanCopy, CanImport, CanCall, KeepsFunctions, IsLocalized, FunctionStands, IsFunctionImported, MeansAt}
 use Rattle.naga_oil_derive.specs.DerivedValue.{by_source, importing_of, after_importing, function_localized, function_imported, function_called, requests_answered}
 use Rattle.naga_oil_derive.specs.DerivedLaw.{IsDerivation, kept_by}
 use Rattle.naga_oil_derive.specs.Answered.{ImportState, import_state}
@@ -110,7 +109,7 @@ function_copies f = λ r h. copies r (function_value f) (record { form = h; alon
 
 have_copies : (o : Shader) (m : Maps) (t : Module) (ns : FunctionNames) → HaveCopies (derived_of o m t ns)
 have_copies None m t ns = tt
-have_copies (Some s) m t ns = λ k x e. (let y = function_at s.now k x e in subst HasCopies (ap (λ (z : FunctionValue × Span). z.0) y.2.1) (function_copies y.0))
+have_copies (Some s) m t ns = λ k x e. (let y = function_at s.now k x e in subst HasCopies (ap (λ (z : FunctionValue × Span). z.0) y.2) (function_copies y.0))
 
 -- a derivation, each function of whose source has copies
 pub record IsFair (d : Derived) : Type 0 where

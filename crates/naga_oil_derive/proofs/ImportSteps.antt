@@ -20,7 +20,7 @@ use Rattle.naga_oil_derive.specs.CopiedFunction.{copied_function}
 use Rattle.naga_oil_derive.specs.Naming.{Thins, Ends, Keeps, Drops, function_names}
 use Rattle.naga_oil_derive.specs.Imported.{meanings, Asks, MayImport, IsCallable, IsAnswerable, IsImportable}
 use Rattle.naga_oil_derive.specs.DerivedFunctions.{Meanings, meant, meaning}
-use Rattle.naga_oil_derive.specs.Answered.{ImportState, import_state, goes_by, with_function}
+use Rattle.naga_oil_derive.specs.Answered.{ImportState, import_state, with_function}
 use Rattle.naga_oil_derive.specs.Putting.{Adding, NothingAdded, FunctionAdded, CopyAdded}
 use Rattle.naga_oil_derive.specs.Went.{went_by}
 use Rattle.naga_oil_derive.specs.declared.maps.Maps.{Maps}

@@ -7,7 +7,7 @@ use Rattle.naga_oil_derive.specs.declared.walk.Request.{Request}
 use Rattle.naga_oil_derive.specs.declared.walk.Request.TheVariants.{Call}
 use Rattle.naga_oil_derive.specs.Copies.{value_links}
 use Rattle.naga_oil_derive.specs.CopiedFunction.{copied_function}
-use Rattle.naga_oil_derive.specs.Derived.{Derived}
+use Rattle.naga_oil_derive.specs.Derived.{Source, Derived}
 use Rattle.naga_oil_derive.specs.DerivedFunctions.{kinds_in, named_in, initialisers_in, MayAsk, MayReach, CanImport, CanCall, KeepsFunctions, KeepsMeanings, AreAnswered, IsFunctionImported, MeansAt}
 use Rattle.naga_oil_derive.specs.DerivedLaw.{IsDerivation}
 use Rattle.naga_oil_derive.specs.DerivedValue.{importing_of, after_importing, requests_answered, function_imported, function_called}
