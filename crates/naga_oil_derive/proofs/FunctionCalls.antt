@@ -109,7 +109,7 @@ function_copies f = λ r h. copies r (function_value f) (record { form = h; alon
 
 have_copies : (o : Shader) (m : Maps) (t : Module) (ns : FunctionNames) → HaveCopies (derived_of o m t ns)
 have_copies None m t ns = tt
-have_copies (Some s) m t ns = λ k x e. (let y = function_at s.now k x e in subst HasCopies (ap (λ (z : FunctionValue × Span). z.0) y.2) (function_copies y.0))
+have_copies (Some s) m t ns = λ k x e. (let y = function_at s.now k x e in subst HasCopies (ap (λ (z : FunctionValue × Span). z.0) y.2) (function_copies y.0.0))
 
 -- a derivation, each function of whose source has copies
 pub record IsFair (d : Derived) : Type 0 where

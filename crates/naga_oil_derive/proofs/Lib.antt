@@ -34,7 +34,6 @@ pub mod RankLemmas
 pub mod SpecialLemmas
 pub mod DeriveLemmas
 pub mod CopySteps
-pub mod CopyPut
 pub mod CopyLoops
 pub mod Localizing
 pub mod LocalSteps

@@ -14,7 +14,6 @@ pub mod Expressions
 pub mod Callees
 pub mod Went
 pub mod Functions
-pub mod Localized
 pub mod Naming
 pub mod Imported
 pub mod DerivedFunctions
