@@ -4,11 +4,12 @@ use Rattle.naga_oil_pre.specs.Fault.{Fault}
 use Rattle.naga_oil_pre.specs.View.{fault_of, Fails}
 use Rattle.naga_oil_pre.specs.declared.fault.ComposerErrorInner.{ComposerErrorInner}
 use Rattle.naga_oil.specs.declared.compose.error.ComposerError.{ComposerError}
-use Rattle.naga_oil.specs.Added.{read_source, counter_behind, counter_after, Described, described, new_definition, addition, registry_with, shown_by, ◌>>=◌}
-use Rattle.naga_oil.specs.Definition.{Definition}
-use Rattle.naga_oil.specs.Descriptor.{ModuleSource}
+use Rattle.naga_oil_registry.specs.Added.{read_source, counter_behind, counter_after, Described, described, new_definition, registry_with, shown_by, ◌>>=◌}
+use Rattle.naga_oil.specs.Addition.{addition}
+use Rattle.naga_oil_registry.specs.Definition.{Definition}
+use Rattle.naga_oil_registry.specs.Descriptor.{ModuleSource}
 use Rattle.naga_oil.specs.Refused.{Place, in_text, nowhere, place_of, Refused, refused_of, Tells, placed}
-use Rattle.naga_oil.specs.Registry.{removed}
+use Rattle.naga_oil_registry.specs.Registry.{removed}
 use Rattle.naga_oil.specs.State.{State, Adds}
 
 -- an error tells what is wrong at the place, or it is want of memory

@@ -11,7 +11,7 @@ use Rattle.naga_oil_pre.specs.Preprocessed.{Output}
 use Rattle.naga_oil.specs.Afresh.{builds_with}
 use Rattle.naga_oil.specs.BuiltModule.{BuiltModule, Builds, built_of}
 use Rattle.naga_oil.specs.Built.{ToldAt, build_place}
-use Rattle.naga_oil.specs.Definition.{Definition}
+use Rattle.naga_oil_registry.specs.Definition.{Definition}
 use Rattle.naga_oil.specs.Refused.{Refused, Place, refused_of, place_of, nowhere}
 use Rattle.naga_oil.specs.Relations.{AnswersBy, GivesBy}
 use Rattle.naga_oil.specs.declared.compose.error.ComposerError.{ComposerError}

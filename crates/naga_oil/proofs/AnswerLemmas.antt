@@ -1,10 +1,11 @@
 -- What is answered behind an addition.
 use Rattle.std.proofs.Common.{◌≡◌, ◌<◌, ℕ, ap, sym, subst, ◌∙◌, refl, length, Option, Some, None, MatchOption, Result, Ok, Err, IsOk, OnOk, MatchResult, Bor, slice_get, arith}
-use Rattle.naga_oil.specs.declared.compose.definition.ComposableModuleDefinition.{ComposableModuleDefinition}
+use Rattle.naga_oil_registry.specs.declared.definition.ComposableModuleDefinition.{ComposableModuleDefinition}
 use Rattle.naga_oil.specs.declared.compose.error.ComposerError.{ComposerError}
-use Rattle.naga_oil.specs.Added.{addition, shown_by}
-use Rattle.naga_oil.specs.Definition.{Definition, definition_of}
-use Rattle.naga_oil.specs.Descriptor.{ModuleSource}
+use Rattle.naga_oil_registry.specs.Added.{shown_by}
+use Rattle.naga_oil.specs.Addition.{addition}
+use Rattle.naga_oil_registry.specs.Definition.{Definition, definition_of}
+use Rattle.naga_oil_registry.specs.Descriptor.{ModuleSource}
 use Rattle.naga_oil.specs.Refused.{Answers, Refused, Tells, nowhere, place_of, refused_of}
 use Rattle.naga_oil.specs.State.{State, Adds}
 

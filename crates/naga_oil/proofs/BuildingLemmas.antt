@@ -7,7 +7,7 @@ use Rattle.naga_oil.specs.Begun.{begun}
 use Rattle.naga_oil.specs.Building.{WholeText, NoWholeText, IsRefused, NoText, NotHeld}
 use Rattle.naga_oil.specs.Built.{build_place}
 use Rattle.naga_oil.specs.BuiltModule.{BuiltModule, Builds}
-use Rattle.naga_oil.specs.Definition.{Definition}
+use Rattle.naga_oil_registry.specs.Definition.{Definition}
 use Rattle.naga_oil.specs.Filled.{settings, IsUnbuilt}
 use Rattle.naga_oil.specs.Refused.{Refused}
 

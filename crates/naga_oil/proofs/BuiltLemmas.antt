@@ -8,8 +8,8 @@ use Rattle.naga_oil_lines.specs.Uses.{Use}
 use Rattle.naga_oil_pre.specs.Fault.{Fault, Definitions, header_validation}
 use Rattle.naga_oil_pre.specs.Preprocessed.{Output, preprocessed}
 use Rattle.naga_oil.specs.Built.{back_fault, header_text, preprocessed_of}
-use Rattle.naga_oil.specs.Definition.{Definition}
-use Rattle.naga_oil.specs.Merged.{used_at_start}
+use Rattle.naga_oil_registry.specs.Definition.{Definition}
+use Rattle.naga_oil_registry.specs.Merged.{used_at_start}
 
 pub not_preprocessed : (defs : Definitions) (d : Definition) (f : Fault) → preprocessed defs d.source ≡ Err f → preprocessed_of defs d ≡ Err f
 not_preprocessed defs d f e = rw e refl

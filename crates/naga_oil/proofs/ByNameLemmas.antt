@@ -34,7 +34,7 @@ use Rattle.naga_oil.specs.Linked.{Asked, is_asked, passes, overriding_names, lin
 use Rattle.naga_oil.specs.Places.{places_from_first, places_of, name_at}
 use Rattle.naga_oil.specs.Steps.{Step, Item, CopyIfNew, Taken, AreTaken, NoStep, OneStep}
 use Rattle.naga_oil.specs.Wanted.{is_wanted, is_wanted_function, ArePlacesWhere, step_if, owned_item_steps, owned_function_steps}
-use Rattle.naga_oil.proofs.NamesLemmas.{among-in_order}
+use Rattle.naga_oil_registry.proofs.NamesLemmas.{among-in_order}
 
 -- ---- numbers in order
 all_inserted : (P : ℕ → Type 0) (ks : List ℕ) (k : ℕ) → AllByRecursion P ks → P k → AllByRecursion P (insert_key nat_cmp ks k)

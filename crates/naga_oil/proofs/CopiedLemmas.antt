@@ -28,7 +28,7 @@ use Rattle.naga_oil.specs.Relations.{GivesBy}
 use Rattle.naga_oil_marks.specs.Marks.{has_module_mark}
 use Rattle.naga_oil.specs.Steps.{Step, Source, TypeNamed, Copy, Taken, Set, TypeStands, FunctionStands, AreTaken, NoStep, OneStep}
 use Rattle.naga_oil.proofs.StepLemmas.{AreTaken-append}
-use Rattle.naga_oil.proofs.NamesLemmas.{among-in_order}
+use Rattle.naga_oil_registry.proofs.NamesLemmas.{among-in_order}
 
 -- ---- types
 

@@ -6,7 +6,7 @@ use Rattle.naga_oil_pre.specs.Fault.{Fault}
 use Rattle.naga_oil_pre.specs.View.{fault_of}
 use Rattle.naga_oil_pre.specs.declared.fault.ComposerErrorInner.{ComposerErrorInner}
 use Rattle.naga_oil.specs.BuiltModule.{Builds, Overriding}
-use Rattle.naga_oil.specs.Keywords.{MarkedFunction, covered_text, marked_in, with_edits}
+use Rattle.naga_oil_registry.specs.Keywords.{MarkedFunction, covered_text, marked_in, with_edits}
 use Rattle.naga_oil.specs.Virtuals.{Overrides, Functions, names_of, blanked, virtuals_in, with_overrides, told_in, functions_told, functions_in}
 
 abbrev pub read_ok : (virtuals : List (List ℕ)) → Overriding → (text : List ℕ) → Result Functions Fault

@@ -1,19 +1,8 @@
-pub mod LineLemmas
-pub mod AddedLemmas
 pub mod AddsLemmas
-pub mod EffectiveLemmas
-pub mod MergedLemmas
-pub mod NamesLemmas
-pub mod RegistryLemmas
-pub mod RemovedLemmas
-pub mod SanitizedLemmas
-pub mod NewDefinitionLemmas
-pub mod WritingLemmas
 pub mod MakesLemmas
 pub mod FormedLemmas
 pub mod SourceLemmas
 pub mod RefusedLemmas
-pub mod KeywordsLemmas
 pub mod BuiltLemmas
 pub mod AnswerLemmas
 pub mod HandedLemmas
@@ -31,7 +20,6 @@ pub mod CopiedLemmas
 pub mod ShaderLemmas
 pub mod WritebackLemmas
 pub mod OverridingLemmas
-pub mod MarkedLemmas
 pub mod FilledLemmas
 pub mod SplitLemmas
 pub mod FunctionsLemmas

@@ -7,10 +7,10 @@ use Rattle.naga_oil_pre.specs.View.{fault_of}
 use Rattle.naga_oil_pre.specs.declared.fault.ComposerErrorInner.{ComposerErrorInner}
 use Rattle.naga_oil.specs.Afresh.{Building, Setting, Unbuilt, not_importable, refused, EachReached, Reached, Unreached, Unless, UnlessBuilt, ToldFor}
 use Rattle.naga_oil.specs.BuiltModule.{Builds}
-use Rattle.naga_oil.specs.Definition.{Definition, Defs}
+use Rattle.naga_oil_registry.specs.Definition.{Definition, Defs}
 use Rattle.naga_oil.specs.Made.{Unread, here, there, unread_for, read_fault, UnreadFor, Reading, OneUnread, among_those, may_use}
 use Rattle.naga_oil.specs.Merging.{imported, module_for, are_among}
-use Rattle.naga_oil.specs.Registry.{module_named}
+use Rattle.naga_oil_registry.specs.Registry.{module_named}
 use Rattle.naga_oil.specs.Relations.{GivesBy}
 use Rattle.naga_oil.specs.declared.compose.error.EnsureImportsError.{EnsureImportsError}
 use Rattle.naga_oil.specs.declared.compose.error.EnsureImportsError.TheVariants as missing

@@ -6,16 +6,16 @@ use Rattle.naga_oil_ir.specs.declared.module.Module.{Module}
 use Rattle.naga_oil_pre.specs.Fault.{Fault}
 use Rattle.naga_oil_pre.specs.View.{fault_of, Fails}
 use Rattle.naga_oil_pre.specs.declared.fault.ComposerErrorInner.{ComposerErrorInner}
-use Rattle.naga_oil.specs.declared.compose.definition.ComposableModuleDefinition.{ComposableModuleDefinition}
+use Rattle.naga_oil_registry.specs.declared.definition.ComposableModuleDefinition.{ComposableModuleDefinition}
 use Rattle.naga_oil.specs.declared.compose.error.ComposerError.{ComposerError}
-use Rattle.naga_oil.specs.Added.{read_source, counter_behind, counter_after}
+use Rattle.naga_oil_registry.specs.Added.{read_source, counter_behind, counter_after}
 use Rattle.naga_oil.specs.Afresh.{Setting}
 use Rattle.naga_oil.specs.BuiltModule.{Builds}
-use Rattle.naga_oil.specs.Definition.{Definition, definition_of}
-use Rattle.naga_oil.specs.Descriptor.{ShaderSource}
+use Rattle.naga_oil_registry.specs.Definition.{Definition, definition_of}
+use Rattle.naga_oil_registry.specs.Descriptor.{ShaderSource}
 use Rattle.naga_oil.specs.Makes.{Makes, AnswersMake, make_setting}
 use Rattle.naga_oil.specs.Refused.{Refused, refused_of, place_of, nowhere, in_text, UnlessMemory}
-use Rattle.naga_oil.specs.Registry.{IsRegistry}
+use Rattle.naga_oil_registry.specs.Registry.{IsRegistry}
 use Rattle.naga_oil.specs.State.{State}
 use Rattle.naga_oil.proofs.AddsLemmas.{IsRefusal}
 

@@ -12,10 +12,10 @@ use Rattle.naga_oil_pre.specs.Fault.{inconsistent_def}
 use Rattle.naga_oil_pre.specs.declared.shader_def.ShaderDefValue.{ShaderDefValue}
 use Rattle.naga_oil_pre.specs.declared.shader_def.ShaderDefValue.TheVariants as def
 use Rattle.naga_oil_pre.specs.contracts.shader_def.ShaderDefValuePartialEq.TheImpl.{ghosts}
-use Rattle.naga_oil.specs.Definition.{Defs}
-use Rattle.naga_oil.specs.Merged.{with_def}
+use Rattle.naga_oil_registry.specs.Definition.{Defs}
+use Rattle.naga_oil_registry.specs.Merged.{with_def}
 use Rattle.naga_oil.specs.Merging.{value_of, same_value, has_value, agrees, defs_union}
-use Rattle.naga_oil.proofs.MergedLemmas.{named}
+use Rattle.naga_oil_registry.proofs.MergedLemmas.{named}
 
 -- what a map holds under a name
 pub value-named : (es : List (String Global × ShaderDefValue)) (name : String Global) → lookup (is_at (string_cmp name)) es ≡ value_of (named es) (string_bytes name)

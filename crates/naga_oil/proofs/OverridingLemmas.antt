@@ -11,7 +11,7 @@ use Rattle.naga_oil_lines.specs.declared.import_definition.ImportDefinition.{Imp
 use Rattle.naga_oil_pre.specs.Fault.{not_virtual}
 use Rattle.naga_oil_pre.specs.Recorded.{is_among}
 use Rattle.naga_oil.specs.BuiltModule.{BuiltModule, Builds, Overriding, built_of}
-use Rattle.naga_oil.specs.Definition.{texts}
+use Rattle.naga_oil_registry.specs.Definition.{texts}
 use Rattle.naga_oil.specs.Overriding.{with_new, overridden, build_named}
 use Rattle.naga_oil.specs.Virtuals.{imported_build, unless_virtual}
 use Rattle.naga_oil.specs.declared.compose.module.ComposableModule.{ComposableModule}

@@ -17,10 +17,10 @@ use Rattle.naga_oil_pre.specs.declared.shader_def.ShaderDefValue.{ShaderDefValue
 use Rattle.naga_oil.specs.Afresh.{Setting, Unbuilt, not_importable, refused, Reach, Chosen, EachReached, OneUnreached, Reached, Unreached, Unless, UnlessBuilt, BuiltOver, NotBuiltOver, Reaching, ToldFor, Building, defined, is_built, may_import, builds_with}
 use Rattle.naga_oil.specs.Built.{ToldAt, build_place, preprocessed_of}
 use Rattle.naga_oil.specs.BuiltModule.{Builds, BuiltModule}
-use Rattle.naga_oil.specs.Definition.{Definition, Defs, defs_of, definition_of}
+use Rattle.naga_oil_registry.specs.Definition.{Definition, Defs, defs_of, definition_of}
 use Rattle.naga_oil.specs.Refused.{Refused, Place, refused_of, place_of, nowhere, TellsMissing}
 use Rattle.naga_oil.specs.Relations.{AnswersBy, GivesBy}
-use Rattle.naga_oil.specs.declared.compose.definition.ComposableModuleDefinition.{ComposableModuleDefinition}
+use Rattle.naga_oil_registry.specs.declared.definition.ComposableModuleDefinition.{ComposableModuleDefinition}
 use Rattle.naga_oil.specs.declared.compose.module.ComposableModule.{ComposableModule}
 use Rattle.naga_oil.specs.declared.compose.error.ComposerError.{ComposerError}
 use Rattle.naga_oil.specs.declared.compose.error.EnsureImportsError.{EnsureImportsError}

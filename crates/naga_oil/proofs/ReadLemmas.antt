@@ -16,22 +16,22 @@ use Rattle.naga_oil.specs.Afresh.{Setting, Unless, UnlessBuilt, EachReached, Rea
 use Rattle.naga_oil.specs.Building.{by_steps, IsBuilt}
 use Rattle.naga_oil.specs.Built.{build_place, preprocessed_of}
 use Rattle.naga_oil.specs.BuiltModule.{BuiltModule, Builds}
-use Rattle.naga_oil.specs.Definition.{Definition, Defs, texts}
-use Rattle.naga_oil.specs.Descriptor.{ShaderSource}
+use Rattle.naga_oil_registry.specs.Definition.{Definition, Defs, texts}
+use Rattle.naga_oil_registry.specs.Descriptor.{ShaderSource}
 use Rattle.naga_oil.specs.Made.{Unread, here, there, UnreadFor, Reading, OneUnread, any_use, may_use}
-use Rattle.naga_oil.specs.Merged.{recorded_names}
+use Rattle.naga_oil_registry.specs.Merged.{recorded_names}
 use Rattle.naga_oil.specs.Merging.{shader_definition, defs_union_over}
 use Rattle.naga_oil.specs.Read.{IsShader, FirstRead, NotFirstRead, NotJoined, NotReached, SecondRead, NotSecondRead, NotReachedAgain, with_own, IsUnread, NotFirst, NotSecond}
 use Rattle.naga_oil.specs.Refused.{Refused, refused_of, place_of, nowhere, in_text}
 use Rattle.naga_oil.specs.Shader.{ShaderAnswers}
 use Rattle.naga_oil.specs.Whole.{refusal, IsToldFor, FinishAnswers, Finished}
-use Rattle.naga_oil.specs.declared.compose.descriptor.ShaderType.{ShaderType}
+use Rattle.naga_oil_registry.specs.declared.descriptor.ShaderType.{ShaderType}
 use Rattle.naga_oil.specs.declared.compose.error.ComposerError.{ComposerError}
 use Rattle.naga_oil.specs.declared.compose.make.ReadFault.{ReadFault}
 use Rattle.naga_oil.specs.declared.compose.make.ReadFault.TheVariants as reading
 use Rattle.naga_oil.proofs.AfreshLemmas.{refusal_weaker, told_answers}
-use Rattle.naga_oil.proofs.MergedLemmas.{named}
-use Rattle.naga_oil.proofs.NamesLemmas.{sorted_texts}
+use Rattle.naga_oil_registry.proofs.MergedLemmas.{named}
+use Rattle.naga_oil_registry.proofs.NamesLemmas.{sorted_texts}
 use Rattle.naga_oil.proofs.ShaderLemmas.{fault_then}
 
 -- ---- answers

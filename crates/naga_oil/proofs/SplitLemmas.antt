@@ -1,8 +1,9 @@
 -- Decorated names, cut at the last mark.
-use Rattle.std.proofs.Common.{◌≡◌, ◌≢◌, ℕ, zero, suc, ◌+◌, ◌-◌, ◌<◌, ◌≤◌, Bool, true, false, not, eqb, List, [], ◌∷◌, ◌++◌, length, take, drop, Option, Some, None, option_map, MatchOption, Result, Ok, Err, IfOk, refl, sym, ap, ◌∙◌, arith}
+use Rattle.std.proofs.Common.{◌≡◌, ◌≢◌, ℕ, zero, suc, ◌+◌, ◌-◌, ◌<◌, ◌≤◌, Bool, true, false, not, eqb, List, [], ◌∷◌, ◌++◌, length, take, drop, Option, Some, None, option_map, MatchOption, Result, Ok, Err, IfOk, refl, sym, ap, ◌∙◌, append_assoc, length-append, arith}
 use Rattle.std.specs.Prelude.{codes, ◌==◌, ◌&&◌}
 use Rattle.std.proofs.Math.Seq.{drop-append_seam}
 use Rattle.std.proofs.lemmas.Bool.{true≢false}
+use Rattle.std.proofs.lemmas.List.{take-append-drop}
 use Rattle.std.proofs.lemmas.Bool.Decides.{Decides-eqb}
 use Rattle.std.proofs.lemmas.Slice.Eq.{ends_is}
 use Rattle.std.specs.List.{starts_with, ends_with}
@@ -16,10 +17,10 @@ use Rattle.naga_oil_pre.specs.Fault.{Fault}
 use Rattle.naga_oil_pre.specs.View.{fault_of}
 use Rattle.naga_oil_pre.specs.declared.fault.ComposerErrorInner.{ComposerErrorInner}
 use Rattle.naga_oil.specs.BuiltModule.{Builds, Overriding}
-use Rattle.naga_oil.specs.Keywords.{MarkedFunction}
+use Rattle.naga_oil_registry.specs.Keywords.{MarkedFunction}
 use Rattle.naga_oil.specs.Overriding.{overridden}
-use Rattle.naga_oil.specs.Virtuals.{around_last, without_end, are_parts, item_and_code, item_and_module, Overrides, marked_override, override_name, override_fault, noted, with_override}
-use Rattle.naga_oil.proofs.MarkedLemmas.{begins, begins_not}
+use Rattle.naga_oil.specs.Virtuals.{AreItemAndCode, around_last, without_end, are_parts, item_and_code, item_and_module, Overrides, marked_override, override_name, override_fault, noted, with_override}
+use Rattle.naga_oil_registry.proofs.MarkedLemmas.{begins, begins_not}
 
 module _ (k : ℕ) (ks : List ℕ) where
   no_last : (text : List ℕ) → ((i : ℕ) → i ≤ length text → LacksTextAt (k ∷ ks) text i) → around_last (k ∷ ks) text ≡ None
@@ -114,3 +115,16 @@ or_told None last None known e h = h
 or_told None last (Some f) known e h = absurd cc
 or_told (Some x) last None known e h = absurd cc
 or_told (Some x) last (Some f) known e h = e
+
+-- an item and its code, as a decorated name is cut
+pub cut_name : (name marked item code : List ℕ) (end i j : ℕ) → end ≡ length (codes "X") → marked ≡ take (length name - end) name → name ≡ take (length name - end) name ++ codes "X"
+    → drop i marked ≡ module_mark ++ drop j marked → item ≡ take i marked → code ≡ drop j marked → name ≡ item ++ (module_mark ++ (code ++ codes "X"))
+cut_name name marked item code end i j e m n s f g =
+    n ∙ ap (λ l. l ++ codes "X") (sym m ∙ sym (take-append-drop i marked) ∙ ap (λ l. take i marked ++ l) s ∙ ap (λ l. l ++ (module_mark ++ drop j marked)) (sym f) ∙ ap (λ l. item ++ (module_mark ++ l)) (sym g))
+    ∙ append_assoc item (module_mark ++ code) (codes "X") ∙ ap (λ l. item ++ l) (append_assoc module_mark code (codes "X"))
+
+-- how long an item is beside its decorated name
+pub item_within : (name item code : List ℕ) → AreItemAndCode name item code → length item + 17 ≤ length name
+item_within name item code h =
+    let whole = ap length h.parts ∙ length-append item (module_mark ++ (code ++ codes "X")) ∙ ap (λ n. length item + n) (length-append module_mark (code ++ codes "X") ∙ ap (λ n. 16 + n) (length-append code (codes "X"))) in
+    omega (arith, whole, h.coded)

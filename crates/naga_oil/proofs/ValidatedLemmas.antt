@@ -11,7 +11,7 @@ use Rattle.naga_oil_pre.specs.declared.fault.ComposerErrorInner.{ComposerErrorIn
 use Rattle.naga_oil_pre.specs.declared.fault.ComposerErrorInner.TheVariants as code
 use Rattle.naga_oil.specs.Built.{IsToldAt, ToldAt, answered}
 use Rattle.naga_oil.specs.BuiltModule.{Builds, built_of}
-use Rattle.naga_oil.specs.Definition.{Defs}
+use Rattle.naga_oil_registry.specs.Definition.{Defs}
 use Rattle.naga_oil.specs.Refused.{Place, Refused, Tells, refused_of, place_of, nowhere}
 use Rattle.naga_oil.specs.Validated.{fault_place, invalid_shader}
 use Rattle.naga_oil.specs.declared.compose.error.ComposerError.{ComposerError}

@@ -15,7 +15,7 @@ use Rattle.naga_oil_pre.specs.Preprocessed.{Output}
 use Rattle.naga_oil_pre.specs.declared.shader_def.ShaderDefValue.{ShaderDefValue}
 use Rattle.naga_oil.specs.Built.{build_place, preprocessed_of}
 use Rattle.naga_oil.specs.BuiltModule.{BuiltModule, Builds}
-use Rattle.naga_oil.specs.Definition.{Definition, Defs, defs_of}
+use Rattle.naga_oil_registry.specs.Definition.{Definition, Defs, defs_of}
 use Rattle.naga_oil.specs.Refused.{Refused, refused_of, place_of, nowhere}
 use Rattle.naga_oil.specs.declared.compose.error.EnsureImportsError.{EnsureImportsError}
 use Rattle.naga_oil.specs.declared.compose.error.EnsureImportsError.TheVariants as missing

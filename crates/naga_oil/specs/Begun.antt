@@ -4,7 +4,7 @@ use Rattle.naga_oil_ir.specs.ModuleValue.{no_items}
 use Rattle.naga_oil_lines.specs.Decorate.{decorated_name}
 use Rattle.naga_oil_lines.specs.Uses.{Import, Use}
 use Rattle.naga_oil.specs.BuiltModule.{BuiltModule, Builds}
-use Rattle.naga_oil.specs.Definition.{Definition}
+use Rattle.naga_oil_registry.specs.Definition.{Definition}
 use Rattle.naga_oil.specs.Overriding.{imported_overriding}
 
 -- what stands behind the names of a module's items; nothing behind those of the shader, whose index is 0

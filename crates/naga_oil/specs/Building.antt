@@ -6,7 +6,7 @@ use Rattle.naga_oil.specs.Afresh.{Setting, Building}
 use Rattle.naga_oil.specs.Begun.{begun}
 use Rattle.naga_oil.specs.Built.{build_place}
 use Rattle.naga_oil.specs.BuiltModule.{BuiltModule, Builds}
-use Rattle.naga_oil.specs.Definition.{Definition}
+use Rattle.naga_oil_registry.specs.Definition.{Definition}
 use Rattle.naga_oil.specs.Filled.{settings, IsBuiltOf, IsUnbuilt}
 use Rattle.naga_oil.specs.Headed.{HeadingAnswers}
 use Rattle.naga_oil.specs.Refused.{Refused}

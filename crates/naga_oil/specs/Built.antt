@@ -12,9 +12,9 @@ use Rattle.naga_oil_pre.specs.Preprocessed.{Output, preprocessed}
 use Rattle.naga_oil_pre.specs.View.{fault_of}
 use Rattle.naga_oil_pre.specs.declared.fault.ComposerErrorInner.{ComposerErrorInner}
 use Rattle.naga_oil_pre.specs.declared.fault.ComposerErrorInner.TheVariants as code
-use Rattle.naga_oil.specs.Added.{◌>>=◌}
-use Rattle.naga_oil.specs.Definition.{Definition, Defs}
-use Rattle.naga_oil.specs.Merged.{used_at_start}
+use Rattle.naga_oil_registry.specs.Added.{◌>>=◌}
+use Rattle.naga_oil_registry.specs.Definition.{Definition, Defs}
+use Rattle.naga_oil_registry.specs.Merged.{used_at_start}
 use Rattle.naga_oil.specs.Refused.{Place, in_module, in_text, nowhere, refused_of, place_of}
 use Rattle.naga_oil.specs.declared.compose.error.ComposerError.{ComposerError}
 

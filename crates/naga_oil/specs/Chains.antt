@@ -5,10 +5,10 @@ use Rattle.naga_oil_redirect.specs.Redirected.{matched, redirected}
 use Rattle.naga_oil_ir.specs.RedirectFault.{RedirectFault}
 use Rattle.naga_oil_pre.specs.Fault.{Fault, redirection}
 use Rattle.naga_oil_pre.specs.Recorded.{is_among}
-use Rattle.naga_oil.specs.Added.{◌>>=◌}
+use Rattle.naga_oil_registry.specs.Added.{◌>>=◌}
 use Rattle.naga_oil.specs.BuiltModule.{Overriding}
-use Rattle.naga_oil.specs.declared.compose.descriptor.ShaderType.{ShaderType}
-use Rattle.naga_oil.specs.declared.compose.descriptor.ShaderType.TheVariants as shader
+use Rattle.naga_oil_registry.specs.declared.descriptor.ShaderType.{ShaderType}
+use Rattle.naga_oil_registry.specs.declared.descriptor.ShaderType.TheVariants as shader
 
 abbrev pub redirected_to : ModuleValue → (omitted : List (List ℕ)) → Result (ℕ × ℕ) RedirectFault → Result ModuleValue Fault
 redirected_to m omitted (Ok pair) = Ok (redirected m pair.0 pair.1 (is_among omitted))

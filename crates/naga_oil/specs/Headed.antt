@@ -9,7 +9,7 @@ use Rattle.naga_oil_lines.specs.DirectivesText.{directives_text}
 use Rattle.naga_oil_lines.specs.Uses.{Import}
 use Rattle.naga_oil_pre.specs.Fault.{Fault}
 use Rattle.naga_oil.specs.BuiltModule.{Builds}
-use Rattle.naga_oil.specs.Definition.{Definition}
+use Rattle.naga_oil_registry.specs.Definition.{Definition}
 use Rattle.naga_oil.specs.Linked.{HeaderAnswers}
 
 -- a module's directives, or the version line of GLSL

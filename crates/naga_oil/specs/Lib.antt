@@ -1,22 +1,12 @@
 -- The definitions that the contracts of this crate cite.
-pub mod Report
-pub mod ReportView
-pub mod Added
+pub mod Addition
 pub mod Built
-pub mod Definition
-pub mod DescribedView
-pub mod Descriptor
-pub mod Merged
 pub mod Refused
-pub mod Registry
-pub mod RegistryRows
-pub mod Sanitized
 pub mod Sources
 pub mod State
 pub mod CopySources
 pub mod Makes
 pub mod Ran
-pub mod Keywords
 pub mod Writeback
 pub mod Steps
 pub mod BuiltModule
@@ -39,7 +29,6 @@ pub mod Shader
 pub mod LinkedRows
 pub mod Headed
 pub mod Begun
-pub mod KeywordsView
 pub mod Virtuals
 pub mod Filled
 pub mod OwnedRows

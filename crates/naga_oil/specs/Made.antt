@@ -6,7 +6,7 @@ use Rattle.naga_oil_pre.specs.View.{fault_of}
 use Rattle.naga_oil_pre.specs.declared.fault.ComposerErrorInner.TheVariants as code
 use Rattle.naga_oil.specs.Afresh.{Reach, Unbuilt, not_importable, refused, Chosen}
 use Rattle.naga_oil.specs.BuiltModule.{Builds}
-use Rattle.naga_oil.specs.Definition.{Definition, Defs}
+use Rattle.naga_oil_registry.specs.Definition.{Definition, Defs}
 use Rattle.naga_oil.specs.Merging.{imported, are_among}
 use Rattle.naga_oil.specs.Refused.{Refused, refused_of, place_of, nowhere}
 use Rattle.naga_oil.specs.declared.compose.error.EnsureImportsError.{EnsureImportsError}

@@ -6,11 +6,11 @@ use Rattle.naga_oil_ir.specs.declared.module.Module.{Module}
 use Rattle.naga_oil_pre.specs.Fault.{Fault}
 use Rattle.naga_oil_pre.specs.View.{fault_of}
 use Rattle.naga_oil.specs.declared.compose.error.ComposerError.{ComposerError}
-use Rattle.naga_oil.specs.Added.{read_source}
+use Rattle.naga_oil_registry.specs.Added.{read_source}
 use Rattle.naga_oil.specs.Afresh.{Setting}
 use Rattle.naga_oil.specs.BuiltModule.{Builds}
-use Rattle.naga_oil.specs.Definition.{Definition}
-use Rattle.naga_oil.specs.Descriptor.{ShaderSource}
+use Rattle.naga_oil_registry.specs.Definition.{Definition}
+use Rattle.naga_oil_registry.specs.Descriptor.{ShaderSource}
 use Rattle.naga_oil.specs.Refused.{Refused, refused_of, place_of, nowhere, in_text}
 use Rattle.naga_oil.specs.Relations.{AnswersBy}
 use Rattle.naga_oil.specs.State.{State, Counts}

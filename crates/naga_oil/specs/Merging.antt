@@ -9,11 +9,11 @@ use Rattle.naga_oil_pre.specs.Fault.{Fault, Definitions, import_not_found, incon
 use Rattle.naga_oil_pre.specs.Metadata.{Metadata}
 use Rattle.naga_oil_pre.specs.declared.shader_def.ShaderDefValue.{ShaderDefValue}
 use Rattle.naga_oil_pre.specs.declared.shader_def.ShaderDefValue.TheVariants as def
-use Rattle.naga_oil.specs.Added.{◌>>=◌}
-use Rattle.naga_oil.specs.Definition.{Defs, Definition}
-use Rattle.naga_oil.specs.Descriptor.{ShaderSource, language_of}
-use Rattle.naga_oil.specs.Merged.{with_def}
-use Rattle.naga_oil.specs.Registry.{module_named}
+use Rattle.naga_oil_registry.specs.Added.{◌>>=◌}
+use Rattle.naga_oil_registry.specs.Definition.{Defs, Definition}
+use Rattle.naga_oil_registry.specs.Descriptor.{ShaderSource, language_of}
+use Rattle.naga_oil_registry.specs.Merged.{with_def}
+use Rattle.naga_oil_registry.specs.Registry.{module_named}
 
 -- a shader as a module of no name and no index, by what is read of its text, with its definitions and the names that it records
 abbrev pub shader_definition : ShaderSource → Metadata → (defs : Defs) → (recorded : List (List ℕ)) → Definition

@@ -1,7 +1,7 @@
 -- What commands do, one after another.
 use Rattle.std.specs.Prelude.{◌≡◌, List, [], ◌∷◌}
 use Rattle.naga_oil_ir.specs.Backend.{FrontEnd}
-use Rattle.naga_oil.specs.Descriptor.{module_source, shader_source}
+use Rattle.naga_oil_registry.specs.Descriptor.{module_source, shader_source}
 use Rattle.naga_oil.specs.State.{State, Adds, Removes}
 use Rattle.naga_oil.specs.Makes.{Makes}
 use Rattle.naga_oil.specs.declared.compose.command.Command.{Command}

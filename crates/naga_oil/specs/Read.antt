@@ -11,10 +11,10 @@ use Rattle.naga_oil.specs.Afresh.{Setting, Unless, UnlessBuilt, EachReached, Rea
 use Rattle.naga_oil.specs.Building.{by_steps}
 use Rattle.naga_oil.specs.Built.{preprocessed_of}
 use Rattle.naga_oil.specs.BuiltModule.{Builds}
-use Rattle.naga_oil.specs.Definition.{Definition, Defs}
-use Rattle.naga_oil.specs.Descriptor.{ShaderSource}
+use Rattle.naga_oil_registry.specs.Definition.{Definition, Defs}
+use Rattle.naga_oil_registry.specs.Descriptor.{ShaderSource}
 use Rattle.naga_oil.specs.Made.{Unread, here, OneUnread, any_use, may_use}
-use Rattle.naga_oil.specs.Merged.{overwritten, recorded_names}
+use Rattle.naga_oil_registry.specs.Merged.{overwritten, recorded_names}
 use Rattle.naga_oil.specs.Merging.{shader_definition, defs_union_over}
 
 -- what a shader's text says of it: its metadata, with the defines as a list in the order of their names, each once

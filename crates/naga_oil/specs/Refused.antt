@@ -2,7 +2,7 @@
 use Rattle.std.specs.Prelude.{◌≡◌, ℕ, List, [], Option, None, option_map, Result, Ok, Err, MatchOption, string_bytes}
 use Rattle.naga_oil_pre.specs.Fault.{Fault}
 use Rattle.naga_oil_pre.specs.View.{fault_of}
-use Rattle.naga_oil.specs.Definition.{Defs, defs_of}
+use Rattle.naga_oil_registry.specs.Definition.{Defs, defs_of}
 use Rattle.naga_oil.specs.declared.compose.error.ErrSource.{ErrSource}
 use Rattle.naga_oil.specs.declared.compose.error.ErrSource.TheVariants as code
 use Rattle.naga_oil.specs.declared.compose.error.ComposerError.{ComposerError}

@@ -9,12 +9,12 @@ use Rattle.naga_oil_ir.specs.RedirectFault.{RedirectFault}
 use Rattle.naga_oil_pre.specs.Fault.{Fault, redirection}
 use Rattle.naga_oil.specs.BuiltModule.{BuiltModule, Builds, Overriding}
 use Rattle.naga_oil.specs.Chains.{all_sent_down, with_stages}
-use Rattle.naga_oil.specs.Definition.{Defs}
+use Rattle.naga_oil_registry.specs.Definition.{Defs}
 use Rattle.naga_oil.specs.Formed.{IsFormedApart, IsUnformedApart}
 use Rattle.naga_oil.specs.Linked.{WholeLinked}
 use Rattle.naga_oil.specs.Refused.{Place, Refused}
 use Rattle.naga_oil.specs.Validated.{validated}
-use Rattle.naga_oil.specs.declared.compose.descriptor.ShaderType.{ShaderType}
+use Rattle.naga_oil_registry.specs.declared.descriptor.ShaderType.{ShaderType}
 
 -- made is a module that passes the test of form, with calls sent down the functions that override others, and its functions in order
 pub record IsChained (all : Overriding) (m made : ModuleValue) : Type 0 where

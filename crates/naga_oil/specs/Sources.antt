@@ -3,8 +3,8 @@ use Rattle.std.specs.Prelude.{ℕ, List, [], Option, Some, None, Result, Ok, Err
 use Rattle.std.specs.BTreeMap.{get_by_text}
 use Rattle.naga_oil_pre.specs.Fault.{Fault, Definitions}
 use Rattle.naga_oil_pre.specs.Preprocessed.{Output, preprocessed}
-use Rattle.naga_oil.specs.Definition.{Definition}
-use Rattle.naga_oil.specs.Registry.{module_named}
+use Rattle.naga_oil_registry.specs.Definition.{Definition}
+use Rattle.naga_oil_registry.specs.Registry.{module_named}
 use Rattle.naga_oil.specs.declared.compose.error.ErrSource.{ErrSource}
 use Rattle.naga_oil.specs.declared.compose.error.ErrSource.TheVariants as code
 

@@ -4,11 +4,12 @@ use Rattle.std.specs.declared.alloc.AllocError.{AllocError}
 use Rattle.naga_oil_ir.specs.declared.backend.Capabilities.{Capabilities}
 use Rattle.naga_oil.specs.declared.compose.error.ComposerError.{ComposerError}
 use Rattle.naga_oil_pre.specs.View.{fault_of}
-use Rattle.naga_oil.specs.Added.{addition, counter_after, shown_by, Enters}
-use Rattle.naga_oil.specs.Definition.{Definition}
-use Rattle.naga_oil.specs.Descriptor.{ModuleSource}
+use Rattle.naga_oil_registry.specs.Added.{counter_after, shown_by, Enters}
+use Rattle.naga_oil.specs.Addition.{addition}
+use Rattle.naga_oil_registry.specs.Definition.{Definition}
+use Rattle.naga_oil_registry.specs.Descriptor.{ModuleSource}
 use Rattle.naga_oil.specs.Refused.{Answers, UnlessMemory}
-use Rattle.naga_oil.specs.Registry.{registered, removed}
+use Rattle.naga_oil_registry.specs.Registry.{registered, removed}
 
 -- the front end, the settings, what is registered, and the number of the next binding
 pub record State (B : Type 0) : Type 0 where

@@ -7,7 +7,7 @@ use Rattle.naga_oil_ir.specs.declared.backend.Capabilities.{Capabilities}
 use Rattle.naga_oil_ir.specs.declared.span.Span.{Span}
 use Rattle.naga_oil_pre.specs.Fault.{shader_validation}
 use Rattle.naga_oil.specs.BuiltModule.{BuiltModule, Builds}
-use Rattle.naga_oil.specs.Definition.{Defs}
+use Rattle.naga_oil_registry.specs.Definition.{Defs}
 use Rattle.naga_oil.specs.Refused.{Place, in_module, Refused}
 
 -- the index of the module that a span lies in; 0, the shader's, for one of no text

@@ -1,5 +1,5 @@
 -- Functions that may be overridden, and those that override them, as a text says by keywords.
-use Rattle.std.specs.Prelude.{ℕ, Bool, not, ◌&&◌, ◌==◌, nat_eq, ◌+◌, ◌-◌, if◌then◌else◌, Option, Some, None, option_map, Result, Ok, Err, List, [], ◌∷◌, ◌++◌, length, take, drop, map, fold, bytes_eq, codes}
+use Rattle.std.specs.Prelude.{◌≡◌, ◌<◌, ℕ, Bool, not, ◌&&◌, ◌==◌, nat_eq, ◌+◌, ◌-◌, if◌then◌else◌, Option, Some, None, option_map, Result, Ok, Err, List, [], ◌∷◌, ◌++◌, length, take, drop, map, fold, bytes_eq, codes}
 use Rattle.std.specs.List.{list_any, list_all, starts_with, ends_with}
 use Rattle.std.specs.Option.{option_or}
 use Rattle.std.specs.Str.{chars}
@@ -12,7 +12,7 @@ use Rattle.naga_oil_lines.specs.Uses.{Import}
 use Rattle.naga_oil_pre.specs.Fault.{Fault, import_not_found, not_virtual}
 use Rattle.naga_oil_pre.specs.Recorded.{is_among}
 use Rattle.naga_oil.specs.BuiltModule.{BuiltModule, Overriding, Builds}
-use Rattle.naga_oil.specs.Keywords.{MarkedFunction, covered_text, marked_in, put, with_edits}
+use Rattle.naga_oil_registry.specs.Keywords.{MarkedFunction, covered_text, marked_in, put, with_edits}
 use Rattle.naga_oil.specs.Overriding.{build_named, overridden}
 
 -- the names of functions, each once, in byte order
@@ -22,6 +22,12 @@ names_of fs = fold with_name [] (map (λ f. f.name) fs)
 -- edits with other characters in the place of each keyword
 abbrev pub blanked : (blank : List ℕ) → (edits : ℕ → Option ℕ) → List MarkedFunction → ℕ → Option ℕ
 blanked blank edits fs = fold (λ es f. put es f.keyword blank) edits fs
+
+-- a decorated name is an item, the mark of a module, its code and an `X`
+pub record AreItemAndCode (name item code : List ℕ) : Type 0 where
+  pub parts : name ≡ item ++ (module_mark ++ (code ++ codes "X"))
+  pub named : 0 < length item
+  pub coded : 0 < length code
 
 -- what a function that overrides an item of a module, which has the code, is named in a build with this decoration
 abbrev pub override_name : (item code decoration : List ℕ) → List ℕ

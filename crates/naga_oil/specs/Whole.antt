@@ -6,13 +6,13 @@ use Rattle.naga_oil.specs.Afresh.{Setting}
 use Rattle.naga_oil.specs.Building.{by_steps}
 use Rattle.naga_oil.specs.Built.{build_place, IsToldAt}
 use Rattle.naga_oil.specs.BuiltModule.{BuiltModule, Builds}
-use Rattle.naga_oil.specs.Definition.{Definition, Defs}
-use Rattle.naga_oil.specs.Descriptor.{ShaderSource}
+use Rattle.naga_oil_registry.specs.Definition.{Definition, Defs}
+use Rattle.naga_oil_registry.specs.Descriptor.{ShaderSource}
 use Rattle.naga_oil.specs.Made.{Unread, here, there}
 use Rattle.naga_oil.specs.Read.{IsRead, IsUnread}
 use Rattle.naga_oil.specs.Refused.{Refused, in_text}
 use Rattle.naga_oil.specs.Shader.{ShaderAnswers}
-use Rattle.naga_oil.specs.declared.compose.descriptor.ShaderType.{ShaderType}
+use Rattle.naga_oil_registry.specs.declared.descriptor.ShaderType.{ShaderType}
 use Rattle.naga_oil.specs.declared.compose.error.ComposerError.{ComposerError}
 use Rattle.naga_oil.specs.declared.compose.make.ReadFault.{ReadFault}
 use Rattle.naga_oil.specs.declared.compose.make.ReadFault.TheVariants as reading

@@ -1,55 +1,35 @@
 //! Modules are added to a composer under their names.
 //!
-//! - `composer`: the composer.
-//! - `descriptor`: what callers ask for.
-//! - `definition`: what is registered of a module.
-//! - `registry`: the list of what is registered, the newest module first.
-//! - `adding`: what is added, from its text to its definition.
-//! - `sanitize`: a source as it is read.
-//! - `merge`: what a module takes over from those that it imports.
+//! - `composer`: the composer, over what is registered (`naga_oil_registry`).
 //! - `build`: a module as it is built of its text, over the builds of what it imports.
-//! - `virtuals`, `keywords`: functions that may be overridden, and the keywords that say so.
+//! - `virtuals`: functions that may be overridden, and those that override them.
 //! - `writeback`: whether the names of a header come back when it is written and read again.
 //! - `error`: why a call is refused, and where.
-//! - `report`: what an error is told as.
-mod adding;
 mod build;
 mod by_name;
 mod command;
 mod composer;
 mod copied;
-mod definition;
-mod descriptor;
 pub mod error;
 mod filled;
 mod formed;
 mod items;
-mod keywords;
 mod link;
 mod make;
-mod marked;
-mod merge;
 mod module;
-mod registry;
-pub mod report;
-mod sanitize;
 mod virtuals;
 mod writeback;
 
 use build::Maker;
 pub use command::{Command, Reply, run};
 pub use composer::Composer;
-pub use definition::ComposableModuleDefinition;
-use definition::{Build, Checked, Definition, Defs, Import, Names, Overrides, Told, Tried, Use};
-pub use descriptor::{
-    ComposableModuleDescriptor, NagaModuleDescriptor, OwnedShaderDefs, ShaderType,
-};
+use error::Told;
 pub use error::{ComposerError, ComposerErrorInner, EnsureImportsError, ErrSource};
 use formed::{FormedModule, Header};
 use indexmap::IndexMap;
 use link::{Builds, Linker};
-use marked::{Marked, Over};
 pub use module::ComposableModule;
+use module::{Build, Overrides};
 use naga_oil_derive::DerivedModule;
 pub use naga_oil_ir::{
     Backend, BackendRefusal, Capabilities, ParseFault, ShaderLanguage, ValidFault, WriteFault,
@@ -76,6 +56,11 @@ use naga_oil_pre::{
     ComposerErrorInner as Inner, PreprocessOutput, Preprocessor, PreprocessorMetaData,
 };
 use naga_oil_redirect::RedirectError;
+pub use naga_oil_registry::{
+    ComposableModuleDefinition, ComposableModuleDescriptor, NagaModuleDescriptor, OwnedShaderDefs,
+    ShaderType, report,
+};
+use naga_oil_registry::{Checked, Definition, Defs, Import, Marked, Names, Tried, Use};
 use std::alloc::{AllocError, Global};
 use std::collections::{BTreeMap, BTreeSet};
 use std::mem;

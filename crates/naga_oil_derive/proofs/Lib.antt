@@ -12,6 +12,7 @@ pub mod FunctionCopies
 pub mod FunctionForm
 pub mod FunctionLaws
 pub mod ReachedLaws
+pub mod NoteLaws
 pub mod RangeLaws
 pub mod NameLaws
 pub mod AnsweredValues

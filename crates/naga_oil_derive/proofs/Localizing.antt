@@ -75,14 +75,14 @@ went_on f o x xs n m b e lx w le s =
 
 -- ---- emitted ranges
 
-places_empty : (r : ℕ × ℕ) → r.1 ≤ r.0 → places r ≡ []
+pub places_empty : (r : ℕ × ℕ) → r.1 ≤ r.0 → places r ≡ []
 places_empty r h = let e : r.1 - r.0 ≡ 0 = omega arith in ap (run r.0) e
 
 one_place : (n m c : ℕ) (r : ℕ × ℕ) (o : Option (ℕ × ℕ)) → r.1 ≤ r.0 → places (brought_range n m c r o) ≡ []
 one_place n m c r None h = places_empty (c, c) (omega arith)
 one_place n m c r (Some p) h = ap (λ v. places (brought n m p.0, if v then brought n m p.1 else brought n m p.0)) (le-ltb r.0 r.1 h) ∙ places_empty (brought n m p.0, brought n m p.0) (omega arith)
 
-pub wide : (es : Notes) (n m c : ℕ) (r : ℕ × ℕ) (b e : ℕ) → r.0 < r.1 → slice_get es r.0 ≡ Some (Some (b, e)) → range_under es n m c r ≡ (brought n m b, brought n m e)
+wide : (es : Notes) (n m c : ℕ) (r : ℕ × ℕ) (b e : ℕ) → r.0 < r.1 → slice_get es r.0 ≡ Some (Some (b, e)) → range_under es n m c r ≡ (brought n m b, brought n m e)
 wide es n m c r b e h at = ap (λ q. brought_range n m c r (option_flatten q)) at ∙ ap (λ v. let p : ℕ × ℕ = (brought n m b, if v then brought n m e else brought n m b) in p) (lt-ltb r.0 r.1 h)
 
 covered_token : (t : Table) (es : Notes) (s o x : List ℕ) (n m c : ℕ) (k : Token) → length x ≡ n → map (place_under t) o ≡ x ++ run m (length o - n) → AreWithin n o es → IsNoted s o es k → IsCovered t (range_under es n m c) s k

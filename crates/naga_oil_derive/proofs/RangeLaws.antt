@@ -1,10 +1,10 @@
 -- Where the emitted ranges of a copy stand.
-use Rattle.std.proofs.Common.{◌≡◌, ℕ, zero, suc, ◌+◌, ◌-◌, ◌<◌, ◌≤◌, true, false, cond, nat_lt, List, [], ◌∷◌, ◌++◌, length, map, take, get_or, replicate, slice_get, option_to_list, option_map, Option, Some, None, refl, ap, sym, ◌∙◌, subst, arith}
+use Rattle.std.proofs.Common.{◌≡◌, ⊎_elim, if◌then◌else◌, ℕ, zero, suc, ◌+◌, ◌-◌, ◌<◌, ◌≤◌, true, false, cond, nat_lt, List, [], ◌∷◌, ◌++◌, length, map, take, get_or, replicate, slice_get, option_to_list, option_map, Option, Some, None, refl, ap, sym, ◌∙◌, subst, arith}
 use Rattle.std.specs.List.{flat_map}
 use Rattle.std.specs.Option.{option_flatten}
-use Rattle.std.proofs.lemmas.Bool.{cond_both, le-ltb}
+use Rattle.std.proofs.lemmas.Bool.{cases_lt, cond_both, le-ltb, lt-ltb}
 use Rattle.std.proofs.lemmas.List.{append_assoc, take-take, take_at, length-append, length-map, length_push, length-replicate}
-use Rattle.std.proofs.lemmas.Option.{none-some, same_Some, slice_get-get_or, slice_get-map}
+use Rattle.std.proofs.lemmas.Option.{none-some, same_Some, slice_get-get_or, slice_get-map, slice_get_past}
 use Rattle.naga_oil_ir.specs.Parts.{Parts}
 use Rattle.naga_oil_ir.specs.Body.{Tokens}
 use Rattle.naga_oil_ir.specs.BodyForm.{places, made, callee, AreFine}
@@ -17,77 +17,18 @@ use Rattle.naga_oil_derive.specs.Renames.{Renames, rename_token}
 use Rattle.naga_oil_derive.specs.Walk.{IsReachOrder, externals, others, listed, brief, Notes, notes_of, notes_after, AreWithin}
 use Rattle.naga_oil_derive.specs.Copies.{Values, Table, place_under, value_links, copied, FitIn, brought, brought_range, range_under}
 use Rattle.naga_oil_derive.specs.CopiedFunction.{ExpressionState, copied_expression, copied_expressions, expressions_upto, body_renames, notes_in, copied_function}
-use Rattle.naga_oil_derive.specs.CopiedFunctionLaw.{MayBeCopied, EmitsAt, put_before, copies_of, range_from, RangeLaw}
+use Rattle.naga_oil_derive.specs.CopiedFunctionLaw.{MayBeCopied, EmitsAt, LeadsAt, put_before, copies_of, range_from, RangeLaw}
 use Rattle.naga_oil_derive.specs.DerivedFunctions.{kinds_in, named_in, initialisers_in}
 use Rattle.naga_oil_derive.specs.Functions.{IsCovered, AreCovered, begun, order_of}
 use Rattle.naga_oil_derive.proofs.CopyLoops.{there}
 use Rattle.naga_oil_derive.proofs.CopySteps.{has_part, map_other}
 use Rattle.naga_oil_derive.proofs.FunctionForm.{plain_values, started_ready, walk_of_value, begun_first}
 use Rattle.naga_oil_derive.proofs.FunctionLaws.{step_copied, placed_upto, copied_value}
-use Rattle.naga_oil_derive.proofs.Localizing.{covered, notes_fit, run_length, wide}
+use Rattle.naga_oil_derive.proofs.Localizing.{covered, notes_fit, places_empty, run_length}
+use Rattle.naga_oil_derive.proofs.NoteLaws.{before, note, emitted_first, notes_count, counted_note}
 use Rattle.naga_oil_derive.proofs.WalkForm.{IsPlain, IsUnder, step, stand_range, same_externals, covers_under, under_externals, has_externals, under_start}
 use Rattle.naga_oil_derive.proofs.WalkLemmas.{added-append}
 use Rattle.naga_oil_derive.proofs.WalkNotes.{added-grows, added-longer, noted_at, has_first, token_at, body_at, no_notes}
-
--- ---- what is noted of one range
-
--- what is put before a range r, where o was put before the body
-abbrev before : List ℕ → Links → List ℕ → Tokens → ℕ × ℕ → List ℕ
-before ks ls o ts r = added (added o (flat_map (listed ks ls) ts)) (externals ks (flat_map (trail ls) (places r)))
-
--- a note
-abbrev note : ℕ → ℕ → Option (Option (ℕ × ℕ))
-note b e = Some (Some (b, e))
-
--- the range at i is noted with what is put before it, and with its places
-abbrev NotedAt : List ℕ → Links → List ℕ → List ℕ → Notes → Tokens → ℕ → ℕ × ℕ → Type 0
-NotedAt ks ls s o es ts i r =
-    let n = length (before ks ls o (take i ts) r) in
-    slice_get (notes_after ks ls o es ts) r.0 ≡ Some (Some (n, n + length (others s (places r))))
-
-noted_first : (ks : List ℕ) (ls : Links) → IsPlain ks ls → AreEarlier ls → (n : ℕ) (fs : List (Option ℕ)) (s d o : List ℕ) (es : Notes) (ts : Tokens) (r : ℕ × ℕ) → length s ≤ length o → IsUnder ks ls s d o → AreWithin (length s) o es → length es ≡ n → AreFine n ks fs ls s d (Emitted r ∷ ts) → r.0 < r.1 → NotedAt ks ls s o es (Emitted r ∷ ts) 0 r
-noted_first ks ls p a n fs s d o es ts r l u w long f h =
-    let ps = places r in
-    let xs = externals ks (flat_map (linked ls) ps) in
-    let mid = added o xs in
-    let last = added mid ps in
-    let es1 = notes_of ks ls o es (Emitted r) in
-    let o1 = added o (brief ks ls (Emitted r)) in
-    let m : last ≡ mid ++ others s ps = stand_range ks ls s ps d mid (under_externals ks ls p s d (flat_map (linked ls) ps) o u) f.0.2 (has_externals ks ls o ps) in
-    let size : length last ≡ length mid + length (others s ps) = ap length m ∙ length-append mid (others s ps) in
-    let le : r.1 ≤ n = f.0.1 in
-    let here : slice_get es1 r.0 ≡ Some (Some (length mid, length last)) = noted_at es r (length mid, length last) h (omega (arith, h, le, long)) in
-    let v = token_at ks ls p a n fs s d o es (Emitted r) l u w long f.0 in
-    let lo = added-longer (brief ks ls (Emitted r)) o in
-    let rest = body_at ks ls p a n fs s ts (d ++ ps) o1 es1 (omega (arith, l, lo)) (step ks ls p a n fs s d o (Emitted r) u f.0).under v.at.within (v.at.long ∙ long) f.1 in
-    let same : mid ≡ added o (externals ks (flat_map (trail ls) ps)) = sym (same_externals ks ls p a s ps d o (covers_under ks ls s d o u) f.0.2) in
-    rest.at.keeps r.0 (length mid, length last) (has_first d r h) here ∙ ap (note (length mid)) size ∙ ap (λ (q : List ℕ). note (length q) (length q + length (others s ps))) same
-
-emitted_first : (t : Token) (r : ℕ × ℕ) → Some t ≡ Some (Emitted r) → t ≡ Emitted r
-emitted_first t r e = same_Some t (Emitted r) e
-
-noted_body : (ks : List ℕ) (ls : Links) → IsPlain ks ls → AreEarlier ls → (n : ℕ) (fs : List (Option ℕ)) (s : List ℕ) (ts : Tokens) (d o : List ℕ) (es : Notes) → length s ≤ length o → IsUnder ks ls s d o → AreWithin (length s) o es → length es ≡ n → AreFine n ks fs ls s d ts → (i : ℕ) (r : ℕ × ℕ) → slice_get ts i ≡ Some (Emitted r) → r.0 < r.1 → NotedAt ks ls s o es ts i r
-noted_body ks ls p a n fs s [] d o es l u w long f i r at h = absurd (none-some (Emitted r) at)
-noted_body ks ls p a n fs s (t ∷ ts) d o es l u w long f zero r at h =
-    let e = emitted_first t r at in
-    subst (λ x. NotedAt ks ls s o es (x ∷ ts) 0 r) (sym e) (noted_first ks ls p a n fs s d o es ts r l u w long (subst (λ x. AreFine n ks fs ls s d (x ∷ ts)) e f) h)
-noted_body ks ls p a n fs s (t ∷ ts) d o es l u w long f (suc i) r at h =
-    let v = token_at ks ls p a n fs s d o es t l u w long f.0 in
-    let x = step ks ls p a n fs s d o t u f.0 in
-    let lo = added-longer (brief ks ls t) o in
-    let o1 = added o (brief ks ls t) in
-    let rest = noted_body ks ls p a n fs s ts (d ++ made t) o1 (notes_of ks ls o es t) (omega (arith, l, lo)) x.under v.at.within (v.at.long ∙ long) f.1 i r at h in
-    let same : added o1 (flat_map (listed ks ls) (take i ts)) ≡ added o (listed ks ls t ++ flat_map (listed ks ls) (take i ts)) = ap (λ q. added q (flat_map (listed ks ls) (take i ts))) x.same ∙ sym (added-append o (listed ks ls t) (flat_map (listed ks ls) (take i ts))) in
-    rest ∙ ap (λ (q : List ℕ). let k = length (added q (externals ks (flat_map (trail ls) (places r)))) in note k (k + length (others s (places r)))) same
-
-noted_value : (v : FunctionValue) → MayBeCopied v → (i : ℕ) (p : ℕ × ℕ) → EmitsAt v i p → p.0 < p.1 → let n = length (put_before v i p) in slice_get (notes_in v) p.0 ≡ Some (Some (n, n + length (others (begun v) (places p))))
-noted_value v may i p at h =
-    let ls = value_links v.expressions in
-    let f = may.form in
-    let s = begun v in
-    let none : Notes = replicate (length v.expressions) None in
-    let long : length none ≡ length ls = length-replicate (length v.expressions) None ∙ sym (length-map v.expressions (λ (e : Parts × Span). flat_map option_to_list e.0.operands)) in
-    noted_body (kinds_in v) ls (plain_values v.expressions may.alone) f.earlier (length ls) (map callee (named_in v)) s v.body [] s none (omega arith) (under_start (kinds_in v) ls s (started_ready ls f.earlier (initialisers_in v))) (no_notes (length v.expressions) (length s) s none refl) long f.body i p at h
 
 -- ---- how many copies there are
 
@@ -184,26 +125,124 @@ no_places q l e = let n : q.1 - q.0 ≡ 0 = sym (run_length (q.1 - q.0) q.0) ∙
 abbrev emitted : ℕ → ℕ → Option Token
 emitted b e = Some (Emitted (b, e))
 
-pub ranges : RangeLaw
-unfolding copied_function
-ranges r v may =
+-- ---- the ranges of a function
+
+abbrev state_of : Renames → FunctionValue → ExpressionState
+state_of r v = copied_expressions r v.expressions (order_of v) (length (begun v))
+
+-- how many copies initialisers have
+abbrev merged_of : Renames → FunctionValue → ℕ
+merged_of r v = length (state_of r v).values - (length (order_of v) - length (begun v))
+
+-- where the copy of a place of the order stands
+abbrev brought_in : Renames → FunctionValue → ℕ → ℕ
+brought_in r v k = brought (length (begun v)) (merged_of r v) k
+
+abbrev covered_by : FunctionValue → ℕ × ℕ → ℕ
+covered_by v q = length (others (begun v) (places q))
+
+-- what is noted of the range that counts, and where it leads to
+record IsLed (r : Renames) (v : FunctionValue) (j : ℕ) (q : ℕ × ℕ) : Type 0 where
+  pub noted : slice_get (notes_in v) q.0 ≡ note (length (put_before v j q)) (length (put_before v j q) + covered_by v q)
+  pub begins : brought_in r v (length (put_before v j q)) ≡ copies_of r v (put_before v j q)
+  pub ends : brought_in r v (length (put_before v j q) + covered_by v q) ≡ copies_of r v (put_before v j q) + covered_by v q
+
+led : (r : Renames) (v : FunctionValue) → MayBeCopied v → (j : ℕ) (q : ℕ × ℕ) → LeadsAt v j q → IsLed r v j q
+led r v may j q at =
     let es = v.expressions in
     let o = order_of v in
     let n = length (begun v) in
+    let w = walk_of_value v may in
+    let x = put_before v j q in
+    let k = length x in
+    let size : length (value_links es) ≡ length es = length-map es (λ (e : Parts × Span). flat_map option_to_list e.0.operands) in
+    let inside = λ (i : ℕ) (l : i < length o). let y = w.within i 0 l in (let z : get_or o i 0 < length es = omega (arith, y, size) in z) in
+    let noted = counted_note v may j q at.emits at.within at.counts in
+    let l = w.notes q.0 k (k + covered_by v q) noted in
+    let l0 = l.0 in
+    let l2 = l.2 in
+    let back : n + (k - n) ≡ k = omega (arith, l0) in
+    let whole : n + (length o - n) ≡ length o = omega (arith, begun_first v) in
+    let some = sym (ap (λ y. length (expressions_upto r es o n y).values) back) ∙ counted r es o n inside (k - n) (omega (arith, l0, l2)) in
+    let all = sym (ap (λ y. length (expressions_upto r es o n y).values) whole) ∙ counted r es o n inside (length o - n) (omega (arith, whole)) in
+    let num : copies_of r v x ≡ length (expressions_upto r es o n k).values = ap (copies_of r v) (sym (order_begins v j q at.emits)) ∙ copies_first r es o n w.ready inside k l0 (omega (arith, l2)) in
+    let first : brought_in r v k ≡ copies_of r v x = omega (arith, some, all, num) in
+    record { noted = noted; begins = first; ends = omega (arith, first, l0) }
+
+-- a range, by the note at its first place
+range_noted : (ns : Notes) (n m c : ℕ) (p q : ℕ × ℕ) (b e : ℕ) → p.0 ≡ q.0 → slice_get ns q.0 ≡ note b e → range_under ns n m c p ≡ brought_range n m c p (Some (b, e))
+range_noted ns n m c p q b e f at = ap (λ o. brought_range n m c p (option_flatten o)) (ap (slice_get ns) f ∙ at)
+
+abbrev pair_of : ℕ → ℕ → ℕ × ℕ
+pair_of a b = (a, b)
+
+range_wide : (n m c : ℕ) (p : ℕ × ℕ) (b e : ℕ) → p.0 < p.1 → brought_range n m c p (Some (b, e)) ≡ pair_of (brought n m b) (brought n m e)
+range_wide n m c p b e l = ap (λ t. pair_of (brought n m b) (if t then brought n m e else brought n m b)) (lt-ltb p.0 p.1 l)
+
+range_empty : (n m c : ℕ) (p : ℕ × ℕ) (b e : ℕ) → p.1 ≤ p.0 → brought_range n m c p (Some (b, e)) ≡ pair_of (brought n m b) (brought n m b)
+range_empty n m c p b e l = ap (λ t. pair_of (brought n m b) (if t then brought n m e else brought n m b)) (le-ltb p.0 p.1 l)
+
+-- the range of a copy, by its beginning and its end
+emitted_as : (u : Renames) (ts : Tokens) (i : ℕ) (p : ℕ × ℕ) (a b x y : ℕ) → slice_get ts i ≡ Some (Emitted p) → u.range p ≡ pair_of a b → a ≡ x → b ≡ y → slice_get (map (rename_token u) ts) i ≡ emitted x y
+emitted_as u ts i p a b x y at e f g = renamed_at u ts i p at ∙ ap (λ (q : ℕ × ℕ). Some (Emitted q)) e ∙ ap (λ z. emitted z b) f ∙ ap (emitted x) g
+
+range_begins : (r : Renames) (v : FunctionValue) → MayBeCopied v → (j : ℕ) (q : ℕ × ℕ) → LeadsAt v j q → EmitsAt (copied_function r v) j (range_from v q (copies_of r v (put_before v j q)))
+unfolding copied_function
+range_begins r v may j q at =
     let ns = notes_in v in
-    let s = copied_expressions r es o n in
+    let n = length (begun v) in
+    let m = merged_of r v in
+    let c = length (state_of r v).values in
+    let u = body_renames r (state_of r v) (order_of v) n ns in
+    let k = length (put_before v j q) in
+    let e = covered_by v q in
+    let x = led r v may j q at in
+    let range = range_noted ns n m c q q k (k + e) refl x.noted in
+    let less = λ (l : q.1 ≤ q.0). let none : e ≡ 0 = ap (λ ps. length (others (begun v) ps)) (places_empty q l) in let last : brought_in r v k ≡ copies_of r v (put_before v j q) + e = omega (arith, none, x.begins) in emitted_as u v.body j q (brought_in r v k) (brought_in r v k) (copies_of r v (put_before v j q)) (copies_of r v (put_before v j q) + e) at.emits (range ∙ range_empty n m c q k (k + e) l) x.begins last in
+    ⊎_elim (λ l. emitted_as u v.body j q (brought_in r v k) (brought_in r v (k + e)) (copies_of r v (put_before v j q)) (copies_of r v (put_before v j q) + e) at.emits (range ∙ range_wide n m c q k (k + e) l) x.begins x.ends) less (cases_lt q.0 q.1)
+
+range_shared : (r : Renames) (v : FunctionValue) → MayBeCopied v → (i j : ℕ) (p q : ℕ × ℕ) → EmitsAt v i p → p.1 ≤ p.0 → LeadsAt v j q → p.0 ≡ q.0 → EmitsAt (copied_function r v) i (copies_of r v (put_before v j q), copies_of r v (put_before v j q))
+unfolding copied_function
+range_shared r v may i j p q emits l at f =
+    let ns = notes_in v in
+    let n = length (begun v) in
+    let m = merged_of r v in
+    let c = length (state_of r v).values in
+    let k = length (put_before v j q) in
+    let e = covered_by v q in
+    let x = led r v may j q at in
+    let num = copies_of r v (put_before v j q) in
+    emitted_as (body_renames r (state_of r v) (order_of v) n ns) v.body i p (brought_in r v k) (brought_in r v k) num num emits (range_noted ns n m c p q k (k + e) f x.noted ∙ range_empty n m c p k (k + e) l) x.begins x.begins
+
+range_behind : (r : Renames) (v : FunctionValue) (i : ℕ) (p : ℕ × ℕ) → EmitsAt v i p → length v.expressions ≤ p.0 → EmitsAt (copied_function r v) i (length (copied_function r v).expressions, length (copied_function r v).expressions)
+unfolding copied_function
+range_behind r v i p at l =
+    let ns = notes_in v in
+    let n = length (begun v) in
+    let m = merged_of r v in
+    let c = length (state_of r v).values in
+    let long = notes_count v in
+    emitted_as (body_renames r (state_of r v) (order_of v) n ns) v.body i p c c c c at (ap (λ o. brought_range n m c p (option_flatten o)) (slice_get_past ns p.0 (omega (arith, l, long)))) refl refl
+
+pub ranges : RangeLaw
+unfolding copied_function
+ranges r v may =
+    let o = order_of v in
+    let n = length (begun v) in
+    let ns = notes_in v in
+    let s = state_of r v in
     let c = length s.values in
-    let m = c - (length o - n) in
+    let m = merged_of r v in
     let u = body_renames r s o n ns in
     let w = walk_of_value v may in
     let copy = copied_value r v may in
     let fit : FitIn n m c ns = notes_fit ns o n m c w.notes (begun_first v) copy.count in
     let emits = covered s.table ns (begun v) o copy.began n m c v.body copy.long copy.follow w.notes w.noted in
-    let size : length (value_links es) ≡ length es = length-map es (λ (e : Parts × Span). flat_map option_to_list e.0.operands) in
-    let inside = λ (j : ℕ) (l : j < length o). let x = w.within j 0 l in (let y : get_or o j 0 < length es = omega (arith, x, size) in y) in
     let lies = λ (p : ℕ × ℕ). range_fits n m c p (option_flatten (slice_get ns p.0)) (fit p.0) in
     record {
       within = λ i q at. let x = emitted_from u (slice_get v.body i) q (sym (slice_get-map (rename_token u) v.body i) ∙ at) in subst (λ (y : ℕ × ℕ). (y.0 ≤ y.1) × (y.1 ≤ c)) x.2 (lies x.0);
-      empty = λ i p at none. let q = u.range p in let same : q.1 ≡ q.0 = no_places q (lies p).0 (covered_at s.table u.range (begun v) v.body i p emits at ∙ ap (map (place_under s.table)) none) in (q.0, renamed_at u v.body i p at ∙ ap (emitted q.0) same);
-      begins = λ i p at h. let x = put_before v i p in let k = length x in let e = length (others (begun v) (places p)) in let at_first = noted_value v may i p at h in let l = w.notes p.0 k (k + e) at_first in let l0 = l.0 in let l2 = l.2 in let back : n + (k - n) ≡ k = omega (arith, l0) in let whole : n + (length o - n) ≡ length o = omega (arith, begun_first v) in let some = sym (ap (λ y. length (expressions_upto r es o n y).values) back) ∙ counted r es o n inside (k - n) (omega (arith, l0, l2)) in let all = sym (ap (λ y. length (expressions_upto r es o n y).values) whole) ∙ counted r es o n inside (length o - n) (omega (arith, whole)) in let num : copies_of r v x ≡ length (expressions_upto r es o n k).values = ap (copies_of r v) (sym (order_begins v i p at)) ∙ copies_first r es o n w.ready inside k l0 (omega (arith, l2)) in let f : brought n m k ≡ copies_of r v x = omega (arith, some, all, num) in let g : brought n m (k + e) ≡ copies_of r v x + e = omega (arith, f, l0) in renamed_at u v.body i p at ∙ ap (λ (y : ℕ × ℕ). Some (Emitted y)) (wide ns n m c p k (k + e) h at_first) ∙ ap (λ y. emitted y (brought n m (k + e))) f ∙ ap (emitted (copies_of r v x)) g;
+      nothing = λ i p at none. let q = u.range p in let same : q.1 ≡ q.0 = no_places q (lies p).0 (covered_at s.table u.range (begun v) v.body i p emits at ∙ ap (map (place_under s.table)) none) in (q.0, renamed_at u v.body i p at ∙ ap (emitted q.0) same);
+      begins = range_begins r v may;
+      empty = range_shared r v may;
+      behind = range_behind r v;
     }

@@ -16,7 +16,7 @@ use Rattle.naga_oil_ir.specs.declared.tokens.Token.TheVariants.{Use, Give, GiveC
 use Rattle.naga_oil_ir.proofs.LinkLemmas.{same_bool, eqb_eq, eq_eqb, only, itself, All-has, has-append, has-added, has-started, in_one, in_all}
 use Rattle.naga_oil_derive.specs.Renames.{Renames}
 use Rattle.naga_oil_derive.specs.Walk.{externals, listed}
-use Rattle.naga_oil_derive.specs.Copies.{Values, place_under, value_links}
+use Rattle.naga_oil_derive.specs.Copies.{Values, Table, place_under, copied, value_links, AreCopies}
 use Rattle.naga_oil_derive.specs.CopiedFunction.{copied_expressions, copied_function}
 use Rattle.naga_oil_derive.specs.CopiedFunctionLaw.{MayBeCopied, table_of, spoken, reached_in, IsOfReached, ReachedLaw}
 use Rattle.naga_oil_derive.specs.DerivedFunctions.{kinds_in, initialisers_in}
@@ -100,15 +100,28 @@ mapped f [] h i = absurd (false≢true i)
 mapped f (x ∷ o) h i =
     ⊎_elim (λ j. (x, or_left (x == x) (has o x) (eq_eqb x x refl), eqb_eq (f x) h j)) (λ j. let y = mapped f o h j in (y.0, or_right (x == y.0) (has o y.0) y.1, y.2)) (or_cases (f x == h) (has (map f o) h) i)
 
+-- each of the copies is that of an expression in the order
+copied_from : (r : Renames) (es : Values) (s o : List ℕ) (t : Table) (v : Values) → AreCopies r es s o t v → ((k : ℕ) → has o k ≡ true → k < length es) → (h : ℕ) (e : Parts × Span) → slice_get v h ≡ Some e → (k : ℕ) × (a : Parts × Span) × (has o k ≡ true) × (slice_get es k ≡ Some a) × (place_under t k ≡ h) × (e.0 ≡ copied r t a.0)
+copied_from r es s o t v c w h e at =
+    let y = mapped (place_under t) o h (has_copy r es s o t v h c (slice_get_within v h e at)) in
+    let k = y.0 in
+    let a = there es k (w k y.1) in
+    let b = c.reads k a.0 y.1 a.1 in
+    let same : b.0 ≡ e = same_Some b.0 e (sym b.1 ∙ ap (slice_get v) y.2 ∙ at) in
+    (k, a.0, y.1, a.1, y.2, ap (λ (x : Parts × Span). x.0) (sym same) ∙ b.2)
+
+within_order : (v : FunctionValue) → MayBeCopied v → (k : ℕ) → has (order_of v) k ≡ true → k < length v.expressions
+within_order v may k i =
+    let size : length (links_of v) ≡ length v.expressions = length-map v.expressions (λ (e : Parts × Span). flat_map option_to_list e.0.operands) in
+    let l = All-has (λ x. x < length (links_of v)) (order_of v) k (walk_of_value v may).within i in
+    omega (arith, l, size)
+
 pub reached : ReachedLaw
 unfolding copied_function
 reached r v may =
-    let c = copied_value r v may in
-    let w = walk_of_value v may in
-    let t = table_of r v in
-    let vals = (copied_expressions r v.expressions (order_of v) (length (begun v))).values in
-    let size : length (links_of v) ≡ length v.expressions = length-map v.expressions (λ (e : Parts × Span). flat_map option_to_list e.0.operands) in
+    let s = copied_expressions r v.expressions (order_of v) (length (begun v)) in
+    let c = (copied_value r v may).copies in
     record {
-      went = λ k. c.copies.went k ∙ order_reached v may k;
-      only = λ h e at. let y = mapped (place_under t) (order_of v) h (has_copy r v.expressions (begun v) (order_of v) t vals h c.copies (slice_get_within vals h e at)) in let l = All-has (λ x. x < length (links_of v)) (order_of v) y.0 w.within y.1 in let a = there v.expressions y.0 (omega (arith, l, size)) in let b = c.copies.reads y.0 a.0 y.1 a.1 in let same : b.0 ≡ e = same_Some b.0 e (sym b.1 ∙ ap (slice_get vals) y.2 ∙ at) in record { source = y.0; entry = a.0; reached = sym (order_reached v may y.0) ∙ y.1; at_source = a.1; place = y.2; reads = ap (λ (x : Parts × Span). x.0) (sym same) ∙ b.2 };
+      went = λ k. c.went k ∙ order_reached v may k;
+      only = λ h e at. let y = copied_from r v.expressions (begun v) (order_of v) s.table s.values c (within_order v may) h e at in record { source = y.0; entry = y.1; reached = sym (order_reached v may y.0) ∙ y.2; at_source = y.3; place = y.4; reads = y.5 };
     }

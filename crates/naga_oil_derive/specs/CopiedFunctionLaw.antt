@@ -1,5 +1,5 @@
 -- What the copy of a function is: laws of the values of copying functions.
-use Rattle.std.specs.Prelude.{ℕ, ◌≡◌, ◌<◌, ◌≤◌, ◌+◌, Bool, true, List, [], ◌∷◌, ◌++◌, length, map, take, reverse, nat_eq, option_to_list, slice_get, Option, Some, is_some}
+use Rattle.std.specs.Prelude.{ℕ, ◌≡◌, ◌<◌, ◌≤◌, ◌+◌, ◌⊎◌, Bool, true, List, [], ◌∷◌, ◌++◌, length, map, take, reverse, nat_eq, option_to_list, slice_get, Option, Some, is_some}
 use Rattle.std.specs.List.{flat_map}
 use Rattle.std.specs.Map.{lookup, keys_of}
 use Rattle.std.specs.Option.{option_eq, option_flatten}
@@ -102,24 +102,45 @@ copies_of r v xs = length (added [] (map (place_under (table_of r v)) xs))
 abbrev pub range_from : FunctionValue → ℕ × ℕ → ℕ → ℕ × ℕ
 range_from v p n = (n, n + length (others (begun v) (places p)))
 
--- where the emitted ranges of a copy stand
-pub record RangesStand (r : Renames) (v : FunctionValue) : Type 0 where
+-- of the ranges that begin where q does that at j counts: it has places, or none has, and it is the first
+abbrev pub Counts : FunctionValue → ℕ → ℕ × ℕ → Type 0
+Counts v j q =
+    (q.0 < q.1) ⊎
+    ((i : ℕ) (p : ℕ × ℕ) → EmitsAt v i p → p.0 ≡ q.0 → (p.1 ≤ p.0) × (j ≤ i))
+
+-- the range q at j counts, and begins at an expression
+pub record LeadsAt (v : FunctionValue) (j : ℕ) (q : ℕ × ℕ) : Type 0 where
+  pub emits : EmitsAt v j q
+  pub counts : Counts v j q
+  pub within : q.0 < length v.expressions
+
+-- where the emitted ranges of a copy w of v stand
+pub record RangesStand (r : Renames) (v w : FunctionValue) : Type 0 where
   -- each lies within the copy's expressions
   pub within :
-      (i : ℕ) (q : ℕ × ℕ) → EmitsAt (copied_function r v) i q →
-      (q.0 ≤ q.1) × (q.1 ≤ length (copied_function r v).expressions)
+      (i : ℕ) (q : ℕ × ℕ) → EmitsAt w i q → (q.0 ≤ q.1) × (q.1 ≤ length w.expressions)
   -- one that covers nothing, less what initialisers reach, is copied as (n, n)
-  pub empty :
+  pub nothing :
       (i : ℕ) (p : ℕ × ℕ) → EmitsAt v i p → others (begun v) (places p) ≡ [] →
-      (n : ℕ) × EmitsAt (copied_function r v) i (n, n)
-  -- one of some places begins behind the copies of what is put before it
+      (n : ℕ) × EmitsAt w i (n, n)
+  -- one that counts begins behind the copies of what is put before it
   pub begins :
-      (i : ℕ) (p : ℕ × ℕ) → EmitsAt v i p → p.0 < p.1 →
-      EmitsAt (copied_function r v) i (range_from v p (copies_of r v (put_before v i p)))
+      (j : ℕ) (q : ℕ × ℕ) → LeadsAt v j q →
+      EmitsAt w j (range_from v q (copies_of r v (put_before v j q)))
+  -- one of no places stands where the one that counts begins
+  pub empty :
+      (i j : ℕ) (p q : ℕ × ℕ) → EmitsAt v i p → p.1 ≤ p.0 → LeadsAt v j q → p.0 ≡ q.0 →
+      let n = copies_of r v (put_before v j q) in
+      EmitsAt w i (n, n)
+  -- and behind the last copy, where it begins behind the last expression
+  pub behind :
+      (i : ℕ) (p : ℕ × ℕ) → EmitsAt v i p → length v.expressions ≤ p.0 →
+      let n = length w.expressions in
+      EmitsAt w i (n, n)
 
 -- where emitted ranges go
 abbrev pub RangeLaw : Type 0
-RangeLaw = (r : Renames) (v : FunctionValue) → MayBeCopied v → RangesStand r v
+RangeLaw = (r : Renames) (v : FunctionValue) → MayBeCopied v → RangesStand r v (copied_function r v)
 
 -- ---- names
 

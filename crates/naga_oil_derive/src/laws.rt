@@ -1,6 +1,10 @@
 // What holds of every copy.
 ghost use Rattle.naga_oil_derive.specs.World.{value_of};
 ghost use Rattle.naga_oil_derive.specs.Copyable.{CopyableItems};
+ghost use Rattle.std.specs.Prelude.{◌≡◌, ◌↔◌, IsTrue};
+ghost use Rattle.naga_oil_ir.specs.Parts.{Parts};
+ghost use Rattle.naga_oil_ir.specs.Rows.{Row};
+ghost use Rattle.naga_oil_derive.specs.Equal.{row_eq, parts_eq};
 ghost use Rattle.naga_oil_derive.specs.CopiedLaw.{AreSpecial};
 ghost use Rattle.naga_oil_derive.specs.DerivedLaw.{IsDerivation, kept_by};
 ghost use Rattle.naga_oil_derive.specs.CopiedLaw.{CopyableLaw, KindLaw, PutLaw, TypePutLaw, CopiedLaw, AllCopiedLaw, AgainLaw, TypeCopiedLaw, TypeAgainLaw};

@@ -2,8 +2,9 @@
 //!
 //! `renaming` says where handles go, and makes expressions and bodies anew with their handles renamed; `renamed_items` does the
 //! same with items. `copy` copies an item with what it names, once for each source item, under the `maps` of what was copied;
-//! `special` finds the special types. `derive` is the module that is made. `walk` lists what a function reaches in the order of copying, found by `function_walk`; `localized` copies
-//! a function with its expressions, `import` with those that it calls. `laws` and `function_laws` say what holds of every copy.
+//! `special` finds the special types. `derive` is the module that is made. `walk` lists what a function reaches in the order of
+//! copying, found by `function_walk`; `localized` copies a function with its expressions, `import` with those that it calls.
+//! `laws` and `function_laws` say what holds of every copy.
 #![tactic(auto)]
 
 pub mod copy;

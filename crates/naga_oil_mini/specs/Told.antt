@@ -1,7 +1,7 @@
 -- What is told where nothing is written.
 use Rattle.std.specs.Prelude.{◌≡◌, ℕ, List, ◌++◌, ◌∷◌, [], codes, drop, Result, Ok, Err, Option, Some, None, IsSome, IfSome, IfOk, IsOk, Contains, ⊤, string_bytes}
 use Rattle.std.specs.Io.KnownBytes.{Appends}
-use Rattle.naga_oil.specs.Report as written
+use Rattle.naga_oil_registry.specs.Report as written
 use Rattle.naga_oil_ir.specs.ModuleValue.{ModuleValue}
 use Rattle.naga_oil_pre.specs.Fault.{Definitions, Fault as FaultOfText}
 use Rattle.naga_oil_pre.specs.Metadata.{none_defined}

@@ -10,16 +10,16 @@ ghost use Rattle.naga_oil.specs.Built.{answered, build_place, IsToldAt, ToldAt, 
 ghost use Rattle.naga_oil.specs.Building.{by_steps, WholeText, NoWholeText};
 ghost use Rattle.naga_oil.specs.BuiltModule.{BuiltModule, built_of, builds_of};
 ghost use Rattle.naga_oil.specs.Begun.{decoration_of, nothing_built, begun};
-ghost use Rattle.naga_oil.specs.Definition.{definition_of, defs_of, texts};
+ghost use Rattle.naga_oil_registry.specs.Definition.{definition_of, defs_of, texts};
 ghost use Rattle.naga_oil.specs.Headed.{first_lines, HeadingAnswers};
 ghost use Rattle.naga_oil.specs.Linked.{HeaderAnswers};
 ghost use Rattle.naga_oil.specs.Overriding.{overriding_of, overridden_by, with_overriding, build_named, with_build, imported_overriding};
 ghost use Rattle.naga_oil.specs.Relations.{AnswersBy, GivesBy, IsAnswer};
 
 use super::error::{EnsureImportsError as Missing, refused, refused_in};
-use super::merge::{imports_of, push_additional};
-use super::virtuals::{add_override, read_functions};
+use super::virtuals::{Over, add_override, read_functions};
 use super::*;
+use naga_oil_registry::merge::{imports_of, push_additional};
 
 /// A make: a front end with its settings, the definitions, and what was built under them.
 #[derive(Drop)]

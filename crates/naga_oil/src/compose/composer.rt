@@ -2,13 +2,13 @@
 ghost use Rattle.std.specs.Prelude.{◌≡◌, ◌<◌, length, slice_get, Some, [], true, false, option_map, string_bytes, IfOk, IsOk, OnOk, MatchResult};
 ghost use Rattle.std.specs.Borrow.{sem};
 ghost use Rattle.std.specs.Io.BufRead.{Rests};
-ghost use Rattle.naga_oil.specs.Definition.{definition_of};
+ghost use Rattle.naga_oil_registry.specs.Definition.{definition_of};
 
-use super::adding::{describe, register};
 use super::error::refused;
-use super::registry::remove;
-use super::sanitize::read_source;
 use super::*;
+use naga_oil_registry::adding::{describe, register};
+use naga_oil_registry::registry::remove;
+use naga_oil_registry::sanitize::read_source;
 use std::marker::Model;
 
 /// Modules, each under its name, over a front end.
@@ -27,8 +27,8 @@ pub struct Composer<B: Backend> {
 impl<B: Backend> Model for Composer<B> {
     ghost use Rattle.std.specs.Prelude.{map};
     ghost use Rattle.naga_oil.specs.State.{State};
-    ghost use Rattle.naga_oil.specs.Registry.{IsRegistry};
-    ghost use Rattle.naga_oil.specs.Definition.{definition_of};
+    ghost use Rattle.naga_oil_registry.specs.Registry.{IsRegistry};
+    ghost use Rattle.naga_oil_registry.specs.Definition.{definition_of};
 
     ghost Value = { State B };
 
@@ -41,11 +41,11 @@ impl<B: Backend> Composer<B> {
     ghost use Rattle.naga_oil.specs.contracts.compose.composer.Composer.{the_row};
     ghost use Rattle.naga_oil_ir.specs.declared.backend.Capabilities.{Capabilities};
     ghost use Rattle.naga_oil_lines.specs.Decorate.{decorated_name};
-    ghost use Rattle.naga_oil.specs.Added.{addition};
-    ghost use Rattle.naga_oil.specs.Descriptor.{module_source, shader_source};
+    ghost use Rattle.naga_oil.specs.Addition.{addition};
+    ghost use Rattle.naga_oil_registry.specs.Descriptor.{module_source, shader_source};
     ghost use Rattle.naga_oil.specs.Makes.{Makes};
     ghost use Rattle.naga_oil.specs.Refused.{Answers};
-    ghost use Rattle.naga_oil.specs.Registry.{registered, module_named, module_indexed, IsRegistry, AreReachedNames};
+    ghost use Rattle.naga_oil_registry.specs.Registry.{registered, module_named, module_indexed, IsRegistry, AreReachedNames};
     ghost use Rattle.naga_oil.specs.State.{Adds, Removes};
 
     // A composer with nothing registered and the counter at 0.

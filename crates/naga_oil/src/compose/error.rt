@@ -2,9 +2,9 @@
 ghost use Rattle.std.specs.Prelude.{◌≡◌, MatchOption, Some, None, IfOk, string_bytes};
 ghost use Rattle.std.specs.Cow.{cow_str_bytes};
 ghost use Rattle.naga_oil_pre.specs.View.{fault_of};
-ghost use Rattle.naga_oil.specs.Definition.{defs_of};
+ghost use Rattle.naga_oil_registry.specs.Definition.{defs_of};
 ghost use Rattle.naga_oil.specs.Refused.{refused_of, place_of, nowhere, in_text, in_module, TellsMissing};
-ghost use Rattle.naga_oil.specs.Report.{report};
+ghost use Rattle.naga_oil_registry.specs.Report.{report};
 ghost use Rattle.naga_oil.specs.Sources.{path_of, text_of, offset_of};
 
 use super::report::report;
@@ -12,6 +12,9 @@ use super::*;
 pub use naga_oil_pre::ComposerErrorInner;
 use std::borrow::CowStr;
 use thiserror::Error;
+
+// An answer, or a fault and where it is.
+pub(crate) type Told<T = ()> = Result<T, ComposerError>;
 
 /// What the offsets of an error count in.
 #[derive(Debug, Drop)]

@@ -13,8 +13,8 @@ ghost use Rattle.naga_oil.specs.Built.{build_place};
 ghost use Rattle.naga_oil.specs.Building.{by_steps};
 ghost use Rattle.naga_oil.specs.BuiltModule.{built_of, builds_of, overriding_of};
 ghost use Rattle.naga_oil.specs.Chains.{with_stages, sent_down, all_sent_down};
-ghost use Rattle.naga_oil.specs.Definition.{definition_of, defs_of, texts};
-ghost use Rattle.naga_oil.specs.Descriptor.{shader_source};
+ghost use Rattle.naga_oil_registry.specs.Definition.{definition_of, defs_of, texts};
+ghost use Rattle.naga_oil_registry.specs.Descriptor.{shader_source};
 ghost use Rattle.naga_oil.specs.Linked.{WholeLinked};
 ghost use Rattle.naga_oil.specs.Made.{Reading, OneUnread, any_use, may_use};
 ghost use Rattle.naga_oil.specs.Merging.{shader_definition, imported, agrees, defs_union, defs_union_over, are_among};
@@ -28,9 +28,9 @@ ghost use Rattle.naga_oil.specs.Whole.{IsToldFor, FinishAnswers, MakeAnswers};
 use super::build::answered;
 use super::error::{refused, refused_in};
 use super::formed::redirectable;
-use super::merge::{clone_imports, overwrite};
 use super::*;
 use naga_oil_redirect::Redirector;
+use naga_oil_registry::merge::{clone_imports, overwrite};
 
 // Why a shader isn't read: a fault of its text as it was given to be read, or of what it imports.
 #[derive(Drop)]

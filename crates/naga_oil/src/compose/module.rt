@@ -3,6 +3,12 @@ ghost use Rattle.std.specs.Prelude.{◌≤◌};
 
 use super::*;
 
+// A module that was built.
+pub(crate) type Build = ComposableModule;
+
+// Functions, each with those that override it.
+pub(crate) type Overrides = IndexMap<String, Vec<String>>;
+
 /// A module that was built under some definitions.
 #[derive(Drop)]
 pub struct ComposableModule {

@@ -11,15 +11,23 @@ ghost use Rattle.naga_oil_pre.specs.View.{fault_of};
 ghost use Rattle.naga_oil.specs.Relations.{GivesBy};
 ghost use Rattle.std.specs.Option.{option_or};
 ghost use Rattle.naga_oil.specs.BuiltModule.{built_of, builds_of};
-ghost use Rattle.naga_oil.specs.Definition.{texts};
-ghost use Rattle.naga_oil.specs.Keywords.{AreItemAndCode};
-ghost use Rattle.naga_oil.specs.KeywordsView.{marked_of};
-ghost use Rattle.naga_oil.specs.Virtuals.{names_of, blanked, override_name, marked_override, imported_build, override_fault, are_parts, item_and_code, with_override, with_overrides, functions_in};
+ghost use Rattle.naga_oil_registry.specs.Definition.{texts};
+ghost use Rattle.naga_oil_registry.specs.KeywordsView.{marked_of};
+ghost use Rattle.naga_oil.specs.Virtuals.{AreItemAndCode, names_of, blanked, override_name, marked_override, imported_build, override_fault, are_parts, item_and_code, with_override, with_overrides, functions_in};
 ghost use Rattle.naga_oil.specs.Overriding.{overriding_of, with_new, overridden};
 
-use super::keywords::{Edits, covered, edit, marked_in, with_edits};
 use super::*;
+use naga_oil_registry::keywords::{Edits, covered, edit, marked_in, with_edits};
 use ucd_perl::is_word_code;
+
+/// What a build's functions are read over: the builds of the make, what is imported, and what stands behind the names of the
+/// build's own items.
+#[derive(Clone, Copy)]
+pub(crate) struct Over<'a> {
+    pub(crate) builds: &'a Builds,
+    pub(crate) imports: &'a [Import],
+    pub(crate) decoration: &'a str,
+}
 
 // Adds a name, unless it is there.
 fn add_name(alloc: Global, names: &mut Vec<String>, name: &str) -> Tried
@@ -129,7 +137,7 @@ fn override_fault(
 
 // Notes that a build overrides an item of a module by a function. Its keyword becomes spaces, and the mark of the module one of an
 // override.
-#[tactic(auto, using(crate::proofs::KeywordsLemmas::item_within))]
+#[tactic(auto, using(crate::proofs::SplitLemmas::item_within))]
 fn note_override(
     alloc: Global,
     of: &Marked<'_>,
@@ -152,7 +160,7 @@ fn note_override(
 }
 
 // Reads a function by which a build overrides another, or its fault; any other stays.
-#[tactic(auto, using(crate::proofs::KeywordsLemmas::item_within))]
+#[tactic(auto, using(crate::proofs::SplitLemmas::item_within))]
 fn read_override(
     alloc: Global,
     of: &Marked<'_>,

@@ -13,4 +13,4 @@ returns c =
     let os = c.args.order.now in
     let e = c.import_in_turn.new.derived in
     let turned = subst (λ (d : Derived). IsImportedInTurn (value_of m) os d e) c.new-derived.ensures c.in_ok-import_in_turn.ensures.imported in
-    IfOk-weaker c.into_module_with_entrypoints.result (λ n. IsMadeWith e (value_of n)) (λ n. IsInOrder (value_of m) (value_of n)) (λ n made. record { places = os; order = order_value m os c.requires.order; last = e; functions = turned; made = made }) c.into_module_with_entrypoints.ensures
+    IfOk-weaker c.into_module_with_entrypoints.result (λ n. IsMadeWith e (value_of n)) (λ n. IsInOrder (value_of m) (value_of n)) (λ n made. record { places = os; order = order_value m os c.requires.order; last = e; functions = turned; made = made }) c.into_module_with_entrypoints.ensures.made

@@ -7,7 +7,7 @@ use Rattle.naga_oil.proofs.compose.copied.fill.Goals as goal
 pub returns-in_err-built : goal.returns-in_err-built
 returns-in_err-built c =
     let p = err_from_is_err_and c.from_residual-in_err-built.result c.from_residual-in_err-built.ensures.1 in
-    gives_err c.from_residual-in_err-built.result _ _ _ _ (p.1 ∙ ap (λ e. Err e) p.2) (λ f h. unfilled _ _ f c.in_ok-into_module_with_entrypoints.ensures h) c.in_err-built.ensures
+    gives_err c.from_residual-in_err-built.result _ _ _ _ (p.1 ∙ ap (λ e. Err e) p.2) (λ f h. unfilled _ _ f c.in_ok-into_module_with_entrypoints.ensures.made h) c.in_err-built.ensures
 
 pub returns : goal.returns
-returns c = filled _ _ _ (built_of c.args.built.now) _ c.in_ok-into_module_with_entrypoints.ensures c.in_ok-built.ensures c.has_required_special_types-has_special_types.ensures
+returns c = filled _ _ _ (built_of c.args.built.now) _ c.in_ok-into_module_with_entrypoints.ensures.made c.in_ok-built.ensures c.has_required_special_types-has_special_types.ensures

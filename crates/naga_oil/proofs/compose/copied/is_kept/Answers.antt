@@ -1,7 +1,7 @@
 use Rattle.std.proofs.Common.{◌||◌, ap, ◌∙◌}
 use Rattle.naga_oil_pre.specs.Recorded.{is_among}
-use Rattle.naga_oil.specs.Definition.{texts}
-use Rattle.naga_oil.proofs.NamesLemmas.{among_texts}
+use Rattle.naga_oil_registry.specs.Definition.{texts}
+use Rattle.naga_oil_registry.proofs.NamesLemmas.{among_texts}
 use Rattle.naga_oil.proofs.compose.copied.is_kept.Goals as goal
 
 pub returns : goal.returns

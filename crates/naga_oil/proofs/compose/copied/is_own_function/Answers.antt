@@ -1,7 +1,7 @@
 use Rattle.std.proofs.Common.{ap, ◌∙◌}
 use Rattle.naga_oil.specs.BuiltModule.{built_of}
 use Rattle.naga_oil.specs.CopiedSteps.{owns_function}
-use Rattle.naga_oil.proofs.NamesLemmas.{among_texts}
+use Rattle.naga_oil_registry.proofs.NamesLemmas.{among_texts}
 use Rattle.naga_oil.proofs.compose.copied.is_own_function.Goals as goal
 
 pub returns-in-Some : goal.returns-in-Some

@@ -2,10 +2,10 @@ use Rattle.std.proofs.Common.{◌≡◌, ◌∷◌, true, false, Err, sym, ap, �
 use Rattle.std.specs.String.{string_bytes}
 use Rattle.std.proofs.lemmas.Map.Iter.{rest_more}
 use Rattle.naga_oil_pre.specs.Fault.{inconsistent_def}
-use Rattle.naga_oil.specs.Definition.{defs_of}
-use Rattle.naga_oil.specs.Merged.{with_def}
+use Rattle.naga_oil_registry.specs.Definition.{defs_of}
+use Rattle.naga_oil_registry.specs.Merged.{with_def}
 use Rattle.naga_oil.specs.Merging.{defs_union, agrees, value_of}
-use Rattle.naga_oil.proofs.MergedLemmas.{named, named-insert}
+use Rattle.naga_oil_registry.proofs.MergedLemmas.{named, named-insert}
 use Rattle.naga_oil.proofs.MergingLemmas.{value-named, joined_more, joined_not}
 use Rattle.naga_oil.proofs.compose.make.add_consistent.Goals as goal
 

@@ -1,7 +1,7 @@
 use Rattle.std.proofs.Common.{◌≡◌}
-use Rattle.naga_oil.specs.Definition.{defs_of}
+use Rattle.naga_oil_registry.specs.Definition.{defs_of}
 use Rattle.naga_oil.specs.Merging.{defs_union}
-use Rattle.naga_oil.proofs.MergedLemmas.{named}
+use Rattle.naga_oil_registry.proofs.MergedLemmas.{named}
 use Rattle.naga_oil.proofs.compose.make.add_consistent.Given as goal
 
 abbrev pub invariant-loop-name : goal.invariant-loop-name

@@ -1,9 +1,9 @@
 use Rattle.std.proofs.Common.{ℕ, Bool, true, List, ap, string_bytes}
 use Rattle.naga_oil_pre.specs.MetadataView.{metadata_of}
-use Rattle.naga_oil.specs.Definition.{definition_of, defs_of, texts}
-use Rattle.naga_oil.specs.Descriptor.{shader_source}
-use Rattle.naga_oil.specs.Merged.{recorded_names}
-use Rattle.naga_oil.proofs.NamesLemmas.{set_names, records-cleaned}
+use Rattle.naga_oil_registry.specs.Definition.{definition_of, defs_of, texts}
+use Rattle.naga_oil_registry.specs.Descriptor.{shader_source}
+use Rattle.naga_oil_registry.specs.Merged.{recorded_names}
+use Rattle.naga_oil_registry.proofs.NamesLemmas.{set_names, records-cleaned}
 use Rattle.naga_oil.proofs.ReachedLemmas.{defined_same}
 use Rattle.naga_oil.proofs.ReadLemmas.{names_ordered, is_shader}
 use Rattle.naga_oil.proofs.compose.make.described.Goals as goal

@@ -6,10 +6,10 @@ use Rattle.std.proofs.lemmas.Iterator.{YieldsList-from_slice}
 use Rattle.std.proofs.lemmas.Iterator.Search.{find_from_yields_List}
 use Rattle.naga_oil_lines.specs.Uses.{use_of}
 use Rattle.naga_oil_pre.specs.Fault.{import_not_found}
-use Rattle.naga_oil.specs.Definition.{definition_of}
+use Rattle.naga_oil_registry.specs.Definition.{definition_of}
 use Rattle.naga_oil.specs.Merging.{module_for}
-use Rattle.naga_oil.specs.Registry.{module_named}
-use Rattle.naga_oil.proofs.RegistryLemmas.{find_map}
+use Rattle.naga_oil_registry.specs.Registry.{module_named}
+use Rattle.naga_oil_registry.proofs.RegistryLemmas.{find_map}
 use Rattle.naga_oil.proofs.compose.make.imported.Goals as goal
 
 pub returns-in-Some : goal.returns-in-Some

@@ -1,7 +1,7 @@
 use Rattle.std.proofs.Common.{◌≡◌, ◌∙◌, Err, map, sym, ap, true, false}
 use Rattle.naga_oil_lines.specs.Uses.{use_of}
 use Rattle.naga_oil_pre.specs.Fault.{Fault, import_not_found}
-use Rattle.naga_oil.specs.Definition.{definition_of, defs_of}
+use Rattle.naga_oil_registry.specs.Definition.{definition_of, defs_of}
 use Rattle.naga_oil.specs.Made.{may_use}
 use Rattle.naga_oil.specs.Merging.{imported}
 use Rattle.naga_oil.proofs.MadeLemmas.{imported_fault, not_registered, registered, gives_on}

@@ -1,6 +1,6 @@
 use Rattle.std.proofs.Common.{◌≡◌, map, drop}
 use Rattle.naga_oil_lines.specs.Uses.{use_of}
-use Rattle.naga_oil.specs.Definition.{definition_of, defs_of}
+use Rattle.naga_oil_registry.specs.Definition.{definition_of, defs_of}
 use Rattle.naga_oil.specs.Merging.{defs_union_over}
 use Rattle.naga_oil.proofs.compose.make.merge.Given as goal
 

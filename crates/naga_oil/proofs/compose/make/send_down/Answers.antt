@@ -5,7 +5,7 @@ use Rattle.std.specs.String.{string_bytes}
 use Rattle.naga_oil_redirect.specs.Redirected.{matched, redirected}
 use Rattle.naga_oil_pre.specs.Recorded.{is_among}
 use Rattle.naga_oil.specs.Chains.{sent_down}
-use Rattle.naga_oil.specs.Definition.{texts}
+use Rattle.naga_oil_registry.specs.Definition.{texts}
 use Rattle.naga_oil.proofs.ChainLemmas.{none_omitted, one_omitted, sent_more, not_sent, all_sent, refused_redirection}
 use Rattle.naga_oil.proofs.compose.make.send_down.Goals as goal
 

@@ -1,7 +1,7 @@
 use Rattle.std.proofs.Common.{◌≡◌, map, drop}
 use Rattle.std.specs.BTreeMap.{get}
 use Rattle.std.specs.Ordering.{nat_cmp}
-use Rattle.naga_oil.specs.KeywordsView.{marked_of}
+use Rattle.naga_oil_registry.specs.KeywordsView.{marked_of}
 use Rattle.naga_oil.specs.Virtuals.{blanked}
 use Rattle.naga_oil.proofs.compose.virtuals.blank.Given as goal
 

@@ -1,7 +1,7 @@
 use Rattle.std.proofs.Common.{◌≡◌, ◌+◌, length, ap, ◌∙◌}
 use Rattle.std.proofs.lemmas.Result.{on_ok_weaker}
 use Rattle.naga_oil_marks.specs.Marks.{override_mark}
-use Rattle.naga_oil.specs.Keywords.{put}
+use Rattle.naga_oil_registry.specs.Keywords.{put}
 use Rattle.naga_oil.proofs.compose.virtuals.note_override.Goals as goal
 
 pub returns-clause-edits : goal.returns-clause-edits

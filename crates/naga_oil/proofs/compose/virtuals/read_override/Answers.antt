@@ -6,7 +6,7 @@ use Rattle.std.specs.String.{string_bytes}
 use Rattle.naga_oil_lines.specs.Uses.{import_of}
 use Rattle.naga_oil_pre.specs.Fault.{Fault}
 use Rattle.naga_oil.specs.BuiltModule.{builds_of}
-use Rattle.naga_oil.specs.KeywordsView.{marked_of}
+use Rattle.naga_oil_registry.specs.KeywordsView.{marked_of}
 use Rattle.naga_oil.specs.Overriding.{overriding_of}
 use Rattle.naga_oil.specs.Virtuals.{Overrides, item_and_module, with_override, override_fault}
 use Rattle.naga_oil.proofs.SplitLemmas.{parts_known, read_so, one_noted}

@@ -5,7 +5,7 @@ use Rattle.naga_oil_lines.specs.Uses.{import_of}
 use Rattle.naga_oil_pre.specs.Fault.{Fault}
 use Rattle.naga_oil_pre.specs.View.{fault_of}
 use Rattle.naga_oil.specs.BuiltModule.{builds_of}
-use Rattle.naga_oil.specs.KeywordsView.{marked_of}
+use Rattle.naga_oil_registry.specs.KeywordsView.{marked_of}
 use Rattle.naga_oil.specs.Overriding.{overriding_of}
 use Rattle.naga_oil.specs.Virtuals.{with_overrides}
 use Rattle.naga_oil.proofs.compose.virtuals.read_overrides.Given as goal

@@ -2,8 +2,7 @@ use Rattle.std.proofs.Common.{◌≡◌, Option, Some, None, sym, ap, ◌∙◌,
 use Rattle.std.specs.Prelude.{codes}
 use Rattle.naga_oil_marks.specs.Marks.{module_mark}
 use Rattle.naga_oil.specs.Virtuals.{around_last, without_end}
-use Rattle.naga_oil.proofs.KeywordsLemmas.{cut_name}
-use Rattle.naga_oil.proofs.SplitLemmas.{cut_last, cut_none, ends_so, ends_not, no_end, no_mark, no_parts, has_parts, none_empty}
+use Rattle.naga_oil.proofs.SplitLemmas.{cut_name, cut_last, cut_none, ends_so, ends_not, no_end, no_mark, no_parts, has_parts, none_empty}
 use Rattle.naga_oil.proofs.compose.virtuals.split_name.Goals as goal
 
 pub returns-clause-value : goal.returns-clause-value

@@ -1,10 +1,10 @@
 use Rattle.std.proofs.Common.{◌≡◌, ◌++◌, List, Bool, true, false, Option, Some, None, option_map, refl, sym, ap, ◌∙◌}
 use Rattle.std.specs.List.{list_any}
 use Rattle.naga_oil_pre.specs.Recorded.{is_among}
-use Rattle.naga_oil.specs.Definition.{texts}
+use Rattle.naga_oil_registry.specs.Definition.{texts}
 use Rattle.naga_oil.specs.Writeback.{lost_of}
 use Rattle.naga_oil.specs.WritebackView.{named_of, held}
-use Rattle.naga_oil.proofs.NamesLemmas.{among_texts}
+use Rattle.naga_oil_registry.proofs.NamesLemmas.{among_texts}
 use Rattle.naga_oil.proofs.WritebackLemmas.{copied_named, not_owned, owned_lost}
 use Rattle.naga_oil.proofs.compose.writeback.lost_at.Goals as goal
 

@@ -11,9 +11,9 @@ use Rattle.naga_oil.specs.Building.{by_steps}
 use Rattle.naga_oil.specs.Afresh.{setting_of, may_import, Unless, UnlessBuilt, EachReached, OneUnreached, Reached, Unreached, is_built}
 use Rattle.naga_oil.specs.Built.{build_place}
 use Rattle.naga_oil.specs.BuiltModule.{builds_of}
-use Rattle.naga_oil.specs.Definition.{definition_of, defs_of}
+use Rattle.naga_oil_registry.specs.Definition.{definition_of, defs_of}
 use Rattle.naga_oil.specs.declared.compose.build.Maker.{Maker}
-use Rattle.naga_oil.specs.declared.compose.definition.ComposableModuleDefinition.{ComposableModuleDefinition}
+use Rattle.naga_oil_registry.specs.declared.definition.ComposableModuleDefinition.{ComposableModuleDefinition}
 use Rattle.naga_oil.proofs.LinkedLemmas.{next_item}
 use Rattle.naga_oil.proofs.ReachedLemmas.{built_found, chosen_true, chosen_false, reaching_missing, reaching_on, none_reached, none_found, Found, found, is_preprocessed, isnt_preprocessed, rest_of, not_preprocessed, not_reached, not_built, is_reached, reached_next, unreached_later, unreached_next, unasked_next}
 use Rattle.naga_oil.proofs.compose.build.Maker.+ensure.Goals as goal

@@ -4,7 +4,7 @@ use Rattle.std.specs.String.{string_bytes}
 use Rattle.naga_oil_lines.specs.Uses.{Import, Use, use_of, import_of}
 use Rattle.naga_oil.specs.Begun.{nothing_built, decoration_of}
 use Rattle.naga_oil.specs.BuiltModule.{BuiltModule, Overriding, builds_of}
-use Rattle.naga_oil.specs.Definition.{definition_of}
+use Rattle.naga_oil_registry.specs.Definition.{definition_of}
 use Rattle.naga_oil.specs.Overriding.{overriding_of, imported_overriding}
 use Rattle.naga_oil.proofs.compose.build.Maker.begun.Goals as goal
 

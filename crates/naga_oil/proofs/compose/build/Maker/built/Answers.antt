@@ -6,7 +6,7 @@ use Rattle.naga_oil.specs.Begun.{begun}
 use Rattle.naga_oil.specs.Building.{WholeText, NoWholeText, by_steps}
 use Rattle.naga_oil.specs.Built.{build_place}
 use Rattle.naga_oil.specs.BuiltModule.{built_of, builds_of}
-use Rattle.naga_oil.specs.Definition.{definition_of}
+use Rattle.naga_oil_registry.specs.Definition.{definition_of}
 use Rattle.naga_oil.specs.Filled.{settings, IsBuiltOf, IsUnbuilt}
 use Rattle.naga_oil.specs.declared.compose.module.ComposableModule.{ComposableModule}
 use Rattle.naga_oil.proofs.AfreshLemmas.{told_answers, passed_on}

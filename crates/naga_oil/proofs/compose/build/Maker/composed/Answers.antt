@@ -3,7 +3,7 @@ use Rattle.std.proofs.lemmas.Result.{err_from_is_err_and}
 use Rattle.naga_oil_ir.specs.ModuleValue.{module_value}
 use Rattle.naga_oil.specs.Built.{build_place}
 use Rattle.naga_oil.specs.BuiltModule.{built_of, builds_of}
-use Rattle.naga_oil.specs.Definition.{definition_of, defs_of}
+use Rattle.naga_oil_registry.specs.Definition.{definition_of, defs_of}
 use Rattle.naga_oil.specs.Shader.{ShaderLinked, ShaderRefused, ShaderAnswers, Judged, NotLinked}
 use Rattle.naga_oil.specs.Validated.{validated}
 use Rattle.naga_oil.proofs.ShaderLemmas.{told_by, told_value, answers_by}

@@ -6,7 +6,7 @@ use Rattle.naga_oil_pre.specs.Fault.{Fault, import_not_found}
 use Rattle.naga_oil.specs.Building.{by_steps}
 use Rattle.naga_oil.specs.Afresh.{setting_of, Unless, UnlessBuilt, EachReached, Reached, Unreached}
 use Rattle.naga_oil.specs.BuiltModule.{builds_of}
-use Rattle.naga_oil.specs.Definition.{definition_of, defs_of, Defs}
+use Rattle.naga_oil_registry.specs.Definition.{definition_of, defs_of, Defs}
 use Rattle.naga_oil.specs.Made.{here, OneUnread, any_use}
 use Rattle.naga_oil.specs.declared.compose.build.Maker.{Maker}
 use Rattle.naga_oil.proofs.LinkedLemmas.{next_item}

@@ -3,7 +3,7 @@ use Rattle.naga_oil_lines.specs.Uses.{use_of}
 use Rattle.naga_oil.specs.Building.{by_steps}
 use Rattle.naga_oil.specs.Afresh.{setting_of, Unless, UnlessBuilt, EachReached, Reached, Unreached}
 use Rattle.naga_oil.specs.BuiltModule.{Builds, builds_of}
-use Rattle.naga_oil.specs.Definition.{definition_of, defs_of}
+use Rattle.naga_oil_registry.specs.Definition.{definition_of, defs_of}
 use Rattle.naga_oil.specs.Made.{Unread, OneUnread, may_use}
 use Rattle.naga_oil.proofs.compose.build.Maker.ensure_second.Given as goal
 

@@ -6,7 +6,7 @@ use Rattle.naga_oil.specs.Afresh.{setting_of}
 use Rattle.naga_oil.specs.Building.{by_steps}
 use Rattle.naga_oil.specs.Built.{build_place}
 use Rattle.naga_oil.specs.BuiltModule.{built_of, builds_of}
-use Rattle.naga_oil.specs.Definition.{definition_of}
+use Rattle.naga_oil_registry.specs.Definition.{definition_of}
 use Rattle.naga_oil.specs.Shader.{ShaderAnswers}
 use Rattle.naga_oil.specs.Whole.{FinishAnswers, NotBuilt}
 use Rattle.naga_oil.specs.declared.compose.module.ComposableModule.{ComposableModule}

@@ -2,7 +2,7 @@ use Rattle.std.proofs.Common.{◌≡◌, ◌++◌, map, Ok, Err, string_bytes, r
 use Rattle.std.proofs.lemmas.Result.{err_from_is_err_and}
 use Rattle.naga_oil_lines.specs.Uses.{import_of}
 use Rattle.naga_oil.specs.BuiltModule.{builds_of}
-use Rattle.naga_oil.specs.Definition.{definition_of}
+use Rattle.naga_oil_registry.specs.Definition.{definition_of}
 use Rattle.naga_oil.specs.Headed.{first_lines, HeadingAnswers}
 use Rattle.naga_oil.specs.Linked.{HeaderAnswers}
 use Rattle.naga_oil.proofs.ShaderLemmas.{fault_then}

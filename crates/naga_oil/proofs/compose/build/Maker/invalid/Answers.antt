@@ -3,7 +3,7 @@ use Rattle.std.specs.Prelude.{◌==◌}
 use Rattle.naga_oil_ir.specs.Backend.{labels}
 use Rattle.naga_oil.specs.Built.{build_place}
 use Rattle.naga_oil.specs.BuiltModule.{built_of, builds_of}
-use Rattle.naga_oil.specs.Definition.{definition_of, defs_of}
+use Rattle.naga_oil_registry.specs.Definition.{definition_of, defs_of}
 use Rattle.naga_oil.specs.Validated.{last_index, place_in}
 use Rattle.naga_oil.proofs.ValidatedLemmas.{told_shader}
 use Rattle.naga_oil.proofs.compose.build.Maker.invalid.Goals as goal

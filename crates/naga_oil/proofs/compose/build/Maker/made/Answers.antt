@@ -4,8 +4,8 @@ use Rattle.naga_oil_ir.specs.declared.module.Module.{Module}
 use Rattle.naga_oil_pre.specs.KnownView.{output_of}
 use Rattle.naga_oil.specs.Afresh.{setting_of, Setting}
 use Rattle.naga_oil.specs.BuiltModule.{builds_of}
-use Rattle.naga_oil.specs.Definition.{definition_of, defs_of}
-use Rattle.naga_oil.specs.Descriptor.{shader_source}
+use Rattle.naga_oil_registry.specs.Definition.{definition_of, defs_of}
+use Rattle.naga_oil_registry.specs.Descriptor.{shader_source}
 use Rattle.naga_oil.specs.Read.{IsRead, IsUnread}
 use Rattle.naga_oil.specs.Whole.{FinishAnswers, MakeAnswers, NotRead, Made}
 use Rattle.naga_oil.specs.declared.compose.build.Maker.{Maker}

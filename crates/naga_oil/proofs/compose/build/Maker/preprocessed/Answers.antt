@@ -4,8 +4,8 @@ use Rattle.std.specs.BTreeMap.{get_by_text}
 use Rattle.naga_oil_lines.specs.Uses.{use_of, import_of}
 use Rattle.naga_oil_pre.specs.KnownView.{output_of}
 use Rattle.naga_oil_pre.specs.Preprocessed.{preprocessed}
-use Rattle.naga_oil.specs.Definition.{definition_of}
-use Rattle.naga_oil.specs.Merged.{used_at_start}
+use Rattle.naga_oil_registry.specs.Definition.{definition_of}
+use Rattle.naga_oil_registry.specs.Merged.{used_at_start}
 use Rattle.naga_oil.proofs.BuiltLemmas.{is_preprocessed}
 use Rattle.naga_oil.proofs.compose.build.Maker.preprocessed.Goals as goal
 

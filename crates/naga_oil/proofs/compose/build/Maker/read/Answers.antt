@@ -2,8 +2,8 @@ use Rattle.std.proofs.Common.{◌≡◌, map, ap, true, Err}
 use Rattle.naga_oil_pre.specs.Metadata.{metadata}
 use Rattle.naga_oil.specs.Afresh.{setting_of, Setting}
 use Rattle.naga_oil.specs.BuiltModule.{builds_of}
-use Rattle.naga_oil.specs.Definition.{definition_of, defs_of, Defs}
-use Rattle.naga_oil.specs.Descriptor.{shader_source}
+use Rattle.naga_oil_registry.specs.Definition.{definition_of, defs_of, Defs}
+use Rattle.naga_oil_registry.specs.Descriptor.{shader_source}
 use Rattle.naga_oil.specs.Read.{NotFirstRead, NotSecondRead, with_own, IsUnread, NoMetadata}
 use Rattle.naga_oil.specs.declared.compose.build.Maker.{Maker}
 use Rattle.naga_oil.proofs.MadeLemmas.{reading_here}

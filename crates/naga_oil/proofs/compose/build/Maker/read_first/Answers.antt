@@ -7,7 +7,7 @@ use Rattle.naga_oil.specs.Afresh.{setting_of, Setting, Unless, UnlessBuilt, Each
 use Rattle.naga_oil.specs.Building.{by_steps}
 use Rattle.naga_oil.specs.Built.{preprocessed_of}
 use Rattle.naga_oil.specs.BuiltModule.{builds_of}
-use Rattle.naga_oil.specs.Definition.{definition_of, defs_of}
+use Rattle.naga_oil_registry.specs.Definition.{definition_of, defs_of}
 use Rattle.naga_oil.specs.Made.{OneUnread, any_use}
 use Rattle.naga_oil.specs.Merging.{defs_union_over}
 use Rattle.naga_oil.specs.Read.{FirstRead, NotFirstRead, NotPreprocessed}

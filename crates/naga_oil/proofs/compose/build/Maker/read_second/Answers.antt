@@ -7,7 +7,7 @@ use Rattle.naga_oil.specs.Afresh.{setting_of, Unless, UnlessBuilt, Reached, Unre
 use Rattle.naga_oil.specs.Building.{by_steps}
 use Rattle.naga_oil.specs.Built.{preprocessed_of}
 use Rattle.naga_oil.specs.BuiltModule.{builds_of}
-use Rattle.naga_oil.specs.Definition.{definition_of}
+use Rattle.naga_oil_registry.specs.Definition.{definition_of}
 use Rattle.naga_oil.specs.Made.{OneUnread, may_use}
 use Rattle.naga_oil.specs.Read.{NotSecondRead, NotPreprocessedAgain}
 use Rattle.naga_oil.proofs.MadeLemmas.{reading_here}

@@ -1,7 +1,7 @@
 use Rattle.std.proofs.Common.{Err}
 use Rattle.std.proofs.lemmas.Result.{err_from_is_err_and}
 use Rattle.naga_oil.specs.Built.{ToldAt, answered, build_place}
-use Rattle.naga_oil.specs.Definition.{definition_of, defs_of}
+use Rattle.naga_oil_registry.specs.Definition.{definition_of, defs_of}
 use Rattle.naga_oil.proofs.ValidatedLemmas.{only_memory}
 use Rattle.naga_oil.proofs.compose.build.Maker.validated.Goals as goal
 

@@ -29,4 +29,4 @@ returns g c =
     let imports : ImportsLinked start.of_headers (builds_of start.builds.now) c.len.result b.imports start.descended.keys start.derived s.descended.keys s.derived = subst (λ (ds : List ImportDefinition). ImportsLinked start.of_headers (builds_of start.builds.now) c.len.result (map import_of ds) start.descended.keys start.derived s.descended.keys s.derived) c.deref.ensures.value c.in_ok-link_imports.ensures.linked in
     let linked = linked_from_nothing start false builds c.len.result b.imports s.descended.keys s.derived c.new-linker.ensures.given.1 (ap (λ b. builds_of b.now) c.new-linker.ensures.given.0) c.new-linker.ensures.linked.0 c.new-linker.ensures.linked.1 (c.len.ensures.len ∙ all_builds c.args.self.now.builds.entries) imports in
     let own : AreTaken (link_steps false b None) s.derived t.derived = subst (λ (x : Bool). AreTaken (link_steps x b None) s.derived t.derived) of_headers c.in_ok-link_items.ensures.linked in
-    whole_linked builds b c.into_module_with_entrypoints.result c.get.result.now s.descended.keys s.derived t.derived c.set_shader_source.new.self linked own c.get.ensures.value c.in_ok-set_shader_source.ensures.set c.set_shader_source.ensures.keeps c.into_module_with_entrypoints.ensures
+    whole_linked builds b c.into_module_with_entrypoints.result c.get.result.now s.descended.keys s.derived t.derived c.set_shader_source.new.self linked own c.get.ensures.value c.in_ok-set_shader_source.ensures.set c.set_shader_source.ensures.keeps c.into_module_with_entrypoints.ensures.made

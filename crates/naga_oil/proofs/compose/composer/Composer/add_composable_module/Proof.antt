@@ -51,20 +51,20 @@ use Rattle.naga_oil.proofs.compose.composer.Composer.add_composable_module.Code 
 use Rattle.naga_oil.proofs.compose.composer.Composer.add_composable_module.Statement.{statement}
 use Rattle.naga_oil.proofs.compose.composer.Composer.added.Met as g'
 use Rattle.naga_oil.proofs.compose.composer.Composer.newest.Met as h'
-use Rattle.naga_oil.proofs.compose.definition.ComposableModuleDefinition.TheLaws as definition-laws
-use Rattle.naga_oil.proofs.compose.descriptor.ComposableModuleDescriptor.TheLaws as descriptor-laws
+use Rattle.naga_oil_registry.proofs.definition.ComposableModuleDefinition.TheLaws as definition-laws
+use Rattle.naga_oil_registry.proofs.descriptor.ComposableModuleDescriptor.TheLaws as descriptor-laws
 use Rattle.naga_oil.proofs.compose.error.ComposerError.TheLaws as error-laws
-use Rattle.naga_oil.specs.Added.{addition}
-use Rattle.naga_oil.specs.Definition.{definition_of}
-use Rattle.naga_oil.specs.Descriptor.{module_source}
+use Rattle.naga_oil.specs.Addition.{addition}
+use Rattle.naga_oil_registry.specs.Definition.{definition_of}
+use Rattle.naga_oil_registry.specs.Descriptor.{module_source}
 use Rattle.naga_oil.specs.Refused.{Answers}
 use Rattle.naga_oil.specs.State.{Adds}
 use Rattle.naga_oil.specs.contracts.compose.composer.Composer as composer
 use Rattle.naga_oil.specs.contracts.compose.composer.Composer.add_composable_module as f
 use Rattle.naga_oil.specs.contracts.compose.composer.Composer.added as g
 use Rattle.naga_oil.specs.contracts.compose.composer.Composer.newest as h
-use Rattle.naga_oil.specs.contracts.compose.definition.ComposableModuleDefinition as definition
-use Rattle.naga_oil.specs.contracts.compose.descriptor.ComposableModuleDescriptor as descriptor
+use Rattle.naga_oil_registry.specs.contracts.definition.ComposableModuleDefinition as definition
+use Rattle.naga_oil_registry.specs.contracts.descriptor.ComposableModuleDescriptor as descriptor
 use Rattle.naga_oil.specs.contracts.compose.error.ComposerError as error
 
 -- a value of one machine value

@@ -1,12 +1,12 @@
 use Rattle.std.proofs.Common.{◌≡◌, ℕ, List, map, Option, Ok, Err, Bor, String, Global, option_map, option_copied, string_bytes, Some, None, ap, ◌∙◌, sym, subst}
 use Rattle.naga_oil_pre.specs.View.{Fails}
-use Rattle.naga_oil.specs.Added.{described, shown_by}
-use Rattle.naga_oil.specs.Definition.{Definition, definition_of}
-use Rattle.naga_oil.specs.DescribedView.{described_of}
-use Rattle.naga_oil.specs.Descriptor.{module_source}
+use Rattle.naga_oil_registry.specs.Added.{described, shown_by}
+use Rattle.naga_oil_registry.specs.Definition.{Definition, definition_of}
+use Rattle.naga_oil_registry.specs.DescribedView.{described_of}
+use Rattle.naga_oil_registry.specs.Descriptor.{module_source}
 use Rattle.naga_oil.specs.Refused.{in_text}
 use Rattle.naga_oil.specs.State.{State, Adds}
-use Rattle.naga_oil.proofs.AddedLemmas.{is_registered}
+use Rattle.naga_oil_registry.proofs.AddedLemmas.{is_registered}
 use Rattle.naga_oil.proofs.AddsLemmas.{IsRefusal, adds-unread, adds-undescribed, adds-unregistered, adds-registered}
 use Rattle.naga_oil.proofs.compose.composer.Composer.added.Goals as goal
 

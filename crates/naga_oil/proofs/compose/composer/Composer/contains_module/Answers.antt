@@ -1,6 +1,6 @@
 use Rattle.std.proofs.Common.{◌≡◌, is_some, ◌∙◌, rules}
-use Rattle.naga_oil.specs.Registry.{module_named}
-use Rattle.naga_oil.proofs.AddedLemmas.{named-registered}
+use Rattle.naga_oil_registry.specs.Registry.{module_named}
+use Rattle.naga_oil_registry.proofs.AddedLemmas.{named-registered}
 use Rattle.naga_oil.proofs.compose.composer.Composer.contains_module.Goals as goal
 
 pub returns : goal.returns

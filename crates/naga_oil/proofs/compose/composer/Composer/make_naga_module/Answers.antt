@@ -1,10 +1,10 @@
 use Rattle.std.proofs.Common.{List, [], map, Err, ap, subst, string_bytes}
 use Rattle.naga_oil.specs.BuiltModule.{builds_of}
-use Rattle.naga_oil.specs.Definition.{definition_of}
-use Rattle.naga_oil.specs.Descriptor.{shader_source}
+use Rattle.naga_oil_registry.specs.Definition.{definition_of}
+use Rattle.naga_oil_registry.specs.Descriptor.{shader_source}
 use Rattle.naga_oil.specs.Makes.{Makes, AnswersMake, make_setting}
 use Rattle.naga_oil.specs.State.{State}
-use Rattle.naga_oil.specs.declared.compose.definition.ComposableModuleDefinition.{ComposableModuleDefinition}
+use Rattle.naga_oil_registry.specs.declared.definition.ComposableModuleDefinition.{ComposableModuleDefinition}
 use Rattle.naga_oil.proofs.AfreshLemmas.{seen}
 use Rattle.naga_oil.proofs.MakesLemmas.{makes-unread, makes-read, same_answer, small_indices}
 use Rattle.naga_oil.proofs.compose.composer.Composer.make_naga_module.Goals as goal

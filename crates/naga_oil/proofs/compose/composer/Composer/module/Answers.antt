@@ -4,11 +4,11 @@ use Rattle.std.specs.Str.{bytes_eq}
 use Rattle.std.specs.String.{string_bytes}
 use Rattle.std.proofs.lemmas.Iterator.{YieldsList-from_slice}
 use Rattle.std.proofs.lemmas.Iterator.Search.{find_from_yields_List}
-use Rattle.naga_oil.specs.Definition.{definition_of}
-use Rattle.naga_oil.specs.Registry.{AreReachedNames, module_named}
+use Rattle.naga_oil_registry.specs.Definition.{definition_of}
+use Rattle.naga_oil_registry.specs.Registry.{AreReachedNames, module_named}
 use Rattle.naga_oil.specs.State.{State}
-use Rattle.naga_oil.proofs.EffectiveLemmas.{are_reached}
-use Rattle.naga_oil.proofs.RegistryLemmas.{find_map, option_map_twice}
+use Rattle.naga_oil_registry.proofs.EffectiveLemmas.{are_reached}
+use Rattle.naga_oil_registry.proofs.RegistryLemmas.{find_map, option_map_twice}
 use Rattle.naga_oil.proofs.compose.composer.Composer.module.Goals as goal
 
 pub returns-clause-effective : goal.returns-clause-effective

@@ -2,10 +2,10 @@ use Rattle.std.proofs.Common.{◌≡◌, ◌∙◌, option_map, find, eqb, ap, s
 use borrow.Author.Tests.{tests}
 use Rattle.std.proofs.lemmas.Iterator.{YieldsList-from_slice}
 use Rattle.std.proofs.lemmas.Iterator.Search.{find_from_yields_List}
-use Rattle.naga_oil.specs.Definition.{definition_of}
-use Rattle.naga_oil.specs.Registry.{module_indexed}
+use Rattle.naga_oil_registry.specs.Definition.{definition_of}
+use Rattle.naga_oil_registry.specs.Registry.{module_indexed}
 use Rattle.naga_oil.specs.State.{State}
-use Rattle.naga_oil.proofs.RegistryLemmas.{find_map, option_map_twice}
+use Rattle.naga_oil_registry.proofs.RegistryLemmas.{find_map, option_map_twice}
 use Rattle.naga_oil.proofs.compose.composer.Composer.module_at.Goals as goal
 
 pub returns : goal.returns

@@ -1,7 +1,7 @@
 use Rattle.std.proofs.Common.{map, ap, sym, refl}
 use Rattle.std.proofs.lemmas.Result.{on_err_weaker}
-use Rattle.naga_oil.specs.Definition.{definition_of}
-use Rattle.naga_oil.proofs.RemovedLemmas.{after_removal, removed-unknown}
+use Rattle.naga_oil_registry.specs.Definition.{definition_of}
+use Rattle.naga_oil_registry.proofs.RemovedLemmas.{after_removal, removed-unknown}
 use Rattle.naga_oil.proofs.compose.composer.Composer.remove_composable_module.Goals as goal
 
 pub returns-then-not-contains_module : goal.returns-then-not-contains_module

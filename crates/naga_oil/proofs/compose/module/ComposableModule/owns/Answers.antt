@@ -1,6 +1,6 @@
 use Rattle.std.proofs.Common.{◌∙◌, ap, sym}
 use Rattle.naga_oil.specs.BuiltModule.{built_of, owns}
-use Rattle.naga_oil.proofs.NamesLemmas.{among_texts}
+use Rattle.naga_oil_registry.proofs.NamesLemmas.{among_texts}
 use Rattle.naga_oil.proofs.compose.module.ComposableModule.owns.Goals as goal
 
 pub returns-in-TypeItem : goal.returns-in-TypeItem

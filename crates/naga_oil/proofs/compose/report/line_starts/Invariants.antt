@@ -1,6 +1,0 @@
-use Rattle.std.proofs.Common.{◌≡◌, ◌++◌, drop}
-use Rattle.naga_oil.specs.ReportView.{starts_behind, line_starts}
-use Rattle.naga_oil.proofs.compose.report.line_starts.Given as goal
-
-abbrev pub invariant-loop-at : goal.invariant-loop-at
-invariant-loop-at l = l.starts.items ++ starts_behind l.at (drop l.at l.text) ≡ line_starts l.text

@@ -1,6 +1,0 @@
--- Functions behind keywords, as the code has them.
-use Rattle.naga_oil.specs.Keywords.{MarkedFunction}
-use Rattle.naga_oil.specs.declared.compose.marked.Marked.{Marked}
-
-abbrev pub marked_of : Marked → MarkedFunction
-marked_of m = record { keyword = m.keyword; name = m.name.now; place = m.place }

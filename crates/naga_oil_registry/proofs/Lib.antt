@@ -1,0 +1,12 @@
+pub mod LineLemmas
+pub mod AddedLemmas
+pub mod EffectiveLemmas
+pub mod MergedLemmas
+pub mod NamesLemmas
+pub mod RegistryLemmas
+pub mod RemovedLemmas
+pub mod SanitizedLemmas
+pub mod NewDefinitionLemmas
+pub mod WritingLemmas
+pub mod KeywordsLemmas
+pub mod MarkedLemmas

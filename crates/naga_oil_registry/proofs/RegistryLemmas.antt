@@ -1,0 +1,138 @@
+-- What is registered, and what goes.
+use Rattle.std.proofs.Common.{◌≡◌, ℕ, zero, suc, ◌+◌, ◌<◌, List, [], ◌∷◌, ◌++◌, Bor, Bool, true, false, not, cond, ◌||◌, eqb, refl, sym, ap, subst, ◌∙◌, map, filter, drop, get_or, length, Option, Some, None, option_map, append_assoc, arith}
+use Rattle.std.proofs.lemmas.Bool.{or_parts, ne_eqb}
+use Rattle.std.proofs.lemmas.List.{at_drop_more, drop-map}
+use Rattle.std.proofs.lemmas.Slice.Eq.{bytes_eq-Decides}
+use Rattle.std.specs.List.{list_any, find, position_from, range_with_len}
+use Rattle.std.specs.Option.{option_copied}
+use Rattle.std.specs.Str.{bytes_eq}
+use Rattle.naga_oil_registry.specs.Definition.{Definition}
+use Rattle.naga_oil_registry.specs.Registry.{registered, module_named, reaches, standing, taken, free_among, IsRegistry}
+
+pub list_any_map : {A C : Type 0} (p : C → Bool) (f : A → C) (xs : List A) → list_any p (map f xs) ≡ list_any (λ x. p (f x)) xs
+list_any_map p f [] = refl
+list_any_map p f (x ∷ xs) = ap (λ b. p (f x) || b) (list_any_map p f xs)
+
+pub find_map : {A C : Type 0} (p : C → Bool) (f : A → C) (xs : List A) → option_map f (find (λ x. p (f x)) xs) ≡ find p (map f xs)
+find_map p f [] = refl
+find_map p f (x ∷ xs) = by (p (f x)) (find_map p f xs)
+  where
+    by : (b : Bool) → option_map f (find (λ x. p (f x)) xs) ≡ find p (map f xs) → option_map f (cond b (Some x) (find (λ x. p (f x)) xs)) ≡ cond b (Some (f x)) (find p (map f xs))
+    by true rest = refl
+    by false rest = rest
+
+pub option_map_twice : {A B C : Type 0} (f : A → B) (g : B → C) (o : Option A) → option_map (λ x. g (f x)) o ≡ option_map g (option_map f o)
+option_map_twice f g None = refl
+option_map_twice f g (Some x) = refl
+
+pub copied_map : {A : Type 0} (o : Option (Bor A)) → option_copied o ≡ option_map (λ x. x.now) o
+copied_map None = refl
+copied_map (Some x) = refl
+
+pub list_any_same : {X : Type 0} (p q : X → Bool) → ((x : X) → p x ≡ q x) → (xs : List X) → list_any p xs ≡ list_any q xs
+list_any_same p q h [] = refl
+list_any_same p q h (x ∷ xs) = ap (λ b. b || list_any p xs) (h x) ∙ ap (λ b. q x || b) (list_any_same p q h xs)
+
+pub filter_map : {A C : Type 0} (p : C → Bool) (f : A → C) (xs : List A) → map f (filter (λ x. p (f x)) xs) ≡ filter p (map f xs)
+filter_map p f [] = refl
+filter_map p f (x ∷ xs) = by (p (f x)) (filter_map p f xs)
+  where
+    by : (b : Bool) → map f (filter (λ x. p (f x)) xs) ≡ filter p (map f xs) → map f (cond b (x ∷ filter (λ x. p (f x)) xs) (filter (λ x. p (f x)) xs)) ≡ cond b (f x ∷ filter p (map f xs)) (filter p (map f xs))
+    by true rest = ap (λ ys. f x ∷ ys) rest
+    by false rest = rest
+
+pub bytes_same : (xs ys : List ℕ) → bytes_eq xs ys ≡ true → xs ≡ ys
+bytes_same xs ys h = (bytes_eq-Decides xs ys).0 h
+
+-- what isn't registered reaches nothing
+pub unregistered-reaches : (ds : List Definition) (name other : List ℕ) → registered name ds ≡ false → reaches ds name other ≡ false
+unfolding reaches
+unregistered-reaches [] name other e = refl
+unregistered-reaches (d ∷ ds) name other e = let h = or_parts (bytes_eq d.name name) (registered name ds) e in rw (h.0) (unregistered-reaches ds name other h.1)
+
+pub registry-drop : (i : ℕ) (ds : List Definition) → IsRegistry ds → IsRegistry (drop i ds)
+registry-drop zero ds h = h
+registry-drop (suc i) [] h = tt
+registry-drop (suc i) (d ∷ ds) h = registry-drop i ds h.1
+
+-- one module more, which goes or not
+module _ (d : Definition) (ds : List Definition) (name : List ℕ) (has : List ℕ → Bool) (is_new : registered d.name ds ≡ false) (same : (x : List ℕ) → has x ≡ reaches ds x name) where
+  -- whether it goes
+  abbrev pub goes : Bool
+  goes = bytes_eq d.name name || list_any (λ u. has u.import.import) d.imports
+
+  here : (x : List ℕ) → bytes_eq d.name x ≡ true → goes ≡ reaches (d ∷ ds) x name
+  unfolding reaches
+  here x e = rw e (ap (λ b. bytes_eq d.name name || b) (list_any_same (λ u. has u.import.import) (λ u. reaches ds u.import.import name) (λ u. same u.import.import) d.imports) ∙ ap (λ n. bytes_eq n name || list_any (λ u. reaches ds u.import.import name) d.imports) (bytes_same d.name x e))
+
+  there : (x : List ℕ) → bytes_eq d.name x ≡ false → has x ≡ reaches (d ∷ ds) x name
+  unfolding reaches
+  there x e = rw e (same x)
+
+  pub reaches-goes : goes ≡ true → (x : List ℕ) → cond (bytes_eq d.name x) true (has x) ≡ reaches (d ∷ ds) x name
+  reaches-goes g x = by (bytes_eq d.name x) refl
+    where
+      by : (b : Bool) → bytes_eq d.name x ≡ b → cond b true (has x) ≡ reaches (d ∷ ds) x name
+      by true e = sym g ∙ here x e
+      by false e = there x e
+
+  pub reaches-stays : goes ≡ false → (x : List ℕ) → has x ≡ reaches (d ∷ ds) x name
+  reaches-stays g x = by (bytes_eq d.name x) refl
+    where
+      by : (b : Bool) → bytes_eq d.name x ≡ b → has x ≡ reaches (d ∷ ds) x name
+      by true e = ap has (sym (bytes_same d.name x e)) ∙ same d.name ∙ unregistered-reaches ds d.name name is_new ∙ sym g ∙ here x e
+      by false e = there x e
+
+-- a module that doesn't go is found among those that stay
+pub standing-named : (leaves : List ℕ → Bool) (name : List ℕ) (ds : List Definition) → leaves name ≡ false → module_named name (standing leaves ds) ≡ module_named name ds
+standing-named leaves name [] e = refl
+standing-named leaves name (d ∷ ds) e = by (leaves d.name) (bytes_eq d.name name) refl refl (standing-named leaves name ds e)
+  where
+    by : (g b : Bool) → leaves d.name ≡ g → bytes_eq d.name name ≡ b → module_named name (standing leaves ds) ≡ module_named name ds → module_named name (cond (not g) (d ∷ standing leaves ds) (standing leaves ds)) ≡ cond b (Some d) (module_named name ds)
+    by true true p q rest = absurd (let same : leaves d.name ≡ leaves name = ap leaves (bytes_same d.name name q) in cc)
+    by true false p q rest = rest
+    by false true p q rest = rw q refl
+    by false false p q rest = rw q rest
+
+-- the same for a place in a list that looks like modules
+module _ {X : Type 0} (f : X → Definition) (xs : List X) (k : ℕ) (x : X) (name : List ℕ) (has : List ℕ → Bool) (lt : k < length xs) (at : x ≡ get_or xs k x) (all : IsRegistry (map f xs)) (same : (o : List ℕ) → has o ≡ reaches (map f (drop (k + 1) xs)) o name) where
+  opened : map f (drop k xs) ≡ f x ∷ map f (drop (k + 1) xs)
+  opened = at_drop_more (map f) xs k x lt ∙ ap (λ y. f y ∷ map f (drop (k + 1) xs)) (sym at)
+
+  first_new : registered (f x).name (map f (drop (k + 1) xs)) ≡ false
+  first_new = let rest = subst IsRegistry (drop-map f k xs ∙ opened) (registry-drop k (map f xs) all) in rest.0.name
+
+  pub gone-more : (bytes_eq (f x).name name || list_any (λ u. has u.import.import) (f x).imports) ≡ true → (o : List ℕ) → cond (bytes_eq (f x).name o) true (has o) ≡ reaches (map f (drop k xs)) o name
+  gone-more g o = reaches-goes (f x) (map f (drop (k + 1) xs)) name has first_new same g o ∙ ap (λ ds. reaches ds o name) (sym opened)
+
+  pub gone-same : (bytes_eq (f x).name name || list_any (λ u. has u.import.import) (f x).imports) ≡ false → (o : List ℕ) → has o ≡ reaches (map f (drop k xs)) o name
+  gone-same g o = reaches-stays (f x) (map f (drop (k + 1) xs)) name has first_new same g o ∙ ap (λ ds. reaches ds o name) (sym opened)
+
+-- one module more, which stays or goes
+module _ {X : Type 0} (f : X → Definition) (leaves : List ℕ → Bool) (xs : List X) (k : ℕ) (x : X) (kept : List Definition) (lt : k < length xs) (at : x ≡ get_or xs k x) where
+  first_of_rest : standing leaves (map f (drop k xs)) ≡ cond (not (leaves (f x).name)) (f x ∷ standing leaves (map f (drop (k + 1) xs))) (standing leaves (map f (drop (k + 1) xs)))
+  first_of_rest = ap (standing leaves) (at_drop_more (map f) xs k x lt ∙ ap (λ y. f y ∷ map f (drop (k + 1) xs)) (sym at))
+
+  pub one_stays : leaves (f x).name ≡ false → (kept ++ f x ∷ []) ++ standing leaves (map f (drop (k + 1) xs)) ≡ kept ++ standing leaves (map f (drop k xs))
+  one_stays e = append_assoc kept (f x ∷ []) (standing leaves (map f (drop (k + 1) xs))) ∙ ap (λ l. kept ++ l) (sym (first_of_rest ∙ ap (λ b. cond (not b) (f x ∷ standing leaves (map f (drop (k + 1) xs))) (standing leaves (map f (drop (k + 1) xs)))) e))
+
+  pub one_goes : leaves (f x).name ≡ true → kept ++ standing leaves (map f (drop (k + 1) xs)) ≡ kept ++ standing leaves (map f (drop k xs))
+  one_goes e = ap (λ l. kept ++ l) (sym (first_of_rest ∙ ap (λ b. cond (not b) (f x ∷ standing leaves (map f (drop (k + 1) xs))) (standing leaves (map f (drop (k + 1) xs)))) e))
+
+-- the first place that isn't marked, as the first index that isn't taken
+first_unmarked : (t : ℕ → Bool) (marks : List Bool) (k : ℕ) → ((i : ℕ) → i < length marks → get_or marks i false ≡ t (k + i)) → position_from (λ b. not b) k marks ≡ find (λ i. not (t i)) (range_with_len k (length marks))
+first_unmarked t [] k h = refl
+first_unmarked t (b ∷ marks) k h =
+    let here : b ≡ t k = h 0 (omega arith) ∙ ap t (let e : k + 0 ≡ k = omega arith in e) in
+    ap (λ x. cond (not x) (Some k) (position_from (λ b. not b) (k + 1) marks)) here
+    ∙ ap (λ r. cond (not (t k)) (Some k) r) (first_unmarked t marks (k + 1) (λ i lt. h (suc i) (omega (arith, lt)) ∙ ap t (let e : k + suc i ≡ k + 1 + i = omega arith in e)))
+
+pub free-marked : (ds : List Definition) (count : ℕ) (marks : List Bool) → length marks ≡ suc count → ((i : ℕ) → i < suc count → get_or marks i false ≡ (eqb i 0 || taken ds i)) → position_from (λ b. not b) 0 marks ≡ free_among count ds
+unfolding free_among
+free-marked ds count [] len h = absurd (omega arith)
+free-marked ds count (b ∷ rest) len h =
+    let first : b ≡ true = h 0 (omega arith) in
+    let same : length rest ≡ count = omega arith in
+    ap (λ x. cond (not x) (Some 0) (position_from (λ b. not b) 1 rest)) first
+    ∙ first_unmarked (taken ds) rest 1 (λ i lt. h (suc i) (omega (arith, lt)) ∙ ap (λ x. x || taken ds (suc i)) (ne_eqb (suc i) 0 (λ e. omega (arith, e))) ∙ ap (taken ds) (let e : suc i ≡ 1 + i = omega arith in e))
+    ∙ ap (λ n. find (λ i. not (taken ds i)) (range_with_len 1 n)) same

@@ -1,0 +1,7 @@
+use Rattle.std.proofs.Common.{◌≡◌, fold}
+use Rattle.naga_oil_lines.specs.DirectivesText.{with_name}
+use Rattle.naga_oil_registry.specs.Definition.{texts}
+use Rattle.naga_oil_registry.proofs.merge.add_names.Given as goal
+
+abbrev pub invariant-loop-name : goal.invariant-loop-name
+invariant-loop-name l = fold with_name (texts l.names.keys) (texts l.name-iterator) ≡ fold with_name (texts l.fn.names.keys) (texts l.others.keys)

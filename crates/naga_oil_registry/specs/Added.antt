@@ -1,0 +1,105 @@
+-- What adding a module gives.
+use Rattle.std.specs.Prelude.{◌≡◌, ℕ, ◌+◌, List, [], ◌∷◌, ◌++◌, map, Option, Some, None, Result, Ok, Err, false}
+use Rattle.std.specs.List.{flat_map}
+use Rattle.naga_oil_lines.specs.DirectivesText.{in_order}
+use Rattle.naga_oil_lines.specs.Uses.{Import, Use}
+use Rattle.naga_oil_pre.specs.Fault.{Fault, decoration_in_source, bindings_exhausted, no_module_name, import_not_found, too_many_modules}
+use Rattle.naga_oil_pre.specs.Metadata.{Metadata, metadata}
+use Rattle.naga_oil_registry.specs.Definition.{Definition}
+use Rattle.naga_oil_registry.specs.Descriptor.{ModuleSource}
+use Rattle.naga_oil_registry.specs.Merged.{recorded_names, merged, used_at_start}
+use Rattle.naga_oil_registry.specs.Registry.{module_named, removed, free_index}
+use Rattle.naga_oil_registry.specs.Sanitized.{first_decoration, sanitized}
+
+infixl 10 ◌>>=◌
+abbrev pub ◌>>=◌ : {A B F : Type 0} → Result A F → (A → Result B F) → Result B F
+(Ok x) >>= f = f x
+(Err e) >>= f = Err e
+
+abbrev pub read_as : Option ℕ → Option (List ℕ × ℕ) → Result (List ℕ × ℕ) Fault
+read_as (Some at) read = Err (decoration_in_source at (at + 16))
+read_as None (Some read) = Ok read
+read_as None None = Err bindings_exhausted
+
+-- a source as it is read, with the counter behind it: it may hold no mark of a decoration, and the counter has to reach
+unfoldable pub read_source : (counter : ℕ) → (source : List ℕ) → Result (List ℕ × ℕ) Fault
+read_source counter source = read_as (first_decoration source) (sanitized counter source)
+
+abbrev pub counter_behind : ℕ → Result (List ℕ × ℕ) Fault → ℕ
+counter_behind counter (Ok read) = read.1
+counter_behind counter (Err f) = counter
+
+-- the counter behind a source; one that isn't read leaves it
+abbrev pub counter_after : (counter : ℕ) → (source : List ℕ) → ℕ
+counter_after counter source = counter_behind counter (read_source counter source)
+
+-- the name that is given, or else the import path
+abbrev pub name_among : (given path : Option (List ℕ)) → Result (List ℕ) Fault
+name_among (Some name) path = Ok name
+name_among None (Some path) = Ok path
+name_among None None = Err no_module_name
+
+-- the name of a module, and the metadata of its text
+pub record Described : Type 0 where
+  pub name : List ℕ
+  pub metadata : Metadata
+
+-- what a text says of its module; it may define nothing
+unfoldable pub described : (given : Option (List ℕ)) → (text : List ℕ) → Result Described Fault
+described given text = do
+  found ← metadata false text
+  name ← name_among given found.name
+  Ok (record { name = name; metadata = found })
+
+-- what a module imports: what its text uses, then what it imports besides
+abbrev pub all_uses : Metadata → List Import → List Use
+all_uses found additional = found.uses ++ map used_at_start additional
+
+abbrev pub with_module : Use → Option Definition → Result (List Definition) Fault → Result (List Definition) Fault
+with_module u None more = Err (import_not_found u.import.import u.offset)
+with_module u (Some d) (Ok ds) = Ok (d ∷ ds)
+with_module u (Some d) (Err f) = Err f
+
+-- the modules that are imported, or the first import that isn't among these
+abbrev pub imported_among : List Definition → List Use → Result (List Definition) Fault
+imported_among ds [] = Ok []
+imported_among ds (u ∷ more) = with_module u (module_named u.import.import ds) (imported_among ds more)
+
+abbrev pub indexed : Option ℕ → Result ℕ Fault
+indexed (Some index) = Ok index
+indexed None = Err too_many_modules
+
+-- the definition of a module that imports these
+abbrev pub definition_over : ModuleSource → Described → (imported : List Definition) → (index : ℕ) → Definition
+definition_over m d imported index = record {
+  name = d.name;
+  source = d.metadata.cleaned;
+  language = m.language;
+  file_path = m.file_path;
+  defs = merged m.defs imported;
+  effective = in_order (recorded_names d.metadata.cleaned ++ flat_map (λ i. i.effective) imported);
+  imports = all_uses d.metadata m.additional;
+  additional = m.additional;
+  directives = d.metadata.directives;
+  index = index;
+}
+
+-- the definition that a module is registered by, over those that stay
+unfoldable pub new_definition : List Definition → ModuleSource → Described → Result Definition Fault
+new_definition ds m d = do
+  imported ← imported_among ds (all_uses d.metadata m.additional)
+  index ← indexed (free_index ds)
+  Ok (definition_over m d imported index)
+
+-- a registry in which a module is entered, in the place of the one of its name and of all that reach that
+abbrev pub registry_with : List Definition → Definition → List Definition
+registry_with ds d = d ∷ removed d.name ds
+
+-- the definition that is given is entered
+abbrev pub Enters : {F : Type 0} → (old : List Definition) → Result Definition F → (new : List Definition) → Type 0
+Enters old value new = (d : Definition) × (value ≡ Ok d) × (new ≡ registry_with old d)
+
+-- what is shown of a definition
+abbrev pub shown_by : {Y F : Type 0} → (Definition → Y) → Result Definition F → Result Y F
+shown_by shown (Ok d) = Ok (shown d)
+shown_by shown (Err f) = Err f

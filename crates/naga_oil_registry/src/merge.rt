@@ -1,0 +1,73 @@
+// What a module takes over from those that it imports.
+ghost use Rattle.std.specs.Prelude.{◌≡◌, ℕ, ◌++◌, List, map, fold, IfOk, OnOk};
+ghost use Rattle.std.specs.List.{flat_map};
+ghost use Rattle.naga_oil_lines.specs.DirectivesText.{with_name};
+ghost use Rattle.naga_oil_lines.specs.Uses.{use_of, import_of};
+ghost use Rattle.naga_oil_registry.specs.Definition.{definition_of, defs_of, texts};
+ghost use Rattle.naga_oil_registry.specs.Merged.{overwritten, merged, used_at_start};
+
+use super::*;
+
+/// Overwrites definitions by others.
+pub fn overwrite(defs: &mut Defs, others: &Defs) -> Tried
+    ensures { OnOk result (defs_of defs.new ≡ overwritten (defs_of defs.old) (defs_of others.now)) }
+{
+    for (name, value) in others {
+        defs.insert(name.clone()?, *value)?;
+    }
+    Ok(())
+}
+
+// Adds the names of a set.
+fn add_names(names: &mut Names, others: &Names) -> Tried
+    ensures { OnOk result (texts names.new.keys ≡ fold with_name (texts names.old.keys) (texts others.now.keys)) }
+{
+    for name in others {
+        names.insert(name.clone()?)?;
+    }
+    Ok(())
+}
+
+/// Overwrites definitions by those of each module in turn, and adds its effective names.
+pub(crate) fn take_over(defs: &mut Defs, names: &mut Names, imported: &[&Definition]) -> Tried
+    ensures defs { OnOk result (defs_of defs.new ≡ merged (defs_of defs.old) (map (λ d. definition_of d.now) imported.now)) }
+    ensures names { OnOk result (texts names.new.keys ≡ fold with_name (texts names.old.keys) (flat_map (λ d. (definition_of d.now).effective) imported.now)) }
+{
+    for definition in imported {
+        overwrite(defs, &definition.shader_defs)?;
+        add_names(names, &definition.effective_defs)?;
+    }
+    Ok(())
+}
+
+/// Imports with further ones behind them, which are asked for at the start of the text.
+pub fn push_additional(imports: &mut Vec<Use>, additional: &[Import]) -> Tried
+    ensures { OnOk result (map use_of imports.new.items ≡ map use_of imports.old.items ++ map (λ i. used_at_start (import_of i)) additional.now) }
+{
+    for import in additional {
+        imports.push(Use::new(import.try_clone()?, 0))?;
+    }
+    Ok(())
+}
+
+/// Equal imports.
+pub fn clone_imports(alloc: Global, imports: &[Import]) -> Tried<Vec<Import>>
+    ensures { IfOk result (λ copy. map import_of copy.items ≡ map import_of imports.now) }
+{
+    let mut copy = Vec::with_capacity(alloc, imports.len())?;
+    for import in imports {
+        copy.push(import.try_clone()?)?;
+    }
+    Ok(copy)
+}
+
+/// What is imported, wherever it is asked for.
+pub fn imports_of(alloc: Global, uses: &[Use]) -> Tried<Vec<Import>>
+    ensures { IfOk result (λ imports. map import_of imports.items ≡ map (λ u. (use_of u).import) uses.now) }
+{
+    let mut imports = Vec::with_capacity(alloc, uses.len())?;
+    for import in uses {
+        imports.push(import.definition().try_clone()?)?;
+    }
+    Ok(imports)
+}
