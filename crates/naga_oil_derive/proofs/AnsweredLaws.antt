@@ -1,12 +1,9 @@
 -- What answering requests and importing functions do, over values alone.
-use Rattle.std.proofs.Common.{◌≡◌, ⊎_elim, ℕ, zero, suc, ◌<◌, Bool, true, false, cond, List, [], ◌∷◌, ◌++◌, length, slice_get, Option, Some, None, IsSome, is_some, if◌then◌else◌, refl, ap, sym, ◌∙◌, subst, arith, All, IfSome, bytes_eq}
-use Rattle.std.specs.Map.{lookup}
-use Rattle.std.proofs.lemmas.Bool.{cases_Bool, cond-true, cond-false, false≢true}
+use Rattle.std.proofs.Common.{◌≡◌, ⊎_elim, ℕ, zero, suc, ◌<◌, Bool, true, false, List, [], ◌∷◌, ◌++◌, length, slice_get, Option, Some, None, IsSome, is_some, if◌then◌else◌, refl, ap, sym, ◌∙◌, subst, arith, All, IfSome}
+use Rattle.std.proofs.lemmas.Bool.{false≢true}
 use Rattle.std.proofs.lemmas.List.Elements.{All-head, All-tail, All-weaker}
 use Rattle.std.proofs.lemmas.Option.{slice_get_cases}
-use Rattle.std.proofs.lemmas.Slice.Eq.{bytes_eq-Decides}
-use Rattle.indexmap.specs.IndexMap.{insert_entry}
-use Rattle.naga_oil_ir.specs.Rows.{Row, Text}
+use Rattle.naga_oil_ir.specs.Rows.{Row}
 use Rattle.naga_oil_ir.specs.ModuleValue.{ModuleValue, FunctionValue}
 use Rattle.naga_oil_ir.specs.declared.names.ItemPlace.{ItemPlace}
 use Rattle.naga_oil_ir.specs.declared.names.ItemPlace.TheVariants.{TypeItem, ConstantItem, OverrideItem, GlobalItem, ExpressionItem}
@@ -21,16 +18,16 @@ use Rattle.naga_oil_derive.specs.CopiedFunction.{copied_function}
 use Rattle.naga_oil_derive.specs.CopiedLaw.{HasAt}
 use Rattle.naga_oil_derive.specs.Collected.{depth}
 use Rattle.naga_oil_derive.specs.Derived.{Source, Derived}
-use Rattle.naga_oil_derive.specs.DerivedFunctions.{Meanings, meant, meant_at, meaning, requests_of, MayAsk, MayCopy, MayCall, CanImport, CanCall, KeepsFunctions, ComesLast, Answers, AllAnswered, ItemCopied, NameKnown, FunctionCopied, MeansAt}
+use Rattle.naga_oil_derive.specs.DerivedFunctions.{Meanings, meant, meant_at, requests_of, MayAsk, MayCopy, MayCall, CanImport, CanCall, KeepsFunctions, ComesLast, Answers, AllAnswered, ItemCopied, NameKnown, FunctionCopied, MeansAt}
 use Rattle.naga_oil_derive.specs.DerivedValue.{item_imported, importing_of, after_copying, after_importing, requests_answered, function_imported, function_called}
 use Rattle.naga_oil_derive.specs.DerivedLaw.{IsDerivation}
 use Rattle.naga_oil_derive.specs.Answered.{ImportState, Caller, goes_by, answered_one, answered_by, with_function, imported_by, called_by, called}
 use Rattle.naga_oil_derive.specs.AnsweredLaw.{HasForm, HasCopies, HaveCopies, CanAnswer, AnswersOnly, ImportsFunction}
 use Rattle.naga_oil_derive.specs.Renames.{rename, rename_row}
 use Rattle.naga_oil_derive.proofs.WorldLemmas.{Extends-refl}
-use Rattle.naga_oil_derive.proofs.AnsweredLemmas.{given, world_given_at, world_given}
+use Rattle.naga_oil_derive.proofs.HavingLemmas.{given, world_given_at, world_given}
 use Rattle.naga_oil_derive.proofs.EntrySteps.{KnowsMore, call_later, ask_weaker, kept_functions, functions_trans, functions_same}
-use Rattle.naga_oil_derive.proofs.MeaningLemmas.{lookup_other, meaning_other}
+use Rattle.naga_oil_derive.proofs.MeaningLemmas.{meaning_other, meaning_same, meaning_more}
 use Rattle.naga_oil_derive.proofs.DerivedLaws.{import_law}
 
 -- ---- copying doesn't look at functions
@@ -88,7 +85,7 @@ item_seen : (s : Source) (i : ImportState) (p : ItemPlace) → item_imported (se
 item_seen s i p = ap (after_copying (seen s i) (source_in s i)) (within_beside (depth s.value) s.value s.offset i.functions i.copying p)
 
 -- functions leave a derivation
-derived_given : (first : Kept) (s : Source) (t : ModuleValue) (fs : Functions) (ns qs : Meanings) → IsDerivation first (record { source = Some s; target = t; function_names = ns }) → IsDerivation first (record { source = Some s; target = given t fs; function_names = qs })
+pub derived_given : (first : Kept) (s : Source) (t : ModuleValue) (fs : Functions) (ns qs : Meanings) → IsDerivation first (record { source = Some s; target = t; function_names = ns }) → IsDerivation first (record { source = Some s; target = given t fs; function_names = qs })
 derived_given first s t fs ns qs i =
     let m = i.source.midway in
     let w = world_given t fs in
@@ -104,23 +101,6 @@ derived_given first s t fs ns qs i =
         still = i.source.still;
       };
     }
-
--- ---- names that get a meaning
-
-lookup_same : (ms : Meanings) (bs : List ℕ) (h : ℕ) → lookup (bytes_eq bs) (insert_entry bytes_eq ms bs h) ≡ Some h
-lookup_same [] bs h = cond-true (bytes_eq bs bs) (Some h) None ((bytes_eq-Decides bs bs).1 refl)
-lookup_same (e ∷ es) bs h =
-    ⊎_elim (λ y. ap (λ b. lookup (bytes_eq bs) (cond b ((e.0, h) ∷ es) (e ∷ insert_entry bytes_eq es bs h))) y ∙ cond-true (bytes_eq bs e.0) (Some h) (lookup (bytes_eq bs) es) y) (λ y. ap (λ b. lookup (bytes_eq bs) (cond b ((e.0, h) ∷ es) (e ∷ insert_entry bytes_eq es bs h))) y ∙ cond-false (bytes_eq bs e.0) (Some e.1) (lookup (bytes_eq bs) (insert_entry bytes_eq es bs h)) y ∙ lookup_same es bs h) (cases_Bool (bytes_eq bs e.0))
-
-meaning_same : (ns : Meanings) (n : Text) (h : ℕ) → IsSome n → meant (meaning ns n h) n ≡ Some h
-meaning_same ns None h s = absurd (false≢true s)
-meaning_same ns (Some bs) h s = lookup_same ns bs h
-
-meaning_more : (ns : Meanings) (o : Text) (h : ℕ) → KnowsMore ns (meaning ns o h)
-meaning_more ns None h n k = k
-meaning_more ns (Some bs) h None k = k
-meaning_more ns (Some bs) h (Some cs) k =
-    ⊎_elim (λ y. (let same : cs ≡ bs = (bytes_eq-Decides cs bs).0 y in ap (λ x. is_some (lookup (bytes_eq x) (insert_entry bytes_eq ns bs h))) same ∙ ap is_some (lookup_same ns bs h))) (λ y. ap is_some (lookup_other ns bs cs h y) ∙ k) (cases_Bool (bytes_eq cs bs))
 
 -- ---- answers, one after another
 

@@ -32,7 +32,7 @@ Collects-extends {m} {n} (Fresh {l} s c) = Extends-trans m l n s.extends (Collec
 pub special_same : (m n : ModuleValue) → Extends m n → n.special_types ≡ m.special_types
 special_same m n e = ap (λ (v : ModuleValue). v.special_types) e.rest
 
-kept_as : (s : Source) (t u : ModuleValue) → Extends t u → kept s u ≡ kept s t
+pub kept_as : (s : Source) (t u : ModuleValue) → Extends t u → kept s u ≡ kept s t
 kept_as s t u e = ap (kept_of s.value.special_types) (special_same t u e)
 
 -- ---- derivations

@@ -1,101 +1,49 @@
 -- Calls that copy functions, as their callers see them.
-use Rattle.std.proofs.Common.{◌≡◌, ⊎_elim, ℕ, ◌+◌, ◌++◌, List, [], ◌∷◌, length, map, slice_get, Option, Some, None, IsSome, is_some, option_map, unwrap_or, refl, ap, sym, ◌∙◌, subst, IfSome, Result, Ok, Err, IfOk, String, string_bytes, bytes_eq, Global}
+use Rattle.std.proofs.Common.{◌≡◌, ℕ, [], ◌∷◌, length, slice_get, Option, Some, None, IsSome, option_map, refl, ap, sym, ◌∙◌, subst, IfSome, All, Result, Ok, Err, OnOk, IfOk, String, string_bytes, Global}
 use Rattle.std.specs.Borrow.{Bor}
-use Rattle.std.specs.Map.{lookup}
-use Rattle.std.proofs.lemmas.Bool.{cases_Bool, cond-false, false≢true}
-use Rattle.std.proofs.lemmas.List.{map-append, length-map}
+use Rattle.std.proofs.lemmas.Bool.{false≢true}
 use Rattle.std.proofs.lemmas.Option.{none-some, same_Some}
-use Rattle.std.proofs.lemmas.Slice.Eq.{bytes_eq-Decides}
 use Rattle.indexmap.specs.IndexMap.{IndexMap}
-use Rattle.naga_oil_ir.specs.ModuleValue.{ModuleValue, FunctionValue, function_value}
+use Rattle.naga_oil_ir.specs.ModuleValue.{FunctionValue, function_value}
 use Rattle.naga_oil_ir.specs.declared.module.Module.{Module}
 use Rattle.naga_oil_ir.specs.declared.module.Function.{Function}
-use Rattle.naga_oil_ir.specs.declared.names.ItemPlace.{ItemPlace}
-use Rattle.naga_oil_ir.specs.declared.names.ItemPlace.TheVariants.{TypeItem, ConstantItem, OverrideItem, GlobalItem, ExpressionItem}
 use Rattle.naga_oil_ir.specs.declared.span.Span.{Span}
-use Rattle.naga_oil_ir.specs.Rows.{Text}
-use Rattle.naga_oil_derive.specs.Tree.{World}
-use Rattle.naga_oil_derive.specs.World.{Begins, Extends, value_of, world, named_world, shifted}
-use Rattle.naga_oil_derive.specs.Renames.{Renames}
-use Rattle.naga_oil_derive.specs.Copying.{IsSound, AreCopied, IsCopying, Grows, AreRanked, goes_under, source_world, kept_between}
-use Rattle.naga_oil_derive.specs.Callees.{known_as, callee_at}
-use Rattle.naga_oil_derive.specs.Functions.{Copies}
-use Rattle.naga_oil_derive.specs.Went.{went_by}
-use Rattle.naga_oil_derive.specs.Naming.{function_names}
-use Rattle.naga_oil_derive.specs.CopiedFunction.{copied_function}
-use Rattle.naga_oil_derive.specs.DerivedValue.{function_localized}
-use Rattle.naga_oil_derive.specs.Imported.{State, state, meanings, IsAnswerable, IsImportable, FunctionPut, Imported, FunctionImported, FunctionsGrow}
-use Rattle.naga_oil_derive.specs.DerivedView.{source_of, derived_of, IsSpecialThere, IsDerived}
-use Rattle.naga_oil_derive.specs.Derived.{Source, Derived, KeepsSource}
-use Rattle.naga_oil_derive.specs.DerivedFunctions.{Meanings, meant, meant_at, going, having, with_functions, meaning, MayAsk, MayCopy, MayCall, MayReach, KeepsFunctions, IsLocalized, requests_of, Answers, ComesLast, FunctionStands, IsFunctionImported, MeansAt}
 use Rattle.naga_oil_derive.specs.declared.maps.Maps.{Maps}
 use Rattle.naga_oil_derive.specs.declared.import.Functions.{Functions}
 use Rattle.naga_oil_derive.specs.declared.walk.Request.TheVariants.{Call}
-use Rattle.naga_oil_derive.proofs.CopyLemmas.{kept_same}
-use Rattle.naga_oil_derive.proofs.DeriveLemmas.{source_at, derived_at, later_source}
-use Rattle.naga_oil_derive.proofs.DeriveCalls.{Shader, FunctionNames, source_in, derived_later}
-use Rattle.naga_oil_derive.proofs.MeaningLemmas.{imported_meaning}
-use Rattle.naga_oil_derive.proofs.FunctionValues.{known_same, callee_means, requests_same, may_copy_all, may_call}
-use Rattle.naga_oil_derive.proofs.HavingLemmas.{world_having, copying_having, going_same}
-use Rattle.naga_oil_derive.proofs.AnsweredLemmas.{seen, function_put, answers, seen_of}
+use Rattle.naga_oil_derive.specs.Tree.{Kept}
+use Rattle.naga_oil_derive.specs.World.{value_of}
+use Rattle.naga_oil_derive.specs.Renames.{Renames}
+use Rattle.naga_oil_derive.specs.Functions.{Copies}
+use Rattle.naga_oil_derive.specs.Copying.{IsCopying, AreRanked, kept_between}
+use Rattle.naga_oil_derive.specs.Callees.{known_as, callee_at}
+use Rattle.naga_oil_derive.specs.Went.{went_by}
+use Rattle.naga_oil_derive.specs.CopiedFunction.{copied_function}
+use Rattle.naga_oil_derive.specs.Imported.{meanings, IsAnswerable, IsImportable}
+use Rattle.naga_oil_derive.specs.Derived.{Source, Derived}
+use Rattle.naga_oil_derive.specs.DerivedView.{source_of, derived_of, IsDerived}
+use Rattle.naga_oil_derive.specs.DerivedFunctions.{Meanings, meant, meant_at, going, having, requests_of, MayAsk, MayCopy, MayCall, MayReach, CanCopy, CanImport, CanCall, KeepsFunctions, IsLocalized, FunctionStands, IsFunctionImported, MeansAt}
+use Rattle.naga_oil_derive.specs.DerivedValue.{by_source, importing_of, after_importing, function_localized, function_imported, function_called, requests_answered}
+use Rattle.naga_oil_derive.specs.DerivedLaw.{IsDerivation, kept_by}
+use Rattle.naga_oil_derive.specs.Answered.{ImportState, import_state}
+use Rattle.naga_oil_derive.specs.AnsweredLaw.{HasForm, HasCopies, HaveCopies, AnswersOnly, AddsOnly, ImportsFunction}
+use Rattle.naga_oil_derive.specs.Putting.{Adding}
+use Rattle.naga_oil_derive.proofs.DeriveLemmas.{source_at}
+use Rattle.naga_oil_derive.proofs.DeriveCalls.{Shader, FunctionNames, source_in}
+use Rattle.naga_oil_derive.proofs.DerivedLaws.{midway_now}
+use Rattle.naga_oil_derive.proofs.DerivedValues.{before, after, imported_value}
+use Rattle.naga_oil_derive.proofs.ViewLaws.{view_derived}
+use Rattle.naga_oil_derive.proofs.PuttingLemmas.{copying_of}
+use Rattle.naga_oil_derive.proofs.AddingLaws.{adding_law}
+use Rattle.naga_oil_derive.proofs.AnsweredLaws.{answer_law, call_law, function_law}
+use Rattle.naga_oil_derive.proofs.FunctionLaws.{alone, copies}
+use Rattle.naga_oil_derive.proofs.FunctionValues.{known_same, callee_means, may_copy_all, may_call, function_at}
+use Rattle.naga_oil_derive.proofs.HavingLemmas.{copying_having, going_same}
 
--- ---- special types stay
-
-pub special_having : (t : Module) (fs : List (Function × Span)) → IsSpecialThere t → IsSpecialThere (having t fs)
-special_having t fs s k q e = let r = s k q e in (r.0, ap (λ (v : World). v (TypeItem q)) (world_having t fs) ∙ r.1)
-
--- ---- items stay where they are
-
-pub extends_having : (t u : Module) (fs gs : List (Function × Span)) → Extends (value_of (having t fs)) (value_of u) → Extends (value_of t) (with_functions (value_of (having u gs)) (value_of t))
-unfolding value_of
-extends_having t u fs gs e = record {
-  types = e.types;
-  constants = e.constants;
-  overrides = e.overrides;
-  global_variables = e.global_variables;
-  global_expressions = e.global_expressions;
-  rest = ap (λ (v : ModuleValue). record v { functions = (value_of t).functions }) e.rest;
-}
-
-pub functions_begin : (t u : Module) (fs gs : List (Function × Span)) → t.functions ≡ fs → Begins fs gs → Begins (value_of t).functions (value_of (having u gs)).functions
-unfolding value_of
-functions_begin t u fs gs e b =
-    let v = λ (x : Function × Span). (let p : FunctionValue × Span = (function_value x.0, x.1) in p) in
-    (map v b.0, ap (map v) b.1 ∙ map-append v fs b.0 ∙ ap (λ (xs : List (Function × Span)). map v xs ++ map v b.0) (sym e))
-
--- ---- names stay known
-
-find_name : (bs : List ℕ) (es : List (String Global × ℕ)) → IsSome (lookup (bytes_eq bs) (meanings es)) → (k : String Global) × (string_bytes k ≡ bs)
-find_name bs [] h = absurd (false≢true h)
-find_name bs (e ∷ es) h =
-    ⊎_elim (λ y. (e.0, sym ((bytes_eq-Decides bs (string_bytes e.0)).0 y))) (λ n. find_name bs es (ap is_some (sym (cond-false (bytes_eq bs (string_bytes e.0)) (Some e.1) (lookup (bytes_eq bs) (meanings es)) n)) ∙ h)) (cases_Bool (bytes_eq bs (string_bytes e.0)))
-
-pub names_known : (a b : Functions) → FunctionsGrow a b → (n : Text) → IsSome (meant (meanings a.names.entries) n) → IsSome (meant (meanings b.names.entries) n)
-names_known a b g None h = h
-names_known a b g (Some bs) h =
-    let k = find_name bs a.names.entries h in
-    let o : Option (String Global) = Some k.0 in
-    let same : option_map string_bytes o ≡ Some bs = ap Some k.1 in
-    let was : IsSome (known_as a.names o) = ap is_some (known_same a.names o ∙ ap (meant (meanings a.names.entries)) same) ∙ h in
-    ap is_some (ap (meant (meanings b.names.entries)) (sym same) ∙ sym (known_same b.names o)) ∙ g.known o was
-
--- ---- what holds of a derived module
-
-pub derived_having : (o : Shader) (m : Maps) (t : Module) (fs : List (Function × Span)) → IsDerived o m t → IsDerived o m (having t fs)
-derived_having None m t fs d = record { sound = subst IsSound (sym (world_having t fs)) d.sound; special = special_having t fs d.special; source = tt }
-derived_having (Some s) m t fs d = record { sound = subst IsSound (sym (world_having t fs)) d.sound; special = special_having t fs d.special; source = (copying_having s.now t m fs d.source.0, d.source.1) }
-
-pub derived_functions : (o : Shader) (s : Bor Module) (t a x u : Module) (m n : Maps) (gs : List (Function × Span)) → o ≡ Some s → IsDerived o m t → a ≡ having t [] → IsCopying s.now x n → Grows m n a x → u ≡ having x gs → IsDerived o n u
-derived_functions o s t a x u m n gs e d ta i g is =
-    subst (λ (y : Module). IsDerived o n y) (sym is) (derived_having o n x gs (derived_later o s (having t []) x m n e (derived_having o m t [] d) i (subst (λ (y : Module). Grows m n y x) ta g)))
+-- ---- what is asked of a caller
 
 pub copying_in : (o : Shader) (s : Bor Module) (t a : Module) (m : Maps) → o ≡ Some s → IsDerived o m t → a ≡ having t [] → IsCopying s.now a m
 copying_in o s t a m e d ta = subst (λ (y : Module). IsCopying s.now y m) (sym ta) (copying_having s.now t m [] (source_in o s m t e d).0)
-
-pub ranked_in : (o : Shader) (s : Bor Module) (t : Module) (m : Maps) → o ≡ Some s → IsDerived o m t → AreRanked s.now
-ranked_in o s t m e d = (source_in o s m t e d).1
-
--- ---- what is asked of a caller
 
 -- what a caller says of its source and of names holds of the fields
 in_source : (P : Source → Meanings → Type 0) (o : Shader) (s : Bor Module) (m : Maps) (t : Module) (ns : FunctionNames) (d : Derived) → o ≡ Some s → derived_of o m t ns ≡ d → IfSome d.source (λ x. P x d.function_names) → P (source_at s.now m) (meanings ns)
@@ -111,28 +59,107 @@ pub call_in : (o : Shader) (s : Bor Module) (m : Maps) (t : Module) (fs : Functi
 call_in o s m t fs ns d n k e v f l h =
     may_call s.now fs n k l (subst (λ (q : FunctionNames). MayAsk (value_of s.now) (MayCall (value_of s.now) (meanings q) (length (value_of s.now).functions)) (Call k)) (sym f) (in_source (λ x q. MayAsk x.value (MayReach q x) (Call k)) o s m t ns d e v h))
 
--- ---- what a caller sees
+-- ---- a call
 
-source_kept : (o : Shader) (a x : Module) (m n : Maps) → Grows m n a x → KeepsSource (option_map (source_of m) o) (option_map (source_of n) o)
-source_kept None a x m n g = tt
-source_kept (Some s) a x m n g = later_source s.now a x m n g
+-- functions are taken out of a module that copying goes into, and put back
+pub record IsCall (o : Shader) (s : Bor Module) (t x y u : Module) (m n : Maps) (f g : Functions) (ns qs : FunctionNames) (d : Derived) : Type 0 where
+  pub is : o ≡ Some s
+  pub view : derived_of o m t ns ≡ d
+  pub holds : IsDerived o m t
+  pub left : x ≡ having t []
+  pub taken : f.copies ≡ t.functions
+  pub names : f.names.entries ≡ ns
+  pub offset : n.offset ≡ m.offset
+  pub put : u ≡ having y g.copies
+  pub seen : qs ≡ g.names.entries
+  pub adding : Adding (value_of s.now) m.offset (import_state m x f) (import_state n y g)
 
-pub keeps_functions : (o : Shader) (t a x u : Module) (m n : Maps) (f g : Functions) (ns qs : FunctionNames) (d : Derived) → derived_of o m t ns ≡ d → a ≡ having t [] → f.copies ≡ t.functions → f.names.entries ≡ ns → Grows m n a x → FunctionsGrow f g → u ≡ having x g.copies → qs ≡ g.names.entries → KeepsFunctions d (derived_of o n u qs)
-keeps_functions o t a x u m n f g ns qs d v ta c k grows more is named =
-    let wide : Grows m n (having t []) x = subst (λ (y : Module). Grows m n y x) ta grows in
-    let own : KeepsFunctions (derived_of o m t f.names.entries) (derived_of o n (having x g.copies) g.names.entries) = record {
-      items = extends_having t x [] g.copies wide.extends;
-      functions = functions_begin t x f.copies g.copies (sym c) more.copies;
-      names = names_known f g more;
-      source = source_kept o a x m n grows;
-    } in
-    let seen : KeepsFunctions (derived_of o m t ns) (derived_of o n (having x g.copies) g.names.entries) = subst (λ (q : FunctionNames). KeepsFunctions (derived_of o m t q) (derived_of o n (having x g.copies) g.names.entries)) k own in
-    subst (λ (y : Derived). KeepsFunctions y (derived_of o n u qs)) v (subst (λ (q : FunctionNames). KeepsFunctions (derived_of o m t ns) (derived_of o n u q)) (sym named) (subst (λ (y : Module). KeepsFunctions (derived_of o m t ns) (derived_of o n y g.names.entries)) (sym is) seen))
+-- a derivation whose source is ranked is what its fields say
+derived_view : (s : Bor Module) (n : Maps) (u : Module) (ns : FunctionNames) (first : Kept) → AreRanked s.now → IsDerivation first (derived_of (Some s) n u ns) → IsDerived (Some s) n u
+unfolding value_of kept_between
+derived_view s n u ns first ranked i = record { sound = i.sound; special = λ k q e. i.special k q e; source = (copying_of s.now u n (midway_now first (source_of n s) (value_of u) i.source), ranked) }
 
-pub localized_ok : {B : Type 0} (r : Result Function B) (o : Shader) (s : Bor Module) (n : Maps) (u : Module) (g : Functions) (qs : FunctionNames) (f : Function) → o ≡ Some s → qs ≡ g.names.entries → IfOk r (λ w. Copies (went_by n s.now g.names) (function_value f) (function_value w)) → IfOk r (λ w. IsLocalized (derived_of o n u qs) (function_value f) (function_value w))
-localized_ok (Ok w) o s n u g qs f e q h =
-    subst (λ (x : Shader). IsLocalized (derived_of x n u qs) (function_value f) (function_value w)) (sym e) (subst (λ (x : FunctionNames). Copies (going (source_at s.now n) (meanings x)) (function_value f) (function_value w)) (sym q) (subst (λ (r : Renames). Copies r (function_value f) (function_value w)) (going_same s.now n g) h))
-localized_ok (Err x) o s n u g qs f e q h = tt
+adds : (o : Shader) (s : Bor Module) (t x y u : Module) (m n : Maps) (f g : Functions) (ns qs : FunctionNames) (d : Derived) → IsCall o s t x y u m n f g ns qs d → AddsOnly (kept_by (derived_of (Some s) m t ns)) (derived_of (Some s) m t ns) (derived_of (Some s) n u qs)
+adds o s t x y u m n f g ns qs d c =
+    let e = derived_of (Some s) m t ns in
+    let i = import_state n y g in
+    let start = subst (λ (k : ImportState). Adding (value_of s.now) m.offset k i) (before s t x m f ns c.left c.taken c.names) c.adding in
+    subst (AddsOnly (kept_by e) e) (sym (after s y u m n g qs c.offset c.put c.seen)) (adding_law (kept_by e) e (source_of m s) i (view_derived (Some s) m t ns (subst (λ (q : Shader). IsDerived q m t) c.is c.holds)) refl start)
+
+-- what holds of a derived module holds after it, also where it was refused
+pub call_holds : (o : Shader) (s : Bor Module) (t x y u : Module) (m n : Maps) (f g : Functions) (ns qs : FunctionNames) (d : Derived) → IsCall o s t x y u m n f g ns qs d → IsDerived o n u
+call_holds o s t x y u m n f g ns qs d c =
+    subst (λ (q : Shader). IsDerived q n u) (sym c.is) (derived_view s n u qs (kept_by (derived_of (Some s) m t ns)) (source_in o s m t c.is c.holds).1 (adds o s t x y u m n f g ns qs d c).derivation)
+
+-- and it keeps what is there
+pub call_keeps : (o : Shader) (s : Bor Module) (t x y u : Module) (m n : Maps) (f g : Functions) (ns qs : FunctionNames) (d : Derived) → IsCall o s t x y u m n f g ns qs d → KeepsFunctions d (derived_of o n u qs)
+call_keeps o s t x y u m n f g ns qs d c =
+    let own = subst (λ (q : Shader). KeepsFunctions (derived_of q m t ns) (derived_of q n u qs)) (sym c.is) (adds o s t x y u m n f g ns qs d c).keeps in
+    subst (λ (e : Derived). KeepsFunctions e (derived_of o n u qs)) c.view own
+
+-- what it makes, as a value
+pub call_value : {A B : Type 0} (r : Result A B) (o : Shader) (s : Bor Module) (t x y u : Module) (m n : Maps) (f g : Functions) (ns qs : FunctionNames) (d : Derived) (F : Source → ImportState → ImportState) → IsCall o s t x y u m n f g ns qs d → OnOk r (import_state n y g ≡ F (source_of m s) (import_state m x f)) → OnOk r (derived_of o n u qs ≡ by_source d (λ z. after_importing z (F z (importing_of d z))) d.source)
+call_value r o s t x y u m n f g ns qs d F c h = imported_value r o s t x y u m n f g ns qs d F c.is c.view c.left c.taken c.names c.offset c.put c.seen h
+
+-- ---- what the laws say of it
+
+-- what is made of a function copies it, wherever its items and functions go
+function_copies : (f : Function) → HasCopies (function_value f)
+function_copies f = λ r h. copies r (function_value f) (record { form = h; alone = alone f })
+
+have_copies : (o : Shader) (m : Maps) (t : Module) (ns : FunctionNames) → HaveCopies (derived_of o m t ns)
+have_copies None m t ns = tt
+have_copies (Some s) m t ns = λ k x e. (let y = function_at s.now k x e in subst HasCopies (ap (λ (z : FunctionValue × Span). z.0) y.2) (function_copies y.0.0))
+
+-- a derivation, each function of whose source has copies
+pub record IsFair (d : Derived) : Type 0 where
+  pub derivation : IsDerivation (kept_by d) d
+  pub copies : HaveCopies d
+
+pub fair : (o : Shader) (m : Maps) (t : Module) (ns : FunctionNames) (d : Derived) → derived_of o m t ns ≡ d → IsDerived o m t → IsFair d
+fair o m t ns d v i = subst IsFair v (record { derivation = view_derived o m t ns i; copies = have_copies o m t ns })
+
+requests_there : (o : Option Source) (ns : Meanings) (v : FunctionValue) → IfSome o (λ s. MayCopy s.value (MayReach ns s) v) → IfSome o (λ s. All (MayAsk s.value (MayReach ns s)) (requests_of v))
+requests_there None ns v h = tt
+requests_there (Some s) ns v h = h.requests
+
+pub copy_answers : (d : Derived) (v : FunctionValue) → IsFair d → CanCopy d v → AnswersOnly (kept_by d) d (requests_answered d (requests_of v)) (requests_of v)
+copy_answers d v i c = answer_law (kept_by d) d (requests_of v) i.derivation i.copies (c.0, requests_there d.source d.function_names v c.1)
+
+pub call_answers : (d : Derived) (k : ℕ) → IsFair d → CanCall d k → AnswersOnly (kept_by d) d (function_called d k) (Call k ∷ [])
+call_answers d k i c = (call_law (kept_by d) d k i.derivation i.copies c).0
+
+pub imports : (d : Derived) (f : Function) (span : Span) → IsFair d → CanImport d (function_value f) → ImportsFunction (kept_by d) d (function_imported d (function_value f) span) (function_value f) span
+imports d f span i c = function_law (kept_by d) d (function_value f) span i.derivation i.copies (function_copies f) c
+
+-- what holds of a value holds of what is equal to it
+pub on_ok_by : {A B X : Type 0} (r : Result A B) (P : X → Type 0) (x y : X) → OnOk r (x ≡ y) → P y → OnOk r (P x)
+on_ok_by (Ok a) P x y e p = subst P (sym e) p
+on_ok_by (Err b) P x y e p = tt
+
+imported_at : (o : Option Source) (d e : Derived) (v : FunctionValue) (span : Span) (h k : ℕ) → IfSome o (FunctionStands d e v span h) → meant e.function_names v.name ≡ Some k → IfSome o (FunctionStands d e v span k)
+imported_at None d e v span h k i m = tt
+imported_at (Some s) d e v span h k i m = subst (λ j. FunctionStands d e v span j s) (same_Some h k (sym i.last.means ∙ m)) i
+
+-- it stands where its name means
+pub imported_ok : {B : Type 0} (r : Result ℕ B) (d e y : Derived) (v : FunctionValue) (span : Span) → OnOk r (e ≡ y) → ImportsFunction (kept_by d) d y v span → IfOk r (λ h. meant e.function_names v.name ≡ Some h) → IfOk r (IsFunctionImported d e v span)
+imported_ok (Ok h) d e y v span is i m = imported_at e.source d e v span i.place h (subst (λ (z : Derived). IsFunctionImported d z v span i.place) (sym is) i.imported) m
+imported_ok (Err b) d e y v span is i m = tt
+
+-- ---- copies
+
+form_in : (o : Option Source) (ns : Meanings) (v : FunctionValue) → IsSome o → IfSome o (λ s. MayCopy s.value (MayReach ns s) v) → HasForm v
+form_in None ns v is h = absurd (false≢true is)
+form_in (Some s) ns v is h = h.form
+
+localized_at : (o : Option Source) (ns : Meanings) (f : Function) (w : FunctionValue) → HasForm (function_value f) → w ≡ function_localized o ns (function_value f) → IfSome o (λ s. Copies (going s ns) (function_value f) w)
+localized_at None ns f w h e = tt
+localized_at (Some s) ns f w h e = subst (Copies (going s ns) (function_value f)) (sym e) (function_copies f (going s ns) h)
+
+-- what is made of a function that can be copied copies it
+pub localized_ok : {B : Type 0} (r : Result Function B) (d e : Derived) (f : Function) → CanCopy d (function_value f) → IfOk r (λ w. function_value w ≡ function_localized e.source e.function_names (function_value f)) → IfOk r (λ w. IsLocalized e (function_value f) (function_value w))
+localized_ok (Ok w) d e f can is = localized_at e.source e.function_names f (function_value w) (form_in d.source d.function_names (function_value f) can.0 can.1) is
+localized_ok (Err x) d e f can is = tt
 
 -- the same as a value
 pub copied_value : {B : Type 0} (r : Result Function B) (o : Shader) (s : Bor Module) (n : Maps) (u : Module) (g : Functions) (qs : FunctionNames) (f : Function) → o ≡ Some s → qs ≡ g.names.entries → IfOk r (λ w. function_value w ≡ copied_function (went_by n s.now g.names) (function_value f)) → IfOk r (λ w. function_value w ≡ function_localized (derived_of o n u qs).source (derived_of o n u qs).function_names (function_value f))
@@ -140,35 +167,16 @@ copied_value (Ok w) o s n u g qs f e q h =
     subst (λ (x : Shader). function_value w ≡ function_localized (derived_of x n u qs).source (derived_of x n u qs).function_names (function_value f)) (sym e) (subst (λ (x : FunctionNames). function_value w ≡ copied_function (going (source_at s.now n) (meanings x)) (function_value f)) (sym q) (h ∙ ap (λ (r : Renames). copied_function r (function_value f)) (going_same s.now n g)))
 copied_value (Err x) o s n u g qs f e q h = tt
 
--- a copy that was put last, as its caller sees it
-stands : (d : Derived) (s u : Module) (a : State) (n b : Maps) (x : Module) (f g : Functions) (k : Function) (span : Span) (h : ℕ) → seen s a ≡ d → ((w : Text) (j : ℕ) → meant d.function_names w ≡ Some j → meant (meanings f.names.entries) w ≡ Some j) → Imported s a (function_names k) (state b x f) → FunctionPut s k span (state b x f) (state n u g) h → FunctionStands d (derived_at s n (having u g.copies) (meanings g.names.entries)) (function_value k) span h (source_at s n)
-stands d s u a n b x f g k span h e knows i p = record {
-  between = seen s (state b x f);
-  answered = subst (λ (y : Derived). Answers (value_of s) y (requests_of (function_value k)) (seen s (state b x f))) e (subst (λ rs. Answers (value_of s) (seen s a) rs (seen s (state b x f))) (sym (requests_same k)) (answers i));
-  known = knows;
-  last = subst (λ (y : Maps). ComesLast (source_at s y) (function_value k) span (seen s (state b x f)) (derived_at s n (having u g.copies) (meanings g.names.entries)) h) (sym p.maps) (function_put s k span (state b x f) (state n u g) h p);
-}
+-- ---- names
 
-pub imported_ok : {B : Type 0} (r : Result ℕ B) (o : Shader) (s : Bor Module) (m : Maps) (t w : Module) (ns : FunctionNames) (d : Derived) (e : Functions) (n : Maps) (x u : Module) (g : Functions) (qs : FunctionNames) (k : Function) (span : Span) → o ≡ Some s → derived_of o m t ns ≡ d → w ≡ having t [] → e.copies ≡ t.functions → e.names.entries ≡ ns → u ≡ having x g.copies → qs ≡ g.names.entries → IfOk r (FunctionImported s.now k span (state m w e) (state n x g)) → IfOk r (IsFunctionImported d (derived_of o n u qs) (function_value k) span)
-imported_ok (Ok h) o s m t w ns d e n x u g qs k span is v taken copies named left q i =
-    let b = i.between in
-    let mine : meanings e.names.entries ≡ d.function_names = ap (λ (y : FunctionNames). meanings y) named ∙ ap (λ (y : Derived). y.function_names) v in
-    let knows : (y : Text) (j : ℕ) → meant d.function_names y ≡ Some j → meant (meanings b.functions.names.entries) y ≡ Some j = λ y j z. imported_meaning i.imported y j (ap (λ (ms : Meanings). meant ms y) mine ∙ z) in
-    let own : FunctionStands d (derived_at s.now n (having x g.copies) (meanings g.names.entries)) (function_value k) span h (source_at s.now n) = stands d s.now x (state m w e) n b.maps b.target b.functions g k span h (seen_of o s m t w e ns is taken copies named ∙ v) knows i.imported i.put in
-    subst (λ (y : Shader). IsFunctionImported d (derived_of y n u qs) (function_value k) span h) (sym is) (subst (λ (y : FunctionNames). FunctionStands d (derived_at s.now n u (meanings y)) (function_value k) span h (source_at s.now n)) (sym q) (subst (λ (y : Module). FunctionStands d (derived_at s.now n y (meanings g.names.entries)) (function_value k) span h (source_at s.now n)) (sym left) own))
-imported_ok (Err y) o s m t w ns d e n x u g qs k span is v taken copies named left q i = tt
-
--- its name means it
-pub imported_means : {B : Type 0} (r : Result ℕ B) (o : Shader) (s : Bor Module) (n : Maps) (u : Module) (qs : FunctionNames) (d : Derived) (v : FunctionValue) (span : Span) → o ≡ Some s → IfOk r (IsFunctionImported d (derived_of o n u qs) v span) → IfOk r (λ h. meant (derived_of o n u qs).function_names v.name ≡ Some h)
-imported_means (Ok h) o s n u qs d v span e i = (subst (λ (x : Shader). IsFunctionImported d (derived_of x n u qs) v span h) e i).last.means
-imported_means (Err y) o s n u qs d v span e i = tt
+pub name_ok : {B : Type 0} (r : Result ℕ B) (g : Functions) (qs : FunctionNames) (f : Function) → qs ≡ g.names.entries → IfOk r (λ h. known_as g.names f.name ≡ Some h) → IfOk r (λ h. meant (meanings qs) (function_value f).name ≡ Some h)
+name_ok (Ok h) g qs f q i = ap (λ (x : FunctionNames). meant (meanings x) (function_value f).name) q ∙ sym (known_same g.names f.name) ∙ i
+name_ok (Err y) g qs f q i = tt
 
 pub means_ok : {B : Type 0} (r : Result ℕ B) (o : Shader) (s : Bor Module) (n : Maps) (u : Module) (g : Functions) (qs : FunctionNames) (k : ℕ) → o ≡ Some s → qs ≡ g.names.entries → IfOk r (λ h. callee_at g.names s.now.functions k ≡ Some h) → IfOk r (MeansAt (derived_of o n u qs) k)
 means_ok (Ok h) o s n u g qs k e q i =
     subst (λ (y : Shader). MeansAt (derived_of y n u qs) k h) (sym e) (subst (λ (y : FunctionNames). meant_at (meanings y) (slice_get (value_of s.now).functions k) ≡ Some h) (sym q) (callee_means s.now g k h i))
 means_ok (Err y) o s n u g qs k e q i = tt
-
--- ---- a name that is known
 
 pub meant_in : {S : Type 0} (o : Shader) (m : Maps) (t : Module) (names : IndexMap (String Global) ℕ S) (d : Derived) (p : Option (String Global)) → derived_of o m t names.entries ≡ d → known_as names p ≡ meant d.function_names (option_map string_bytes p)
 meant_in o m t names d p v = known_same names p ∙ ap (λ (x : Derived). meant x.function_names (option_map string_bytes p)) v

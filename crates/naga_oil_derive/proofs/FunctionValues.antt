@@ -82,7 +82,7 @@ pub functions_length : (m : Module) → length (value_of m).functions ≡ length
 unfolding value_of
 functions_length m = length-map m.functions (λ (e : Function × Span). (function_value e.0, e.1))
 
-callee_value : (m : Module) (fs : Functions) (h : ℕ) → meant_at (meanings fs.names.entries) (slice_get (value_of m).functions h) ≡ callee_at fs.names m.functions h
+pub callee_value : (m : Module) (fs : Functions) (h : ℕ) → meant_at (meanings fs.names.entries) (slice_get (value_of m).functions h) ≡ callee_at fs.names m.functions h
 unfolding value_of
 callee_value m fs h = sym (callee_same fs.names m.functions h)
 

@@ -1,37 +1,38 @@
 -- Modules with other functions.
-use Rattle.std.proofs.Common.{◌≡◌, ⊎_elim, ℕ, ◌+◌, ◌<◌, ◌++◌, List, [], ◌∷◌, length, map, slice_get, Option, Some, None, IsSome, is_some, option_map, option_to_list, unwrap_or, refl, ap, sym, ◌∙◌, subst, cond, IfSome, Result, Ok, Err, IfOk, String, string_bytes, bytes_eq, Global}
-use Rattle.std.specs.Borrow.{Bor}
-use Rattle.std.specs.Map.{lookup}
-use Rattle.std.proofs.lemmas.Bool.{cases_Bool, cond-true, cond-false, false≢true}
-use Rattle.std.proofs.lemmas.List.{map-append, length-map}
-use Rattle.std.proofs.lemmas.Option.{none-some, same_Some}
-use Rattle.std.proofs.lemmas.Slice.Eq.{bytes_eq-Decides}
-use Rattle.indexmap.specs.IndexMap.{IndexMap}
-use Rattle.naga_oil_ir.specs.ModuleValue.{ModuleValue, FunctionValue, function_value}
+use Rattle.std.proofs.Common.{◌≡◌, ℕ, List, slice_get, Option, unwrap_or, refl, ap, sym, subst}
+use Rattle.naga_oil_ir.specs.ModuleValue.{ModuleValue, FunctionValue}
 use Rattle.naga_oil_ir.specs.declared.module.Module.{Module}
 use Rattle.naga_oil_ir.specs.declared.module.Function.{Function}
 use Rattle.naga_oil_ir.specs.declared.names.ItemPlace.{ItemPlace}
 use Rattle.naga_oil_ir.specs.declared.names.ItemPlace.TheVariants.{TypeItem, ConstantItem, OverrideItem, GlobalItem, ExpressionItem}
 use Rattle.naga_oil_ir.specs.declared.span.Span.{Span}
-use Rattle.naga_oil_ir.specs.Rows.{Text}
 use Rattle.naga_oil_derive.specs.Tree.{World}
-use Rattle.naga_oil_derive.specs.World.{Begins, Extends, value_of, world, named_world, shifted}
-use Rattle.naga_oil_derive.specs.Renames.{Renames}
-use Rattle.naga_oil_derive.specs.Copying.{IsSound, AreCopied, IsCopying, Grows, AreRanked, goes_under, source_world, kept_between, places_of}
-use Rattle.naga_oil_derive.specs.Callees.{known_as, callee_at}
-use Rattle.naga_oil_derive.specs.Functions.{Copies}
+use Rattle.naga_oil_derive.specs.World.{value_of, world, named_world}
+use Rattle.naga_oil_derive.specs.Copying.{IsSound, AreCopied, IsCopying, goes_under, source_world, kept_between}
 use Rattle.naga_oil_derive.specs.Went.{went_by}
-use Rattle.naga_oil_derive.specs.Imported.{State, state, meanings, with_meaning, IsAnswerable, IsImportable, FunctionImported, FunctionsGrow}
-use Rattle.naga_oil_derive.specs.DerivedView.{source_of, derived_of, IsSpecialThere, IsDerived}
-use Rattle.naga_oil_derive.specs.Derived.{Source, Derived, KeepsSource}
-use Rattle.naga_oil_derive.specs.DerivedFunctions.{Meanings, meant, meant_at, going, having, with_functions, meaning, MayAsk, MayCopy, MayCall, MayReach, CanCopy, CanCall, KeepsFunctions, IsLocalized, FunctionStands, IsFunctionImported, MeansAt}
+use Rattle.naga_oil_derive.specs.Imported.{meanings}
+use Rattle.naga_oil_derive.specs.DerivedFunctions.{meant_at, going, having}
 use Rattle.naga_oil_derive.specs.declared.maps.Maps.{Maps}
-use Rattle.naga_oil_derive.specs.declared.special.SpecialKey.{SpecialKey}
 use Rattle.naga_oil_derive.specs.declared.import.Functions.{Functions}
-use Rattle.naga_oil_derive.specs.declared.walk.Request.TheVariants.{Call}
 use Rattle.naga_oil_derive.proofs.CopyLemmas.{kept_same}
-use Rattle.naga_oil_derive.proofs.DeriveLemmas.{source_at, derived_at, later_source}
-use Rattle.naga_oil_derive.proofs.FunctionValues.{known_same, callee_same, callee_means, may_copy_all, may_call}
+use Rattle.naga_oil_derive.proofs.DeriveLemmas.{source_at}
+use Rattle.naga_oil_derive.proofs.FunctionValues.{callee_same}
+
+-- ---- a module with other functions
+
+abbrev pub given : ModuleValue → List (FunctionValue × Span) → ModuleValue
+given m fs = record m { functions = fs }
+
+pub world_given_at : (m : ModuleValue) (fs : List (FunctionValue × Span)) (p : ItemPlace) → world (given m fs) p ≡ world m p
+unfolding world
+world_given_at m fs (TypeItem k) = refl
+world_given_at m fs (ConstantItem k) = refl
+world_given_at m fs (OverrideItem k) = refl
+world_given_at m fs (GlobalItem k) = refl
+world_given_at m fs (ExpressionItem k) = refl
+
+pub world_given : (m : ModuleValue) (fs : List (FunctionValue × Span)) → world (given m fs) ≡ world m
+world_given m fs = λ i p. world_given_at m fs p i
 
 -- ---- the items of a module don't depend on its functions
 

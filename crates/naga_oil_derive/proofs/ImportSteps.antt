@@ -1,42 +1,85 @@
 -- One function more.
-use Rattle.std.proofs.Common.{◌≡◌, ⊎_elim, ◌⊎◌, ℕ, zero, suc, ◌+◌, ◌<◌, true, false, cond, List, [], ◌∷◌, ◌++◌, length, get_or, slice_get, Option, Some, None, IsSome, IfSome, is_some, option_map, unwrap_or, refl, ap, sym, ◌∙◌, subst, All, String, string_bytes, bytes_eq, Global, Result, Ok, Err, OnOk, IfOk}
+use Rattle.std.proofs.Common.{◌≡◌, ⊎_elim, ◌⊎◌, inl, inr, ℕ, zero, suc, ◌<◌, List, [], ◌∷◌, ◌++◌, length, map, get_or, slice_get, Option, Some, None, IsSome, IfSome, is_some, option_map, unwrap_or, refl, ap, sym, ◌∙◌, subst, All, String, string_bytes, Global, Result, Ok, Err, OnOk, IfOk}
 use Rattle.std.specs.String.{string_eq}
-use Rattle.std.proofs.lemmas.Bool.{cases_Bool, cond-true, cond-false, false≢true}
-use Rattle.std.proofs.lemmas.Map.Text.{hash_map_updates_text}
-use Rattle.std.proofs.lemmas.List.Elements.{All-cons, All-head, All-tail}
+use Rattle.std.proofs.lemmas.Bool.{false≢true}
+use Rattle.std.proofs.lemmas.List.{map-append, length-map}
+use Rattle.std.proofs.lemmas.List.Elements.{All-cons, All-head, All-tail, All-weaker}
 use Rattle.std.proofs.lemmas.Option.{none-some, same_Some}
-use Rattle.std.specs.Map.{lookup}
-use Rattle.indexmap.specs.IndexMap.{IndexMap, insert_entry, get_by_text, Updates}
+use Rattle.indexmap.specs.IndexMap.{IndexMap, insert_entry}
 use Rattle.naga_oil_ir.specs.Spans.{undefined}
-use Rattle.naga_oil_ir.specs.ModuleValue.{function_value}
+use Rattle.naga_oil_ir.specs.ModuleValue.{ModuleValue, FunctionValue, function_value}
 use Rattle.naga_oil_ir.specs.declared.module.Module.{Module}
 use Rattle.naga_oil_ir.specs.declared.module.Function.{Function}
 use Rattle.naga_oil_ir.specs.declared.span.Span.{Span}
 use Rattle.naga_oil_ir.specs.declared.names.ItemPlace.{ItemPlace}
-use Rattle.naga_oil_derive.specs.World.{shifted}
-use Rattle.naga_oil_derive.specs.Copying.{IsCopying, Grows, WentSomewhere, CollectsItem, goes_under, source_world}
+use Rattle.naga_oil_derive.specs.World.{goes, value_of, shifted}
+use Rattle.naga_oil_derive.specs.Copying.{IsThere, AreRanked, IsCopying, WentSomewhere, places_of, goes_under}
 use Rattle.naga_oil_derive.specs.Callees.{known_as, known_at, callee_at}
+use Rattle.naga_oil_derive.specs.Copied.{CopyState, copy_state, copied}
 use Rattle.naga_oil_derive.specs.CopiedFunction.{copied_function}
-use Rattle.naga_oil_derive.specs.Functions.{Copies}
-use Rattle.naga_oil_derive.specs.Naming.{Thins, Ends, Keeps, Drops}
-use Rattle.naga_oil_derive.specs.Imported.{State, state, Imported, Ready, Copied, Called, FunctionImported, meanings, IsCallable, IsAnswerable, IsImportable, with_meaning, FunctionPut, FunctionsGrow}
+use Rattle.naga_oil_derive.specs.Naming.{Thins, Ends, Keeps, Drops, function_names}
+use Rattle.naga_oil_derive.specs.Imported.{meanings, Asks, MayImport, IsCallable, IsAnswerable, IsImportable}
+use Rattle.naga_oil_derive.specs.DerivedFunctions.{Meanings, meant, meaning}
+use Rattle.naga_oil_derive.specs.Answered.{ImportState, import_state, with_function}
+use Rattle.naga_oil_derive.specs.Putting.{Adding, NothingAdded, FunctionAdded, CopyAdded}
 use Rattle.naga_oil_derive.specs.Went.{went_by}
 use Rattle.naga_oil_derive.specs.declared.maps.Maps.{Maps}
 use Rattle.naga_oil_derive.specs.declared.import.Functions.{Functions}
 use Rattle.naga_oil_derive.specs.declared.walk.Request.{Request}
 use Rattle.naga_oil_derive.specs.declared.walk.Request.TheVariants.{Item, Call}
-use Rattle.naga_oil_derive.proofs.ImportLemmas.{answerable_later, meaning_put}
+use Rattle.naga_oil_derive.proofs.PuttingLemmas.{copied_went}
+use Rattle.naga_oil_derive.proofs.AddingLemmas.{KnowsNames, names_added}
+use Rattle.naga_oil_derive.proofs.FunctionValues.{known_same}
+use Rattle.naga_oil_derive.proofs.HavingLemmas.{going_same}
+use Rattle.naga_oil_derive.proofs.MeaningLemmas.{meaning_put, meaning_same}
+
+-- ---- what can be copied later
+
+known_later : (a b : Functions) → KnowsNames a b → (o : Option (Function × Span)) → IsSome (known_at a.names o) → IsSome (known_at b.names o)
+known_later a b f None h = h
+known_later a b f (Some e) h = f e.0.name h
+
+-- a weaker test
+asks_weaker : (source : Module) (P Q : ℕ → Type 0) → ((k : ℕ) → P k → Q k) → (r : Request) → Asks source P r → Asks source Q r
+asks_weaker source P Q w (Item p) h = h
+asks_weaker source P Q w (Call f) h = (h.0, w f h.1)
+
+import_weaker : (source : Module) (P Q : ℕ → Type 0) → ((k : ℕ) → P k → Q k) → (f : Function) → MayImport source P f → MayImport source Q f
+import_weaker source P Q w f h = record { form = h.form; requests = All-weaker (Asks source P) (Asks source Q) (asks_weaker source P Q w) (function_names f) h.requests }
+
+entry_weaker : (source : Module) (P Q : ℕ → Type 0) → ((k : ℕ) → P k → Q k) → (o : Option (Function × Span)) → IfSome o (λ e. IsSome e.0.name × MayImport source P e.0) → IfSome o (λ e. IsSome e.0.name × MayImport source Q e.0)
+entry_weaker source P Q w None h = tt
+entry_weaker source P Q w (Some e) h = (h.0, import_weaker source P Q w e.0 h.1)
+
+-- what can be called can be called later
+callable_later : (source : Module) (a b : Functions) → KnowsNames a b → (n k : ℕ) → IsCallable source a n k → IsCallable source b n k
+callable_later source a b g zero k h = known_later a b g (slice_get source.functions k) h
+callable_later source a b g (suc n) k h =
+    ⊎_elim (λ l. inl (known_later a b g (slice_get source.functions k) l)) (λ l. inr (entry_weaker source (IsCallable source a n) (IsCallable source b n) (callable_later source a b g n) (slice_get source.functions k) l)) h
+
+answerable_later : (source : Module) (a b : Functions) (n : ℕ) → KnowsNames a b → (r : Request) → IsAnswerable source a n r → IsAnswerable source b n r
+answerable_later source a b n g r h = asks_weaker source (IsCallable source a n) (IsCallable source b n) (callable_later source a b g n) r h
 
 -- ---- requests
 
 -- what holds of all requests holds of those that are left
-pub thins_kept : {s xs ys : List Request} (P : Request → Type 0) → Thins s xs ys → All P xs → All P ys
+thins_kept : {s xs ys : List Request} (P : Request → Type 0) → Thins s xs ys → All P xs → All P ys
 thins_kept P Ends a = a
 thins_kept P (Keeps {xs = xs} {ys = ys} {x = x} th) a = All-cons P x ys (All-head P x xs a) (thins_kept P th (All-tail P x xs a))
 thins_kept P (Drops {xs = xs} {x = x} i th) a = thins_kept P th (All-tail P x xs a)
 
-pub request_at : (source : Module) (a b : Functions) (n : ℕ) (fs rs : List Request) (i : ℕ) (r : Request) → Thins [] fs rs → All (IsAnswerable source a n) fs → FunctionsGrow a b → i < length rs → r ≡ get_or rs i r → IsAnswerable source b n r
+request_at : (source : Module) (a b : Functions) (n : ℕ) (fs rs : List Request) (i : ℕ) (r : Request) → Thins [] fs rs → All (IsAnswerable source a n) fs → KnowsNames a b → i < length rs → r ≡ get_or rs i r → IsAnswerable source b n r
 request_at source a b n fs rs i r th al g l e = answerable_later source a b n g r (subst (IsAnswerable source a n) (sym e) (thins_kept (IsAnswerable source a n) th al i r l))
+
+-- a request at hand can be answered by what was added so far
+pub request_added : (source t u : Module) (m n : Maps) (a b : Functions) (shift depth : ℕ) (ns xs ys : List Request) (i : ℕ) (r : Request) → IsCopying source t m → Adding (value_of source) shift (import_state m t a) (import_state n u b) → All (IsAnswerable source a depth) ns → Thins [] ns ys → xs ≡ ys → i < length xs → r ≡ get_or xs i r → IsAnswerable source b depth r
+request_added source t u m n a b shift depth ns xs ys i r copying adding may th e l is =
+    request_at source a b depth ns xs i r (subst (Thins [] ns) (sym e) th) may (names_added source t u m n a b shift copying adding) l is
+
+-- an item that is copied went somewhere
+pub item_went : (source t u : Module) (m n : Maps) (p : ItemPlace) → AreRanked source → IsCopying source t m → IsThere source p → copy_state n u ≡ copied (value_of source) m.offset (copy_state m t) p → WentSomewhere (goes (places_of n)) (Some p)
+unfolding goes_under
+item_went source t u m n p ranked i there e = copied_went source t u m n p ranked i there e
 
 -- ---- functions of a source
 
@@ -48,57 +91,56 @@ entry_from (Some x) f span e g = let h : f ≡ x.0 = same_Some f x.0 e in ap (λ
 pub entry_at : (fs : List (Function × Span)) (h : ℕ) (f : Function) (span : Span) → Some f ≡ option_map (λ (e : Function × Span). e.0) (slice_get fs h) → span ≡ unwrap_or (option_map (λ (e : Function × Span). e.1) (slice_get fs h)) undefined → slice_get fs h ≡ Some (f, span)
 entry_at fs h f span e g = entry_from (slice_get fs h) f span e g
 
--- ---- names
+abbrev pub entry_of : FunctionValue → Span → FunctionValue × Span
+entry_of v s = (v, s)
 
-named_from : (o : Option (String Global)) (bs : List ℕ) → Some bs ≡ option_map string_bytes o → (n : String Global) × (o ≡ Some n) × (string_bytes n ≡ bs)
-named_from None bs e = absurd (none-some bs (sym e))
-named_from (Some n) bs e = (n, refl, same_Some (string_bytes n) bs (sym e))
+-- ---- a copy that was put last
 
-known_more : (a b : Functions) (bs : List ℕ) (h : ℕ) → ((cs : List ℕ) → get_by_text b.names cs ≡ cond (bytes_eq bs cs) (Some h) (get_by_text a.names cs)) → (o : Option (String Global)) → IsSome (known_as a.names o) → IsSome (known_as b.names o)
-known_more a b bs h f None i = i
-known_more a b bs h f (Some n) i =
-    let cs = string_bytes n in
-    ⊎_elim (λ y. ap is_some (f cs ∙ cond-true (bytes_eq bs cs) (Some h) (get_by_text a.names cs) y)) (λ y. ap is_some (f cs ∙ cond-false (bytes_eq bs cs) (Some h) (get_by_text a.names cs) y) ∙ i) (cases_Bool (bytes_eq bs cs))
+abbrev state_with : CopyState → List (FunctionValue × Span) → Meanings → ImportState
+state_with c f n = record { copying = c; functions = f; names = n }
 
--- a copy that was put last under its name
-pub put_function : (source : Module) (f g : Function) (span : Span) (m : Maps) (t : Module) (a b : Functions) (h : ℕ) (n : String Global) → Copies (went_by m source a.names) (function_value f) (function_value g) → function_value g ≡ copied_function (went_by m source a.names) (function_value f) → b.copies ≡ a.copies ++ (g, shifted m.offset span) ∷ [] → h ≡ length a.copies → Some (string_bytes n) ≡ option_map string_bytes f.name → Updates string_eq a.names b.names n (Some h) → b.names.entries ≡ insert_entry string_eq a.names.entries n h → FunctionPut source f span (state m t a) (state m t b) h
-put_function source f g span m t a b h n c made e l is u i =
-    let own = named_from f.name (string_bytes n) is in
-    let after = hash_map_updates_text (string_bytes n) a.names b.names (Some h) u in
-    record {
-      copy = g;
-      copies = c;
-      made = made;
-      put = e;
-      place = l;
-      named = ap meanings i ∙ meaning_put string_eq (λ x y. refl) a.names.entries n h ∙ ap (λ bs. insert_entry bytes_eq (meanings a.names.entries) bs h) (sym own.2) ∙ ap (λ (o : Option (String Global)). with_meaning o h (meanings a.names.entries)) (sym own.1);
-      means = ap (known_as b.names) own.1 ∙ ap (get_by_text b.names) own.2 ∙ u.1;
-      grow = record { copies = ((g, shifted m.offset span) ∷ [], e); known = known_more a b (string_bytes n) h after };
-      maps = refl;
-      target = refl;
-    }
+-- the copy of a function, behind the others
+put_behind : (source : Module) (f g : Function) (span : Span) (m : Maps) (a b : Functions) → function_value g ≡ copied_function (went_by m source a.names) (function_value f) → b.copies ≡ a.copies ++ (g, shifted m.offset span) ∷ [] → (t : Module) → (import_state m t b).functions ≡ (with_function (value_of source) m.offset (import_state m t a) (function_value f) span).functions
+put_behind source f g span m a b made e t =
+    let see = λ (x : Function × Span). (let y : FunctionValue × Span = (function_value x.0, x.1) in y) in
+    let fs = map see a.copies in
+    ap (map see) e ∙ map-append see a.copies ((g, shifted m.offset span) ∷ []) ∙ ap (λ (v : FunctionValue). fs ++ entry_of v (shifted m.offset span) ∷ []) (made ∙ ap (λ r. copied_function r (function_value f)) (going_same source m a))
 
-known_unchanged : (a b : Functions) → b.names.entries ≡ a.names.entries → (o : Option (String Global)) → IsSome (known_as a.names o) → IsSome (known_as b.names o)
-known_unchanged a b i None h = h
-known_unchanged a b i (Some n) h = ap (λ (es : List (String Global × ℕ)). is_some (lookup (λ k. bytes_eq (string_bytes n) (string_bytes k)) es)) i ∙ h
+-- its name means it
+pub name_put : (f : Function) (a b : Functions) (h : ℕ) (n : String Global) → Some (string_bytes n) ≡ option_map string_bytes f.name → b.names.entries ≡ insert_entry string_eq a.names.entries n h → meanings b.names.entries ≡ meaning (meanings a.names.entries) (function_value f).name h
+name_put f a b h n is e = ap meanings e ∙ meaning_put string_eq (λ x y. refl) a.names.entries n h ∙ ap (λ o. meaning (meanings a.names.entries) o h) is
 
--- functions stay where they are though a name finds no room
-pub grow_unnamed : (a b : Functions) (x : Function × Span) → b.copies ≡ a.copies ++ x ∷ [] → b.names.entries ≡ a.names.entries → FunctionsGrow a b
-grow_unnamed a b x e i = record { copies = (x ∷ [], e); known = λ o h. known_unchanged a b i o h }
+pub name_means : (f : Function) (a b : Functions) (h : ℕ) (n : String Global) → Some (string_bytes n) ≡ option_map string_bytes f.name → b.names.entries ≡ insert_entry string_eq a.names.entries n h → known_as b.names f.name ≡ Some h
+name_means f a b h n is e =
+    known_same b.names f.name ∙ ap (λ (ms : Meanings). meant ms (function_value f).name) (name_put f a b h n is e) ∙ meaning_same (meanings a.names.entries) (function_value f).name h (ap is_some (sym is))
 
--- ---- one request answered
+pub put_value : (source : Module) (f g : Function) (span : Span) (m : Maps) (t : Module) (a b : Functions) (h : ℕ) (n : String Global) → function_value g ≡ copied_function (went_by m source a.names) (function_value f) → b.copies ≡ a.copies ++ (g, shifted m.offset span) ∷ [] → h ≡ length a.copies → Some (string_bytes n) ≡ option_map string_bytes f.name → b.names.entries ≡ insert_entry string_eq a.names.entries n h → import_state m t b ≡ with_function (value_of source) m.offset (import_state m t a) (function_value f) span
+put_value source f g span m t a b h n made e l is i =
+    let s = import_state m t a in
+    let u = with_function (value_of source) m.offset s (function_value f) span in
+    let see = λ (x : Function × Span). (let y : FunctionValue × Span = (function_value x.0, x.1) in y) in
+    ap (λ x. state_with s.copying x (meanings b.names.entries)) (put_behind source f g span m a b made e t) ∙ ap (state_with s.copying u.functions) (name_put f a b h n is i ∙ ap (meaning s.names (function_value f).name) (l ∙ sym (length-map a.copies see)))
 
-pub answered_item : {A B : Type 0} (source : Module) (p : ItemPlace) (m n : Maps) (t u : Module) (f : Functions) (r : Result A B) → IsCopying source u n → Grows m n t u → source_world source u n ≡ source_world source t m → OnOk r (WentSomewhere (goes_under n) (Some p)) → OnOk r (CollectsItem source m t p u) → OnOk r (Imported source (state m t f) (Item p ∷ []) (state n u f))
-answered_item source p m n t u f (Ok x) c g e w k = Copied (record { copying = c; grows = g; reads = e; place = w; collects = k; functions = refl }) Ready
-answered_item source p m n t u f (Err x) c g e w k = tt
+-- where its name finds no room
+pub copy_value : (source : Module) (f g : Function) (span : Span) (m : Maps) (t : Module) (a b : Functions) → function_value g ≡ copied_function (went_by m source a.names) (function_value f) → b.copies ≡ a.copies ++ (g, shifted m.offset span) ∷ [] → b.names.entries ≡ a.names.entries → import_state m t b ≡ record (with_function (value_of source) m.offset (import_state m t a) (function_value f) span) { names = (import_state m t a).names }
+copy_value source f g span m t a b made e i =
+    let s = import_state m t a in
+    let u = with_function (value_of source) m.offset s (function_value f) span in
+    ap (λ x. state_with s.copying x (meanings b.names.entries)) (put_behind source f g span m a b made e t) ∙ ap (λ x. state_with s.copying u.functions (meanings x)) i
 
-pub called_ok : {B : Type 0} (source : Module) (f : ℕ) (e : Function × Span) (s u : State) (r : Result ℕ B) → callee_at s.functions.names source.functions f ≡ None → slice_get source.functions f ≡ Some e → IfOk r (FunctionImported source e.0 e.1 s u) → OnOk r (Imported source s (Call f ∷ []) u)
-called_ok source f e s u (Ok h) n g i = Called n g i.imported i.put Ready
-called_ok source f e s u (Err x) n g i = tt
+pub function_added : {m : ModuleValue} {shift : ℕ} {s u : ImportState} (v : FunctionValue) (span : Span) → u ≡ with_function m shift s v span → Adding m shift s u
+function_added {m} {shift} {s} {u} v span e = FunctionAdded v span (subst (λ w. Adding m shift (with_function m shift s v span) w) (sym e) NothingAdded)
+
+pub copy_added : {m : ModuleValue} {shift : ℕ} {s u : ImportState} (v : FunctionValue) (span : Span) → u ≡ record (with_function m shift s v span) { names = s.names } → Adding m shift s u
+copy_added {m} {shift} {s} {u} v span e = CopyAdded v span (subst (λ w. Adding m shift (record (with_function m shift s v span) { names = s.names }) w) (sym e) NothingAdded)
 
 pub on_ok : {A B : Type 0} (r : Result A B) (P : Type 0) → P → OnOk r P
 on_ok (Ok x) P p = p
 on_ok (Err x) P p = tt
+
+pub if_ok_same : {A B : Type 0} (r : Result A B) (P Q : A → Type 0) → ((x : A) → P x → Q x) → IfOk r P → IfOk r Q
+if_ok_same (Ok x) P Q w p = w x p
+if_ok_same (Err x) P Q w p = tt
 
 -- ---- what is known of a callee
 

@@ -1,25 +1,13 @@
--- Names keep their meanings.
-use Rattle.std.proofs.Common.{◌≡◌, ⊎_elim, ◌⊎◌, ℕ, Bool, true, false, cond, List, [], ◌∷◌, slice_get, Option, Some, None, option_map, Result, Ok, Err, OnOk, refl, ap, sym, ◌∙◌, subst, String, string_bytes, bytes_eq, Global}
-use Rattle.std.specs.Borrow.{Bor}
+-- Names and what they mean.
+use Rattle.std.proofs.Common.{◌≡◌, ⊎_elim, ◌⊎◌, ℕ, Bool, true, false, cond, List, [], ◌∷◌, Option, Some, None, IsSome, is_some, refl, ap, sym, ◌∙◌, String, string_bytes, bytes_eq, Global}
 use Rattle.std.specs.Map.{lookup}
 use Rattle.std.proofs.lemmas.Bool.{cases_Bool, cond-true, cond-false, false≢true}
 use Rattle.std.proofs.lemmas.Option.{none-some}
 use Rattle.std.proofs.lemmas.Slice.Eq.{bytes_eq-Decides}
 use Rattle.indexmap.specs.IndexMap.{insert_entry}
 use Rattle.naga_oil_ir.specs.Rows.{Text}
-use Rattle.naga_oil_ir.specs.declared.module.Module.{Module}
-use Rattle.naga_oil_ir.specs.declared.module.Function.{Function}
-use Rattle.naga_oil_ir.specs.declared.span.Span.{Span}
-use Rattle.naga_oil_derive.specs.Callees.{known_as, known_at, callee_at}
-use Rattle.naga_oil_derive.specs.Imported.{State, state, meanings, with_meaning, FunctionPut, Imported, Ready, Copied, Known, Called}
-use Rattle.naga_oil_derive.specs.Derived.{Derived}
-use Rattle.naga_oil_derive.specs.DerivedView.{derived_of}
-use Rattle.naga_oil_derive.specs.DerivedFunctions.{Meanings, meant, meaning, KeepsMeanings}
-use Rattle.naga_oil_derive.specs.declared.maps.Maps.{Maps}
-use Rattle.naga_oil_derive.specs.declared.import.Functions.{Functions}
-use Rattle.naga_oil_derive.specs.declared.walk.Request.{Request}
-use Rattle.naga_oil_derive.proofs.FunctionValues.{known_same}
-use Rattle.naga_oil_derive.proofs.DeriveCalls.{Shader, FunctionNames}
+use Rattle.naga_oil_derive.specs.Imported.{meanings}
+use Rattle.naga_oil_derive.specs.DerivedFunctions.{Meanings, meant, meaning}
 
 -- ---- one name more
 
@@ -42,27 +30,30 @@ meaning_other s t None n h k u e f = f
 meaning_other s t (Some bs) None h k u e f = f
 meaning_other s t (Some bs) (Some cs) h k u e f = lookup_other t bs cs h (other_name s bs cs k u e) ∙ f
 
--- ---- what is imported
+lookup_same : (ms : Meanings) (bs : List ℕ) (h : ℕ) → lookup (bytes_eq bs) (insert_entry bytes_eq ms bs h) ≡ Some h
+lookup_same [] bs h = cond-true (bytes_eq bs bs) (Some h) None ((bytes_eq-Decides bs bs).1 refl)
+lookup_same (e ∷ es) bs h =
+    ⊎_elim (λ y. ap (λ b. lookup (bytes_eq bs) (cond b ((e.0, h) ∷ es) (e ∷ insert_entry bytes_eq es bs h))) y ∙ cond-true (bytes_eq bs e.0) (Some h) (lookup (bytes_eq bs) es) y) (λ y. ap (λ b. lookup (bytes_eq bs) (cond b ((e.0, h) ∷ es) (e ∷ insert_entry bytes_eq es bs h))) y ∙ cond-false (bytes_eq bs e.0) (Some e.1) (lookup (bytes_eq bs) (insert_entry bytes_eq es bs h)) y ∙ lookup_same es bs h) (cases_Bool (bytes_eq bs e.0))
 
-unknown_name : (m : Module) (s : State) (f : ℕ) (e : Function × Span) → callee_at s.functions.names m.functions f ≡ None → slice_get m.functions f ≡ Some e → meant (meanings s.functions.names.entries) (option_map string_bytes e.0.name) ≡ None
-unknown_name m s f e n at = sym (known_same s.functions.names e.0.name) ∙ ap (known_at s.functions.names) (sym at) ∙ n
+pub meaning_same : (ns : Meanings) (n : Text) (h : ℕ) → IsSome n → meant (meaning ns n h) n ≡ Some h
+meaning_same ns None h s = absurd (false≢true s)
+meaning_same ns (Some bs) h s = lookup_same ns bs h
 
-pub meaning_text : (o : Option (String Global)) (h : ℕ) (ms : Meanings) → with_meaning o h ms ≡ meaning ms (option_map string_bytes o) h
-meaning_text None h ms = refl
-meaning_text (Some n) h ms = refl
+-- each known name is known
+pub meaning_more : (ns : Meanings) (o : Text) (h : ℕ) (n : Text) → IsSome (meant ns n) → IsSome (meant (meaning ns o h) n)
+meaning_more ns None h n k = k
+meaning_more ns (Some bs) h None k = k
+meaning_more ns (Some bs) h (Some cs) k =
+    ⊎_elim (λ y. (let same : cs ≡ bs = (bytes_eq-Decides cs bs).0 y in ap (λ x. is_some (lookup (bytes_eq x) (insert_entry bytes_eq ns bs h))) same ∙ ap is_some (lookup_same ns bs h))) (λ y. ap is_some (lookup_other ns bs cs h y) ∙ k) (cases_Bool (bytes_eq cs bs))
 
-pub imported_meaning : {source : Module} {s t : State} {rs : List Request} → Imported source s rs t → (n : Text) (k : ℕ) → meant (meanings s.functions.names.entries) n ≡ Some k → meant (meanings t.functions.names.entries) n ≡ Some k
-imported_meaning Ready n k e = e
-imported_meaning (Copied i a) n k e = imported_meaning a n k (ap (λ (f : Functions). meant (meanings f.names.entries) n) i.functions ∙ e)
-imported_meaning (Known x a) n k e = imported_meaning a n k e
-imported_meaning {source} (Called {s = s} {t = t} {u = u} {f = f} {h = h} {e = y} x g i p a) n k e =
-    let before = imported_meaning i n k e in
-    let put : meant (meaning (meanings t.functions.names.entries) (option_map string_bytes y.0.name) h) n ≡ Some k = meaning_other (meanings s.functions.names.entries) (meanings t.functions.names.entries) (option_map string_bytes y.0.name) n h k (unknown_name source s f y x g) e before in
-    imported_meaning a n k (ap (λ (ms : Meanings). meant ms n) (p.named ∙ meaning_text y.0.name h (meanings t.functions.names.entries)) ∙ put)
+-- ---- names as they are held
 
--- as a caller of a derived module sees it
-pub keeps_meanings : {A B : Type 0} (r : Result A B) (o : Shader) (source : Module) (m n a : Maps) (t x y u : Module) (f g : Functions) (ns qs : FunctionNames) (d : Derived) (rs : List Request) → derived_of o m t ns ≡ d → f.names.entries ≡ ns → qs ≡ g.names.entries → OnOk r (Imported source (state a x f) rs (state n y g)) → OnOk r (KeepsMeanings d (derived_of o n u qs))
-keeps_meanings (Ok z) o source m n a t x y u f g ns qs d rs v k q i =
-    let own : KeepsMeanings (derived_of o m t f.names.entries) (derived_of o n u g.names.entries) = imported_meaning i in
-    subst (λ (w : Derived). KeepsMeanings w (derived_of o n u qs)) v (subst (λ (w : FunctionNames). KeepsMeanings (derived_of o m t w) (derived_of o n u qs)) k (subst (λ (w : FunctionNames). KeepsMeanings (derived_of o m t f.names.entries) (derived_of o n u w)) (sym q) own))
-keeps_meanings (Err z) o source m n a t x y u f g ns qs d rs v k q i = tt
+meaning_cond : (b : Bool) (e : String Global × ℕ) (v : ℕ) (es rest : List (String Global × ℕ)) → meanings (cond b ((e.0, v) ∷ es) (e ∷ rest)) ≡ cond b ((string_bytes e.0, v) ∷ meanings es) ((string_bytes e.0, e.1) ∷ meanings rest)
+meaning_cond true e v es rest = refl
+meaning_cond false e v es rest = refl
+
+-- to insert a name is to insert its bytes
+pub meaning_put : (E : String Global → String Global → Bool) → ((a b : String Global) → E a b ≡ bytes_eq (string_bytes a) (string_bytes b)) → (es : List (String Global × ℕ)) (k : String Global) (v : ℕ) → meanings (insert_entry E es k v) ≡ insert_entry bytes_eq (meanings es) (string_bytes k) v
+meaning_put E f [] k v = refl
+meaning_put E f (e ∷ es) k v =
+    meaning_cond (E k e.0) e v es (insert_entry E es k v) ∙ ap (λ (xs : List (List ℕ × ℕ)). cond (E k e.0) ((string_bytes e.0, v) ∷ meanings es) ((string_bytes e.0, e.1) ∷ xs)) (meaning_put E f es k v) ∙ ap (λ b. cond b ((string_bytes e.0, v) ∷ meanings es) ((string_bytes e.0, e.1) ∷ insert_entry bytes_eq (meanings es) (string_bytes k) v)) (f k e.0)

@@ -7,10 +7,12 @@ use Rattle.naga_oil_derive.specs.declared.walk.Request.{Request}
 use Rattle.naga_oil_derive.specs.declared.walk.Request.TheVariants.{Call}
 use Rattle.naga_oil_derive.specs.Copies.{value_links}
 use Rattle.naga_oil_derive.specs.CopiedFunction.{copied_function}
-use Rattle.naga_oil_derive.specs.Derived.{Derived}
+use Rattle.naga_oil_derive.specs.Derived.{Source, Derived}
 use Rattle.naga_oil_derive.specs.DerivedFunctions.{kinds_in, named_in, initialisers_in, MayAsk, MayReach, CanImport, CanCall, KeepsFunctions, KeepsMeanings, AreAnswered, IsFunctionImported, MeansAt}
 use Rattle.naga_oil_derive.specs.DerivedLaw.{IsDerivation}
-use Rattle.naga_oil_derive.specs.DerivedValue.{requests_answered, function_imported, function_called}
+use Rattle.naga_oil_derive.specs.DerivedValue.{importing_of, after_importing, requests_answered, function_imported, function_called}
+use Rattle.naga_oil_derive.specs.Answered.{ImportState}
+use Rattle.naga_oil_derive.specs.Putting.{Adding}
 use Rattle.naga_oil_derive.specs.Functions.{Copies}
 use Rattle.naga_oil_derive.specs.Renames.{Renames}
 use Rattle.naga_oil_derive.specs.Tree.{Kept}
@@ -61,3 +63,14 @@ abbrev pub FunctionLaw : Type 0
 FunctionLaw = (first : Kept) (d : Derived) (v : FunctionValue) (span : Span) →
     IsDerivation first d → HaveCopies d → HasCopies v → CanImport d v →
     ImportsFunction first d (function_imported d v span) v span
+
+-- items and functions were added, and all else stayed
+pub record AddsOnly (first : Kept) (d e : Derived) : Type 0 where
+  pub derivation : IsDerivation first e
+  pub keeps : KeepsFunctions d e
+
+-- LAW: so it is at any time while functions are imported, also where that is refused
+abbrev pub AddingLaw : Type 0
+AddingLaw = (first : Kept) (d : Derived) (s : Source) (i : ImportState) →
+    IsDerivation first d → d.source ≡ Some s → Adding s.value s.offset (importing_of d s) i →
+    AddsOnly first d (after_importing s i)

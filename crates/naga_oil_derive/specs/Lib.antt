@@ -14,7 +14,6 @@ pub mod Expressions
 pub mod Callees
 pub mod Went
 pub mod Functions
-pub mod Localized
 pub mod Naming
 pub mod Imported
 pub mod DerivedFunctions
@@ -28,5 +27,5 @@ pub mod CopiedEntry
 pub mod CopiedLaw
 pub mod Putting
 pub mod DerivedLaw
-pub mod AnsweredLaw
 pub mod CopiedFunctionLaw
+pub mod AnsweredLaw

@@ -27,8 +27,9 @@ pub data TypePutting (m : ModuleValue) (shift : ℕ) (name : Option Text) (k : �
   NoType : {s u : CopyState} → Putting m shift s u → TypePutting m shift name k s u
   TypeLast : {s t u : CopyState} → Putting m shift s t → CanPut m t (TypeItem k) → u ≡ put_type m shift name t k → TypePutting m shift name k s u
 
--- items are put, and copies of functions come last, one after another
+-- items are put, and copies of functions come last, one after another; where one found no room for its name, no name means it
 pub data Adding (m : ModuleValue) (shift : ℕ) : ImportState → ImportState → Type 0 where
   NothingAdded : {s : ImportState} → Adding m shift s s
   ItemsAdded : {s u : ImportState} {c : CopyState} → Putting m shift s.copying c → Adding m shift (record s { copying = c }) u → Adding m shift s u
   FunctionAdded : {s u : ImportState} (v : FunctionValue) (span : Span) → Adding m shift (with_function m shift s v span) u → Adding m shift s u
+  CopyAdded : {s u : ImportState} (v : FunctionValue) (span : Span) → Adding m shift (record (with_function m shift s v span) { names = s.names }) u → Adding m shift s u

@@ -1,15 +1,14 @@
 //! Functions that are copied with those that they call.
-ghost use Rattle.std.specs.Prelude.{◌≡◌, ◌∷◌, [], Some, IsSome, All, OnOk, IfOk};
+ghost use Rattle.std.specs.Prelude.{◌≡◌, Some, IsSome, OnOk, IfOk};
 ghost use Rattle.naga_oil_ir.specs.ModuleValue.{function_value};
 ghost use Rattle.naga_oil_derive.specs.Callees.{known_as, callee_at};
-ghost use Rattle.naga_oil_derive.specs.Copying.{AreRanked, IsCopying, Grows};
-ghost use Rattle.naga_oil_derive.specs.Functions.{Copies};
+ghost use Rattle.naga_oil_derive.specs.Copying.{AreRanked, IsCopying};
 ghost use Rattle.naga_oil_derive.specs.World.{value_of};
 ghost use Rattle.naga_oil_derive.specs.CopiedFunction.{copied_function};
 ghost use Rattle.naga_oil_derive.specs.DerivedFunctions.{requests_of};
 ghost use Rattle.naga_oil_derive.specs.Answered.{import_state, answered, called, imported as imported_value};
-ghost use Rattle.naga_oil_derive.specs.Imported.{state, IsAnswerable, IsImportable, Imported, FunctionImported, FunctionsGrow, IsAnswered};
-ghost use Rattle.naga_oil_derive.specs.Naming.{function_names};
+ghost use Rattle.naga_oil_derive.specs.Putting.{Adding};
+ghost use Rattle.naga_oil_derive.specs.Imported.{IsAnswerable, IsImportable};
 ghost use Rattle.naga_oil_derive.specs.Went.{went_by};
 
 use super::*;
@@ -65,11 +64,10 @@ pub fn import(
     requires copying { IsCopying source.now copying.old.target copying.old.maps }
     requires named { IsSome function.now.name }
     requires form { IsImportable source.now functions.old depth function.now }
-    ensures copying { IsCopying source.now copying.new.target copying.new.maps }
-    ensures grows { Grows copying.old.maps copying.new.maps copying.old.target copying.new.target }
-    ensures functions { FunctionsGrow functions.old functions.new }
-    ensures imported { IfOk result (FunctionImported source.now function.now span (state copying.old.maps copying.old.target functions.old) (state copying.new.maps copying.new.target functions.new)) }
+    ensures means { IfOk result (λ h. known_as functions.new.names function.now.name ≡ Some h) }
     ensures value { OnOk result (import_state copying.new.maps copying.new.target functions.new ≡ imported_value depth (value_of source.now) copying.old.maps.offset (import_state copying.old.maps copying.old.target functions.old) (function_value function.now) span) }
+    ensures adding { Adding (value_of source.now) copying.old.maps.offset (import_state copying.old.maps copying.old.target functions.old) (import_state copying.new.maps copying.new.target functions.new) }
+    ensures offset { copying.new.maps.offset ≡ copying.old.maps.offset }
 {
     let copy = localize(source, function, depth, copying, functions)?;
     let name = copied_name(&function.name)?;
@@ -92,14 +90,10 @@ pub fn localize(
     requires ranked { AreRanked source.now }
     requires copying { IsCopying source.now copying.old.target copying.old.maps }
     requires form { IsImportable source.now functions.old depth function.now }
-    ensures copying { IsCopying source.now copying.new.target copying.new.maps }
-    ensures grows { Grows copying.old.maps copying.new.maps copying.old.target copying.new.target }
-    ensures functions { FunctionsGrow functions.old functions.new }
-    ensures imported { OnOk result (Imported source.now (state copying.old.maps copying.old.target functions.old) (function_names function.now) (state copying.new.maps copying.new.target functions.new)) }
-    ensures answered { OnOk result (All (IsAnswered source.now (state copying.new.maps copying.new.target functions.new)) (function_names function.now)) }
-    ensures copies { IfOk result (λ f. Copies (went_by copying.new.maps source.now functions.new.names) (function_value function.now) (function_value f)) }
     ensures copied { IfOk result (λ f. function_value f ≡ copied_function (went_by copying.new.maps source.now functions.new.names) (function_value function.now)) }
     ensures value { OnOk result (import_state copying.new.maps copying.new.target functions.new ≡ answered depth (value_of source.now) copying.old.maps.offset (import_state copying.old.maps copying.old.target functions.old) (requests_of (function_value function.now))) }
+    ensures adding { Adding (value_of source.now) copying.old.maps.offset (import_state copying.old.maps copying.old.target functions.old) (import_state copying.new.maps copying.new.target functions.new) }
+    ensures offset { copying.new.maps.offset ≡ copying.old.maps.offset }
 {
     let walk = walk_function(function, copying.alloc)?;
     for request in &walk.requests {
@@ -127,12 +121,10 @@ pub fn import_callee(
     requires ranked { AreRanked source.now }
     requires copying { IsCopying source.now copying.old.target copying.old.maps }
     requires answerable { IsAnswerable source.now functions.old depth (Request.Call handle) }
-    ensures copying { IsCopying source.now copying.new.target copying.new.maps }
-    ensures grows { Grows copying.old.maps copying.new.maps copying.old.target copying.new.target }
-    ensures functions { FunctionsGrow functions.old functions.new }
-    ensures imported { OnOk result (Imported source.now (state copying.old.maps copying.old.target functions.old) (Request.Call handle ∷ []) (state copying.new.maps copying.new.target functions.new)) }
     ensures callee { IfOk result (λ h. callee_at functions.new.names source.now.functions handle ≡ Some h) }
     ensures value { OnOk result (import_state copying.new.maps copying.new.target functions.new ≡ called depth (value_of source.now) copying.old.maps.offset (import_state copying.old.maps copying.old.target functions.old) handle) }
+    ensures adding { Adding (value_of source.now) copying.old.maps.offset (import_state copying.old.maps copying.old.target functions.old) (import_state copying.new.maps copying.new.target functions.new) }
+    ensures offset { copying.new.maps.offset ≡ copying.old.maps.offset }
 {
     let Some(callee) = source.functions.try_get(handle) else {
         return Ok(handle);

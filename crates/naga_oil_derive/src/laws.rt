@@ -9,7 +9,7 @@ ghost use Rattle.naga_oil_derive.specs.CopiedLaw.{AreSpecial};
 ghost use Rattle.naga_oil_derive.specs.DerivedLaw.{IsDerivation, kept_by};
 ghost use Rattle.naga_oil_derive.specs.CopiedLaw.{CopyableLaw, KindLaw, PutLaw, TypePutLaw, CopiedLaw, AllCopiedLaw, AgainLaw, TypeCopiedLaw, TypeAgainLaw};
 ghost use Rattle.naga_oil_derive.specs.DerivedLaw.{NothingLaw, ClearedLaw, PlacedLaw, ImportLaw, RenameLaw, SetLaw};
-ghost use Rattle.naga_oil_derive.specs.AnsweredLaw.{AnswerLaw, CallLaw, FunctionLaw};
+ghost use Rattle.naga_oil_derive.specs.AnsweredLaw.{AnswerLaw, CallLaw, FunctionLaw, AddingLaw};
 
 use super::*;
 
@@ -82,4 +82,5 @@ pub fn derivations_with_functions()
     ensures answers { AnswerLaw }
     ensures call { CallLaw }
     ensures function { FunctionLaw }
+    ensures adding { AddingLaw }
 {}

@@ -1,15 +1,14 @@
 //! A function, copied with its expressions in the order of a walk.
-ghost use Rattle.std.specs.Prelude.{◌≡◌, ◌<◌, ◌-◌, length, OnOk, IfOk, slice_get, [], map, option_map, string_bytes};
+ghost use Rattle.std.specs.Prelude.{◌≡◌, ◌<◌, length, OnOk, IfOk, slice_get, [], map, option_map, string_bytes};
 ghost use Rattle.std.specs.Option.{option_flatten};
 ghost use Rattle.naga_oil_ir.specs.Parts.{parts};
 ghost use Rattle.naga_oil_ir.specs.ModuleValue.{expression_values, argument_value, local_value, function_value};
 ghost use Rattle.naga_oil_derive.specs.Walks.{Walks};
 ghost use Rattle.naga_oil_derive.specs.Went.{went};
-ghost use Rattle.naga_oil_derive.specs.Copies.{under_table, range_under, FitIn, IsPut, IsStep};
+ghost use Rattle.naga_oil_derive.specs.Copies.{under_table, range_under, FitIn};
 ghost use Rattle.naga_oil_derive.specs.CopiedFunction.{copy_place as place_of_copy, with_copy, expression_state, copied_expression, copied_expressions, copied_function};
-ghost use Rattle.naga_oil_derive.specs.Localized.{ExpressionsCopied};
 ghost use Rattle.naga_oil_derive.specs.Expressions.{IsCopyAt};
-ghost use Rattle.naga_oil_derive.specs.Functions.{argument_under, result_under, local_under, names_under, name_put, named_values, local_values, Copies as IsCopied};
+ghost use Rattle.naga_oil_derive.specs.Functions.{argument_under, result_under, local_under, names_under, name_put, named_values, local_values};
 
 use super::import::Went;
 use super::*;
@@ -60,7 +59,6 @@ impl Renaming for Copied<'_> {
 
 /// Puts a copy last; where copies are unique, one that reads alike serves again.
 fn put(target: &mut Arena<Expression>, copy: Entry, unique: bool) -> Tried<Operand>
-    ensures is_put { IfOk result (λ h. IsPut unique (expression_values target.old) (parts copy.0, copy.1) h (expression_values target.new)) }
     ensures place { IfOk result (λ h. h ≡ place_of_copy unique (expression_values target.old) (parts copy.0)) }
     ensures values { OnOk result (expression_values target.new ≡ with_copy unique (expression_values target.old) (parts copy.0) copy.1) }
 {
@@ -94,7 +92,6 @@ impl Copies {
         requires place { place < length source.now }
         requires room { length self.old.table.items ≡ length source.now }
         ensures room { length self.new.table.items ≡ length self.old.table.items }
-        ensures step { OnOk result (IsStep (went names.entry) (expression_values source.now) unique place self.old.table.items (expression_values self.old.target) self.new.table.items (expression_values self.new.target)) }
         ensures copied { OnOk result (expression_state self.new.table.items self.new.target ≡ copied_expression (went names.entry) unique (expression_state self.old.table.items self.old.target) place (slice_get (expression_values source.now) place)) }
     {
         let copy = self.copy_at(names, source, place)?;
@@ -108,7 +105,6 @@ impl Copies {
 /// share a copy.
 pub fn copy_expressions(names: Went<'_>, function: &Function, walk: &Walk) -> Tried<Copies>
     requires { Walks function.now walk.now }
-    ensures relation { IfOk result (λ c. ExpressionsCopied (went names.entry) function.now walk.now c.table.items c.target (length c.target - (length walk.now.places.items - walk.now.began))) }
     ensures copied { IfOk result (λ c. expression_state c.table.items c.target ≡ copied_expressions (went names.entry) (expression_values function.now.expressions) walk.now.places.items walk.now.began) }
 {
     let source = function.expressions.as_slice();
@@ -178,7 +174,6 @@ impl Copied<'_> {
 /// The copy of a function whose items and callees were copied.
 pub fn localized(names: Went<'_>, function: &Function, walk: &Walk) -> Tried<Function>
     requires { Walks function.now walk.now }
-    ensures relation { IfOk result (λ f. IsCopied (went names.entry) (function_value function.now) (function_value f)) }
     ensures copied { IfOk result (λ f. function_value f ≡ copied_function (went names.entry) (function_value function.now)) }
 {
     let Copies { target, table } = copy_expressions(names, function, walk)?;

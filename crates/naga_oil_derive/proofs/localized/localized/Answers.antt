@@ -1,46 +1,14 @@
-use Rattle.std.proofs.Common.{arith, ◌≡◌, ◌-◌, length, ℕ, List, [], map, ap, sym, ◌∙◌, subst, refl}
-use Rattle.naga_oil_ir.specs.Body.{block_tokens}
-use Rattle.naga_oil_ir.specs.ModuleValue.{argument_value, function_value}
+use Rattle.std.proofs.Common.{arith, ◌≡◌, ◌-◌, List, map, ap, ◌∙◌}
+use Rattle.naga_oil_ir.specs.ModuleValue.{argument_value}
 use Rattle.naga_oil_ir.specs.declared.module.FunctionArgument.{FunctionArgument}
 use Rattle.naga_oil_ir.specs.declared.types.LocalVariable.{LocalVariable}
 use Rattle.naga_oil_ir.specs.declared.span.Span.{Span}
 use Rattle.naga_oil_derive.specs.Went.{went}
-use Rattle.naga_oil_derive.specs.Walk.{Notes}
 use Rattle.naga_oil_derive.specs.Copies.{Table, under_table, range_under}
-use Rattle.naga_oil_derive.specs.Functions.{argument_under, local_under, local_values, names_under, named_values, AreCovered, begun}
-use Rattle.naga_oil_derive.specs.Localized.{ExpressionsCopied}
-use Rattle.naga_oil_derive.proofs.LocalSteps.{local_copies, local_emits}
-use Rattle.naga_oil_ir.specs.ModuleValue.{expression_values}
-use Rattle.naga_oil_derive.specs.CopiedFunction.{expression_state, copied_expressions}
+use Rattle.naga_oil_derive.specs.Functions.{argument_under, local_under, local_values}
+use Rattle.naga_oil_derive.specs.CopiedFunction.{expression_state}
 use Rattle.naga_oil_derive.proofs.FunctionCopies.{function_same}
 use Rattle.naga_oil_derive.proofs.localized.localized.Goals as goal
-
-pub returns-clause-relation : goal.returns-clause-relation
-returns-clause-relation c =
-    let f = c.args.function.now in
-    let w = c.args.walk.now in
-    let r = went c.args.names in
-    let t = c.deref.result.now in
-    let es = c.deref-2.result.now in
-    let target = c.in_ok-target.field-0.target in
-    let m = c.len.result - (c.len-2.result - w.began) in
-    let same : length target - (length w.places.items - w.began) ≡ m = omega (arith, c.len.ensures, c.len-2.ensures, w.places.ok.0) in
-    let at : t ≡ c.in_ok-target.field-0.table.items = c.deref.ensures.value in
-    let copied : ExpressionsCopied r f w t target m = subst (λ k. ExpressionsCopied r f w t target k) same (subst (λ (u : Table). ExpressionsCopied r f w u target (length target - (length w.places.items - w.began))) (sym at) c.in_ok-target.ensures.relation) in
-    let range = range_under es w.began m c.len-3.result in
-    record {
-      table = t;
-      range = range;
-      name = c.in_ok-copied_name.ensures;
-      arguments = c.in_ok-arguments.ensures ∙ ap (λ (xs : List FunctionArgument). map (argument_under r) (map argument_value xs)) c.deref-3.ensures.value;
-      outcome = c.renamed_result.ensures;
-      expressions = local_copies r f w t target m c.requires copied;
-      locals = c.in_ok-locals.ensures ∙ ap (λ (ls : List (LocalVariable × Span)). map (local_under (under_table r t range)) (local_values ls)) c.as_slice.ensures;
-      named_expressions = c.in_ok-named.ensures;
-      body = c.in_ok-renamed_block.ensures;
-      emits = subst (λ (ns : Notes). AreCovered t (range_under ns w.began m c.len-3.result) (begun (function_value f)) (block_tokens f.body)) (sym c.deref-2.ensures.value) (local_emits r f w t target m c.len-3.result c.requires copied);
-      leaf = refl;
-    }
 
 pub returns-clause-copied : goal.returns-clause-copied
 returns-clause-copied c =

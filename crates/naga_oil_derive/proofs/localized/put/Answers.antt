@@ -1,14 +1,5 @@
-use Rattle.std.proofs.Common.{sym, subst, Ok, Err, refl}
-use Rattle.naga_oil_ir.specs.Parts.{parts}
-use Rattle.naga_oil_ir.specs.ModuleValue.{expression_values}
-use Rattle.naga_oil_derive.specs.Copies.{IsPut}
-use Rattle.naga_oil_derive.proofs.CopyPut.{put_fetched}
 use Rattle.naga_oil_derive.proofs.FunctionCopies.{placed_unique, placed_last, values_unique, values_last}
 use Rattle.naga_oil_derive.proofs.localized.put.Goals as goal
-
-pub returns-then-unique-clause-is_put : goal.returns-then-unique-clause-is_put
-returns-then-unique-clause-is_put c =
-    put_fetched c.args.target.now c.fetch_or_append.new.self c.args.copy.0 c.args.copy.1 c.args.unique c.fetch_or_append.result c.if-unique.true c.fetch_or_append.ensures.place c.fetch_or_append.ensures.items
 
 pub returns-then-unique-clause-place : goal.returns-then-unique-clause-place
 returns-then-unique-clause-place c = placed_unique c.args.unique c.args.target.now c.args.copy.0 c.fetch_or_append.result c.if-unique.true c.fetch_or_append.ensures.place
