@@ -1,11 +1,9 @@
 // What holds of every copy.
 ghost use Rattle.naga_oil_derive.specs.World.{value_of};
 ghost use Rattle.naga_oil_derive.specs.Copyable.{CopyableItems};
-ghost use Rattle.naga_oil_derive.specs.CopiedLaw.{AreSpecial};
-ghost use Rattle.naga_oil_derive.specs.DerivedLaw.{IsDerivation, kept_by};
-ghost use Rattle.naga_oil_derive.specs.CopiedLaw.{CopyableLaw, KindLaw, PutLaw, TypePutLaw, CopiedLaw, AllCopiedLaw, AgainLaw, TypeCopiedLaw, TypeAgainLaw};
-ghost use Rattle.naga_oil_derive.specs.DerivedLaw.{NothingLaw, ClearedLaw, PlacedLaw, ImportLaw, RenameLaw, SetLaw};
-ghost use Rattle.naga_oil_derive.specs.AnsweredLaw.{AnswerLaw, CallLaw, FunctionLaw};
+ghost use Rattle.naga_oil_derive.specs.CopiedLaw.{AreSpecial, KindLaw, CopyableLaw, PutLaw, TypePutLaw, CopiedLaw, AllCopiedLaw, AgainLaw, TypeCopiedLaw, TypeAgainLaw};
+ghost use Rattle.naga_oil_derive.specs.DerivedLaw.{IsDerivation, kept_by, NothingLaw, ClearedLaw, PlacedLaw, ImportLaw, RenameLaw, SetLaw};
+ghost use Rattle.naga_oil_derive.specs.AnsweredLaw.{AnswerLaw, CallLaw, FunctionLaw, LocalizedLaw};
 
 use super::*;
 
@@ -78,4 +76,5 @@ pub fn derivations_with_functions()
     ensures answers { AnswerLaw }
     ensures call { CallLaw }
     ensures function { FunctionLaw }
+    ensures localized { LocalizedLaw }
 {}

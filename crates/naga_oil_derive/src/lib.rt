@@ -3,7 +3,7 @@
 //! `renaming` says where handles go, and makes expressions and bodies anew with their handles renamed; `renamed_items` does the
 //! same with items. `same` asks whether items read alike. `copy` copies an item with what it
 //! names, once for each source item, under the `maps` of what was copied; `special` finds the special types. `derive` is the
-//! module that is made. `walk` lists what a function reaches in the order of copying, found by `function_walk`; `localized` copies
+//! module that is made, and `laws` says what holds of each. `walk` lists what a function reaches in the order of copying, found by `function_walk`; `localized` copies
 //! a function with its expressions, `import` with those that it calls. `redirect` sends calls to other functions, where
 //! they stand by `sent_calls`, and puts functions in an `order` in which each stands behind what it calls, by their levels.
 #![tactic(auto)]
