@@ -105,7 +105,7 @@ impl Copies {
 /// share a copy.
 pub fn copy_expressions(names: Went<'_>, function: &Function, walk: &Walk) -> Tried<Copies>
     requires { Walks function.now walk.now }
-    ensures copied { IfOk result (λ c. expression_state c.table.items c.target ≡ copied_expressions (went names.entry) (expression_values function.now.expressions) walk.now.places.items walk.now.began) }
+    ensures { IfOk result (λ c. expression_state c.table.items c.target ≡ copied_expressions (went names.entry) (expression_values function.now.expressions) walk.now.places.items walk.now.began) }
 {
     let source = function.expressions.as_slice();
     let mut copies = Copies {
@@ -174,7 +174,7 @@ impl Copied<'_> {
 /// The copy of a function whose items and callees were copied.
 pub fn localized(names: Went<'_>, function: &Function, walk: &Walk) -> Tried<Function>
     requires { Walks function.now walk.now }
-    ensures copied { IfOk result (λ f. function_value f ≡ copied_function (went names.entry) (function_value function.now)) }
+    ensures { IfOk result (λ f. function_value f ≡ copied_function (went names.entry) (function_value function.now)) }
 {
     let Copies { target, table } = copy_expressions(names, function, walk)?;
     let copied = Copied {

@@ -25,5 +25,5 @@ loop-at-preserved c =
       state = upto_step (went c.args.names) (expression_values c.as_slice-source.result.now) o c.args.walk.now.began at k (expression_state c.loop-at.copies.table.items c.loop-at.copies.target) (expression_state c.copy_place.new.self.table.items c.copy_place.new.self.target) is i.state c.in_ok-copy_place.ensures.copied;
     }
 
-pub returns-clause-copied : goal.returns-clause-copied
-returns-clause-copied c = upto_all (went c.args.names) c.as_slice-source.result.now c.args.function.now.expressions c.args.walk.now.places.items c.args.walk.now.began c.loop-at.at (expression_state c.loop-at.copies.table.items c.loop-at.copies.target) c.as_slice-source.ensures (omega (arith, c.loop-at-test.false, c.loop-at.auto.at-end, c.len-at-end.ensures, c.args.walk.now.places.ok.0)) c.loop-at.invariant.state
+pub returns : goal.returns
+returns c = upto_all (went c.args.names) c.as_slice-source.result.now c.args.function.now.expressions c.args.walk.now.places.items c.args.walk.now.began c.loop-at.at (expression_state c.loop-at.copies.table.items c.loop-at.copies.target) c.as_slice-source.ensures (omega (arith, c.loop-at-test.false, c.loop-at.auto.at-end, c.len-at-end.ensures, c.args.walk.now.places.ok.0)) c.loop-at.invariant.state
