@@ -17,7 +17,7 @@ use Rattle.naga_oil_derive.specs.Walks.{IsWalkOf}
 use Rattle.naga_oil_derive.specs.Copied.{place_in, with_item_in}
 use Rattle.naga_oil_derive.specs.Copies.{Values, Table, place_under, copied, range_under, value_links, AreCopies, LacksBefore, IsPut, IsStep, Placed}
 use Rattle.naga_oil_derive.specs.CopiedFunction.{ExpressionState, copy_place, with_copy, copied_expression, expressions_upto, copied_expressions, notes_in, copied_function}
-use Rattle.naga_oil_derive.specs.CopiedFunctionLaw.{StandAlone, MayBeCopied, CopyLaw, AloneLaw}
+use Rattle.naga_oil_derive.specs.CopiedFunctionLaw.{StandAlone, MayBeCopied, CopyLaw, TableLaw, AloneLaw}
 use Rattle.naga_oil_derive.specs.DerivedFunctions.{kinds_in, initialisers_in}
 use Rattle.naga_oil_derive.specs.Equal.{parts_eq}
 use Rattle.naga_oil_derive.specs.Functions.{AreCovered, Copies, begun, order_of}
@@ -130,6 +130,10 @@ copies r v may =
       emits = covered s.table (notes_in v) (begun v) (order_of v) c.began (length (begun v)) m (length s.values) v.body c.long c.follow w.notes w.noted;
       leaf = refl;
     }
+
+pub table : TableLaw
+unfolding copies
+table r v may = (copies r v may, refl)
 
 -- ---- what is asked of a function
 

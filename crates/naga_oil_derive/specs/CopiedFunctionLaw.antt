@@ -31,19 +31,25 @@ pub record MayBeCopied (v : FunctionValue) : Type 0 where
       (initialisers_in v) v.body
   pub alone : StandAlone v.expressions
 
+-- where the copy of each expression stands
+abbrev pub table_of : Renames → FunctionValue → Table
+table_of r v = (copied_expressions r v.expressions (order_of v) (length (begun v))).table
+
 -- what copying a function gives is a copy of it
 abbrev pub CopyLaw : Type 0
 CopyLaw = (r : Renames) (v : FunctionValue) → MayBeCopied v → Copies r v (copied_function r v)
+
+-- and its expressions stand where the table of copying tells
+abbrev pub TableLaw : Type 0
+TableLaw =
+    (r : Renames) (v : FunctionValue) → MayBeCopied v →
+    (c : Copies r v (copied_function r v)) × (c.table ≡ table_of r v)
 
 -- in each function external expressions and results have no operands
 abbrev pub AloneLaw : Type 0
 AloneLaw = (f : Function) → StandAlone (expression_values f.expressions)
 
 -- ---- which expressions are copied
-
--- where the copy of each expression stands
-abbrev pub table_of : Renames → FunctionValue → Table
-table_of r v = (copied_expressions r v.expressions (order_of v) (length (begun v))).table
 
 -- what a part of a body uses, gives or emits
 abbrev pub spoken : Token → List ℕ
@@ -102,7 +108,7 @@ copies_of r v xs = length (added [] (map (place_under (table_of r v)) xs))
 abbrev pub range_from : FunctionValue → ℕ × ℕ → ℕ → ℕ × ℕ
 range_from v p n = (n, n + length (others (begun v) (places p)))
 
--- of the ranges that begin where q does that at j counts: it has places, or none has, and it is the first
+-- of the ranges that begin where q does that at j counts: it has places, or is the first of none
 abbrev pub Counts : FunctionValue → ℕ → ℕ × ℕ → Type 0
 Counts v j q =
     (q.0 < q.1) ⊎
@@ -140,7 +146,8 @@ pub record RangesStand (r : Renames) (v w : FunctionValue) : Type 0 where
 
 -- where emitted ranges go
 abbrev pub RangeLaw : Type 0
-RangeLaw = (r : Renames) (v : FunctionValue) → MayBeCopied v → RangesStand r v (copied_function r v)
+RangeLaw =
+    (r : Renames) (v : FunctionValue) → MayBeCopied v → RangesStand r v (copied_function r v)
 
 -- ---- names
 

@@ -1,9 +1,10 @@
 //! What holds of the copy of each function.
-ghost use Rattle.naga_oil_derive.specs.CopiedFunctionLaw.{CopyLaw, AloneLaw, ReachedLaw, RangeLaw, NameLaw};
+ghost use Rattle.naga_oil_derive.specs.CopiedFunctionLaw.{CopyLaw, TableLaw, AloneLaw, ReachedLaw, RangeLaw, NameLaw};
 
 /// What copying a function gives is a copy of it, for a function that passes the test of form, but for where its calls go.
 pub fn a_copy_of_its_source()
     ensures copies { CopyLaw }
+    ensures table { TableLaw }
     ensures alone { AloneLaw }
 {}
 
