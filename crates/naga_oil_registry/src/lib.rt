@@ -11,8 +11,8 @@
 #![tactic(auto)]
 
 pub mod adding;
-mod definition;
-mod descriptor;
+pub mod definition;
+pub mod descriptor;
 pub mod keywords;
 mod marked;
 pub mod merge;
