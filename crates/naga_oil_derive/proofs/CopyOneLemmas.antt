@@ -80,8 +80,6 @@ pub not_found : {X : Type 0} (o : Option (Bor X)) (v : Option X) → option_copi
 not_found None v e n x h = let q : None ≡ Some x = e ∙ h in cc
 not_found (Some y) v e n x h = n y refl
 
--- ---- what is put into maps
-
 -- ---- types
 
 pub type_absent : (source : Module) (k : ℕ) → ((x : TypeOfShader) → option_map (λ e. e.0) (slice_get source.types k) ≡ Some x → ⊥) → IsThere source (TypeItem k) → ⊥

@@ -4,13 +4,14 @@ use Rattle.std.specs.Borrow.{Bor}
 use Rattle.naga_oil_ir.specs.Rows.{Text}
 use Rattle.naga_oil_ir.specs.ModuleValue.{ModuleValue, special_value}
 use Rattle.naga_oil_ir.specs.declared.module.Module.{Module}
+use Rattle.naga_oil_ir.specs.declared.module.SpecialTypes.{SpecialTypes}
 use Rattle.naga_oil_ir.specs.declared.names.ItemPlace.{ItemPlace}
 use Rattle.naga_oil_ir.specs.declared.names.ItemPlace.TheVariants.{TypeItem}
 use Rattle.naga_oil_derive.specs.declared.maps.Maps.{Maps}
 use Rattle.naga_oil_derive.specs.Tree.{Kept}
-use Rattle.naga_oil_derive.specs.World.{goes, value_of, world, special_at, special_entries, HaveDistinctKeys}
+use Rattle.naga_oil_derive.specs.World.{value_of, world, Extends, kept_of, special_at, special_entries, HaveDistinctKeys, with_specials}
 use Rattle.naga_oil_derive.specs.Copyable.{CopyableItems}
-use Rattle.naga_oil_derive.specs.Copying.{AreRanked, IsCopying, Grows, WentSomewhere, places_of, goes_under, handle_under, kept_between, kept_over, special_names}
+use Rattle.naga_oil_derive.specs.Copying.{IsSound, AreRanked, IsCopying, Grows, WentSomewhere, places_of, goes_under, handle_under, kept_between, kept_over, special_names}
 use Rattle.naga_oil_derive.specs.Copied.{copy_state, all_copied}
 use Rattle.naga_oil_derive.specs.CopiedLaw.{HasAt, IsMidway}
 use Rattle.naga_oil_derive.specs.Putting.{Putting}
@@ -19,10 +20,10 @@ use Rattle.naga_oil_derive.specs.DerivedView.{source_of, derived_of, IsSpecialTh
 use Rattle.naga_oil_derive.specs.DerivedValue.{no_places, item_imported, type_renamed, source_set}
 use Rattle.naga_oil_derive.specs.DerivedLaw.{IsSourceOf, AreThere, IsDerivation, RenamesOnly, type_place, SetsOnly}
 use Rattle.naga_oil_derive.proofs.SpecialLemmas.{Entry}
-use Rattle.naga_oil_derive.proofs.DeriveCalls.{Shader, FunctionNames}
+use Rattle.naga_oil_derive.proofs.DeriveCalls.{Shader, FunctionNames, special_later, left_source, derived_none}
 use Rattle.naga_oil_derive.proofs.KindLaws.{value_kinds, ranked_copyable, value_copyable, value_special}
 use Rattle.naga_oil_derive.proofs.DerivedLaws.{midway_now, import_law, rename_law}
-use Rattle.naga_oil_derive.proofs.SetLaws.{as_names, midway_first, start, set_law}
+use Rattle.naga_oil_derive.proofs.SetLaws.{as_names, from_names, midway_first, start, having, world_having, there_set, keeps_part, set_law}
 use Rattle.naga_oil_derive.proofs.SourceValues.{copying_starts}
 use Rattle.naga_oil_derive.proofs.PuttingLemmas.{midway_of, copying_of, putting_copying, putting_grows, names_went}
 
@@ -87,25 +88,23 @@ sets_over m shift d e None w = tt
 sets_over m shift d e (Some s) w = record { value = w.value; offset = w.offset; stands = w.stands; reads = w.reads; special = w.special; collects = w.collects }
 
 -- the source that is set, as callers see it
-pub record HasSet (m : ModuleValue) (shift : ℕ) (first : Kept) (d e : Derived) : Type 0 where
-  pub derivation : IsDerivation first e
+pub record HasSet (m : ModuleValue) (shift : ℕ) (d e : Derived) : Type 0 where
+  pub derivation : IsDerivation (kept_of m.special_types d.target.special_types) e
   pub set : IsSet m shift d e
   pub keeps : KeepsItems d e
 
-pub sets_law : (o : Shader) (k : Maps) (t : Module) (ns : FunctionNames) (d e : Derived) (m : Module) (es : List Entry) (shift : ℕ) → derived_of o k t ns ≡ cleared d → IsDerived o k t → CopyableItems m → HaveDistinctKeys es → es ≡ special_entries (special_value m.special_types) → e ≡ source_set d (value_of m) shift → (first : Kept) × HasSet (value_of m) shift first d e
+pub sets_law : (o : Shader) (k : Maps) (t : Module) (ns : FunctionNames) (d e : Derived) (m : Module) (es : List Entry) (shift : ℕ) → derived_of o k t ns ≡ cleared d → IsDerived o k t → CopyableItems m → HaveDistinctKeys es → es ≡ special_entries (special_value m.special_types) → e ≡ source_set d (value_of m) shift → HasSet (value_of m) shift d e
 sets_law o k t ns d e m es shift v i c distinct entries is =
     let law = set_law (kept_for o t) (cleared d) (value_of m) shift (derivation_seen o k t ns (cleared d) v i) (value_copyable m c) (value_special m c (distinct_in m (subst HaveDistinctKeys entries distinct))) in
-    let made = source_set d (value_of m) shift in (
-      _,
-      subst (λ y. HasSet (value_of m) shift _ d y) (sym is) (record {
-        derivation = law.derivation;
-        set = (refl, sets_over (value_of m) shift d made made.source law.set.1);
-        keeps = record { items = law.keeps.items; special = law.keeps.special; names = law.keeps.names };
-      }),
-    )
+    let made = source_set d (value_of m) shift in
+    subst (HasSet (value_of m) shift d) (sym is) (record {
+      derivation = law.derivation;
+      set = (refl, sets_over (value_of m) shift d made made.source law.set.1);
+      keeps = record { items = law.keeps.items; special = law.keeps.special; names = law.keeps.names };
+    })
 
-pub derived_set : (s : Bor Module) (n : Maps) (u : Module) (ns : FunctionNames) (m : ModuleValue) (shift : ℕ) (d : Derived) → AreRanked s.now → (first : Kept) × HasSet m shift first d (derived_of (Some s) n u ns) → IsDerived (Some s) n u
-derived_set s n u ns m shift d a w = derived_by w.0 s n u ns a w.1.derivation
+pub derived_set : (s : Bor Module) (n : Maps) (u : Module) (ns : FunctionNames) (m : ModuleValue) (shift : ℕ) (d : Derived) → AreRanked s.now → HasSet m shift d (derived_of (Some s) n u ns) → IsDerived (Some s) n u
+derived_set s n u ns m shift d a w = derived_by _ s n u ns a w.derivation
 
 -- ---- while its special types are copied
 
@@ -123,5 +122,35 @@ all_there : (s : Module) (es : List Entry) → CopyableItems s → HaveDistinctK
 unfolding value_of
 all_there s es c distinct entries = subst (λ (xs : List Entry). All (λ o. IfSome o (HasAt (value_of s))) (special_names xs)) (sym entries) (as_names (HasAt (value_of s)) (special_entries (special_value s.special_types)) (value_special s c (subst HaveDistinctKeys entries distinct)).there)
 
-pub special_went : (s t u : Module) (m n : Maps) (es : List Entry) → CopyableItems s → AreRanked s → HaveDistinctKeys es → es ≡ special_entries (special_value s.special_types) → IsCopying s t m → copy_state n u ≡ all_copied (value_of s) m.offset (copy_state m t) (special_names es) → All (WentSomewhere (goes_under n)) (special_names es)
-special_went s t u m n es c a distinct entries i is = names_went s t u m n (special_names es) a i (all_there s es c distinct entries) is
+pub special_went : (s t u : Module) (m n : Maps) (es : List Entry) → CopyableItems s → AreRanked s → HaveDistinctKeys es → es ≡ special_entries (special_value s.special_types) → IsCopying s t m → copy_state n u ≡ all_copied (value_of s) m.offset (copy_state m t) (special_names es) → All (λ (e : Entry). WentSomewhere (goes_under n) (Some (TypeItem e.1))) es
+special_went s t u m n es c a distinct entries i is =
+    from_names (λ p. (q : ItemPlace) × (goes_under n p ≡ Some q)) es (names_went s t u m n (special_names es) a i (all_there s es c distinct entries) is)
+
+-- with some of the special types of a source set, and the source not
+there_part : (s : Module) (n : Maps) (u : Module) (x : SpecialTypes) (xs : List Entry) → IsCopying s u n → IsSpecialThere u → All (λ (e : Entry). WentSomewhere (goes_under n) (Some (TypeItem e.1))) xs → special_value x ≡ with_specials (special_value u.special_types) (handle_under n.types.items) xs → IsSpecialThere (record u { special_types = x })
+unfolding goes_under value_of
+there_part s n u x xs i special went is =
+    special_unseen (record u { special_types = x }) (subst (λ y. AreThere (having (value_of u) y)) (sym is) (there_set (value_of s) (kept_between s u) (copy_state n u) xs (midway_of s u n i) went (special_seen u special)))
+
+sound_part : (u : Module) (x : SpecialTypes) → IsSound (world (value_of u)) → IsSound (world (value_of (record u { special_types = x })))
+unfolding value_of
+sound_part u x i = subst IsSound (sym (world_having (value_of u) (special_value x))) i
+
+keeps_refused : (o : Shader) (k n : Maps) (t u : Module) (x : SpecialTypes) (f : ℕ → ℕ) (xs : List Entry) (ns : FunctionNames) (d : Derived) → derived_of o k t ns ≡ cleared d → Extends (value_of t) (value_of u) → special_value x ≡ with_specials (special_value u.special_types) f xs → KeepsItems d (derived_of o n (record u { special_types = x }) ns)
+unfolding value_of
+keeps_refused o k n t u x f xs ns d seen ext is =
+    keeps_part d (derived_of o n (record u { special_types = x }) ns) (value_of u) f xs (subst (λ v. Extends v (value_of u)) (ap (λ (y : Derived). y.target) seen) ext) (ap (having (value_of u)) is) (ap (λ (y : Derived). y.function_names) seen)
+
+-- where memory ran out while the special types were copied or set
+pub record IsRefused (o : Shader) (n : Maps) (u : Module) (ns : FunctionNames) (d : Derived) : Type 0 where
+  pub derived : IsDerived o n u
+  pub keeps : KeepsItems d (derived_of o n u ns)
+
+pub refused : (s : Module) (o : Shader) (k m n : Maps) (t u : Module) (x : SpecialTypes) (xs : List Entry) (ns : FunctionNames) (d : Derived) → IsDerived o k t → derived_of o k t ns ≡ cleared d → IsCopying s t m → n.offset ≡ m.offset → Putting (value_of s) m.offset (copy_state m t) (copy_state n u) → All (λ (e : Entry). WentSomewhere (goes_under n) (Some (TypeItem e.1))) xs → special_value x ≡ with_specials (special_value u.special_types) (handle_under n.types.items) xs → IsRefused o n (record u { special_types = x }) ns d
+refused s o k m n t u x xs ns d i seen begun offset p went is =
+    let g = putting_grows s t u m n begun offset p in
+    let copying = putting_copying s t u m n begun p in
+    record {
+      derived = derived_none o n (record u { special_types = x }) (left_source o k (ap (λ (y : Derived). y.source) seen)) (sound_part u x copying.sound) (there_part s n u x xs copying (special_later t u g.extends g.special i.special) went is);
+      keeps = keeps_refused o k n t u x (handle_under n.types.items) xs ns d seen g.extends is;
+    }

@@ -1,27 +1,24 @@
 -- What the calls of a derived module show their callers.
-use Rattle.std.proofs.Common.{◌≡◌, ◌<◌, ℕ, List, [], length, map, Option, Some, None, option_map, refl, ap, sym, ◌∙◌, subst, All, IfSome, Global, String, string_bytes, take}
+use Rattle.std.proofs.Common.{◌≡◌, ◌<◌, ℕ, List, [], length, map, Option, Some, None, option_map, refl, ap, sym, ◌∙◌, subst, All, IfSome, Global, String, string_bytes}
 use Rattle.std.specs.Borrow.{Bor}
-use Rattle.std.proofs.lemmas.List.{take-map}
-use Rattle.std.proofs.lemmas.List.Elements.{All-take, All-weaker}
+use Rattle.std.proofs.lemmas.List.Elements.{All-weaker}
 use Rattle.naga_oil_ir.specs.ItemForm.{IsThere as IsPlaceThere, special_types}
-use Rattle.naga_oil_ir.specs.ModuleValue.{ModuleValue, SpecialValue, special_value, no_items}
+use Rattle.naga_oil_ir.specs.ModuleValue.{SpecialValue, special_value, no_items}
 use Rattle.naga_oil_ir.specs.declared.module.Module.{Module}
-use Rattle.naga_oil_ir.specs.declared.module.SpecialTypes.{SpecialTypes}
 use Rattle.naga_oil_ir.specs.declared.names.ItemPlace.{ItemPlace}
 use Rattle.naga_oil_ir.specs.declared.names.ItemPlace.TheVariants.{TypeItem}
 use Rattle.naga_oil_derive.specs.declared.maps.Maps.{Maps}
-use Rattle.naga_oil_derive.specs.declared.special.SpecialKey.{SpecialKey}
 use Rattle.naga_oil_derive.specs.Renames.{rename_place}
-use Rattle.naga_oil_derive.specs.World.{goes, value_of, world, Extends, special_at, special_entries, with_specials}
-use Rattle.naga_oil_derive.specs.Copying.{IsSound, IsThere, AreRanked, AreLong, IsCopying, Grows, WentSomewhere, places_of, goes_under, handle_under, renames_under, source_world, kept_over, special_names}
+use Rattle.naga_oil_derive.specs.World.{goes, value_of, world, Extends, special_at, special_entries}
+use Rattle.naga_oil_derive.specs.Copying.{IsSound, IsThere, AreRanked, AreLong, IsCopying, Grows, places_of, goes_under, renames_under, source_world, kept_over}
 use Rattle.naga_oil_derive.specs.Copyable.{CopyableItems}
-use Rattle.naga_oil_derive.specs.Derived.{Source, Derived, nothing, cleared, as_read, HasItem, Imports, IsImported, KeepsSource, Keeps, ReadsAsBefore, with_special_types, KeepsItems}
+use Rattle.naga_oil_derive.specs.Derived.{Source, Derived, nothing, as_read, HasItem, Imports, IsImported, KeepsSource, Keeps, ReadsAsBefore}
 use Rattle.naga_oil_derive.specs.DerivedView.{source_of, derived_of, IsSpecialThere, IsDerived}
 use Rattle.naga_oil_derive.proofs.WorldLemmas.{Extends-stays}
 use Rattle.naga_oil_derive.proofs.CopyLemmas.{goes_renamed}
 use Rattle.naga_oil_derive.proofs.SpecialLemmas.{Entry}
 use Rattle.naga_oil_derive.proofs.RankLemmas.{place_there}
-use Rattle.naga_oil_derive.proofs.DeriveLemmas.{source_at, later_source, aside, special_stays, world_same, set_special_there, entries_there, special_of}
+use Rattle.naga_oil_derive.proofs.DeriveLemmas.{source_at, later_source, entries_there, special_of}
 
 abbrev pub Shader : Type 0
 Shader = Option (Bor Module)
@@ -93,8 +90,6 @@ imported_in (Some s) d e (Some b) m t ns p v k w =
 pub imported_at : (d e : Derived) (o : Shader) (m : Maps) (t : Module) (ns : FunctionNames) (p : ItemPlace) → derived_of o m t ns ≡ e → Keeps d e → (q : ItemPlace) × IsImported d e p q → IsImported d e p (rename_place (renames_under m) p)
 imported_at d e o m t ns p v k w = imported_in d.source d e o m t ns p v k.source w
 
--- ---- types under a name
-
 -- ---- a source that is set
 
 pub left_source : (o : Shader) (m : Maps) → option_map (source_of m) o ≡ None → o ≡ None
@@ -108,27 +103,6 @@ derived_none o m t e s h = record {
   special = h;
   source = subst (λ (x : Shader). IfSome x (λ b. IsCopying b.now t m × AreRanked b.now)) (sym e) tt;
 }
-
-keeps_special : (t u : Module) (x : SpecialTypes) (f : ℕ → ℕ) (xs : List Entry) (v : ModuleValue) → value_of t ≡ v → special_value u.special_types ≡ special_value t.special_types → special_value x ≡ with_specials (special_value u.special_types) f xs → (k : SpecialKey) (q : ℕ) → special_at v.special_types k ≡ Some q → special_at (value_of (record u { special_types = x })).special_types k ≡ Some q
-unfolding value_of
-keeps_special t u x f xs v tv same is k q h =
-    special_stays v.special_types u.special_types x f xs (same ∙ ap (λ (y : ModuleValue). y.special_types) tv) is k q h
-
--- while a source is set, items and special types only come
-pub keeps_set : (o w : Shader) (m n : Maps) (t u : Module) (x : SpecialTypes) (f : ℕ → ℕ) (xs : List Entry) (ns : FunctionNames) (d : Derived) → derived_of o m t ns ≡ cleared d → Extends (value_of t) (value_of u) → special_value u.special_types ≡ special_value t.special_types → special_value x ≡ with_specials (special_value u.special_types) f xs → KeepsItems d (derived_of w n (record u { special_types = x }) ns)
-keeps_set o w m n t u x f xs ns d v ext same is =
-    let tv : value_of t ≡ d.target = ap (λ (y : Derived). y.target) v in
-    record {
-      items = subst (λ (y : ModuleValue). Extends y (with_special_types (value_of (record u { special_types = x })) y)) tv (subst (Extends (value_of t)) (sym (aside t u x same)) ext);
-      special = keeps_special t u x f xs d.target tv same is;
-      names = ap (λ (y : Derived). y.function_names) v;
-    }
-
--- a beginning of the special types is set, and there is no source yet
-pub derived_part : (s t u : Module) (n : Maps) (o : Shader) (w : Maps) (x : SpecialTypes) (es : List Entry) (k : ℕ) → o ≡ None → IsCopying s u n → Extends (value_of t) (value_of u) → special_value u.special_types ≡ special_value t.special_types → IsSpecialThere t → All (WentSomewhere (goes_under n)) (special_names es) → special_value x ≡ with_specials (special_value u.special_types) (handle_under n.types.items) (take k es) → IsDerived o w (record u { special_types = x })
-derived_part s t u n o w x es k e i ext same special went is =
-    let part = subst (All (WentSomewhere (goes_under n))) (take-map (λ (y : Entry). Some (TypeItem y.1)) k es) (All-take (WentSomewhere (goes_under n)) k (special_names es) went) in
-    derived_none o w (record u { special_types = x }) e (subst IsSound (sym (world_same u x)) i.sound) (set_special_there u n x es (take k es) i.copied.there part (special_later t u ext same special) is)
 
 -- ---- what copying from a source may ask
 

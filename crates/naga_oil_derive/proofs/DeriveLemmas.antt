@@ -21,13 +21,13 @@ use Rattle.naga_oil_derive.specs.declared.special.SpecialKey.{SpecialKey}
 use Rattle.naga_oil_derive.specs.declared.special.SpecialKey.TheVariants.{RayDesc, RayIntersection, RayVertexReturn, Predeclared}
 use Rattle.naga_oil_derive.specs.Tree.{World, ReadsAs}
 use Rattle.naga_oil_derive.specs.World.{goes, value_of, world, named_world, under_name, name_at, special_entry, special_entries, special_at, or_option, kept_in, with_special, with_specials}
-use Rattle.naga_oil_derive.specs.Copying.{Goes, IsSound, IsThere, IsCopying, Grows, WentSomewhere, CollectsItem, places_of, goes_under, handle_under, source_world, kept_between, copied_span, special_names, trail_of}
-use Rattle.naga_oil_derive.specs.Derived.{Source, Derived, as_read, Imports, IsLaterSource, with_special_types}
+use Rattle.naga_oil_derive.specs.Copying.{Goes, IsSound, IsCopying, Grows, WentSomewhere, CollectsItem, places_of, goes_under, source_world, kept_between, copied_span, trail_of}
+use Rattle.naga_oil_derive.specs.Derived.{Source, Derived, as_read, Imports, IsLaterSource}
 use Rattle.naga_oil_derive.specs.DerivedView.{IsSpecialThere}
 use Rattle.naga_oil_derive.proofs.TreeLemmas.{reads, same_number}
 use Rattle.naga_oil_ir.proofs.LinkLemmas.{eqb_eq}
-use Rattle.naga_oil_derive.proofs.CopyLemmas.{kept_same, goes_renamed, HasCopy-went}
-use Rattle.naga_oil_derive.proofs.SpecialLemmas.{Entry, coded, entries_nested, more_case, special_set, special_others, specials_keep}
+use Rattle.naga_oil_derive.proofs.CopyLemmas.{kept_same, HasCopy-went}
+use Rattle.naga_oil_derive.proofs.SpecialLemmas.{Entry, coded, entries_nested, more_case, special_set, special_others}
 
 -- ---- the module of nothing
 
@@ -139,21 +139,6 @@ named_there w v m p r e = (under_name (name_at v (m p)) r, ap (option_map (under
 
 -- ---- special types that are set
 
-world_special : (t : Module) (x : SpecialTypes) (p : ItemPlace) → world (value_of (record t { special_types = x })) p ≡ world (value_of t) p
-unfolding world value_of
-world_special t x (TypeItem k) = refl
-world_special t x (ConstantItem k) = refl
-world_special t x (OverrideItem k) = refl
-world_special t x (GlobalItem k) = refl
-world_special t x (ExpressionItem k) = refl
-
-pub world_same : (t : Module) (x : SpecialTypes) → world (value_of (record t { special_types = x })) ≡ world (value_of t)
-world_same t x = λ i p. world_special t x p i
-
--- the entries went somewhere in the target
-went_handle : (t : Module) (m : Maps) (h : ℕ) → ((p q : ItemPlace) → goes_under m p ≡ Some q → (r : Row) × (world (value_of t) q ≡ Some r)) → WentSomewhere (goes_under m) (Some (TypeItem h)) → IsThere t (TypeItem (handle_under m.types.items h))
-went_handle t m h there w = there (TypeItem h) (TypeItem (handle_under m.types.items h)) (goes_renamed m (TypeItem h) w.0 w.1)
-
 same_place_of : (o : Option ℕ) (x q : ℕ) → o ≡ Some x → o ≡ Some q → x ≡ q
 same_place_of o x q e f = let g : Some x ≡ Some q = sym e ∙ f in cc
 
@@ -175,14 +160,6 @@ pub more_there : (P : ℕ → Type 0) (s : SpecialValue) (f : ℕ → ℕ) (es :
 more_there P s f [] a h k q e = h k q e
 more_there P s f (x ∷ es) a h k q e =
     more_there P (if is_some (special_at s x.0) then s else with_special s x.0 (f x.1)) f es (All-tail (λ v. P (f v.1)) x es a) (one_there P s f x (All-head (λ v. P (f v.1)) x es a) h) k q e
-
-all_there : (u : Module) (n : Maps) (xs : List Entry) → ((p q : ItemPlace) → goes_under n p ≡ Some q → (r : Row) × (world (value_of u) q ≡ Some r)) → All (WentSomewhere (goes_under n)) (special_names xs) → All (λ e. IsThere u (TypeItem (handle_under n.types.items e.1))) xs
-all_there u n [] there a = All-nil (λ (e : Entry). IsThere u (TypeItem (handle_under n.types.items e.1)))
-all_there u n (x ∷ xs) there a = All-cons (λ (e : Entry). IsThere u (TypeItem (handle_under n.types.items e.1))) x xs (went_handle u n x.1 there (All-head (WentSomewhere (goes_under n)) (Some (TypeItem x.1)) (special_names xs) a)) (all_there u n xs there (All-tail (WentSomewhere (goes_under n)) (Some (TypeItem x.1)) (special_names xs) a))
-
--- a beginning of the special types is set, each there
-pub set_special_there : (u : Module) (n : Maps) (x : SpecialTypes) (es xs : List Entry) → ((p q : ItemPlace) → goes_under n p ≡ Some q → (r : Row) × (world (value_of u) q ≡ Some r)) → All (WentSomewhere (goes_under n)) (special_names xs) → IsSpecialThere u → special_value x ≡ with_specials (special_value u.special_types) (handle_under n.types.items) xs → IsSpecialThere (record u { special_types = x })
-set_special_there u n x es xs there went special is = λ k q e. subst (λ w. (r : Row) × (w (TypeItem q) ≡ Some r)) (sym (world_same u x)) (more_there (λ h. IsThere u (TypeItem h)) (special_value u.special_types) (handle_under n.types.items) xs (all_there u n xs there went) special k q (sym (ap (λ s. special_at s k) is) ∙ e))
 
 -- ---- all keys are settled: what is kept then stands
 
@@ -217,11 +194,3 @@ import_one s t u m n ns p i g reads_same w c =
 pub later_source : (s t u : Module) (m n : Maps) → Grows m n t u → IsLaterSource (source_at s m) (source_at s n)
 unfolding goes_under
 later_source s t u m n g = record { value = refl; offset = g.offset; went = g.went }
-
--- the special types aside, the target is as it was before they were set
-pub aside : (t u : Module) (x : SpecialTypes) → special_value u.special_types ≡ special_value t.special_types → with_special_types (value_of (record u { special_types = x })) (value_of t) ≡ value_of u
-unfolding value_of
-aside t u x is = ap (λ (s : SpecialValue). record (value_of u) { special_types = s }) (sym is)
-
-pub special_stays : (t : SpecialValue) (u x : SpecialTypes) (f : ℕ → ℕ) (xs : List Entry) → special_value u ≡ t → special_value x ≡ with_specials (special_value u) f xs → (k : SpecialKey) (q : ℕ) → special_at t k ≡ Some q → special_at (special_value x) k ≡ Some q
-special_stays t u x f xs e is k q h = ap (λ v. special_at v k) is ∙ specials_keep (special_value u) f xs k q (ap (λ v. special_at v k) e ∙ h)

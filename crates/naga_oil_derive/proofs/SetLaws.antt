@@ -17,7 +17,7 @@ use Rattle.naga_oil_derive.specs.Collected.{Collects, depth, reached, names_trai
 use Rattle.naga_oil_derive.specs.Copying.{IsSound, AreCopied, WentSomewhere, handle_under, special_names}
 use Rattle.naga_oil_derive.specs.Copied.{CopyState}
 use Rattle.naga_oil_derive.specs.CopiedLaw.{HasAt, IsCopyable, AreSpecial, AreRoomy, reads_now, spans_by, IsMidway, PlacesAmong, trail_in}
-use Rattle.naga_oil_derive.specs.Derived.{Source, Derived, as_read, kept, type_under, with_special_types}
+use Rattle.naga_oil_derive.specs.Derived.{Source, Derived, as_read, kept, type_under, with_special_types, KeepsItems}
 use Rattle.naga_oil_derive.specs.DerivedValue.{first_places, special_copied, source_set}
 use Rattle.naga_oil_derive.specs.DerivedLaw.{AreThere, IsDerivation, Settles, SetsOnly}
 use Rattle.naga_oil_derive.proofs.TreeLemmas.{AreCopied-start}
@@ -57,7 +57,7 @@ pub as_names : (P : ItemPlace → Type 0) (es : List Entry) → All (λ (e : Ent
 as_names P [] a = All-nil (λ o. IfSome o P)
 as_names P (e ∷ es) a = All-cons (λ o. IfSome o P) (Some (TypeItem e.1)) (special_names es) (All-head (λ (x : Entry). P (TypeItem x.1)) e es a) (as_names P es (All-tail (λ (x : Entry). P (TypeItem x.1)) e es a))
 
-from_names : (P : ItemPlace → Type 0) (es : List Entry) → All (λ o. IfSome o P) (special_names es) → All (λ (e : Entry). P (TypeItem e.1)) es
+pub from_names : (P : ItemPlace → Type 0) (es : List Entry) → All (λ o. IfSome o P) (special_names es) → All (λ (e : Entry). P (TypeItem e.1)) es
 from_names P [] a = All-nil (λ (e : Entry). P (TypeItem e.1))
 from_names P (e ∷ es) a = All-cons (λ (x : Entry). P (TypeItem x.1)) e es (All-head (λ o. IfSome o P) (Some (TypeItem e.1)) (special_names es) a) (from_names P es (All-tail (λ o. IfSome o P) (Some (TypeItem e.1)) (special_names es) a))
 
@@ -133,10 +133,10 @@ midway_first first d m i a =
 
 -- ---- a module with other special types
 
-abbrev having : ModuleValue → SpecialValue → ModuleValue
+abbrev pub having : ModuleValue → SpecialValue → ModuleValue
 having t x = record t { special_types = x }
 
-world_at : (t : ModuleValue) (x : SpecialValue) (p : ItemPlace) → world (having t x) p ≡ world t p
+pub world_at : (t : ModuleValue) (x : SpecialValue) (p : ItemPlace) → world (having t x) p ≡ world t p
 unfolding world
 world_at t x (TypeItem k) = refl
 world_at t x (ConstantItem k) = refl
@@ -144,7 +144,7 @@ world_at t x (OverrideItem k) = refl
 world_at t x (GlobalItem k) = refl
 world_at t x (ExpressionItem k) = refl
 
-world_having : (t : ModuleValue) (x : SpecialValue) → world (having t x) ≡ world t
+pub world_having : (t : ModuleValue) (x : SpecialValue) → world (having t x) ≡ world t
 world_having t x = λ i p. world_at t x p i
 
 midway_having : (m : ModuleValue) (kept : Kept) (u : CopyState) (x : SpecialValue) → IsMidway m kept u → IsMidway m kept (record { places = u.places; target = having u.target x })
@@ -251,16 +251,24 @@ settles_each d e s (x ∷ es) stand had reads set went lacks =
 went_there : (m : ModuleValue) (kept : Kept) (u : CopyState) (e : Entry) → IsMidway m kept u → WentSomewhere (goes u.places) (Some (TypeItem e.1)) → HasAt u.target (TypeItem (type_under u.places e.1))
 went_there m kept u e i w = i.copied.there (TypeItem e.1) (TypeItem (type_under u.places e.1)) (goes_renamed 0 u.places (TypeItem e.1) w.0 w.1)
 
-there_set : (m : ModuleValue) (kept : Kept) (u : CopyState) → IsMidway m kept u → All (λ (e : Entry). WentSomewhere (goes u.places) (Some (TypeItem e.1))) (entries_in m) → AreThere u.target → AreThere (having u.target (with_specials u.target.special_types (type_under u.places) (entries_in m)))
-there_set m kept u i went h k q e =
+pub there_set : (m : ModuleValue) (kept : Kept) (u : CopyState) (xs : List Entry) → IsMidway m kept u → All (λ (e : Entry). WentSomewhere (goes u.places) (Some (TypeItem e.1))) xs → AreThere u.target → AreThere (having u.target (with_specials u.target.special_types (type_under u.places) xs))
+there_set m kept u xs i went h k q e =
     let f = type_under u.places in
-    let all = All-weaker (λ (x : Entry). WentSomewhere (goes u.places) (Some (TypeItem x.1))) (λ (x : Entry). HasAt u.target (TypeItem (f x.1))) (λ x w. went_there m kept u x i w) (entries_in m) went in
-    let r = more_there (λ j. HasAt u.target (TypeItem j)) u.target.special_types f (entries_in m) all h k q e in
-    (r.0, world_at u.target (with_specials u.target.special_types f (entries_in m)) (TypeItem q) ∙ r.1)
+    let all = All-weaker (λ (x : Entry). WentSomewhere (goes u.places) (Some (TypeItem x.1))) (λ (x : Entry). HasAt u.target (TypeItem (f x.1))) (λ x w. went_there m kept u x i w) xs went in
+    let r = more_there (λ j. HasAt u.target (TypeItem j)) u.target.special_types f xs all h k q e in
+    (r.0, world_at u.target (with_specials u.target.special_types f xs) (TypeItem q) ∙ r.1)
 
 -- the special types aside, the target is as it was before they were set
 aside : (t u : ModuleValue) (x : SpecialValue) → Extends t u → with_special_types (having u x) t ≡ u
 aside t u x e = ap (having u) (sym (special_same t u e))
+
+-- items come, and special types that were lacked
+pub keeps_part : (d e : Derived) (u : ModuleValue) (f : ℕ → ℕ) (xs : List Entry) → Extends d.target u → e.target ≡ having u (with_specials u.special_types f xs) → e.function_names ≡ d.function_names → KeepsItems d e
+keeps_part d e u f xs ext is names = record {
+  items = subst (Extends d.target) (sym (ap (λ t. with_special_types t d.target) is ∙ aside d.target u (with_specials u.special_types f xs) ext)) ext;
+  special = λ k q h. ap (λ (t : ModuleValue). special_at t.special_types k) is ∙ specials_keep u.special_types f xs k q (ap (λ s. special_at s k) (special_same d.target u ext) ∙ h);
+  names = names;
+}
 
 pub set_law : (first : Kept) (d : Derived) (m : ModuleValue) (shift : ℕ) → IsDerivation first d → IsCopyable m → AreSpecial m → SetsOnly m shift d (source_set d m shift)
 set_law first d m shift i c a =
@@ -287,7 +295,7 @@ set_law first d m shift i c a =
       derivation = record {
         kinds = midway.kinds;
         sound = midway.sound;
-        special = there_set m f u all.0.midway went (there_later d.target u.target ext i.special);
+        special = there_set m f u es all.0.midway went (there_later d.target u.target ext i.special);
         source = record { copyable = c; midway = midway; stand = stand; still = λ p q h. still_by f (kept_of m.special_types x) (goes u.places) stand begun (none_before m d.target.special_types x u.places is) p q h (kept_of m.special_types x p) refl };
       };
       places = subst (λ v. PlacesAmong f (goes u.places) (names_trail (reached (depth m) v f) (special_names es))) (sym reads) (subst (λ v. PlacesAmong v (goes u.places) (names_trail (trail_in m f w) (special_names es))) (goes_as_first d m a) all.0.places);
@@ -303,9 +311,5 @@ set_law first d m shift i c a =
         },
       );
       settles = settles_each d e s es stand begun (λ p q g. placed_reads m f (as_read s e.target) (record { places = u.places; target = e.target }) p q midway refl g) (each_set m d.target.special_types x u.places a is) went (λ h n. lacks_each (special_at x) h es n);
-      keeps = record {
-        items = subst (Extends d.target) (sym (aside d.target u.target x ext)) ext;
-        special = keeps_set m d.target.special_types x u.places is;
-        names = refl;
-      };
+      keeps = keeps_part d e u.target (type_under u.places) es ext refl refl;
     }

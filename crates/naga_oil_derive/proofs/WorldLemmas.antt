@@ -11,7 +11,7 @@ use Rattle.naga_oil_ir.specs.Parts.{Parts, parts}
 use Rattle.naga_oil_ir.specs.ModuleValue.{ModuleValue}
 use Rattle.naga_oil_ir.specs.Rows.{Row, Kind, TypeKind, ConstantKind, OverrideKind, GlobalKind, ExpressionKind, Text, inner_row, type_row, constant_row, override_row, global_row, expression_row, parts_row}
 use Rattle.naga_oil_derive.specs.Tree.{World}
-use Rattle.naga_oil_derive.specs.World.{value_of, world, span_at, Begins, Extends, named_world, under_name, name_at}
+use Rattle.naga_oil_derive.specs.World.{value_of, world, Begins, Extends, named_world, under_name, name_at}
 
 -- ---- what stands at the places of a module, by its arenas
 
@@ -27,11 +27,6 @@ rows_of : {X : Type 0} (f : X → Row) (xs : List (X × Span)) (k : ℕ) → opt
 rows_of f [] k = refl
 rows_of f (x ∷ xs) zero = refl
 rows_of f (x ∷ xs) (suc k) = rows_of f xs k
-
-spans_of : {X Y : Type 0} (f : X → Y) (xs : List (X × Span)) (k : ℕ) → option_map (λ (e : Y × Span). e.1) (slice_get (map (λ e. (f e.0, e.1)) xs) k) ≡ spans xs k
-spans_of f [] k = refl
-spans_of f (x ∷ xs) zero = refl
-spans_of f (x ∷ xs) (suc k) = spans_of f xs k
 
 parts_of : (xs : List (Expression × Span)) (k : ℕ) → option_map (λ (e : Parts × Span). parts_row e.0) (slice_get (map (λ e. (parts e.0, e.1)) xs) k) ≡ rows expression_row xs k
 parts_of [] k = refl
@@ -57,26 +52,6 @@ world_global m k = rows_of global_row m.global_variables k
 pub world_expression : (m : Module) (k : ℕ) → world (value_of m) (ExpressionItem k) ≡ rows expression_row m.global_expressions k
 unfolding world value_of
 world_expression m k = parts_of m.global_expressions k
-
-pub span_type : (m : Module) (k : ℕ) → span_at (value_of m) (TypeItem k) ≡ spans m.types k
-unfolding span_at value_of
-span_type m k = spans_of type_row m.types k
-
-pub span_constant : (m : Module) (k : ℕ) → span_at (value_of m) (ConstantItem k) ≡ spans m.constants k
-unfolding span_at value_of
-span_constant m k = spans_of constant_row m.constants k
-
-pub span_override : (m : Module) (k : ℕ) → span_at (value_of m) (OverrideItem k) ≡ spans m.overrides k
-unfolding span_at value_of
-span_override m k = spans_of override_row m.overrides k
-
-pub span_global : (m : Module) (k : ℕ) → span_at (value_of m) (GlobalItem k) ≡ spans m.global_variables k
-unfolding span_at value_of
-span_global m k = spans_of global_row m.global_variables k
-
-pub span_expression : (m : Module) (k : ℕ) → span_at (value_of m) (ExpressionItem k) ≡ spans m.global_expressions k
-unfolding span_at value_of
-span_expression m k = spans_of parts m.global_expressions k
 
 -- ---- a row of one kind stands in no arena of another
 

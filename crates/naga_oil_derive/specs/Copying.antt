@@ -164,37 +164,12 @@ pub record Grows (m n : Maps) (t u : Module) : Type 0 where
   pub extends : Extends (value_of t) (value_of u)
   pub special : special_value u.special_types ≡ special_value t.special_types
 
--- the maps agree from a rank on
-abbrev pub IsSameFrom : Module → ℕ → Maps → Maps → Type 0
-IsSameFrom source n a b = (p : ItemPlace) → n ≤ rank source p → goes_under b p ≡ goes_under a p
-
 abbrev pub WentSomewhere : Goes → Option ItemPlace → Type 0
 WentSomewhere m o = IfSome o (λ p. (q : ItemPlace) × (m p ≡ Some q))
 
 -- ns are what the item names, if it is there
 abbrev pub AreNames : Option Row → List (Option ItemPlace) → Type 0
 AreNames o ns = IfSome o (λ r. ns ≡ r.names)
-
--- what the item at a place names went somewhere
-abbrev pub NamesWent : Module → Maps → ItemPlace → Type 0
-NamesWent source m p = (r : Row) → world (value_of source) p ≡ Some r → All (WentSomewhere (goes_under m)) r.names
-
--- the item was not there, or is the last of its arena
-abbrev pub IsLast : Module → Module → ItemPlace → Option Span → Type 0
-IsLast t u q s = (value_of u ≡ value_of t) ⊎ ((world (value_of t) q ≡ None) × (span_at (value_of u) q ≡ s))
-
--- one copy, of a row
-pub record CopiesOne (source t u : Module) (m n : Maps) (p : ItemPlace) (row : Row) : Type 0 where
-  pub copy : Row
-  pub place : ItemPlace
-  pub copies : IsCopyOf (goes_under m) row copy
-  pub puts : Puts (goes_under m) (goes_under n) p place
-  pub fetches : Fetches (world (value_of t)) (world (value_of u)) copy place
-  pub last : IsLast t u place (copied_span source m p)
-  pub long : AreLong n source
-  pub offset : n.offset ≡ m.offset
-  pub extends : Extends (value_of t) (value_of u)
-  pub special : u.special_types ≡ t.special_types
 
 -- what a request for the item at a place adds
 abbrev pub IsCollected : Module → Maps → Module → List ItemPlace → Module → Type 0
@@ -206,13 +181,6 @@ trail_of source target m p = reached (depth (value_of source)) (source_world sou
 
 abbrev pub CollectsItem : Module → Maps → Module → ItemPlace → Module → Type 0
 CollectsItem source m t p u = IsCollected source m t (trail_of source t m p) u
-
-abbrev pub CollectsNames : Module → Maps → Module → List (Option ItemPlace) → Module → Type 0
-CollectsNames source m t ps u = IsCollected source m t (names_trail (trail_of source t m) ps) u
-
--- what a request for the item at a place adds, where the source reads as w
-abbrev pub CollectsNamed : Module → Maps → Module → ItemPlace → World → Module → Type 0
-CollectsNamed source m t p w u = Collects w (kept_between source t) (copied_span source m) (value_of t) (reached (depth (value_of source)) w (kept_between source t) p) (value_of u)
 
 -- the item at a place has a copy, which reads as it
 abbrev pub HasCopy : Module → Module → Maps → ItemPlace → Type 0

@@ -1,15 +1,15 @@
 use Rattle.std.proofs.Common.{[], ◌≡◌, ◌<◌, ◌∙◌, ℕ, List, length, Option, Some, All, ap, sym, subst, refl, take, arith}
 use Rattle.std.specs.Vec.{with_items}
 use Rattle.std.proofs.lemmas.List.{with_items_is}
+use Rattle.std.proofs.lemmas.List.Elements.{All-nil, All-take}
+use Rattle.naga_oil_ir.specs.declared.names.ItemPlace.TheVariants.{TypeItem}
 use Rattle.naga_oil_derive.specs.World.{HaveDistinctKeys, value_of}
-use Rattle.naga_oil_derive.specs.Copying.{WentSomewhere, goes_under, handle_under, special_names}
-use Rattle.naga_oil_derive.specs.Derived.{Derived}
+use Rattle.naga_oil_derive.specs.Copying.{WentSomewhere, goes_under}
 use Rattle.naga_oil_derive.proofs.RankLemmas.{ranked}
 use Rattle.naga_oil_derive.proofs.SourceValues.{set_value}
 use Rattle.naga_oil_derive.proofs.SpecialLemmas.{Entry}
-use Rattle.naga_oil_derive.proofs.DeriveCalls.{entries_within, entries_are_there, places_kept, left_source, derived_none, special_later, derived_part, keeps_set}
-use Rattle.naga_oil_derive.proofs.PuttingLemmas.{putting_copying, putting_grows}
-use Rattle.naga_oil_derive.proofs.Derivations.{copying_begun, special_went, sets_law, derived_set}
+use Rattle.naga_oil_derive.proofs.DeriveCalls.{entries_within, entries_are_there, places_kept}
+use Rattle.naga_oil_derive.proofs.Derivations.{copying_begun, special_went, refused, sets_law, derived_set}
 use Rattle.naga_oil_derive.proofs.derive.DerivedModule.set_shader_source.Goals as goal
 
 pub keep_special-requires : goal.keep_special-requires
@@ -49,13 +49,8 @@ invariant_of-self-in_err-copy_special c =
     let kept = with_items_is c.in_ok-copying.field-0.types c.keep_special.new.types long ∙ c.keep_special.ensures ∙ ap (places_kept s.copying.target c.deref.result.now) c.deref_mut.ensures.value in
     let begun = copying_begun c.args.shader.now s.shader s.copying.maps m s.copying.target v c.deref.result.now c.requires c.self.invariant distinct first c.in_ok-copying.ensures.places kept in
     let n = c.copy_special.new.self in
-    let w = record m { types = v } in
-    let p = c.copy_special.ensures.putting in
-    let g = putting_grows c.args.shader.now s.copying.target n.target w n.maps begun c.copy_special.ensures.offset p in
-    let seen = c.self.view_is ∙ c.clear_shader_source.ensures in
-    let none = left_source s.shader s.copying.maps (ap (λ (x : Derived). x.source) seen) in
-    let copying = putting_copying c.args.shader.now s.copying.target n.target w n.maps begun p in
-    derived_none s.shader n.maps n.target none copying.sound (special_later s.copying.target n.target g.extends g.special c.self.invariant.special)
+    let all = refused c.args.shader.now s.shader s.copying.maps (record m { types = v }) n.maps s.copying.target n.target n.target.special_types [] s.function_names.entries c.args.self.now c.self.invariant (c.self.view_is ∙ c.clear_shader_source.ensures) begun c.copy_special.ensures.offset c.copy_special.ensures.putting (All-nil (λ (e : Entry). WentSomewhere (goes_under n.maps) (Some (TypeItem e.1)))) refl in
+    all.derived
 
 pub returns-in_err-copy_special-clause-keeps : goal.returns-in_err-copy_special-clause-keeps
 returns-in_err-copy_special-clause-keeps c =
@@ -68,11 +63,8 @@ returns-in_err-copy_special-clause-keeps c =
     let kept = with_items_is c.in_ok-copying.field-0.types c.keep_special.new.types long ∙ c.keep_special.ensures ∙ ap (places_kept s.copying.target c.deref.result.now) c.deref_mut.ensures.value in
     let begun = copying_begun c.args.shader.now s.shader s.copying.maps m s.copying.target v c.deref.result.now c.requires c.self.invariant distinct first c.in_ok-copying.ensures.places kept in
     let n = c.copy_special.new.self in
-    let w = record m { types = v } in
-    let p = c.copy_special.ensures.putting in
-    let g = putting_grows c.args.shader.now s.copying.target n.target w n.maps begun c.copy_special.ensures.offset p in
-    let seen = c.self.view_is ∙ c.clear_shader_source.ensures in
-    keeps_set s.shader s.shader s.copying.maps n.maps s.copying.target n.target n.target.special_types (λ k. k) [] s.function_names.entries c.args.self.now seen g.extends g.special refl
+    let all = refused c.args.shader.now s.shader s.copying.maps (record m { types = v }) n.maps s.copying.target n.target n.target.special_types [] s.function_names.entries c.args.self.now c.self.invariant (c.self.view_is ∙ c.clear_shader_source.ensures) begun c.copy_special.ensures.offset c.copy_special.ensures.putting (All-nil (λ (e : Entry). WentSomewhere (goes_under n.maps) (Some (TypeItem e.1)))) refl in
+    all.keeps
 
 pub invariant_of-self-in_err-set_specials : goal.invariant_of-self-in_err-set_specials
 invariant_of-self-in_err-set_specials c =
@@ -86,18 +78,14 @@ invariant_of-self-in_err-set_specials c =
     let begun = copying_begun c.args.shader.now s.shader s.copying.maps m s.copying.target v c.deref.result.now c.requires c.self.invariant distinct first c.in_ok-copying.ensures.places kept in
     let n = c.copy_special.new.self in
     let w = record m { types = v } in
-    let p = c.copy_special.ensures.putting in
-    let g = putting_grows c.args.shader.now s.copying.target n.target w n.maps begun c.copy_special.ensures.offset p in
-    let seen = c.self.view_is ∙ c.clear_shader_source.ensures in
-    let none = left_source s.shader s.copying.maps (ap (λ (x : Derived). x.source) seen) in
-    let copying = putting_copying c.args.shader.now s.copying.target n.target w n.maps begun p in
     let second = c.deref-2.ensures.value ∙ c.in_ok-entries.ensures.entries in
     let third = c.deref-3.ensures.value ∙ c.in_ok-entries.ensures.entries in
     let each = subst HaveDistinctKeys (sym c.deref-2.ensures.value) c.in_ok-entries.ensures.distinct in
-    let all = special_went c.args.shader.now s.copying.target n.target w n.maps c.deref-2.result.now c.requires (ranked c.args.shader.now c.requires) each second begun c.in_ok-copy_special.ensures.copied in
-    let went = subst (λ (xs : List Entry). All (WentSomewhere (goes_under n.maps)) (special_names xs)) (second ∙ sym third) all in
+    let went = special_went c.args.shader.now s.copying.target n.target w n.maps c.deref-2.result.now c.requires (ranked c.args.shader.now c.requires) each second begun c.in_ok-copy_special.ensures.copied in
     let part = c.set_specials.ensures.some in
-    derived_part c.args.shader.now s.copying.target n.target n.maps s.shader n.maps c.set_specials.new.special c.deref-3.result.now part.0 none copying g.extends g.special c.self.invariant.special went part.1
+    let some = All-take (λ (e : Entry). WentSomewhere (goes_under n.maps) (Some (TypeItem e.1))) part.0 c.deref-3.result.now (subst (All (λ (e : Entry). WentSomewhere (goes_under n.maps) (Some (TypeItem e.1)))) (second ∙ sym third) went) in
+    let all = refused c.args.shader.now s.shader s.copying.maps w n.maps s.copying.target n.target c.set_specials.new.special (take part.0 c.deref-3.result.now) s.function_names.entries c.args.self.now c.self.invariant (c.self.view_is ∙ c.clear_shader_source.ensures) begun c.copy_special.ensures.offset c.copy_special.ensures.putting some part.1 in
+    all.derived
 
 pub returns-in_err-set_specials-clause-keeps : goal.returns-in_err-set_specials-clause-keeps
 returns-in_err-set_specials-clause-keeps c =
@@ -111,11 +99,14 @@ returns-in_err-set_specials-clause-keeps c =
     let begun = copying_begun c.args.shader.now s.shader s.copying.maps m s.copying.target v c.deref.result.now c.requires c.self.invariant distinct first c.in_ok-copying.ensures.places kept in
     let n = c.copy_special.new.self in
     let w = record m { types = v } in
-    let p = c.copy_special.ensures.putting in
-    let g = putting_grows c.args.shader.now s.copying.target n.target w n.maps begun c.copy_special.ensures.offset p in
-    let seen = c.self.view_is ∙ c.clear_shader_source.ensures in
+    let second = c.deref-2.ensures.value ∙ c.in_ok-entries.ensures.entries in
+    let third = c.deref-3.ensures.value ∙ c.in_ok-entries.ensures.entries in
+    let each = subst HaveDistinctKeys (sym c.deref-2.ensures.value) c.in_ok-entries.ensures.distinct in
+    let went = special_went c.args.shader.now s.copying.target n.target w n.maps c.deref-2.result.now c.requires (ranked c.args.shader.now c.requires) each second begun c.in_ok-copy_special.ensures.copied in
     let part = c.set_specials.ensures.some in
-    keeps_set s.shader s.shader s.copying.maps n.maps s.copying.target n.target c.set_specials.new.special (handle_under n.maps.types.items) (take part.0 c.deref-3.result.now) s.function_names.entries c.args.self.now seen g.extends g.special part.1
+    let some = All-take (λ (e : Entry). WentSomewhere (goes_under n.maps) (Some (TypeItem e.1))) part.0 c.deref-3.result.now (subst (All (λ (e : Entry). WentSomewhere (goes_under n.maps) (Some (TypeItem e.1)))) (second ∙ sym third) went) in
+    let all = refused c.args.shader.now s.shader s.copying.maps w n.maps s.copying.target n.target c.set_specials.new.special (take part.0 c.deref-3.result.now) s.function_names.entries c.args.self.now c.self.invariant (c.self.view_is ∙ c.clear_shader_source.ensures) begun c.copy_special.ensures.offset c.copy_special.ensures.putting some part.1 in
+    all.keeps
 
 pub returns-clause-value : goal.returns-clause-value
 returns-clause-value c =
@@ -138,7 +129,7 @@ returns-clause-set c =
     let seen = c.self.view_is ∙ c.clear_shader_source.ensures in
     let distinct = subst HaveDistinctKeys (sym c.deref.ensures.value) c.in_ok-entries.ensures.distinct in
     let law = sets_law s.shader s.copying.maps s.copying.target s.function_names.entries c.args.self.now _ c.args.shader.now c.deref.result.now c.args.span_offset seen c.self.invariant c.requires distinct (c.deref.ensures.value ∙ c.in_ok-entries.ensures.entries) (returns-clause-value c) in
-    law.1.set
+    law.set
 
 pub returns-clause-keeps : goal.returns-clause-keeps
 returns-clause-keeps c =
@@ -146,7 +137,7 @@ returns-clause-keeps c =
     let seen = c.self.view_is ∙ c.clear_shader_source.ensures in
     let distinct = subst HaveDistinctKeys (sym c.deref.ensures.value) c.in_ok-entries.ensures.distinct in
     let law = sets_law s.shader s.copying.maps s.copying.target s.function_names.entries c.args.self.now _ c.args.shader.now c.deref.result.now c.args.span_offset seen c.self.invariant c.requires distinct (c.deref.ensures.value ∙ c.in_ok-entries.ensures.entries) (returns-clause-value c) in
-    law.1.keeps
+    law.keeps
 
 pub invariant_of-self-2 : goal.invariant_of-self-2
 invariant_of-self-2 c =
