@@ -1,4 +1,4 @@
-use Rattle.std.proofs.Common.{◌≡◌, ℕ, zero, suc, ◌<◌, List, Option, Some, None, option_map, slice_get, unwrap_or, refl, ap, sym, ◌∙◌, subst, All, Bool, false, is_some, get_or, length, replicate}
+use Rattle.std.proofs.Common.{◌≡◌, ℕ, zero, suc, ◌<◌, List, Option, Some, None, option_map, slice_get, refl, ap, sym, ◌∙◌, subst, All, Bool, false, is_some, get_or, length, replicate}
 use Rattle.std.proofs.lemmas.Bool.{false≢true}
 use Rattle.std.specs.Option.{option_flatten}
 use Rattle.naga_oil_ir.specs.Rows.{Row, Text}
@@ -7,10 +7,9 @@ use Rattle.naga_oil_ir.specs.declared.module.Module.{Module}
 use Rattle.naga_oil_ir.specs.declared.names.ItemPlace.{ItemPlace}
 use Rattle.naga_oil_ir.specs.declared.names.ItemPlace.TheVariants.{TypeItem, ConstantItem, OverrideItem, GlobalItem, ExpressionItem}
 use Rattle.naga_oil_derive.specs.declared.maps.Maps.{Maps}
-use Rattle.naga_oil_derive.specs.Renames.{rename_place}
 use Rattle.naga_oil_derive.specs.Tree.{World}
 use Rattle.naga_oil_derive.specs.World.{value_of, world, goes, named_world, under_name, name_at, kept_of}
-use Rattle.naga_oil_derive.specs.Copying.{Goes, goes_under, renames_under, source_world, kept_between, WentSomewhere, IsCopying, Grows, HasCopy}
+use Rattle.naga_oil_derive.specs.Copying.{Goes, goes_under, source_world, kept_between, WentSomewhere, IsCopying, Grows, HasCopy}
 use Rattle.naga_oil_derive.proofs.TreeLemmas.{reads}
 use Rattle.naga_oil_derive.proofs.WorldLemmas.{named_some, named_same, Extends-refl, Extends-trans}
 
@@ -36,19 +35,6 @@ goes-new m a b c d f ea eb ec ed ef (ConstantItem k) = gone_nowhere ConstantItem
 goes-new m a b c d f ea eb ec ed ef (OverrideItem k) = gone_nowhere OverrideItem m.overrides.items c k ec
 goes-new m a b c d f ea eb ec ed ef (GlobalItem k) = gone_nowhere GlobalItem m.global_variables.items d k ed
 goes-new m a b c d f ea eb ec ed ef (ExpressionItem k) = gone_nowhere ExpressionItem m.global_expressions.items f k ef
-
-under : (C : ℕ → ItemPlace) (o : Option ℕ) (k : ℕ) (q : ItemPlace) → option_map C o ≡ Some q → option_map C o ≡ Some (C (unwrap_or o k))
-under C None k q e = cc
-under C (Some h) k q e = refl
-
--- what went somewhere went where it is renamed to
-pub goes_renamed : (m : Maps) (p q : ItemPlace) → goes_under m p ≡ Some q → goes_under m p ≡ Some (rename_place (renames_under m) p)
-unfolding goes_under goes
-goes_renamed m (TypeItem k) q e = under TypeItem (option_flatten (slice_get m.types.items k)) k q e
-goes_renamed m (ConstantItem k) q e = under ConstantItem (option_flatten (slice_get m.constants.items k)) k q e
-goes_renamed m (OverrideItem k) q e = under OverrideItem (option_flatten (slice_get m.overrides.items k)) k q e
-goes_renamed m (GlobalItem k) q e = under GlobalItem (option_flatten (slice_get m.global_variables.items k)) k q e
-goes_renamed m (ExpressionItem k) q e = under ExpressionItem (option_flatten (slice_get m.global_expressions.items k)) k q e
 
 -- ---- what an option holds
 

@@ -1,4 +1,4 @@
-use Rattle.std.proofs.Common.{◌≡◌, ℕ, ◌<◌, List, [], ◌∷◌, map, length, Option, Some, None, option_map, slice_get, refl, ap, sym, ◌∙◌, arith}
+use Rattle.std.proofs.Common.{◌≡◌, ℕ, ◌<◌, List, [], ◌∷◌, map, length, Option, Some, None, option_map, slice_get, refl, ap, sym, ◌∙◌, arith, Vec, Global}
 use Rattle.std.proofs.lemmas.Option.{slice_get_within}
 use Rattle.std.specs.Option.{option_copied}
 use Rattle.std.specs.Borrow.{Bor}
@@ -68,9 +68,16 @@ nothing_there : {X : Type 0} (f : X → Row) (o : Option (X × Span)) (r : Row) 
 nothing_there f None r n e = cc
 nothing_there f (Some y) r n e = n y.0 refl
 
-within : {X : Type 0} (f : X → Row) (xs : List (X × Span)) (k : ℕ) (r : Row) (o : Option (X × Span)) → slice_get xs k ≡ o → option_map (λ e. f e.0) o ≡ Some r → k < length xs
-within f xs k r None e h = cc
-within f xs k r (Some x) e h = slice_get_within xs k x e
+inside : {X : Type 0} (xs : List (X × Span)) (k : ℕ) (x : X) (o : Option (X × Span)) → slice_get xs k ≡ o → option_map (λ e. e.0) o ≡ Some x → k < length xs
+inside xs k x None e h = cc
+inside xs k x (Some y) e h = slice_get_within xs k y e
+
+-- there is a place for what an arena of the source has
+pub fits : {X : Type 0} (xs : List (X × Span)) (v : Vec (Option ℕ) Global) (k : ℕ) (x : X) → option_map (λ e. e.0) (slice_get xs k) ≡ Some x → length v.items ≡ length xs → k < vec_len v
+fits xs v k x e l =
+    let w = inside xs k x (slice_get xs k) refl e in
+    let n = v.ok.0 in
+    omega (arith, w, n, l)
 
 -- what a look-up gives is what the arena has
 pub found : {X : Type 0} (o : Option (Bor X)) (v : Option X) (x : Bor X) → option_copied o ≡ v → o ≡ Some x → v ≡ Some x.now
@@ -80,57 +87,19 @@ pub not_found : {X : Type 0} (o : Option (Bor X)) (v : Option X) → option_copi
 not_found None v e n x h = let q : None ≡ Some x = e ∙ h in cc
 not_found (Some y) v e n x h = n y refl
 
--- ---- types
+-- ---- what is there is found
 
 pub type_absent : (source : Module) (k : ℕ) → ((x : TypeOfShader) → option_map (λ e. e.0) (slice_get source.types k) ≡ Some x → ⊥) → IsThere source (TypeItem k) → ⊥
 type_absent source k n t = nothing_there type_row (slice_get source.types k) t.0 n (sym (world_type source k) ∙ t.1)
 
-type_within : (source : Module) (m : Maps) (k : ℕ) → IsThere source (TypeItem k) → AreLong m source → k < length m.types.items
-type_within source m k t l = let w = within type_row source.types k t.0 (slice_get source.types k) refl (sym (world_type source k) ∙ t.1) in let e = l.types in omega (arith, e)
-
-pub type_fits : (source : Module) (m : Maps) (k : ℕ) → IsThere source (TypeItem k) → AreLong m source → k < vec_len m.types
-type_fits source m k t l = let w = type_within source m k t l in let e = m.types.ok.0 in omega (arith, e)
-
--- ---- constants
-
 pub constant_absent : (source : Module) (k : ℕ) → ((x : ConstantItself) → option_map (λ e. e.0) (slice_get source.constants k) ≡ Some x → ⊥) → IsThere source (ConstantItem k) → ⊥
 constant_absent source k n t = nothing_there constant_row (slice_get source.constants k) t.0 n (sym (world_constant source k) ∙ t.1)
-
-constant_within : (source : Module) (m : Maps) (k : ℕ) → IsThere source (ConstantItem k) → AreLong m source → k < length m.constants.items
-constant_within source m k t l = let w = within constant_row source.constants k t.0 (slice_get source.constants k) refl (sym (world_constant source k) ∙ t.1) in let e = l.constants in omega (arith, e)
-
-pub constant_fits : (source : Module) (m : Maps) (k : ℕ) → IsThere source (ConstantItem k) → AreLong m source → k < vec_len m.constants
-constant_fits source m k t l = let w = constant_within source m k t l in let e = m.constants.ok.0 in omega (arith, e)
-
--- ---- overrides
 
 pub override_absent : (source : Module) (k : ℕ) → ((x : OverrideItself) → option_map (λ e. e.0) (slice_get source.overrides k) ≡ Some x → ⊥) → IsThere source (OverrideItem k) → ⊥
 override_absent source k n t = nothing_there override_row (slice_get source.overrides k) t.0 n (sym (world_override source k) ∙ t.1)
 
-override_within : (source : Module) (m : Maps) (k : ℕ) → IsThere source (OverrideItem k) → AreLong m source → k < length m.overrides.items
-override_within source m k t l = let w = within override_row source.overrides k t.0 (slice_get source.overrides k) refl (sym (world_override source k) ∙ t.1) in let e = l.overrides in omega (arith, e)
-
-pub override_fits : (source : Module) (m : Maps) (k : ℕ) → IsThere source (OverrideItem k) → AreLong m source → k < vec_len m.overrides
-override_fits source m k t l = let w = override_within source m k t l in let e = m.overrides.ok.0 in omega (arith, e)
-
--- ---- globals
-
 pub global_absent : (source : Module) (k : ℕ) → ((x : GlobalItself) → option_map (λ e. e.0) (slice_get source.global_variables k) ≡ Some x → ⊥) → IsThere source (GlobalItem k) → ⊥
 global_absent source k n t = nothing_there global_row (slice_get source.global_variables k) t.0 n (sym (world_global source k) ∙ t.1)
 
-global_within : (source : Module) (m : Maps) (k : ℕ) → IsThere source (GlobalItem k) → AreLong m source → k < length m.global_variables.items
-global_within source m k t l = let w = within global_row source.global_variables k t.0 (slice_get source.global_variables k) refl (sym (world_global source k) ∙ t.1) in let e = l.globals in omega (arith, e)
-
-pub global_fits : (source : Module) (m : Maps) (k : ℕ) → IsThere source (GlobalItem k) → AreLong m source → k < vec_len m.global_variables
-global_fits source m k t l = let w = global_within source m k t l in let e = m.global_variables.ok.0 in omega (arith, e)
-
--- ---- expressions
-
 pub expression_absent : (source : Module) (k : ℕ) → ((x : Expression) → option_map (λ e. e.0) (slice_get source.global_expressions k) ≡ Some x → ⊥) → IsThere source (ExpressionItem k) → ⊥
 expression_absent source k n t = nothing_there expression_row (slice_get source.global_expressions k) t.0 n (sym (world_expression source k) ∙ t.1)
-
-expression_within : (source : Module) (m : Maps) (k : ℕ) → IsThere source (ExpressionItem k) → AreLong m source → k < length m.global_expressions.items
-expression_within source m k t l = let w = within expression_row source.global_expressions k t.0 (slice_get source.global_expressions k) refl (sym (world_expression source k) ∙ t.1) in let e = l.expressions in omega (arith, e)
-
-pub expression_fits : (source : Module) (m : Maps) (k : ℕ) → IsThere source (ExpressionItem k) → AreLong m source → k < vec_len m.global_expressions
-expression_fits source m k t l = let w = expression_within source m k t l in let e = m.global_expressions.ok.0 in omega (arith, e)

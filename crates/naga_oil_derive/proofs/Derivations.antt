@@ -2,7 +2,7 @@
 use Rattle.std.proofs.Common.{◌≡◌, ℕ, List, [], Option, Some, None, option_map, refl, ap, sym, ◌∙◌, subst, All, IfSome, Vec, Global, Result, Ok, Err, OnOk}
 use Rattle.std.specs.Borrow.{Bor}
 use Rattle.naga_oil_ir.specs.Rows.{Text}
-use Rattle.naga_oil_ir.specs.ModuleValue.{ModuleValue, special_value}
+use Rattle.naga_oil_ir.specs.ModuleValue.{ModuleValue, special_value, no_items}
 use Rattle.naga_oil_ir.specs.declared.module.Module.{Module}
 use Rattle.naga_oil_ir.specs.declared.module.SpecialTypes.{SpecialTypes}
 use Rattle.naga_oil_ir.specs.declared.names.ItemPlace.{ItemPlace}
@@ -14,18 +14,18 @@ use Rattle.naga_oil_derive.specs.Copyable.{CopyableItems}
 use Rattle.naga_oil_derive.specs.Copying.{IsSound, AreRanked, IsCopying, Grows, WentSomewhere, places_of, goes_under, handle_under, kept_between, kept_over, special_names}
 use Rattle.naga_oil_derive.specs.Copied.{copy_state, all_copied}
 use Rattle.naga_oil_derive.specs.CopiedLaw.{HasAt, IsMidway}
-use Rattle.naga_oil_derive.specs.Putting.{Putting}
-use Rattle.naga_oil_derive.specs.Derived.{Source, Derived, cleared, HasItem, IsImported, IsSet, Sets, KeepsItems}
+use Rattle.naga_oil_derive.specs.Putting.{Putting, TypePutting}
+use Rattle.naga_oil_derive.specs.Derived.{Source, Derived, cleared, HasItem, IsImported, ReadsAsBefore, Keeps, IsSet, Sets, KeepsItems}
 use Rattle.naga_oil_derive.specs.DerivedView.{source_of, derived_of, IsSpecialThere, IsDerived}
 use Rattle.naga_oil_derive.specs.DerivedValue.{no_places, item_imported, type_renamed, source_set}
 use Rattle.naga_oil_derive.specs.DerivedLaw.{IsSourceOf, AreThere, IsDerivation, RenamesOnly, type_place, SetsOnly}
 use Rattle.naga_oil_derive.proofs.SpecialLemmas.{Entry}
-use Rattle.naga_oil_derive.proofs.DeriveCalls.{Shader, FunctionNames, special_later, left_source, derived_none}
+use Rattle.naga_oil_derive.proofs.DeriveCalls.{Shader, FunctionNames, source_in, special_later, derived_later, reads_one, keeps_one, left_source, derived_none}
 use Rattle.naga_oil_derive.proofs.KindLaws.{value_kinds, ranked_copyable, value_copyable, value_special}
-use Rattle.naga_oil_derive.proofs.DerivedLaws.{midway_now, import_law, rename_law}
+use Rattle.naga_oil_derive.proofs.DerivedLaws.{nothing_derived, midway_now, import_law, rename_law}
 use Rattle.naga_oil_derive.proofs.SetLaws.{as_names, from_names, midway_first, start, having, world_having, there_set, keeps_part, set_law}
 use Rattle.naga_oil_derive.proofs.SourceValues.{copying_starts}
-use Rattle.naga_oil_derive.proofs.PuttingLemmas.{midway_of, copying_of, putting_copying, putting_grows, names_went}
+use Rattle.naga_oil_derive.proofs.PuttingLemmas.{midway_of, copying_of, putting_copying, putting_grows, putting_reads, type_putting_copying, type_putting_grows, names_went}
 
 -- ---- what holds of the fields says that the value is a derivation
 
@@ -61,7 +61,34 @@ midway_between first s n u i = midway_now first (source_of n s) (value_of u) i
 derived_by : (first : Kept) (s : Bor Module) (n : Maps) (u : Module) (ns : FunctionNames) → AreRanked s.now → IsDerivation first (derived_of (Some s) n u ns) → IsDerived (Some s) n u
 derived_by first s n u ns a d = record { sound = d.sound; special = special_unseen u d.special; source = (copying_of s.now u n (midway_between first s n u d.source), a) }
 
--- ---- items
+pub derived_nothing : (m : Maps) (t : Module) → value_of t ≡ no_items → IsDerived None m t
+derived_nothing m t e =
+    let d = nothing_derived (λ p. None) in
+    record { sound = subst (λ v. IsSound (world v)) (sym e) d.sound; special = special_unseen t (subst AreThere (sym e) d.special); source = tt }
+
+-- ---- items that are put
+
+-- items were put, also where memory ran out
+pub record HasPut (o : Shader) (n : Maps) (u : Module) (ns : FunctionNames) (d : Derived) : Type 0 where
+  pub derived : IsDerived o n u
+  pub keeps : Keeps d (derived_of o n u ns)
+
+pub putting_derived : (o : Shader) (s : Bor Module) (t u : Module) (m n : Maps) (ns : FunctionNames) (d : Derived) → o ≡ Some s → derived_of o m t ns ≡ d → IsDerived o m t → n.offset ≡ m.offset → Putting (value_of s.now) m.offset (copy_state m t) (copy_state n u) → HasPut o n u ns d
+putting_derived o s t u m n ns d e v i offset p =
+    let begun = (source_in o s m t e i).0 in
+    let g = putting_grows s.now t u m n begun offset p in
+    record { derived = derived_later o s t u m n e i (putting_copying s.now t u m n begun p) g; keeps = keeps_one o t u m n ns d v g }
+
+pub reads_before : (o : Shader) (s : Bor Module) (t u : Module) (m n : Maps) (ns : FunctionNames) (d : Derived) → o ≡ Some s → derived_of o m t ns ≡ d → IsDerived o m t → Putting (value_of s.now) m.offset (copy_state m t) (copy_state n u) → ReadsAsBefore d (derived_of o n u ns)
+reads_before o s t u m n ns d e v i p = reads_one o s t u m n ns d e v (putting_reads s.now t u m n (source_in o s m t e i).0 p)
+
+pub type_putting_derived : (o : Shader) (s : Bor Module) (t u : Module) (m n : Maps) (ns : FunctionNames) (d : Derived) (k : ℕ) (name : Option Text) → o ≡ Some s → derived_of o m t ns ≡ d → IsDerived o m t → n.offset ≡ m.offset → TypePutting (value_of s.now) m.offset name k (copy_state m t) (copy_state n u) → HasPut o n u ns d
+type_putting_derived o s t u m n ns d k name e v i offset p =
+    let begun = (source_in o s m t e i).0 in
+    let g = type_putting_grows s.now t u m n name k begun offset p in
+    record { derived = derived_later o s t u m n e i (type_putting_copying s.now t u m n name k begun p) g; keeps = keeps_one o t u m n ns d v g }
+
+-- ---- items that are imported
 
 pub imports_law : {A B : Type 0} (a : Result A B) (o : Shader) (m : Maps) (t : Module) (ns : FunctionNames) (d e : Derived) (p : ItemPlace) → derived_of o m t ns ≡ d → IsDerived o m t → HasItem d p → OnOk a (e ≡ item_imported d p) → OnOk a ((q : ItemPlace) × IsImported d e p q)
 imports_law (Ok x) o m t ns d e p v i h is = subst (λ y. (q : ItemPlace) × IsImported d y p q) (sym is) (import_law (kept_for o t) d p (derivation_seen o m t ns d v i) h).imported

@@ -15,7 +15,7 @@ use Rattle.naga_oil_derive.specs.Copyable.{CopyableItems}
 use Rattle.naga_oil_derive.specs.Derived.{Source, Derived, nothing, as_read, HasItem, Imports, IsImported, KeepsSource, Keeps, ReadsAsBefore}
 use Rattle.naga_oil_derive.specs.DerivedView.{source_of, derived_of, IsSpecialThere, IsDerived}
 use Rattle.naga_oil_derive.proofs.WorldLemmas.{Extends-stays}
-use Rattle.naga_oil_derive.proofs.CopyLemmas.{goes_renamed}
+use Rattle.naga_oil_derive.proofs.PutLaws.{goes_renamed}
 use Rattle.naga_oil_derive.proofs.SpecialLemmas.{Entry}
 use Rattle.naga_oil_derive.proofs.RankLemmas.{place_there}
 use Rattle.naga_oil_derive.proofs.DeriveLemmas.{source_at, later_source, entries_there, special_of}
@@ -77,7 +77,7 @@ same_place o p q e f = let g : Some p ≡ Some q = sym e ∙ f in cc
 
 gone : (m : Maps) (p q : ItemPlace) → goes (places_of m) p ≡ Some q → q ≡ rename_place (renames_under m) p
 unfolding goes_under
-gone m p q e = same_place (goes_under m p) q (rename_place (renames_under m) p) e (goes_renamed m p q e)
+gone m p q e = same_place (goes_under m p) q (rename_place (renames_under m) p) e (goes_renamed m.offset (places_of m) p q e)
 
 imported_in : (a : Option Source) (d e : Derived) (o : Shader) (m : Maps) (t : Module) (ns : FunctionNames) (p : ItemPlace) → derived_of o m t ns ≡ e → KeepsSource a e.source → (q : ItemPlace) × IfSome a (λ s. Imports s (as_read s d.target) d e p q) → IfSome a (λ s. Imports s (as_read s d.target) d e p (rename_place (renames_under m) p))
 imported_in None d e o m t ns p v k w = tt

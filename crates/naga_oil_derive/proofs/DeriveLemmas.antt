@@ -4,7 +4,7 @@ use Rattle.std.proofs.lemmas.List.Elements.{All-head, All-tail, All-cons, All-ni
 use Rattle.naga_oil_ir.specs.ItemForm.{special_types}
 use Rattle.naga_oil_ir.specs.Parts.{parts}
 use Rattle.naga_oil_ir.specs.Rows.{Row, type_row, constant_row, override_row, global_row}
-use Rattle.naga_oil_ir.specs.ModuleValue.{ModuleValue, SpecialValue, special_value, entry_value, function_value, no_items}
+use Rattle.naga_oil_ir.specs.ModuleValue.{SpecialValue, special_value, entry_value, function_value, no_items}
 use Rattle.naga_oil_ir.specs.declared.expression.Expression.{Expression}
 use Rattle.naga_oil_ir.specs.declared.module.Function.{Function}
 use Rattle.naga_oil_ir.specs.declared.module.Module.{Module}
@@ -21,9 +21,8 @@ use Rattle.naga_oil_derive.specs.declared.special.SpecialKey.{SpecialKey}
 use Rattle.naga_oil_derive.specs.declared.special.SpecialKey.TheVariants.{RayDesc, RayIntersection, RayVertexReturn, Predeclared}
 use Rattle.naga_oil_derive.specs.Tree.{World, ReadsAs}
 use Rattle.naga_oil_derive.specs.World.{goes, value_of, world, named_world, under_name, name_at, special_entry, special_entries, special_at, or_option, kept_in, with_special, with_specials}
-use Rattle.naga_oil_derive.specs.Copying.{Goes, IsSound, IsCopying, Grows, WentSomewhere, CollectsItem, places_of, goes_under, source_world, kept_between, copied_span, trail_of}
+use Rattle.naga_oil_derive.specs.Copying.{Goes, IsCopying, Grows, WentSomewhere, CollectsItem, places_of, goes_under, source_world, kept_between, copied_span, trail_of}
 use Rattle.naga_oil_derive.specs.Derived.{Source, Derived, as_read, Imports, IsLaterSource}
-use Rattle.naga_oil_derive.specs.DerivedView.{IsSpecialThere}
 use Rattle.naga_oil_derive.proofs.TreeLemmas.{reads, same_number}
 use Rattle.naga_oil_ir.proofs.LinkLemmas.{eqb_eq}
 use Rattle.naga_oil_derive.proofs.CopyLemmas.{kept_same, HasCopy-went}
@@ -58,12 +57,6 @@ world_empty (ExpressionItem k) = refl
 pub nothing_some : (o : Option Row) (r : Row) → o ≡ None → o ≡ Some r → ⊥
 nothing_some o r e f = let g : None ≡ Some r = sym e ∙ f in cc
 
-pub sound_empty : (m : Module) → value_of m ≡ no_items → IsSound (world (value_of m))
-sound_empty m e = record {
-  whole = λ p r h. absurd (nothing_some (world (value_of m) p) r (ap (λ v. world v p) e ∙ world_empty p) h);
-  once = λ p q r h i. absurd (nothing_some (world (value_of m) p) r (ap (λ v. world v p) e ∙ world_empty p) h);
-}
-
 pub special_none : (key : SpecialKey) → special_at no_items.special_types key ≡ None
 special_none RayDesc = refl
 special_none RayIntersection = refl
@@ -76,9 +69,6 @@ special_of m = refl
 
 pub no_place : (o : Option ℕ) (q : ℕ) → o ≡ None → o ≡ Some q → ⊥
 no_place o q e f = let g : None ≡ Some q = sym e ∙ f in cc
-
-pub special_empty : (m : Module) → value_of m ≡ no_items → IsSpecialThere m
-special_empty m e = λ k q h. absurd (no_place (special_at (special_value m.special_types) k) q (ap (λ s. special_at s k) (special_of m ∙ ap (λ (v : ModuleValue). v.special_types) e) ∙ special_none k) h)
 
 -- ---- where kept types come from
 

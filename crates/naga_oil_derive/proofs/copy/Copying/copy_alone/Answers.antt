@@ -2,38 +2,34 @@ use Rattle.std.proofs.Common.{arith, ◌≡◌, ◌∙◌, ap, sym, subst, Some,
 use Rattle.std.specs.Vec.{with_item}
 use Rattle.naga_oil_derive.specs.World.{shifted, value_of}
 use Rattle.naga_oil_derive.specs.Copying.{IsThere}
-use Rattle.naga_oil_derive.proofs.CopyOneLemmas.{found, not_found}
-use Rattle.naga_oil_derive.proofs.CopyOneLemmas.{constant_absent, constant_fits}
-use Rattle.naga_oil_derive.proofs.CopyOneLemmas.{override_absent, override_fits}
-use Rattle.naga_oil_derive.proofs.CopyOneLemmas.{global_absent, global_fits}
-use Rattle.naga_oil_derive.proofs.CopyOneLemmas.{expression_absent, expression_fits}
 use Rattle.naga_oil_derive.specs.Copied.{copy_state, put}
 use Rattle.naga_oil_derive.proofs.PutLemmas.{constant_put, override_put, global_put, expression_put}
+use Rattle.naga_oil_derive.proofs.CopyOneLemmas.{found, not_found, fits, constant_absent, override_absent, global_absent, expression_absent}
 use Rattle.naga_oil_derive.proofs.copy.Copying.copy_alone.Goals as goal
 
 pub index_mut-requires : goal.index_mut-requires
 index_mut-requires c =
-    let fits = constant_fits c.args.source.now c.args.self.now.maps c.in-ConstantItem.h (subst (IsThere c.args.source.now) c.in-ConstantItem.is c.requires.there) c.requires.long in
+    let room = fits c.args.source.now.constants c.args.self.now.maps.constants c.in-ConstantItem.h c.in-Some.item.now (found _ _ c.in-Some.item c.try_get.ensures c.in-Some.is) c.requires.long.constants in
     let e = c.index.ensures in
-    omega (arith, fits, e)
+    omega (arith, room, e)
 
 pub index_mut-requires-in-OverrideItem : goal.index_mut-requires-in-OverrideItem
 index_mut-requires-in-OverrideItem c =
-    let fits = override_fits c.args.source.now c.args.self.now.maps c.in-OverrideItem.h (subst (IsThere c.args.source.now) c.in-OverrideItem.is c.requires.there) c.requires.long in
+    let room = fits c.args.source.now.overrides c.args.self.now.maps.overrides c.in-OverrideItem.h c.in-Some-try_get.item.now (found _ _ c.in-Some-try_get.item c.try_get-in-OverrideItem.ensures c.in-Some-try_get.is) c.requires.long.overrides in
     let e = c.index-in-OverrideItem.ensures in
-    omega (arith, fits, e)
+    omega (arith, room, e)
 
 pub index_mut-requires-in-GlobalItem : goal.index_mut-requires-in-GlobalItem
 index_mut-requires-in-GlobalItem c =
-    let fits = global_fits c.args.source.now c.args.self.now.maps c.in-GlobalItem.h (subst (IsThere c.args.source.now) c.in-GlobalItem.is c.requires.there) c.requires.long in
+    let room = fits c.args.source.now.global_variables c.args.self.now.maps.global_variables c.in-GlobalItem.h c.in-Some-try_get-2.item.now (found _ _ c.in-Some-try_get-2.item c.try_get-in-GlobalItem.ensures c.in-Some-try_get-2.is) c.requires.long.globals in
     let e = c.index-in-GlobalItem.ensures in
-    omega (arith, fits, e)
+    omega (arith, room, e)
 
 pub index_mut-requires-in-ExpressionItem : goal.index_mut-requires-in-ExpressionItem
 index_mut-requires-in-ExpressionItem c =
-    let fits = expression_fits c.args.source.now c.args.self.now.maps c.in-ExpressionItem.h (subst (IsThere c.args.source.now) c.in-ExpressionItem.is c.requires.there) c.requires.long in
+    let room = fits c.args.source.now.global_expressions c.args.self.now.maps.global_expressions c.in-ExpressionItem.h c.in-Some-try_get-3.item.now (found _ _ c.in-Some-try_get-3.item c.try_get-in-ExpressionItem.ensures c.in-Some-try_get-3.is) c.requires.long.expressions in
     let e = c.index-in-ExpressionItem.ensures in
-    omega (arith, fits, e)
+    omega (arith, room, e)
 
 pub returns-in_default-clause-put : goal.returns-in_default-clause-put
 returns-in_default-clause-put c = absurd (constant_absent c.args.source.now c.in-ConstantItem.h (not_found _ _ c.try_get.ensures c.in_default.not-Some) (subst (IsThere c.args.source.now) c.in-ConstantItem.is c.requires.there))

@@ -1,15 +1,15 @@
 use Rattle.std.proofs.Common.{arith, ◌∙◌, ap, option_map, string_bytes, Some, slice_set}
 use Rattle.std.specs.Vec.{with_item}
 use Rattle.naga_oil_derive.specs.World.{shifted}
-use Rattle.naga_oil_derive.proofs.CopyOneLemmas.{found, not_found, type_absent, type_fits}
+use Rattle.naga_oil_derive.proofs.CopyOneLemmas.{found, not_found, fits, type_absent}
 use Rattle.naga_oil_derive.proofs.PutLemmas.{type_put}
 use Rattle.naga_oil_derive.proofs.copy.Copying.copy_type.Goals as goal
 
 pub index_mut-requires : goal.index_mut-requires
 index_mut-requires c =
-    let fits = type_fits c.args.source.now c.args.self.now.maps c.args.handle c.requires.there c.requires.long in
+    let room = fits c.args.source.now.types c.args.self.now.maps.types c.args.handle c.in-Some.item.now (found _ _ c.in-Some.item c.get_handle.ensures c.in-Some.is) c.requires.long.types in
     let e = c.index.ensures in
-    omega (arith, fits, e)
+    omega (arith, room, e)
 
 pub returns-in_default-clause-put : goal.returns-in_default-clause-put
 returns-in_default-clause-put c = absurd (type_absent c.args.source.now c.args.handle (not_found _ _ c.get_handle.ensures c.in_default.not-Some) c.requires.there)

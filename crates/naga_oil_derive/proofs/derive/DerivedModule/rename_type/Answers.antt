@@ -3,52 +3,36 @@ use Rattle.naga_oil_derive.specs.Copied.{copied_type}
 use Rattle.naga_oil_derive.specs.Derived.{IsKnown, IsRenamed}
 use Rattle.naga_oil_derive.specs.DerivedView.{derived_of}
 use Rattle.naga_oil_derive.proofs.DerivedValues.{copied_now}
-use Rattle.naga_oil_derive.proofs.DeriveCalls.{source_in, derived_later, keeps_one}
-use Rattle.naga_oil_derive.proofs.PuttingLemmas.{type_putting_copying, type_putting_grows}
-use Rattle.naga_oil_derive.proofs.Derivations.{renames_law, type_at}
+use Rattle.naga_oil_derive.proofs.Derivations.{type_putting_derived, renames_law, type_at}
 use Rattle.naga_oil_derive.proofs.derive.DerivedModule.rename_type.Goals as goal
 
 pub invariant_of-self : goal.invariant_of-self
 invariant_of-self c =
     let s = c.self.inside in
-    let e = c.copy_named_type.ensures in
-    let t = s.copying.target in
-    let m = s.copying.maps in
     let n = c.copy_named_type.new.self in
     let name = option_map (λ x. Some (string_bytes x)) c.args.name in
-    let i = (source_in s.shader c.in-Some.shader m t c.in-Some.is c.self.invariant).0 in
-    derived_later s.shader c.in-Some.shader t n.target m n.maps c.in-Some.is c.self.invariant (type_putting_copying c.in-Some.shader.now t n.target m n.maps name c.args.h_type.now i e.putting) (type_putting_grows c.in-Some.shader.now t n.target m n.maps name c.args.h_type.now i e.offset e.putting)
+    (type_putting_derived s.shader c.in-Some.shader s.copying.target n.target s.copying.maps n.maps s.function_names.entries c.args.self.now c.args.h_type.now name c.in-Some.is c.self.view_is c.self.invariant c.copy_named_type.ensures.offset c.copy_named_type.ensures.putting).derived
 
 pub returns-in_err-copy_named_type-clause-keeps : goal.returns-in_err-copy_named_type-clause-keeps
 returns-in_err-copy_named_type-clause-keeps c =
     let s = c.self.inside in
-    let e = c.copy_named_type.ensures in
-    let t = s.copying.target in
-    let m = s.copying.maps in
     let n = c.copy_named_type.new.self in
-    let i = (source_in s.shader c.in-Some.shader m t c.in-Some.is c.self.invariant).0 in
-    keeps_one s.shader t n.target m n.maps s.function_names.entries c.args.self.now c.self.view_is (type_putting_grows c.in-Some.shader.now t n.target m n.maps (option_map (λ x. Some (string_bytes x)) c.args.name) c.args.h_type.now i e.offset e.putting)
+    let name = option_map (λ x. Some (string_bytes x)) c.args.name in
+    (type_putting_derived s.shader c.in-Some.shader s.copying.target n.target s.copying.maps n.maps s.function_names.entries c.args.self.now c.args.h_type.now name c.in-Some.is c.self.view_is c.self.invariant c.copy_named_type.ensures.offset c.copy_named_type.ensures.putting).keeps
 
 pub invariant_of-self-2 : goal.invariant_of-self-2
 invariant_of-self-2 c =
     let s = c.self.inside in
-    let e = c.copy_named_type.ensures in
-    let t = s.copying.target in
-    let m = s.copying.maps in
     let n = c.copy_named_type.new.self in
     let name = option_map (λ x. Some (string_bytes x)) c.args.name in
-    let i = (source_in s.shader c.in-Some.shader m t c.in-Some.is c.self.invariant).0 in
-    derived_later s.shader c.in-Some.shader t n.target m n.maps c.in-Some.is c.self.invariant (type_putting_copying c.in-Some.shader.now t n.target m n.maps name c.args.h_type.now i e.putting) (type_putting_grows c.in-Some.shader.now t n.target m n.maps name c.args.h_type.now i e.offset e.putting)
+    (type_putting_derived s.shader c.in-Some.shader s.copying.target n.target s.copying.maps n.maps s.function_names.entries c.args.self.now c.args.h_type.now name c.in-Some.is c.self.view_is c.self.invariant c.copy_named_type.ensures.offset c.copy_named_type.ensures.putting).derived
 
 pub returns-clause-keeps : goal.returns-clause-keeps
 returns-clause-keeps c =
     let s = c.self.inside in
-    let e = c.copy_named_type.ensures in
-    let t = s.copying.target in
-    let m = s.copying.maps in
     let n = c.copy_named_type.new.self in
-    let i = (source_in s.shader c.in-Some.shader m t c.in-Some.is c.self.invariant).0 in
-    keeps_one s.shader t n.target m n.maps s.function_names.entries c.args.self.now c.self.view_is (type_putting_grows c.in-Some.shader.now t n.target m n.maps (option_map (λ x. Some (string_bytes x)) c.args.name) c.args.h_type.now i e.offset e.putting)
+    let name = option_map (λ x. Some (string_bytes x)) c.args.name in
+    (type_putting_derived s.shader c.in-Some.shader s.copying.target n.target s.copying.maps n.maps s.function_names.entries c.args.self.now c.args.h_type.now name c.in-Some.is c.self.view_is c.self.invariant c.copy_named_type.ensures.offset c.copy_named_type.ensures.putting).keeps
 
 pub returns-clause-value : goal.returns-clause-value
 returns-clause-value c =
