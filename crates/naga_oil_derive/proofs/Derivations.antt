@@ -58,7 +58,7 @@ unfolding kept_between value_of
 midway_between first s n u i = midway_now first (source_of n s) (value_of u) i
 
 -- and the other way
-derived_by : (first : Kept) (s : Bor Module) (n : Maps) (u : Module) (ns : FunctionNames) → AreRanked s.now → IsDerivation first (derived_of (Some s) n u ns) → IsDerived (Some s) n u
+pub derived_by : (first : Kept) (s : Bor Module) (n : Maps) (u : Module) (ns : FunctionNames) → AreRanked s.now → IsDerivation first (derived_of (Some s) n u ns) → IsDerived (Some s) n u
 derived_by first s n u ns a d = record { sound = d.sound; special = special_unseen u d.special; source = (copying_of s.now u n (midway_between first s n u d.source), a) }
 
 pub derived_nothing : (m : Maps) (t : Module) → value_of t ≡ no_items → IsDerived None m t
