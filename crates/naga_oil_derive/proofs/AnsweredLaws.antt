@@ -18,8 +18,8 @@ use Rattle.naga_oil_derive.specs.CopiedFunction.{copied_function}
 use Rattle.naga_oil_derive.specs.CopiedLaw.{HasAt}
 use Rattle.naga_oil_derive.specs.Collected.{depth}
 use Rattle.naga_oil_derive.specs.Derived.{Source, Derived}
-use Rattle.naga_oil_derive.specs.DerivedFunctions.{Meanings, meant, meant_at, requests_of, MayAsk, MayCopy, MayCall, CanImport, CanCall, KeepsFunctions, ComesLast, Answers, AllAnswered, ItemCopied, NameKnown, FunctionCopied, MeansAt}
-use Rattle.naga_oil_derive.specs.DerivedValue.{item_imported, importing_of, after_copying, after_importing, requests_answered, function_imported, function_called}
+use Rattle.naga_oil_derive.specs.DerivedFunctions.{Meanings, meant, meant_at, requests_of, MayAsk, MayCopy, MayCall, CanImport, CanCall, KeepsFunctions, ComesLast, Answers, AllAnswered, ItemCopied, NameKnown, FunctionCopied, MeansAt, IsLocalized, going}
+use Rattle.naga_oil_derive.specs.DerivedValue.{item_imported, importing_of, after_copying, after_importing, requests_answered, function_imported, function_called, function_localized}
 use Rattle.naga_oil_derive.specs.DerivedLaw.{IsDerivation}
 use Rattle.naga_oil_derive.specs.Answered.{ImportState, Caller, goes_by, answered_one, answered_by, with_function, imported_by, called_by, called}
 use Rattle.naga_oil_derive.specs.AnsweredLaw.{HasForm, HasCopies, HaveCopies, CanAnswer, AnswersOnly, ImportsFunction}
@@ -274,3 +274,10 @@ function_any first (Some s) t ns v span d c w a =
 
 pub function_law : (first : Kept) (d : Derived) (v : FunctionValue) (span : Span) → IsDerivation first d → HaveCopies d → HasCopies v → CanImport d v → ImportsFunction first d (function_imported d v span) v span
 function_law first d v span i c w a = function_any first d.source d.target d.function_names v span i c w a
+
+localized_any : (o : Option Source) (t : ModuleValue) (ns : Meanings) (v : FunctionValue) → HasCopies v → HasForm v → IsLocalized (derivation o t ns) v (function_localized o ns v)
+localized_any None t ns v c f = tt
+localized_any (Some s) t ns v c f = c (going s ns) f
+
+pub localized_law : (d : Derived) (v : FunctionValue) → HasCopies v → HasForm v → IsLocalized d v (function_localized d.source d.function_names v)
+localized_law d v c f = localized_any d.source d.target d.function_names v c f

@@ -13,7 +13,6 @@ use Rattle.naga_oil_derive.specs.declared.import.Functions.{Functions}
 use Rattle.naga_oil_derive.specs.declared.walk.Request.TheVariants.{Call}
 use Rattle.naga_oil_derive.specs.World.{value_of}
 use Rattle.naga_oil_derive.specs.Renames.{Renames}
-use Rattle.naga_oil_derive.specs.Functions.{Copies}
 use Rattle.naga_oil_derive.specs.Copying.{IsCopying}
 use Rattle.naga_oil_derive.specs.Callees.{known_as, callee_at}
 use Rattle.naga_oil_derive.specs.Went.{went_by}
@@ -33,7 +32,7 @@ use Rattle.naga_oil_derive.proofs.Derivations.{derived_by}
 use Rattle.naga_oil_derive.proofs.DerivedValues.{before, after, imported_value}
 use Rattle.naga_oil_derive.proofs.ViewLaws.{view_derived}
 use Rattle.naga_oil_derive.proofs.AddingLaws.{adding_law}
-use Rattle.naga_oil_derive.proofs.AnsweredLaws.{answer_law, call_law, function_law}
+use Rattle.naga_oil_derive.proofs.AnsweredLaws.{answer_law, call_law, function_law, localized_law}
 use Rattle.naga_oil_derive.proofs.FunctionLaws.{alone, copies}
 use Rattle.naga_oil_derive.proofs.FunctionValues.{known_same, callee_means, may_copy_all, may_call, function_at}
 use Rattle.naga_oil_derive.proofs.HavingLemmas.{copying_having, going_same}
@@ -145,13 +144,9 @@ form_in : (o : Option Source) (ns : Meanings) (v : FunctionValue) → IsSome o �
 form_in None ns v is h = absurd (false≢true is)
 form_in (Some s) ns v is h = h.form
 
-localized_at : (o : Option Source) (ns : Meanings) (f : Function) (w : FunctionValue) → HasForm (function_value f) → w ≡ function_localized o ns (function_value f) → IfSome o (λ s. Copies (going s ns) (function_value f) w)
-localized_at None ns f w h e = tt
-localized_at (Some s) ns f w h e = subst (Copies (going s ns) (function_value f)) (sym e) (function_copies f (going s ns) h)
-
 -- what is made of a function that can be copied copies it
 pub localized_ok : {B : Type 0} (r : Result Function B) (d e : Derived) (f : Function) → CanCopy d (function_value f) → IfOk r (λ w. function_value w ≡ function_localized e.source e.function_names (function_value f)) → IfOk r (λ w. IsLocalized e (function_value f) (function_value w))
-localized_ok (Ok w) d e f can is = localized_at e.source e.function_names f (function_value w) (form_in d.source d.function_names (function_value f) can.0 can.1) is
+localized_ok (Ok w) d e f can is = subst (IsLocalized e (function_value f)) (sym is) (localized_law e (function_value f) (function_copies f) (form_in d.source d.function_names (function_value f) can.0 can.1))
 localized_ok (Err x) d e f can is = tt
 
 -- the same as a value

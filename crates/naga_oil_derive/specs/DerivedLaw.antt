@@ -15,8 +15,9 @@ use Rattle.naga_oil_derive.specs.DerivedValue.{item_imported, type_renamed, sour
 
 -- ---- between calls
 
--- of a source, whose special types that the module had first stand for: its items can be copied, those that went somewhere have
--- copies, and each kept special type stands, the first ones still
+-- of a source, where the module's first special types stand for those of their keys: its items can
+-- be copied, those that went somewhere have copies, each special type that is kept stands where it
+-- is kept, and the first ones are kept still
 pub record IsSourceOf (first : Kept) (s : Source) (t : ModuleValue) : Type 0 where
   pub copyable : IsCopyable s.value
   pub midway : IsMidway s.value first (record { places = s.places; target = t })
@@ -27,7 +28,8 @@ pub record IsSourceOf (first : Kept) (s : Source) (t : ModuleValue) : Type 0 whe
 abbrev pub AreThere : ModuleValue → Type 0
 AreThere t = (k : SpecialKey) (q : ℕ) → special_at t.special_types k ≡ Some q → HasAt t (TypeItem q)
 
--- what holds of each derived module between calls; first are the places that it had for special types as the source was set
+-- what holds of each derived module between calls; first are the places that it had for special
+-- types as the source was set
 pub record IsDerivation (first : Kept) (d : Derived) : Type 0 where
   pub kinds : IsKinded d.target
   pub sound : IsSound (world d.target)
@@ -48,12 +50,13 @@ NothingLaw = (first : Kept) → IsDerivation first nothing
 
 -- LAW: so is each without its source
 abbrev pub ClearedLaw : Type 0
-ClearedLaw = (first later : Kept) (d : Derived) → IsDerivation first d → IsDerivation later (cleared d)
+ClearedLaw = (first later : Kept) (d : Derived) →
+    IsDerivation first d → IsDerivation later (cleared d)
 
 -- ---- items
 
--- the item at p of the source reads as the module's at q: by the special types that the module had first, and by those that it
--- has now
+-- the item at p of the source reads as the module's at q: by the special types that the module had
+-- first, and by those that it has now
 pub record ReadsIn (first : Kept) (d : Derived) (s : Source) (p q : ItemPlace) : Type 0 where
   pub at_first : ReadsAs (as_read s d.target) (world d.target) first p q
   pub now : ReadsAs (as_read s d.target) (world d.target) (kept s d.target) p q
@@ -66,7 +69,8 @@ PlacedLaw = (first : Kept) (d : Derived) (s : Source) (p q : ItemPlace) →
 -- between two sources only what the item at p reaches, where d's source reads by f, went somewhere
 abbrev pub MovesOnly : (Source → World) → Derived → Derived → ItemPlace → Type 0
 MovesOnly f d e p = IfSome d.source (λ s. IfSome e.source (λ t.
-    PlacesAmong (goes s.places) (goes t.places) (reached (depth s.value) (f s) (kept s d.target) p)))
+    PlacesAmong (goes s.places) (goes t.places)
+    (reached (depth s.value) (f s) (kept s d.target) p)))
 
 -- an item was imported, and all else stayed
 pub record ImportsOnly (first : Kept) (d e : Derived) (p : ItemPlace) : Type 0 where
@@ -101,15 +105,20 @@ RenameLaw = (first : Kept) (d : Derived) (k : ℕ) (name : Option Text) →
 
 -- ---- the source
 
--- a special type of a source, with its key, once that is set: it went where a type of its key stands, the one that the module
--- had or, if it had none, the copy; and it reads there as in the source, but for the special types that the module had
+-- a special type of a source, with its key, once that is set: it went where a type of one of its
+-- keys stands, the one that the module had or, if it had none, the copy; and it reads there as in
+-- the source, but for the special types that the module had
 pub record Settles (d e : Derived) (s : Source) (entry : SpecialKey × ℕ) : Type 0 where
   pub at : ℕ
   pub went : goes s.places (TypeItem entry.1) ≡ Some (TypeItem at)
   pub stands : kept s e.target (TypeItem entry.1) ≡ Some (TypeItem at)
   pub had : (q : ItemPlace) → kept s d.target (TypeItem entry.1) ≡ Some q → q ≡ TypeItem at
-  pub lacked : special_at d.target.special_types entry.0 ≡ None → special_at e.target.special_types entry.0 ≡ Some at
-  pub reads : ReadsAs (as_read s e.target) (world e.target) (kept s d.target) (TypeItem entry.1) (TypeItem at)
+  pub lacked :
+      special_at d.target.special_types entry.0 ≡ None →
+      special_at e.target.special_types entry.0 ≡ Some at
+  pub reads :
+      ReadsAs (as_read s e.target) (world e.target) (kept s d.target) (TypeItem entry.1)
+      (TypeItem at)
 
 -- each special type of m, which is the source
 abbrev pub SettlesAll : ModuleValue → Derived → Derived → Type 0

@@ -5,11 +5,9 @@ ghost use Rattle.std.specs.Prelude.{◌≡◌, ◌↔◌, IsTrue};
 ghost use Rattle.naga_oil_ir.specs.Parts.{Parts};
 ghost use Rattle.naga_oil_ir.specs.Rows.{Row};
 ghost use Rattle.naga_oil_derive.specs.Equal.{row_eq, parts_eq};
-ghost use Rattle.naga_oil_derive.specs.CopiedLaw.{AreSpecial};
-ghost use Rattle.naga_oil_derive.specs.DerivedLaw.{IsDerivation, kept_by};
-ghost use Rattle.naga_oil_derive.specs.CopiedLaw.{CopyableLaw, KindLaw, PutLaw, TypePutLaw, CopiedLaw, AllCopiedLaw, AgainLaw, TypeCopiedLaw, TypeAgainLaw};
-ghost use Rattle.naga_oil_derive.specs.DerivedLaw.{NothingLaw, ClearedLaw, PlacedLaw, ImportLaw, RenameLaw, SetLaw};
-ghost use Rattle.naga_oil_derive.specs.AnsweredLaw.{AnswerLaw, CallLaw, FunctionLaw, AddingLaw};
+ghost use Rattle.naga_oil_derive.specs.CopiedLaw.{AreSpecial, CopyableLaw, KindLaw, PutLaw, TypePutLaw, CopiedLaw, AllCopiedLaw, AgainLaw, TypeCopiedLaw, TypeAgainLaw};
+ghost use Rattle.naga_oil_derive.specs.DerivedLaw.{IsDerivation, kept_by, NothingLaw, ClearedLaw, PlacedLaw, ImportLaw, RenameLaw, SetLaw};
+ghost use Rattle.naga_oil_derive.specs.AnsweredLaw.{AnswerLaw, CallLaw, FunctionLaw, AddingLaw, LocalizedLaw};
 
 use super::*;
 
@@ -83,4 +81,5 @@ pub fn derivations_with_functions()
     ensures call { CallLaw }
     ensures function { FunctionLaw }
     ensures adding { AddingLaw }
+    ensures localized { LocalizedLaw }
 {}
