@@ -1,39 +1,21 @@
 -- What holds of a derived module while items and functions are added to it, also where that was refused.
-use Rattle.std.proofs.Common.{◌≡◌, [], Option, Some, refl, ap, sym, ◌∙◌, subst}
+use Rattle.std.proofs.Common.{◌≡◌, [], Option, Some, refl, ap, sym, subst}
 use Rattle.naga_oil_ir.specs.ModuleValue.{ModuleValue}
 use Rattle.naga_oil_derive.specs.Tree.{Kept}
-use Rattle.naga_oil_derive.specs.Copied.{CopyState}
 use Rattle.naga_oil_derive.specs.Derived.{Source, Derived}
 use Rattle.naga_oil_derive.specs.DerivedFunctions.{Meanings, KeepsFunctions}
-use Rattle.naga_oil_derive.specs.DerivedValue.{after_copying, importing_of, after_importing}
+use Rattle.naga_oil_derive.specs.DerivedValue.{importing_of, after_importing}
 use Rattle.naga_oil_derive.specs.DerivedLaw.{IsDerivation}
 use Rattle.naga_oil_derive.specs.Answered.{ImportState}
 use Rattle.naga_oil_derive.specs.AnsweredLaw.{AddsOnly}
 use Rattle.naga_oil_derive.specs.Putting.{Adding}
 use Rattle.naga_oil_derive.proofs.HavingLemmas.{given}
-use Rattle.naga_oil_derive.proofs.DerivedLaws.{kept_as, there_later}
+use Rattle.naga_oil_derive.proofs.DerivedLaws.{later_derived}
 use Rattle.naga_oil_derive.proofs.AnsweredLaws.{derived_given}
 use Rattle.naga_oil_derive.proofs.AddingLemmas.{Added, adding_adds}
-use Rattle.naga_oil_derive.proofs.PuttingLemmas.{IsLater}
 
 abbrev derivation : Option Source → ModuleValue → Meanings → Derived
 derivation o t ns = record { source = o; target = t; function_names = ns }
-
--- items that come leave a derivation
-later_derived : (first : Kept) (s : Source) (t : ModuleValue) (ns : Meanings) (u : CopyState) → IsDerivation first (derivation (Some s) t ns) → IsLater s.value first (record { places = s.places; target = t }) u → IsDerivation first (after_copying (derivation (Some s) t ns) s u)
-later_derived first s t ns u i g =
-    let same = kept_as s t u.target g.extends in
-    record {
-      kinds = g.midway.kinds;
-      sound = g.midway.sound;
-      special = there_later t u.target g.extends i.special;
-      source = record {
-        copyable = i.source.copyable;
-        midway = g.midway;
-        stand = λ p q h. g.went p q (i.source.stand p q (ap (λ (f : Kept). f p) (sym same) ∙ h));
-        still = λ p q h. ap (λ (f : Kept). f p) same ∙ i.source.still p q h;
-      };
-    }
 
 added_derived : (first : Kept) (s : Source) (t : ModuleValue) (ns : Meanings) (i : ImportState) → IsDerivation first (derivation (Some s) t ns) → Added s.value first (importing_of (derivation (Some s) t ns) s) i → IsDerivation first (after_importing s i)
 added_derived first s t ns i d a =

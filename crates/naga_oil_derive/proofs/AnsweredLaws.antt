@@ -18,7 +18,7 @@ use Rattle.naga_oil_derive.specs.CopiedFunction.{copied_function}
 use Rattle.naga_oil_derive.specs.CopiedLaw.{HasAt}
 use Rattle.naga_oil_derive.specs.Collected.{depth}
 use Rattle.naga_oil_derive.specs.Derived.{Source, Derived}
-use Rattle.naga_oil_derive.specs.DerivedFunctions.{Meanings, meant, meant_at, requests_of, MayAsk, MayCopy, MayCall, CanImport, CanCall, KeepsFunctions, ComesLast, Answers, AllAnswered, ItemCopied, NameKnown, FunctionCopied, MeansAt, meaning, IsLocalized, going}
+use Rattle.naga_oil_derive.specs.DerivedFunctions.{Meanings, meant, meant_at, requests_of, MayAsk, MayCopy, MayCall, CanImport, CanCall, KeepsFunctions, ComesLast, Answers, AllAnswered, ItemCopied, NameKnown, FunctionCopied, MeansAt, IsLocalized, going}
 use Rattle.naga_oil_derive.specs.DerivedValue.{item_imported, importing_of, after_copying, after_importing, requests_answered, function_imported, function_called, function_localized}
 use Rattle.naga_oil_derive.specs.DerivedLaw.{IsDerivation}
 use Rattle.naga_oil_derive.specs.Answered.{ImportState, Caller, goes_by, answered_one, answered_by, with_function, imported_by, called_by, called}

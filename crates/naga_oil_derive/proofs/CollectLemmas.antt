@@ -1,4 +1,4 @@
-use Rattle.std.proofs.Common.{Bool, true, false, ◌==◌, if◌then◌else◌, ◌⊎◌, inl, inr, ⊎_elim, ◌≡◌, ℕ, zero, suc, ◌<◌, ◌≤◌, ◌+◌, List, [], ◌∷◌, ◌++◌, Option, Some, None, option_map, refl, ap, sym, ◌∙◌, subst, arith, All, IfSome}
+use Rattle.std.proofs.Common.{Bool, true, false, ◌==◌, if◌then◌else◌, ◌⊎◌, inl, inr, ⊎_elim, ◌≡◌, ℕ, zero, suc, ◌<◌, ◌≤◌, List, [], ◌∷◌, ◌++◌, Option, Some, None, option_map, refl, ap, sym, ◌∙◌, subst, arith, All, IfSome}
 use Rattle.std.specs.List.{AllZip}
 use Rattle.std.proofs.lemmas.List.Elements.{All-head, All-tail}
 use Rattle.naga_oil_ir.specs.Rows.{Row}
@@ -16,7 +16,6 @@ use Rattle.naga_oil_ir.proofs.LinkLemmas.{eqb_eq, eq_eqb}
 use Rattle.naga_oil_ir.specs.declared.names.ItemPlace.TheVariants.{TypeItem, ConstantItem, OverrideItem, GlobalItem, ExpressionItem}
 use Rattle.naga_oil_ir.specs.Rows.{Text}
 use Rattle.naga_oil_derive.specs.World.{renamed_at, under_name}
-use Rattle.naga_oil_derive.proofs.CopyLemmas.{free}
 
 pub Collects-append : {w : World} {kept : Kept} {spans : ItemPlace → Option Span} {v t u : ModuleValue} {xs : List ItemPlace} (ys : List ItemPlace) → Collects w kept spans v xs t → Collects w kept spans t ys u → Collects w kept spans v (xs ++ ys) u
 Collects-append ys Done c = c

@@ -1,5 +1,5 @@
 -- The laws of derivations, for the fields of a derived module.
-use Rattle.std.proofs.Common.{◌≡◌, ℕ, List, [], Option, Some, None, option_map, refl, ap, sym, ◌∙◌, subst, All, IfSome, Vec, Global, Result, Ok, Err, OnOk}
+use Rattle.std.proofs.Common.{◌≡◌, ℕ, List, [], Option, Some, None, refl, ap, sym, ◌∙◌, subst, All, IfSome, Vec, Global, Result, Ok, Err, OnOk}
 use Rattle.std.specs.Borrow.{Bor}
 use Rattle.naga_oil_ir.specs.Rows.{Text}
 use Rattle.naga_oil_ir.specs.ModuleValue.{ModuleValue, special_value, no_items}
@@ -11,14 +11,14 @@ use Rattle.naga_oil_derive.specs.declared.maps.Maps.{Maps}
 use Rattle.naga_oil_derive.specs.Tree.{Kept}
 use Rattle.naga_oil_derive.specs.World.{value_of, world, Extends, kept_of, special_at, special_entries, HaveDistinctKeys, with_specials}
 use Rattle.naga_oil_derive.specs.Copyable.{CopyableItems}
-use Rattle.naga_oil_derive.specs.Copying.{IsSound, AreRanked, IsCopying, Grows, WentSomewhere, places_of, goes_under, handle_under, kept_between, kept_over, special_names}
+use Rattle.naga_oil_derive.specs.Copying.{IsSound, AreRanked, IsCopying, WentSomewhere, places_of, goes_under, handle_under, kept_between, kept_over, special_names}
 use Rattle.naga_oil_derive.specs.Copied.{copy_state, all_copied}
 use Rattle.naga_oil_derive.specs.CopiedLaw.{HasAt, IsMidway}
 use Rattle.naga_oil_derive.specs.Putting.{Putting, TypePutting}
 use Rattle.naga_oil_derive.specs.Derived.{Source, Derived, cleared, HasItem, IsImported, ReadsAsBefore, Keeps, IsSet, Sets, KeepsItems}
 use Rattle.naga_oil_derive.specs.DerivedView.{source_of, derived_of, IsSpecialThere, IsDerived}
 use Rattle.naga_oil_derive.specs.DerivedValue.{no_places, item_imported, type_renamed, source_set}
-use Rattle.naga_oil_derive.specs.DerivedLaw.{IsSourceOf, AreThere, IsDerivation, RenamesOnly, type_place, SetsOnly}
+use Rattle.naga_oil_derive.specs.DerivedLaw.{IsSourceOf, AreThere, IsDerivation, RenamesOnly, type_place}
 use Rattle.naga_oil_derive.proofs.SpecialLemmas.{Entry}
 use Rattle.naga_oil_derive.proofs.DeriveCalls.{Shader, FunctionNames, source_in, special_later, derived_later, reads_one, keeps_one, left_source, derived_none}
 use Rattle.naga_oil_derive.proofs.KindLaws.{value_kinds, ranked_copyable, value_copyable, value_special}
@@ -58,7 +58,7 @@ unfolding kept_between value_of
 midway_between first s n u i = midway_now first (source_of n s) (value_of u) i
 
 -- and the other way
-derived_by : (first : Kept) (s : Bor Module) (n : Maps) (u : Module) (ns : FunctionNames) → AreRanked s.now → IsDerivation first (derived_of (Some s) n u ns) → IsDerived (Some s) n u
+pub derived_by : (first : Kept) (s : Bor Module) (n : Maps) (u : Module) (ns : FunctionNames) → AreRanked s.now → IsDerivation first (derived_of (Some s) n u ns) → IsDerived (Some s) n u
 derived_by first s n u ns a d = record { sound = d.sound; special = special_unseen u d.special; source = (copying_of s.now u n (midway_between first s n u d.source), a) }
 
 pub derived_nothing : (m : Maps) (t : Module) → value_of t ≡ no_items → IsDerived None m t

@@ -1,4 +1,4 @@
-use Rattle.std.proofs.Common.{◌≡◌, ◌⊎◌, inl, inr, ⊎_elim, ℕ, ◌+◌, Bool, true, false, List, [], ◌∷◌, ◌++◌, map, Option, Some, None, option_map, option_to_list, is_some, if◌then◌else◌, ◌==◌, refl, ap, sym, ◌∙◌, subst, All, Vec, Global}
+use Rattle.std.proofs.Common.{◌≡◌, ◌⊎◌, inl, inr, ⊎_elim, ℕ, Bool, true, false, List, [], ◌∷◌, ◌++◌, map, Option, Some, None, option_map, option_to_list, is_some, if◌then◌else◌, ◌==◌, refl, ap, sym, ◌∙◌, subst, All, Vec, Global}
 use Rattle.std.proofs.lemmas.List.{append_assoc}
 use Rattle.std.proofs.lemmas.List.Elements.{All-head, All-tail, All-cons, All-nil}
 use Rattle.naga_oil_ir.specs.ItemForm.{special_types}
@@ -20,10 +20,10 @@ use Rattle.naga_oil_derive.specs.declared.maps.Maps.{Maps}
 use Rattle.naga_oil_derive.specs.declared.special.SpecialKey.{SpecialKey}
 use Rattle.naga_oil_derive.specs.declared.special.SpecialKey.TheVariants.{RayDesc, RayIntersection, RayVertexReturn, Predeclared}
 use Rattle.naga_oil_derive.specs.Tree.{World, ReadsAs}
-use Rattle.naga_oil_derive.specs.World.{goes, value_of, world, named_world, under_name, name_at, special_entry, special_entries, special_at, or_option, kept_in, with_special, with_specials}
+use Rattle.naga_oil_derive.specs.World.{value_of, world, named_world, under_name, name_at, special_entry, special_entries, special_at, or_option, kept_in, with_special, with_specials}
 use Rattle.naga_oil_derive.specs.Copying.{Goes, IsCopying, Grows, WentSomewhere, CollectsItem, places_of, goes_under, source_world, kept_between, copied_span, trail_of}
 use Rattle.naga_oil_derive.specs.Derived.{Source, Derived, as_read, Imports, IsLaterSource}
-use Rattle.naga_oil_derive.proofs.TreeLemmas.{reads, same_number}
+use Rattle.naga_oil_derive.proofs.TreeLemmas.{same_number}
 use Rattle.naga_oil_ir.proofs.LinkLemmas.{eqb_eq}
 use Rattle.naga_oil_derive.proofs.CopyLemmas.{kept_same, HasCopy-went}
 use Rattle.naga_oil_derive.proofs.SpecialLemmas.{Entry, coded, entries_nested, more_case, special_set, special_others}

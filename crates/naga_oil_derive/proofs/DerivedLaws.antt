@@ -20,6 +20,7 @@ use Rattle.naga_oil_derive.proofs.WorldLemmas.{Extends-stays, Extends-refl, Exte
 use Rattle.naga_oil_derive.proofs.CopyLemmas.{none_some}
 use Rattle.naga_oil_derive.proofs.DeriveLemmas.{world_empty, nothing_some, special_none, no_place}
 use Rattle.naga_oil_derive.proofs.PutLaws.{goes_renamed}
+use Rattle.naga_oil_derive.proofs.PuttingLemmas.{IsLater}
 use Rattle.naga_oil_derive.proofs.CopiedLaws.{placed_reads, copied_item, copied_named, type_again}
 
 -- ---- what grows
@@ -32,7 +33,7 @@ Collects-extends {m} {n} (Fresh {l} s c) = Extends-trans m l n s.extends (Collec
 pub special_same : (m n : ModuleValue) → Extends m n → n.special_types ≡ m.special_types
 special_same m n e = ap (λ (v : ModuleValue). v.special_types) e.rest
 
-pub kept_as : (s : Source) (t u : ModuleValue) → Extends t u → kept s u ≡ kept s t
+kept_as : (s : Source) (t u : ModuleValue) → Extends t u → kept s u ≡ kept s t
 kept_as s t u e = ap (kept_of s.value.special_types) (special_same t u e)
 
 -- ---- derivations
@@ -83,15 +84,14 @@ there_later t u e h k q w =
     let r = h k q (ap (λ s. special_at s k) (sym (special_same t u e)) ∙ w) in
     (r.0, Extends-stays t u e (TypeItem q) r.0 r.1)
 
--- what was copied since leaves a derivation
-pub derived_after : (first : Kept) (s : Source) (t : ModuleValue) (ns : List (List ℕ × ℕ)) (w : World) (u : CopyState) (ps : List ItemPlace) → IsDerivation first (derivation (Some s) t ns) → GrowsBy s.value s.offset first w (record { places = s.places; target = t }) u ps → IsDerivation first (after_copying (derivation (Some s) t ns) s u)
-derived_after first s t ns w u ps i g =
-    let e = Collects-extends g.collects in
-    let same = kept_as s t u.target e in
+-- items that come leave a derivation
+pub later_derived : (first : Kept) (s : Source) (t : ModuleValue) (ns : List (List ℕ × ℕ)) (u : CopyState) → IsDerivation first (derivation (Some s) t ns) → IsLater s.value first (record { places = s.places; target = t }) u → IsDerivation first (after_copying (derivation (Some s) t ns) s u)
+later_derived first s t ns u i g =
+    let same = kept_as s t u.target g.extends in
     record {
       kinds = g.midway.kinds;
       sound = g.midway.sound;
-      special = there_later t u.target e i.special;
+      special = there_later t u.target g.extends i.special;
       source = record {
         copyable = i.source.copyable;
         midway = g.midway;
@@ -99,6 +99,10 @@ derived_after first s t ns w u ps i g =
         still = λ p q h. ap (λ (f : Kept). f p) same ∙ i.source.still p q h;
       };
     }
+
+-- so what was copied since leaves one
+pub derived_after : (first : Kept) (s : Source) (t : ModuleValue) (ns : List (List ℕ × ℕ)) (w : World) (u : CopyState) (ps : List ItemPlace) → IsDerivation first (derivation (Some s) t ns) → GrowsBy s.value s.offset first w (record { places = s.places; target = t }) u ps → IsDerivation first (after_copying (derivation (Some s) t ns) s u)
+derived_after first s t ns w u ps i g = later_derived first s t ns u i (record { midway = g.midway; went = g.went; extends = Collects-extends g.collects })
 
 pub keeps_after : (first : Kept) (s : Source) (t : ModuleValue) (ns : List (List ℕ × ℕ)) (w : World) (u : CopyState) (ps : List ItemPlace) → GrowsBy s.value s.offset first w (record { places = s.places; target = t }) u ps → Keeps (derivation (Some s) t ns) (after_copying (derivation (Some s) t ns) s u)
 keeps_after first s t ns w u ps g = record {

@@ -11,11 +11,9 @@ use Rattle.naga_oil_ir.specs.declared.span.Span.{Span}
 use Rattle.naga_oil_derive.specs.declared.maps.Maps.{Maps}
 use Rattle.naga_oil_derive.specs.declared.import.Functions.{Functions}
 use Rattle.naga_oil_derive.specs.declared.walk.Request.TheVariants.{Call}
-use Rattle.naga_oil_derive.specs.Tree.{Kept}
 use Rattle.naga_oil_derive.specs.World.{value_of}
 use Rattle.naga_oil_derive.specs.Renames.{Renames}
-use Rattle.naga_oil_derive.specs.Functions.{Copies}
-use Rattle.naga_oil_derive.specs.Copying.{IsCopying, AreRanked, kept_between}
+use Rattle.naga_oil_derive.specs.Copying.{IsCopying}
 use Rattle.naga_oil_derive.specs.Callees.{known_as, callee_at}
 use Rattle.naga_oil_derive.specs.Went.{went_by}
 use Rattle.naga_oil_derive.specs.CopiedFunction.{copied_function}
@@ -30,12 +28,11 @@ use Rattle.naga_oil_derive.specs.AnsweredLaw.{HasForm, HasCopies, HaveCopies, An
 use Rattle.naga_oil_derive.specs.Putting.{Adding}
 use Rattle.naga_oil_derive.proofs.DeriveLemmas.{source_at}
 use Rattle.naga_oil_derive.proofs.DeriveCalls.{Shader, FunctionNames, source_in}
-use Rattle.naga_oil_derive.proofs.DerivedLaws.{midway_now}
+use Rattle.naga_oil_derive.proofs.Derivations.{derived_by}
 use Rattle.naga_oil_derive.proofs.DerivedValues.{before, after, imported_value}
 use Rattle.naga_oil_derive.proofs.ViewLaws.{view_derived}
-use Rattle.naga_oil_derive.proofs.PuttingLemmas.{copying_of}
 use Rattle.naga_oil_derive.proofs.AddingLaws.{adding_law}
-use Rattle.naga_oil_derive.proofs.AnsweredLaws.{answer_law, call_law, function_law}
+use Rattle.naga_oil_derive.proofs.AnsweredLaws.{answer_law, call_law, function_law, localized_law}
 use Rattle.naga_oil_derive.proofs.FunctionLaws.{alone, copies}
 use Rattle.naga_oil_derive.proofs.FunctionValues.{known_same, callee_means, may_copy_all, may_call, function_at}
 use Rattle.naga_oil_derive.proofs.HavingLemmas.{copying_having, going_same}
@@ -74,11 +71,6 @@ pub record IsCall (o : Shader) (s : Bor Module) (t x y u : Module) (m n : Maps) 
   pub seen : qs ≡ g.names.entries
   pub adding : Adding (value_of s.now) m.offset (import_state m x f) (import_state n y g)
 
--- a derivation whose source is ranked is what its fields say
-derived_view : (s : Bor Module) (n : Maps) (u : Module) (ns : FunctionNames) (first : Kept) → AreRanked s.now → IsDerivation first (derived_of (Some s) n u ns) → IsDerived (Some s) n u
-unfolding value_of kept_between
-derived_view s n u ns first ranked i = record { sound = i.sound; special = λ k q e. i.special k q e; source = (copying_of s.now u n (midway_now first (source_of n s) (value_of u) i.source), ranked) }
-
 adds : (o : Shader) (s : Bor Module) (t x y u : Module) (m n : Maps) (f g : Functions) (ns qs : FunctionNames) (d : Derived) → IsCall o s t x y u m n f g ns qs d → AddsOnly (kept_by (derived_of (Some s) m t ns)) (derived_of (Some s) m t ns) (derived_of (Some s) n u qs)
 adds o s t x y u m n f g ns qs d c =
     let e = derived_of (Some s) m t ns in
@@ -89,7 +81,7 @@ adds o s t x y u m n f g ns qs d c =
 -- what holds of a derived module holds after it, also where it was refused
 pub call_holds : (o : Shader) (s : Bor Module) (t x y u : Module) (m n : Maps) (f g : Functions) (ns qs : FunctionNames) (d : Derived) → IsCall o s t x y u m n f g ns qs d → IsDerived o n u
 call_holds o s t x y u m n f g ns qs d c =
-    subst (λ (q : Shader). IsDerived q n u) (sym c.is) (derived_view s n u qs (kept_by (derived_of (Some s) m t ns)) (source_in o s m t c.is c.holds).1 (adds o s t x y u m n f g ns qs d c).derivation)
+    subst (λ (q : Shader). IsDerived q n u) (sym c.is) (derived_by (kept_by (derived_of (Some s) m t ns)) s n u qs (source_in o s m t c.is c.holds).1 (adds o s t x y u m n f g ns qs d c).derivation)
 
 -- and it keeps what is there
 pub call_keeps : (o : Shader) (s : Bor Module) (t x y u : Module) (m n : Maps) (f g : Functions) (ns qs : FunctionNames) (d : Derived) → IsCall o s t x y u m n f g ns qs d → KeepsFunctions d (derived_of o n u qs)
@@ -152,13 +144,9 @@ form_in : (o : Option Source) (ns : Meanings) (v : FunctionValue) → IsSome o �
 form_in None ns v is h = absurd (false≢true is)
 form_in (Some s) ns v is h = h.form
 
-localized_at : (o : Option Source) (ns : Meanings) (f : Function) (w : FunctionValue) → HasForm (function_value f) → w ≡ function_localized o ns (function_value f) → IfSome o (λ s. Copies (going s ns) (function_value f) w)
-localized_at None ns f w h e = tt
-localized_at (Some s) ns f w h e = subst (Copies (going s ns) (function_value f)) (sym e) (function_copies f (going s ns) h)
-
 -- what is made of a function that can be copied copies it
 pub localized_ok : {B : Type 0} (r : Result Function B) (d e : Derived) (f : Function) → CanCopy d (function_value f) → IfOk r (λ w. function_value w ≡ function_localized e.source e.function_names (function_value f)) → IfOk r (λ w. IsLocalized e (function_value f) (function_value w))
-localized_ok (Ok w) d e f can is = localized_at e.source e.function_names f (function_value w) (form_in d.source d.function_names (function_value f) can.0 can.1) is
+localized_ok (Ok w) d e f can is = subst (IsLocalized e (function_value f)) (sym is) (localized_law e (function_value f) (function_copies f) (form_in d.source d.function_names (function_value f) can.0 can.1))
 localized_ok (Err x) d e f can is = tt
 
 -- the same as a value

@@ -4,9 +4,9 @@ use Rattle.std.specs.List.{position_or_len}
 use Rattle.std.proofs.lemmas.Bool.Decides.{same_from_decides}
 use Rattle.std.proofs.lemmas.List.{length-map, map-append}
 use Rattle.std.proofs.lemmas.Option.{slice_get-map}
-use Rattle.naga_oil_ir.specs.Parts.{parts, Parts}
+use Rattle.naga_oil_ir.specs.Parts.{parts}
 use Rattle.naga_oil_ir.specs.Places.{place_of, with_element}
-use Rattle.naga_oil_ir.specs.Rows.{Row, Text, type_row, constant_row, override_row, global_row, expression_row}
+use Rattle.naga_oil_ir.specs.Rows.{Text, type_row, constant_row, override_row, global_row}
 use Rattle.naga_oil_ir.specs.ModuleValue.{expression_values}
 use Rattle.naga_oil_ir.specs.Spans.{undefined}
 use Rattle.naga_oil_ir.specs.declared.module.Module.{Module}
@@ -16,7 +16,7 @@ use Rattle.naga_oil_ir.specs.declared.types.Constant.{Constant as ConstantItself
 use Rattle.naga_oil_ir.specs.declared.types.Override.{Override as OverrideItself}
 use Rattle.naga_oil_ir.specs.declared.types.GlobalVariable.{GlobalVariable as GlobalItself}
 use Rattle.naga_oil_ir.specs.declared.expression.Expression.{Expression}
-use Rattle.naga_oil_ir.specs.declared.names.ItemPlace.TheVariants.{TypeItem, ConstantItem, OverrideItem, GlobalItem, ExpressionItem}
+use Rattle.naga_oil_ir.specs.declared.names.ItemPlace.TheVariants.{ConstantItem, OverrideItem, GlobalItem, ExpressionItem}
 use Rattle.naga_oil_ir.specs.contracts.types.TypePartialEq.TheImpl.{ghosts as type_ghosts}
 use Rattle.naga_oil_ir.specs.contracts.types.ConstantPartialEq.TheImpl.{ghosts as constant_ghosts}
 use Rattle.naga_oil_ir.specs.contracts.types.OverridePartialEq.TheImpl.{ghosts as override_ghosts}
@@ -29,7 +29,7 @@ use Rattle.naga_oil_derive.specs.Equal.{row_eq, parts_eq}
 use Rattle.naga_oil_derive.specs.Renames.{rename, rename_row}
 use Rattle.naga_oil_derive.specs.World.{value_of, shifted, under_name}
 use Rattle.naga_oil_derive.specs.Copying.{places_of, renames_under}
-use Rattle.naga_oil_derive.specs.Copied.{CopyState, copy_state, renames_by, place_in, with_item_in, of_item, put_type, put}
+use Rattle.naga_oil_derive.specs.Copied.{CopyState, copy_state, place_in, with_item_in, of_item, put_type, put}
 use Rattle.naga_oil_derive.proofs.EqualLemmas.{row_eq-decides, parts_eq-decides}
 
 -- ---- a list, and its values

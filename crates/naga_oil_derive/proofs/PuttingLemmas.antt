@@ -1,5 +1,5 @@
 -- What holds after items were put one after another, also where copying was refused, and what copying them makes.
-use Rattle.std.proofs.Common.{◌≡◌, ℕ, List, length, map, Option, Some, None, refl, ap, sym, ◌∙◌, subst, All, IfSome}
+use Rattle.std.proofs.Common.{◌≡◌, ℕ, List, Option, Some, None, refl, ap, sym, ◌∙◌, subst, All, IfSome}
 use Rattle.std.proofs.lemmas.List.{length-map}
 use Rattle.std.proofs.lemmas.List.Elements.{All-weaker}
 use Rattle.naga_oil_ir.specs.Rows.{Row, Text}
@@ -12,7 +12,7 @@ use Rattle.naga_oil_derive.specs.Tree.{Kept}
 use Rattle.naga_oil_derive.specs.World.{goes, value_of, world, Extends, under_name}
 use Rattle.naga_oil_derive.specs.Copying.{IsThere, AreRanked, IsCopying, Grows, WentSomewhere, AreNames, CollectsItem, goes_under, source_world, kept_between, copied_span, trail_of}
 use Rattle.naga_oil_derive.specs.Copied.{CopyState, copy_state, put, put_type, copied, all_copied}
-use Rattle.naga_oil_derive.specs.CopiedLaw.{IsKinded, HasAt, IsBelowIn, IsCopyable, AreRoomy, reads_now, spans_by, IsMidway, PutsOne, IsReady, GrowsBy}
+use Rattle.naga_oil_derive.specs.CopiedLaw.{IsKinded, HasAt, IsBelowIn, IsCopyable, reads_now, spans_by, IsMidway, IsReady, GrowsBy}
 use Rattle.naga_oil_derive.specs.Putting.{CanPut, Putting, NothingPut, ItemPut, TypePutting, NoType, TypeLast}
 use Rattle.naga_oil_derive.proofs.TreeLemmas.{puts_keeps}
 use Rattle.naga_oil_derive.proofs.CopyLemmas.{kept_same}

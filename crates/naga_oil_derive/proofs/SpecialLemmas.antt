@@ -1,24 +1,18 @@
-use Rattle.std.proofs.Common.{◌≡◌, ◌⊎◌, inl, inr, ⊎_elim, ℕ, zero, suc, ◌<◌, ◌≤◌, ◌+◌, Bool, true, false, cond, nat_eq, List, [], ◌∷◌, ◌++◌, map, length, take, get_or, Option, Some, None, option_map, option_to_list, slice_get, slice_set, unwrap_or, is_some, ◌==◌, if◌then◌else◌, refl, ap, sym, ◌∙◌, subst, arith, All, IfSome, replicate, rules, tests, take_all}
+use Rattle.std.proofs.Common.{◌≡◌, ◌⊎◌, inl, inr, ⊎_elim, ℕ, ◌<◌, ◌+◌, Bool, true, false, cond, nat_eq, List, [], ◌∷◌, ◌++◌, map, length, take, get_or, Option, Some, None, slice_get, slice_set, is_some, ◌==◌, if◌then◌else◌, refl, ap, sym, ◌∙◌, subst, All}
 use Rattle.std.specs.List.{AllByRecursion, IsDistinct}
 use Rattle.std.specs.Option.{option_flatten}
 use Rattle.std.specs.Map.{lookup}
 use Rattle.std.proofs.lemmas.Bool.{false≢true}
 use Rattle.std.proofs.lemmas.List.{append_assoc, length-set, take_more}
-use Rattle.std.proofs.lemmas.List.Elements.{All-head, All-tail, All-cons, All-nil}
+use Rattle.std.proofs.lemmas.List.Elements.{All-head, All-tail}
 use Rattle.std.proofs.lemmas.Map.Keys.{IsDistinct-head, IsDistinct-tail}
 use Rattle.indexmap.specs.IndexMap.{insert_entry}
-use Rattle.naga_oil_ir.specs.Rows.{Row}
-use Rattle.naga_oil_ir.specs.ItemForm.{special_types}
-use Rattle.naga_oil_ir.specs.ModuleValue.{SpecialValue, special_value}
-use Rattle.naga_oil_ir.specs.declared.module.SpecialTypes.{SpecialTypes}
-use Rattle.naga_oil_ir.specs.declared.module.Module.{Module}
-use Rattle.naga_oil_ir.specs.declared.names.ItemPlace.{ItemPlace}
-use Rattle.naga_oil_ir.specs.declared.names.ItemPlace.TheVariants.{TypeItem, ConstantItem, OverrideItem, GlobalItem, ExpressionItem}
+use Rattle.naga_oil_ir.specs.ModuleValue.{SpecialValue}
 use Rattle.naga_oil_ir.proofs.LinkLemmas.{eqb_eq, eq_eqb, slice_get-set_same, slice_get-set_other}
 use Rattle.naga_oil_derive.specs.declared.special.SpecialKey.{SpecialKey}
 use Rattle.naga_oil_derive.specs.declared.special.SpecialKey.TheVariants.{RayDesc, RayIntersection, RayVertexReturn, Predeclared}
 use Rattle.naga_oil_derive.specs.World.{special_entry, special_entries, special_at, or_option, kept_in, LacksKey, HaveDistinctKeys, with_special, with_specials}
-use Rattle.naga_oil_derive.specs.Copying.{put_kept, kept_over, special_names}
+use Rattle.naga_oil_derive.specs.Copying.{put_kept, kept_over}
 
 -- a special type with its key
 abbrev pub Entry : Type 0

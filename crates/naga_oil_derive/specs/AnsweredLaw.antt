@@ -71,6 +71,11 @@ FunctionLaw = (first : Kept) (d : Derived) (v : FunctionValue) (span : Span) →
     IsDerivation first d → HaveCopies d → HasCopies v → CanImport d v →
     ImportsFunction first d (function_imported d v span) v span
 
+-- LAW: a function over the handles of the source is localized
+abbrev pub LocalizedLaw : Type 0
+LocalizedLaw = (d : Derived) (v : FunctionValue) → HasCopies v → HasForm v →
+    IsLocalized d v (function_localized d.source d.function_names v)
+
 -- items and functions were added, and all else stayed
 pub record AddsOnly (first : Kept) (d e : Derived) : Type 0 where
   pub derivation : IsDerivation first e
@@ -81,8 +86,3 @@ abbrev pub AddingLaw : Type 0
 AddingLaw = (first : Kept) (d : Derived) (s : Source) (i : ImportState) →
     IsDerivation first d → d.source ≡ Some s → Adding s.value s.offset (importing_of d s) i →
     AddsOnly first d (after_importing s i)
-
--- LAW: a function over the handles of the source is localized
-abbrev pub LocalizedLaw : Type 0
-LocalizedLaw = (d : Derived) (v : FunctionValue) → HasCopies v → HasForm v →
-    IsLocalized d v (function_localized d.source d.function_names v)

@@ -9,7 +9,6 @@ use Rattle.naga_oil_ir.specs.declared.span.Span.{Span}
 use Rattle.naga_oil_ir.specs.declared.names.ItemPlace.{ItemPlace}
 use Rattle.naga_oil_ir.specs.declared.names.ItemPlace.TheVariants.{TypeItem, ConstantItem, OverrideItem, GlobalItem, ExpressionItem}
 use Rattle.naga_oil_derive.specs.declared.maps.Maps.{Maps}
-use Rattle.naga_oil_derive.specs.declared.special.SpecialKey.{SpecialKey}
 use Rattle.naga_oil_derive.specs.Equal.{row_eq, parts_eq}
 use Rattle.naga_oil_derive.specs.Renames.{Renames, rename, rename_row}
 use Rattle.naga_oil_derive.specs.World.{Places, goes, value_of, world, shifted, under_name}

@@ -1,5 +1,5 @@
 -- What holds between the calls that copy items, and what each of them does.
-use Rattle.std.specs.Prelude.{◌⊎◌, ℕ, zero, suc, ◌≡◌, ◌+◌, ◌*◌, ◌<◌, ◌≤◌, List, [], ◌∷◌, length, map, Option, Some, None, option_map, slice_get, slice_set, unwrap_or, All, IfSome, if◌then◌else◌}
+use Rattle.std.specs.Prelude.{◌⊎◌, ℕ, zero, suc, ◌≡◌, ◌+◌, ◌*◌, ◌<◌, List, [], ◌∷◌, length, map, Option, Some, None, option_map, slice_get, slice_set, unwrap_or, All, IfSome, if◌then◌else◌}
 use Rattle.std.specs.List.{AllZip}
 use Rattle.std.specs.Option.{option_flatten}
 use Rattle.naga_oil_ir.specs.Rows.{Row}
@@ -14,7 +14,7 @@ use Rattle.naga_oil_derive.specs.declared.special.SpecialKey.{SpecialKey}
 use Rattle.naga_oil_derive.specs.Renames.{Renames}
 use Rattle.naga_oil_derive.specs.Tree.{World, Kept, ReadsAs}
 use Rattle.naga_oil_derive.specs.World.{Places, goes, value_of, world, span_at, shifted, Extends, named_world, kept_of}
-use Rattle.naga_oil_derive.specs.Collected.{Collects, depth, reached, names_trail}
+use Rattle.naga_oil_derive.specs.Collected.{Collects, depth, reached}
 
 -- ---- worlds
 

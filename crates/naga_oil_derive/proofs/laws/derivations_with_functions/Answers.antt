@@ -3,4 +3,4 @@ use Rattle.naga_oil_derive.proofs.AddingLaws.{adding_law}
 use Rattle.naga_oil_derive.proofs.laws.derivations_with_functions.Goals as goal
 
 pub returns : goal.returns
-returns c = record { answers = answer_law; call = call_law; function = function_law; localized = localized_law; adding = adding_law }
+returns c = record { answers = answer_law; call = call_law; function = function_law; adding = adding_law; localized = localized_law }

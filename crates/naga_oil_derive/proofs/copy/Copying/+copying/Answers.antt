@@ -1,4 +1,4 @@
-use Rattle.std.proofs.Common.{◌≡◌, ◌∙◌, ◌<◌, ◌+◌, ◌*◌, arith, subst, Some, sym, ap, refl, rules}
+use Rattle.std.proofs.Common.{◌∙◌, ◌<◌, ◌+◌, ◌*◌, arith, subst, sym, ap, refl, rules}
 use Rattle.naga_oil_derive.specs.Copying.{IsBelowItem, IsCopying, goes_under, rank}
 use Rattle.naga_oil_derive.specs.World.{value_of}
 use Rattle.naga_oil_derive.specs.Copied.{CopyState, copy_state, copied, put}
