@@ -1,11 +1,11 @@
 -- Copies of the places of an order, one after another.
-use Rattle.std.proofs.Common.{◌≡◌, ⊎_elim, inl, inr, ℕ, zero, suc, ◌+◌, ◌-◌, ◌<◌, ◌≤◌, Bool, true, false, ◌||◌, ◌==◌, List, [], ◌∷◌, ◌++◌, length, map, take, get_or, slice_get, slice_set, option_to_list, Option, Some, None, refl, ap, sym, ◌∙◌, subst, arith}
+use Rattle.std.proofs.Common.{◌≡◌, inl, inr, ℕ, zero, suc, ◌+◌, ◌-◌, ◌<◌, ◌≤◌, Bool, true, false, List, [], ◌∷◌, ◌++◌, length, map, take, get_or, slice_get, slice_set, option_to_list, Some, refl, ap, sym, ◌∙◌, subst, arith}
 use Rattle.std.specs.List.{flat_map}
 use Rattle.std.proofs.lemmas.Bool.{false≢true, true≢false}
-use Rattle.std.proofs.lemmas.List.{append-nil, append_assoc, map-append, length_push, length-set, length-map, take_more, take-take, take_all}
+use Rattle.std.proofs.lemmas.List.{append-nil, append_assoc, map-append, length_push, take_more, take-take}
 use Rattle.std.proofs.lemmas.Option.{slice_get-get_or, none-some}
 use Rattle.naga_oil_ir.specs.Parts.{Parts, parts}
-use Rattle.naga_oil_ir.specs.Links.{Links, linked, has}
+use Rattle.naga_oil_ir.specs.Links.{Links, has}
 use Rattle.naga_oil_ir.specs.BodyForm.{run, operand_links}
 use Rattle.naga_oil_ir.specs.ModuleValue.{expression_values}
 use Rattle.naga_oil_ir.specs.declared.expression.Expression.{Expression}
@@ -34,20 +34,19 @@ pub links_of_values : (es : List (Expression × Span)) → value_links (expressi
 links_of_values [] = refl
 links_of_values (e ∷ es) = ap (λ (ls : Links). flat_map option_to_list (parts e.0).operands ∷ ls) (links_of_values es)
 
-there : (es : List (Expression × Span)) (k : ℕ) → k < length es → (a : Parts × Span) × (slice_get (expression_values es) k ≡ Some a)
+pub there : (es : Values) (k : ℕ) → k < length es → (a : Parts × Span) × (slice_get es k ≡ Some a)
 there [] k h = absurd (omega arith)
-there (e ∷ es) zero h = ((parts e.0, e.1), refl)
+there (e ∷ es) zero h = (e, refl)
 there (e ∷ es) (suc k) h = there es k (omega arith)
 
-meets : (r : Renames) (es : List (Expression × Span)) (o : List ℕ) (i : ℕ) (s : List ℕ) (t : Table) (v : Values) (a : Parts × Span) → IsReachOrder (operand_links es) o → i < length o → AreCopies r (expression_values es) s (take i o) t v → get_or o i 0 < length t → slice_get (expression_values es) (get_or o i 0) ≡ Some a → Meets r (expression_values es) s (take i o) t v (get_or o i 0) a
+meets : (r : Renames) (es : Values) (o : List ℕ) (i : ℕ) (s : List ℕ) (t : Table) (v : Values) (a : Parts × Span) → IsReachOrder (value_links es) o → i < length o → AreCopies r es s (take i o) t v → get_or o i 0 < length t → slice_get es (get_or o i 0) ≡ Some a → Meets r es s (take i o) t v (get_or o i 0) a
 meets r es o i s t v a ready l c room at =
-    let q : IsReachOrder (value_links (expression_values es)) o = subst (λ ls. IsReachOrder ls o) (sym (links_of_values es)) ready in
     let g : slice_get o i ≡ Some (get_or o i 0) = slice_get-get_or o i 0 l in
     record {
       copies = c;
-      fresh = q.once i (get_or o i 0) g;
-      closed_links = λ j h. closed (value_links (expression_values es)) (take i o) (IsReachOrder-take (value_links (expression_values es)) o i q) j h;
-      after_links = λ x h. q.after i (get_or o i 0) x g h;
+      fresh = ready.once i (get_or o i 0) g;
+      closed_links = λ j h. closed (value_links es) (take i o) (IsReachOrder-take (value_links es) o i ready) j h;
+      after_links = λ x h. ready.after i (get_or o i 0) x g h;
       room = room;
       at_place = at;
     }
@@ -58,16 +57,16 @@ pub record Merged (r : Renames) (es : Values) (o : List ℕ) (t : Table) (v : Va
   pub copies : AreCopies r es o o t v
   pub apart : AreApart v
 
-pub merge_step : (r : Renames) (es : List (Expression × Span)) (o : List ℕ) (i : ℕ) (t u : Table) (v w : Values) → IsReachOrder (operand_links es) o → i < length o → get_or o i 0 < length es → length t ≡ length es → AreCopies r (expression_values es) (take i o) (take i o) t v → AreApart v → IsStep r (expression_values es) true (get_or o i 0) t v u w → Merged r (expression_values es) (take (i + 1) o) u w
+pub merge_step : (r : Renames) (es : Values) (o : List ℕ) (i : ℕ) (t u : Table) (v w : Values) → IsReachOrder (value_links es) o → i < length o → get_or o i 0 < length es → length t ≡ length es → AreCopies r es (take i o) (take i o) t v → AreApart v → IsStep r es true (get_or o i 0) t v u w → Merged r es (take (i + 1) o) u w
 merge_step r es o i t u v w ready l within room c a step =
     let k = get_or o i 0 in
     let at = there es k within in
     let lt : k < length t = omega arith in
     let m = meets r es o i (take i o) t v at.0 ready l c lt at.1 in
     let f = step at.0 at.1 in
-    let q = merge_one r (expression_values es) (take i o) t v k at.0 f.0 w m a f.2 in
+    let q = merge_one r es (take i o) t v k at.0 f.0 w m a f.2 in
     record {
-      copies = subst (λ xs. AreCopies r (expression_values es) xs xs u w) (sym (take_more o i 0 l)) (subst (λ (x : Table). AreCopies r (expression_values es) (take i o ++ k ∷ []) (take i o ++ k ∷ []) x w) (sym f.1) q);
+      copies = subst (λ xs. AreCopies r es xs xs u w) (sym (take_more o i 0 l)) (subst (λ (x : Table). AreCopies r es (take i o ++ k ∷ []) (take i o ++ k ∷ []) x w) (sym f.1) q);
       apart = apart_one v (copied r t at.0.0, r.span at.0.1) f.0 w a f.2;
     }
 
@@ -85,10 +84,9 @@ last_put : (v : Values) (c : Parts × Span) (h : ℕ) (w : Values) → IsPut fal
 last_put v c h w (inl (u, f, e)) = absurd (false≢true u)
 last_put v c h w (inr (u, e, f)) = (e, ap length f ∙ length_push v c)
 
-pub append_step : (r : Renames) (es : List (Expression × Span)) (o : List ℕ) (b i : ℕ) (t0 t u : Table) (v w : Values) (m : ℕ) → IsReachOrder (operand_links es) o → b ≤ i → i < length o → get_or o i 0 < length es → length t ≡ length es → AreCopies r (expression_values es) (take b o) (take i o) t v → map (place_under t) (take i o) ≡ map (place_under t0) (take b o) ++ run m (i - b) → length v ≡ m + (i - b) → IsStep r (expression_values es) false (get_or o i 0) t v u w → Appended r (expression_values es) (take b o) (take (i + 1) o) t0 m (i + 1 - b) u w
+pub append_step : (r : Renames) (es : Values) (o : List ℕ) (b i : ℕ) (t0 t u : Table) (v w : Values) (m : ℕ) → IsReachOrder (value_links es) o → b ≤ i → i < length o → get_or o i 0 < length es → length t ≡ length es → AreCopies r es (take b o) (take i o) t v → map (place_under t) (take i o) ≡ map (place_under t0) (take b o) ++ run m (i - b) → length v ≡ m + (i - b) → IsStep r es false (get_or o i 0) t v u w → Appended r es (take b o) (take (i + 1) o) t0 m (i + 1 - b) u w
 append_step r es o b i t0 t u v w m ready le l within room c follow count step =
     let k = get_or o i 0 in
-    let vs = expression_values es in
     let at = there es k within in
     let lt : k < length t = omega arith in
     let q = meets r es o i (take b o) t v at.0 ready l c lt at.1 in
@@ -96,12 +94,12 @@ append_step r es o b i t0 t u v w m ready le l within room c follow count step =
     let h = f.0 in
     let held : Holds (take i o) (take b o) = λ x y. has_take b (take i o) x (ap (λ xs. has xs x) (take-take b i o le) ∙ y) in
     let last = last_put v (copied r t at.0.0, r.span at.0.1) h w f.2 in
-    let new = append_one r vs (take b o) (take i o) t v k at.0 h w q held f.2 in
+    let new = append_one r es (take b o) (take i o) t v k at.0 h w q held f.2 in
     let more = take_more o i 0 l in
     let hm : m + (i - b) ≡ h = sym (last.0 ∙ count) in
     let n : i + 1 - b ≡ suc (i - b) = omega arith in
     record {
-      copies = subst (λ xs. AreCopies r vs (take b o) xs u w) (sym more) (subst (λ (x : Table). AreCopies r vs (take b o) (take i o ++ k ∷ []) x w) (sym f.1) new);
+      copies = subst (λ xs. AreCopies r es (take b o) xs u w) (sym more) (subst (λ (x : Table). AreCopies r es (take b o) (take i o ++ k ∷ []) x w) (sym f.1) new);
       follow = ap (map (place_under u)) more ∙ ap (λ (x : Table). map (place_under x) (take i o ++ k ∷ [])) f.1 ∙ map-append (place_under (slice_set t k (Some h))) (take i o) (k ∷ []) ∙ ap (λ xs. xs ++ place_under (slice_set t k (Some h)) k ∷ []) (map_other t k h (take i o) q.fresh ∙ follow) ∙ ap (λ x. (map (place_under t0) (take b o) ++ run m (i - b)) ++ x ∷ []) (under_same t k h lt) ∙ append_assoc (map (place_under t0) (take b o)) (run m (i - b)) (h ∷ []) ∙ ap (λ xs. map (place_under t0) (take b o) ++ xs) (sym (ap (run m) n ∙ run-last m (i - b) h hm));
       count = last.1 ∙ ap (λ x. x + 1) count ∙ plus_next m (i - b) (i + 1 - b) n;
     }
@@ -115,7 +113,7 @@ pub placed_start : (r : Renames) (es : Values) (o : List ℕ) (b : ℕ) (u : Boo
 placed_start r es o b true t v c a = record { copies = c; apart = λ e. a; follow = λ e. absurd (true≢false e); count = λ e. absurd (true≢false e) }
 placed_start r es o b false t v c a = record { copies = c; apart = λ e. a; follow = λ e. start_follow t o b (length v); count = λ e. omega arith }
 
-pub place_step : (r : Renames) (es : List (Expression × Span)) (o : List ℕ) (b i : ℕ) (u : Bool) (t0 : Table) (m : ℕ) (t x : Table) (v w : Values) → IsReachOrder (operand_links es) o → b ≤ i → i < length o → get_or o i 0 < length es → length t ≡ length es → Placed r (expression_values es) o b i u t0 m t v → IsStep r (expression_values es) u (get_or o i 0) t v x w → Placed r (expression_values es) o b (i + 1) u t0 m x w
+pub place_step : (r : Renames) (es : Values) (o : List ℕ) (b i : ℕ) (u : Bool) (t0 : Table) (m : ℕ) (t x : Table) (v w : Values) → IsReachOrder (value_links es) o → b ≤ i → i < length o → get_or o i 0 < length es → length t ≡ length es → Placed r es o b i u t0 m t v → IsStep r es u (get_or o i 0) t v x w → Placed r es o b (i + 1) u t0 m x w
 place_step r es o b i true t0 m t x v w ready le l within room p step =
     let q = merge_step r es o i t x v w ready l within room p.copies (p.apart refl) step in
     record { copies = q.copies; apart = λ e. q.apart; follow = λ e. absurd (true≢false e); count = λ e. absurd (true≢false e) }
@@ -140,11 +138,11 @@ so_far_start r es o b t v c a =
     let p : Placed r es o 0 0 true [] 0 t v = record { copies = c; apart = λ e. a; follow = λ e. absurd (true≢false e); count = λ e. absurd (true≢false e) } in
     record { merged = λ h. p; single = λ h. turned r es o b 0 t v (omega (arith, h)) p }
 
-pub so_far_step : (r : Renames) (es : List (Expression × Span)) (o : List ℕ) (b i : ℕ) (u : Bool) (t x : Table) (v w : Values) → IsReachOrder (operand_links es) o → i < length o → get_or o i 0 < length es → length t ≡ length es → (u ≡ true → i < b) → (u ≡ false → b ≤ i) → PlacedSoFar r (expression_values es) o b i t v → IsStep r (expression_values es) u (get_or o i 0) t v x w → PlacedSoFar r (expression_values es) o b (i + 1) x w
+pub so_far_step : (r : Renames) (es : Values) (o : List ℕ) (b i : ℕ) (u : Bool) (t x : Table) (v w : Values) → IsReachOrder (value_links es) o → i < length o → get_or o i 0 < length es → length t ≡ length es → (u ≡ true → i < b) → (u ≡ false → b ≤ i) → PlacedSoFar r es o b i t v → IsStep r es u (get_or o i 0) t v x w → PlacedSoFar r es o b (i + 1) x w
 so_far_step r es o b i true t x v w ready l within room early late p step =
     let less = early refl in
     let q = place_step r es o 0 i true [] 0 t x v w ready (omega arith) l within room (p.merged (omega (arith, less))) step in
-    record { merged = λ h. q; single = λ h. turned r (expression_values es) o b (i + 1) x w (omega (arith, h, less)) q }
+    record { merged = λ h. q; single = λ h. turned r es o b (i + 1) x w (omega (arith, h, less)) q }
 so_far_step r es o b i false t x v w ready l within room early late p step =
     let more = late refl in
     let q = p.single more in
