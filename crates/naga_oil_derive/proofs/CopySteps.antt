@@ -116,10 +116,10 @@ reads-more r es s o t v k a h w m p j b i e =
     ⊎_elim (λ l. let x = m.copies.reads j b l e in (x.0, ap (slice_get w) (under_other t k h j (ne_of o k j m.fresh l)) ∙ p.keeps (place_under t j) x.0 x.1, x.2 ∙ reads-same r es s o t v k a h m j b e (m.closed_links j l))) (λ q. let same : a ≡ b = same_Some a b (sym m.at_place ∙ ap (slice_get es) q ∙ e) in let x = p.here in (x.0, ap (slice_get w) (ap (place_under (slice_set t k (Some h))) (sym q) ∙ under_same t k h m.room) ∙ x.1, x.2 ∙ ap (λ (y : Parts × Span). copied r t y.0) same ∙ reads-same r es s o t v k a h m j b e (subst (λ y. Holds o (linked (value_links es) y)) q m.after_links))) (has_last o k j i)
 
 -- a handle that is there already copies something before
-has_copy : (r : Renames) (es : Values) (s o : List ℕ) (t : Table) (v : Values) (h : ℕ) → AreCopies r es s o t v → h < length v → has (map (place_under t) o) h ≡ true
+pub has_copy : (r : Renames) (es : Values) (s o : List ℕ) (t : Table) (v : Values) (h : ℕ) → AreCopies r es s o t v → h < length v → has (map (place_under t) o) h ≡ true
 has_copy r es s o t v h c l = sym (has-added [] (map (place_under t) o) h) ∙ ap (λ xs. has xs h) c.order ∙ has_run (length v) 0 h (omega arith) (omega arith)
 
-has_part : (i : ℕ) (o : List ℕ) (k : ℕ) → has o k ≡ false → has (take i o) k ≡ false
+pub has_part : (i : ℕ) (o : List ℕ) (k : ℕ) → has o k ≡ false → has (take i o) k ≡ false
 has_part i o k f = false_from_ne_true (has (take i o) k) (λ h. false≢true (sym f ∙ has_take i o k h))
 
 -- a fact of each place that is there

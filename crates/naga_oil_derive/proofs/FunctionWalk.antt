@@ -37,7 +37,7 @@ ext_plain (LocalVariable l) h = refl
 ext_plain (FunctionArgument n) h = refl
 ext_plain _ h = absurd (false≢true h)
 
-res_plain : (e : Expression) → nat_lt (parts e).kind 13 ≡ true → flat_map option_to_list (parts e).operands ≡ []
+pub res_plain : (e : Expression) → nat_lt (parts e).kind 13 ≡ true → flat_map option_to_list (parts e).operands ≡ []
 res_plain (Literal k b) h = refl
 res_plain (ZeroValue t) h = refl
 res_plain (Constant c) h = refl

@@ -9,6 +9,12 @@ pub mod EqualLemmas
 pub mod PutLemmas
 pub mod CopiedLemmas
 pub mod FunctionCopies
+pub mod FunctionForm
+pub mod FunctionLaws
+pub mod ReachedLaws
+pub mod NoteLaws
+pub mod RangeLaws
+pub mod NameLaws
 pub mod AnsweredValues
 pub mod DerivedValues
 pub mod PutLaws

@@ -38,7 +38,7 @@ first_places ks ls is ts o n e l = let g = added-grows (flat_map (listed ks ls) 
 
 -- ---- runs of numbers
 
-run_length : (n a : ℕ) → length (run a n) ≡ n
+pub run_length : (n a : ℕ) → length (run a n) ≡ n
 run_length zero a = refl
 run_length (suc n) a = ap suc (run_length n (suc a))
 
@@ -75,7 +75,7 @@ went_on f o x xs n m b e lx w le s =
 
 -- ---- emitted ranges
 
-places_empty : (r : ℕ × ℕ) → r.1 ≤ r.0 → places r ≡ []
+pub places_empty : (r : ℕ × ℕ) → r.1 ≤ r.0 → places r ≡ []
 places_empty r h = let e : r.1 - r.0 ≡ 0 = omega arith in ap (run r.0) e
 
 one_place : (n m c : ℕ) (r : ℕ × ℕ) (o : Option (ℕ × ℕ)) → r.1 ≤ r.0 → places (brought_range n m c r o) ≡ []

@@ -140,12 +140,12 @@ stand_range ks ls s (k ∷ ps) d o u f w =
 abbrev pub Covers : List ℕ → Links → List ℕ → List ℕ → List ℕ → Type 0
 Covers ks ls s d o = (x : ℕ) → is_known ks s d x ≡ true → (is_external ks x ≡ true) ⊎ Holds o (externals ks (trail ls x))
 
-externals_in : (ks xs : List ℕ) (x : ℕ) → has (externals ks xs) x ≡ true → has xs x ≡ true
+pub externals_in : (ks xs : List ℕ) (x : ℕ) → has (externals ks xs) x ≡ true → has xs x ≡ true
 externals_in ks [] x h = h
 externals_in ks (y ∷ xs) x h =
     ⊎_elim (λ f. ⊎_elim (λ q. or_left (y == x) (has xs x) q) (λ q. or_right (y == x) (has xs x) (externals_in ks xs x q)) (or_cases (y == x) (has (externals ks xs) x) (sym (ap (λ ys. has ys x) (externals_yes ks y xs f)) ∙ h))) (λ f. or_right (y == x) (has xs x) (externals_in ks xs x (sym (ap (λ ys. has ys x) (externals_no ks y xs f)) ∙ h))) (cases_Bool (is_external ks y))
 
-covers_under : (ks : List ℕ) (ls : Links) (s d o : List ℕ) → IsUnder ks ls s d o → Covers ks ls s d o
+pub covers_under : (ks : List ℕ) (ls : Links) (s d o : List ℕ) → IsUnder ks ls s d o → Covers ks ls s d o
 covers_under ks ls s d o u x h =
     ⊎_elim (λ l. inl l) (λ r. inr (λ y i. trail_in ls o u.ready x (⊎_elim (λ l. u.began x l) (λ q. u.kept x q) r) y (externals_in ks (trail ls x) y i))) (known_cases ks s d x h)
 
@@ -178,7 +178,7 @@ covers_step ks ls p a s d o k c n h x i =
     let here : Holds q (externals ks (trail ls k)) = subst (λ t. Holds t (externals ks (trail ls k))) (sym e) (added-holds o (externals ks (trail ls k))) in
     ⊎_elim (λ l. ⊎_elim (λ y. inl y) (λ w. inr (λ z j. added-keeps o (externals ks (linked ls k)) z (w z j))) (c x l)) (λ m. inr (subst (λ v. Holds q (externals ks (trail ls v))) m here)) (known_last ks s d k x i)
 
-same_externals : (ks : List ℕ) (ls : Links) → IsPlain ks ls → AreEarlier ls → (s ps d o : List ℕ) → Covers ks ls s d o → AreEmitted ks ls s d ps → added o (externals ks (flat_map (trail ls) ps)) ≡ added o (externals ks (flat_map (linked ls) ps))
+pub same_externals : (ks : List ℕ) (ls : Links) → IsPlain ks ls → AreEarlier ls → (s ps d o : List ℕ) → Covers ks ls s d o → AreEmitted ks ls s d ps → added o (externals ks (flat_map (trail ls) ps)) ≡ added o (externals ks (flat_map (linked ls) ps))
 same_externals ks ls p a s [] d o c f = refl
 same_externals ks ls p a s (k ∷ ps) d o c f =
     let known = λ (x : ℕ) (i : has (linked ls k) x ≡ true). All-has (λ h. is_known ks s d h ≡ true) (linked ls k) x f.0.3 i in

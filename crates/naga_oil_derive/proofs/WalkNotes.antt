@@ -28,10 +28,10 @@ added-longer xs o = let r = added-grows xs o in let e : length (added o xs) ≡ 
 
 -- ---- one note more
 
-noted_at : (es : Notes) (r p : ℕ × ℕ) → r.0 < r.1 → r.0 < length es → slice_get (noted es r p) r.0 ≡ Some (Some p)
+pub noted_at : (es : Notes) (r p : ℕ × ℕ) → r.0 < r.1 → r.0 < length es → slice_get (noted es r p) r.0 ≡ Some (Some p)
 noted_at es r p h l = ap (λ b. slice_get (cond (b || is_none (option_flatten (slice_get es r.0))) (slice_set es r.0 (Some p)) es) r.0) (lt-ltb r.0 r.1 h) ∙ slice_get-set_same es r.0 (Some p) l
 
-noted_stays : (es : Notes) (r p : ℕ × ℕ) (k : ℕ) (x : ℕ × ℕ) → slice_get es k ≡ Some (Some x) → (r.0 < r.1 → k ≢ r.0) → slice_get (noted es r p) k ≡ Some (Some x)
+pub noted_stays : (es : Notes) (r p : ℕ × ℕ) (k : ℕ) (x : ℕ × ℕ) → slice_get es k ≡ Some (Some x) → (r.0 < r.1 → k ≢ r.0) → slice_get (noted es r p) k ≡ Some (Some x)
 noted_stays es r p k x e f =
     let b = nat_lt r.0 r.1 || is_none (option_flatten (slice_get es r.0)) in
     ⊎_elim (λ q. let l : r.1 ≤ r.0 = ⊎_elim (λ h. absurd (f h q)) (λ h. h) (cases_lt r.0 r.1) in let same : slice_get es r.0 ≡ Some (Some x) = ap (slice_get es) (sym q) ∙ e in ap (λ v. slice_get (cond (v || is_none (option_flatten (slice_get es r.0))) (slice_set es r.0 (Some p)) es) k) (le-ltb r.0 r.1 l) ∙ ap (λ o. slice_get (cond (is_none (option_flatten o)) (slice_set es r.0 (Some p)) es) k) same ∙ e) (λ n. cond_both b (slice_set es r.0 (Some p)) es (λ v. slice_get v k ≡ Some (Some x)) (λ h. slice_get-set_other es r.0 k (Some p) n ∙ e) (λ h. e)) (cases_eq k r.0)
@@ -44,7 +44,7 @@ noted_cases : (es : Notes) (r p : ℕ × ℕ) (k : ℕ) (x : ℕ × ℕ) → sli
 noted_cases es r p k x =
     cond_both (nat_lt r.0 r.1 || is_none (option_flatten (slice_get es r.0))) (slice_set es r.0 (Some p)) es (λ v. slice_get v k ≡ Some (Some x) → (slice_get es k ≡ Some (Some x)) ⊎ (p ≡ x)) (λ h e. set_cases es r.0 k p x e) (λ h e. inl e)
 
-noted_long : (es : Notes) (r p : ℕ × ℕ) → length (noted es r p) ≡ length es
+pub noted_long : (es : Notes) (r p : ℕ × ℕ) → length (noted es r p) ≡ length es
 noted_long es r p = cond_both (nat_lt r.0 r.1 || is_none (option_flatten (slice_get es r.0))) (slice_set es r.0 (Some p)) es (λ v. length v ≡ length es) (λ h. length-set es r.0 (Some p)) (λ h. refl)
 
 -- ---- what stays
@@ -61,7 +61,7 @@ pub record NotesAt (s d o : List ℕ) (es fs : Notes) : Type 0 where
 first_place : (r : ℕ × ℕ) → r.0 < r.1 → places r ≡ r.0 ∷ run (suc r.0) (r.1 - suc r.0)
 first_place r h = let e : r.1 - r.0 ≡ suc (r.1 - suc r.0) = omega arith in ap (run r.0) e
 
-has_first : (d : List ℕ) (r : ℕ × ℕ) → r.0 < r.1 → has (d ++ places r) r.0 ≡ true
+pub has_first : (d : List ℕ) (r : ℕ × ℕ) → r.0 < r.1 → has (d ++ places r) r.0 ≡ true
 has_first d r h =
     has-append d (places r) r.0 ∙ or_right (has d r.0) (has (places r) r.0) (ap (λ xs. has xs r.0) (first_place r h) ∙ ap (λ b. b || has (run (suc r.0) (r.1 - suc r.0)) r.0) (eq_eqb r.0 r.0 refl))
 
@@ -91,7 +91,7 @@ grown_at s d o xs es fs a = record {
   keeps = a.keeps;
 }
 
-token_at : (ks : List ℕ) (ls : Links) → IsPlain ks ls → AreEarlier ls → (n : ℕ) (fs : List (Option ℕ)) (s d o : List ℕ) (es : Notes) (t : Token) → length s ≤ length o → IsUnder ks ls s d o → AreWithin (length s) o es → length es ≡ n → IsFine n ks fs ls s d t → TokenAt ks ls s d o es t
+pub token_at : (ks : List ℕ) (ls : Links) → IsPlain ks ls → AreEarlier ls → (n : ℕ) (fs : List (Option ℕ)) (s d o : List ℕ) (es : Notes) (t : Token) → length s ≤ length o → IsUnder ks ls s d o → AreWithin (length s) o es → length es ≡ n → IsFine n ks fs ls s d t → TokenAt ks ls s d o es t
 token_at ks ls p a n fs s d o es (Emitted r) l u w long f =
     let ps = places r in
     let xs = externals ks (flat_map (linked ls) ps) in

@@ -32,3 +32,4 @@ pub mod CopiedFunction
 pub mod Answered
 pub mod DerivedValue
 pub mod CopiedLaw
+pub mod CopiedFunctionLaw

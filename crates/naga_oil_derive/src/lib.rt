@@ -6,10 +6,12 @@
 //! module that is made. `walk` lists what a function reaches in the order of copying, found by `function_walk`; `localized` copies
 //! a function with its expressions, `import` with those that it calls. `redirect` sends calls to other functions, where
 //! they stand by `sent_calls`, and puts functions in an `order` in which each stands behind what it calls, by their levels.
+//! `function_laws` says what holds of the copy of each function.
 #![tactic(auto)]
 
 pub mod copy;
 pub mod derive;
+pub mod function_laws;
 pub mod function_walk;
 pub mod import;
 pub mod localized;
