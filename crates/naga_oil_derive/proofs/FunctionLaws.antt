@@ -1,26 +1,25 @@
 -- The copy of a function's value is a copy of it.
-use Rattle.std.proofs.Common.{◌≡◌, inl, inr, ℕ, zero, suc, ◌+◌, ◌-◌, ◌<◌, ◌≤◌, Bool, true, false, List, [], ◌∷◌, ◌++◌, length, map, take, get_or, position, slice_get, slice_set, option_to_list, option_map, Option, Some, None, nat_lt, replicate, All, refl, ap, sym, ◌∙◌, subst, arith}
+use Rattle.std.proofs.Common.{◌≡◌, inl, inr, ℕ, zero, suc, ◌+◌, ◌-◌, ◌<◌, ◌≤◌, Bool, true, false, List, [], ◌++◌, length, map, take, get_or, position, slice_get, option_to_list, option_map, Option, Some, None, nat_lt, replicate, refl, ap, sym, ◌∙◌, subst, arith}
 use Rattle.std.specs.List.{flat_map}
 use Rattle.std.proofs.lemmas.Bool.{false≢true, ltb-true, ltb-false, lt-ltb}
-use Rattle.std.proofs.lemmas.List.{length-map, length-set, length-replicate, take_all, take_at}
+use Rattle.std.proofs.lemmas.List.{length-map, length-set, length-replicate, take_all}
 use Rattle.std.proofs.lemmas.List.Quantifiers.{position-Some}
 use Rattle.std.proofs.lemmas.Option.{none-some, same_Some, slice_get-get_or, slice_get-map}
 use Rattle.naga_oil_ir.specs.Parts.{Parts, parts}
 use Rattle.naga_oil_ir.specs.BodyForm.{run}
-use Rattle.naga_oil_ir.specs.ModuleValue.{FunctionValue, expression_values}
+use Rattle.naga_oil_ir.specs.ModuleValue.{FunctionValue}
 use Rattle.naga_oil_ir.specs.declared.expression.Expression.{Expression}
 use Rattle.naga_oil_ir.specs.declared.span.Span.{Span}
 use Rattle.naga_oil_ir.proofs.PlaceLemmas.{place_of-found, place_of-absent, with_element-found, with_element-absent}
 use Rattle.naga_oil_derive.specs.Renames.{Renames}
 use Rattle.naga_oil_derive.specs.Walk.{IsReachOrder}
-use Rattle.naga_oil_derive.specs.Walks.{IsWalkOf}
 use Rattle.naga_oil_derive.specs.Copied.{place_in, with_item_in}
-use Rattle.naga_oil_derive.specs.Copies.{Values, Table, place_under, copied, range_under, value_links, AreCopies, LacksBefore, IsPut, IsStep, Placed}
+use Rattle.naga_oil_derive.specs.Copies.{Values, place_under, copied, range_under, value_links, AreCopies, LacksBefore, IsPut, IsStep}
 use Rattle.naga_oil_derive.specs.CopiedFunction.{ExpressionState, copy_place, with_copy, copied_expression, expressions_upto, copied_expressions, notes_in, copied_function}
-use Rattle.naga_oil_derive.specs.CopiedFunctionLaw.{StandAlone, MayBeCopied, CopyLaw, TableLaw, AloneLaw}
+use Rattle.naga_oil_derive.specs.CopiedFunctionLaw.{MayBeCopied, CopyLaw, TableLaw, AloneLaw}
 use Rattle.naga_oil_derive.specs.DerivedFunctions.{kinds_in, initialisers_in}
 use Rattle.naga_oil_derive.specs.Equal.{parts_eq}
-use Rattle.naga_oil_derive.specs.Functions.{AreCovered, Copies, begun, order_of}
+use Rattle.naga_oil_derive.specs.Functions.{begun, order_of}
 use Rattle.naga_oil_derive.proofs.CopyLoops.{PlacedSoFar, so_far_start, so_far_step}
 use Rattle.naga_oil_derive.proofs.CopySteps.{no_copies, none_apart}
 use Rattle.naga_oil_derive.proofs.EqualLemmas.{parts_eq-decides}

@@ -1,5 +1,5 @@
 -- What is noted of the emitted ranges of a function.
-use Rattle.std.proofs.Common.{◌≡◌, ◌≢◌, ⊎_elim, ◌⊎◌, inl, inr, ℕ, zero, suc, ◌+◌, ◌-◌, ◌<◌, ◌≤◌, true, cond, ◌||◌, nat_lt, List, [], ◌∷◌, ◌++◌, length, map, take, replicate, slice_get, slice_set, option_to_list, Option, Some, None, is_none, refl, ap, sym, ◌∙◌, subst, arith}
+use Rattle.std.proofs.Common.{◌≡◌, ⊎_elim, ℕ, zero, suc, ◌+◌, ◌<◌, ◌≤◌, true, cond, ◌||◌, nat_lt, List, [], ◌∷◌, ◌++◌, length, map, take, replicate, slice_get, slice_set, option_to_list, Option, Some, None, is_none, refl, ap, sym, ◌∙◌, subst, arith}
 use Rattle.std.specs.List.{flat_map}
 use Rattle.std.specs.Option.{option_flatten}
 use Rattle.std.proofs.lemmas.Bool.{cases_lt, cond_both, or_right}

@@ -1,34 +1,33 @@
 -- Where the emitted ranges of a copy stand.
-use Rattle.std.proofs.Common.{◌≡◌, ⊎_elim, if◌then◌else◌, ℕ, zero, suc, ◌+◌, ◌-◌, ◌<◌, ◌≤◌, true, false, cond, nat_lt, List, [], ◌∷◌, ◌++◌, length, map, take, get_or, replicate, slice_get, option_to_list, option_map, Option, Some, None, refl, ap, sym, ◌∙◌, subst, arith}
+use Rattle.std.proofs.Common.{◌≡◌, ⊎_elim, if◌then◌else◌, ℕ, zero, suc, ◌+◌, ◌-◌, ◌<◌, ◌≤◌, false, nat_lt, List, [], ◌∷◌, ◌++◌, length, map, take, get_or, slice_get, option_to_list, option_map, Option, Some, None, refl, ap, sym, ◌∙◌, subst, arith}
 use Rattle.std.specs.List.{flat_map}
 use Rattle.std.specs.Option.{option_flatten}
 use Rattle.std.proofs.lemmas.Bool.{cases_lt, cond_both, le-ltb, lt-ltb}
-use Rattle.std.proofs.lemmas.List.{append_assoc, take-take, take_at, length-append, length-map, length_push, length-replicate}
+use Rattle.std.proofs.lemmas.List.{append_assoc, take-take, take_at, length-map, length_push}
 use Rattle.std.proofs.lemmas.Option.{none-some, same_Some, slice_get-get_or, slice_get-map, slice_get_past}
 use Rattle.naga_oil_ir.specs.Parts.{Parts}
 use Rattle.naga_oil_ir.specs.Body.{Tokens}
-use Rattle.naga_oil_ir.specs.BodyForm.{places, made, callee, AreFine}
-use Rattle.naga_oil_ir.specs.Links.{Links, linked, AreEarlier, trail, has, added}
+use Rattle.naga_oil_ir.specs.BodyForm.{places}
+use Rattle.naga_oil_ir.specs.Links.{Links, trail, has, added}
 use Rattle.naga_oil_ir.specs.ModuleValue.{FunctionValue}
 use Rattle.naga_oil_ir.specs.declared.span.Span.{Span}
 use Rattle.naga_oil_ir.specs.declared.tokens.Token.{Token}
 use Rattle.naga_oil_ir.specs.declared.tokens.Token.TheVariants.{Emitted}
 use Rattle.naga_oil_derive.specs.Renames.{Renames, rename_token}
-use Rattle.naga_oil_derive.specs.Walk.{IsReachOrder, externals, others, listed, brief, Notes, notes_of, notes_after, AreWithin}
+use Rattle.naga_oil_derive.specs.Walk.{IsReachOrder, externals, others, listed, Notes}
 use Rattle.naga_oil_derive.specs.Copies.{Values, Table, place_under, value_links, copied, FitIn, brought, brought_range, range_under}
 use Rattle.naga_oil_derive.specs.CopiedFunction.{ExpressionState, copied_expression, copied_expressions, expressions_upto, body_renames, notes_in, copied_function}
 use Rattle.naga_oil_derive.specs.CopiedFunctionLaw.{MayBeCopied, EmitsAt, LeadsAt, put_before, copies_of, range_from, RangeLaw}
-use Rattle.naga_oil_derive.specs.DerivedFunctions.{kinds_in, named_in, initialisers_in}
+use Rattle.naga_oil_derive.specs.DerivedFunctions.{kinds_in}
 use Rattle.naga_oil_derive.specs.Functions.{IsCovered, AreCovered, begun, order_of}
 use Rattle.naga_oil_derive.proofs.CopyLoops.{there}
 use Rattle.naga_oil_derive.proofs.CopySteps.{has_part, map_other}
-use Rattle.naga_oil_derive.proofs.FunctionForm.{plain_values, started_ready, walk_of_value, begun_first}
+use Rattle.naga_oil_derive.proofs.FunctionForm.{walk_of_value, begun_first}
 use Rattle.naga_oil_derive.proofs.FunctionLaws.{step_copied, placed_upto, copied_value}
 use Rattle.naga_oil_derive.proofs.Localizing.{covered, notes_fit, places_empty, run_length}
 use Rattle.naga_oil_derive.proofs.NoteLaws.{before, note, emitted_first, notes_count, counted_note}
-use Rattle.naga_oil_derive.proofs.WalkForm.{IsPlain, IsUnder, step, stand_range, same_externals, covers_under, under_externals, has_externals, under_start}
 use Rattle.naga_oil_derive.proofs.WalkLemmas.{added-append}
-use Rattle.naga_oil_derive.proofs.WalkNotes.{added-grows, added-longer, noted_at, has_first, token_at, body_at, no_notes}
+use Rattle.naga_oil_derive.proofs.WalkNotes.{added-grows}
 
 -- ---- how many copies there are
 

@@ -1,5 +1,5 @@
 -- Which expressions of a function are copied.
-use Rattle.std.proofs.Common.{◌≡◌, ⊎_elim, ℕ, ◌<◌, ◌||◌, ◌==◌, true, List, [], ◌∷◌, ◌++◌, length, map, slice_get, option_to_list, Option, Some, refl, ap, sym, ◌∙◌, subst, arith}
+use Rattle.std.proofs.Common.{◌≡◌, ⊎_elim, ℕ, ◌<◌, ◌==◌, true, List, [], ◌∷◌, ◌++◌, length, map, slice_get, option_to_list, Some, refl, ap, sym, ◌∙◌, subst, arith}
 use Rattle.std.specs.List.{flat_map}
 use Rattle.std.proofs.lemmas.Bool.{false≢true, or_cases, or_left, or_right}
 use Rattle.std.proofs.lemmas.List.{length-map}
@@ -8,7 +8,7 @@ use Rattle.std.proofs.lemmas.Option.{same_Some, slice_get_within}
 use Rattle.naga_oil_ir.specs.Parts.{Parts}
 use Rattle.naga_oil_ir.specs.Body.{Tokens}
 use Rattle.naga_oil_ir.specs.BodyForm.{places}
-use Rattle.naga_oil_ir.specs.Links.{Links, AreEarlier, trail, started, has, added}
+use Rattle.naga_oil_ir.specs.Links.{Links, AreEarlier, trail, has}
 use Rattle.naga_oil_ir.specs.ModuleValue.{FunctionValue}
 use Rattle.naga_oil_ir.specs.declared.span.Span.{Span}
 use Rattle.naga_oil_ir.specs.declared.tokens.Token.{Token}
@@ -18,7 +18,7 @@ use Rattle.naga_oil_derive.specs.Renames.{Renames}
 use Rattle.naga_oil_derive.specs.Walk.{externals, listed}
 use Rattle.naga_oil_derive.specs.Copies.{Values, Table, place_under, copied, value_links, AreCopies}
 use Rattle.naga_oil_derive.specs.CopiedFunction.{copied_expressions, copied_function}
-use Rattle.naga_oil_derive.specs.CopiedFunctionLaw.{MayBeCopied, table_of, spoken, reached_in, IsOfReached, ReachedLaw}
+use Rattle.naga_oil_derive.specs.CopiedFunctionLaw.{MayBeCopied, spoken, reached_in, ReachedLaw}
 use Rattle.naga_oil_derive.specs.DerivedFunctions.{kinds_in, initialisers_in}
 use Rattle.naga_oil_derive.specs.Functions.{begun, order_of}
 use Rattle.naga_oil_derive.proofs.CopyLoops.{there}

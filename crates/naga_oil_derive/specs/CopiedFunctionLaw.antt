@@ -1,5 +1,5 @@
 -- What the copy of a function is: laws of the values of copying functions.
-use Rattle.std.specs.Prelude.{ℕ, ◌≡◌, ◌<◌, ◌≤◌, ◌+◌, ◌⊎◌, Bool, true, List, [], ◌∷◌, ◌++◌, length, map, take, reverse, nat_eq, option_to_list, slice_get, Option, Some, is_some}
+use Rattle.std.specs.Prelude.{ℕ, ◌≡◌, ◌<◌, ◌≤◌, ◌+◌, ◌⊎◌, Bool, true, List, [], ◌∷◌, ◌++◌, length, map, take, reverse, nat_eq, option_to_list, slice_get, Some, is_some}
 use Rattle.std.specs.List.{flat_map}
 use Rattle.std.specs.Map.{lookup, keys_of}
 use Rattle.std.specs.Option.{option_eq, option_flatten}
@@ -15,7 +15,7 @@ use Rattle.naga_oil_derive.specs.Renames.{Renames}
 use Rattle.naga_oil_derive.specs.Copies.{Values, Table, place_under, copied, value_links}
 use Rattle.naga_oil_derive.specs.CopiedFunction.{copied_expressions, copied_function}
 use Rattle.naga_oil_derive.specs.DerivedFunctions.{kinds_in, named_in, initialisers_in}
-use Rattle.naga_oil_derive.specs.Functions.{Copies, begun, order_of, names_under}
+use Rattle.naga_oil_derive.specs.Functions.{Copies, begun, order_of}
 use Rattle.naga_oil_derive.specs.Walk.{externals, others, walked}
 
 -- external expressions and results have no operands
@@ -39,7 +39,7 @@ table_of r v = (copied_expressions r v.expressions (order_of v) (length (begun v
 abbrev pub CopyLaw : Type 0
 CopyLaw = (r : Renames) (v : FunctionValue) → MayBeCopied v → Copies r v (copied_function r v)
 
--- and its expressions stand where the table of copying tells
+-- and its expressions stand where the table tells
 abbrev pub TableLaw : Type 0
 TableLaw =
     (r : Renames) (v : FunctionValue) → MayBeCopied v →
@@ -108,7 +108,7 @@ copies_of r v xs = length (added [] (map (place_under (table_of r v)) xs))
 abbrev pub range_from : FunctionValue → ℕ × ℕ → ℕ → ℕ × ℕ
 range_from v p n = (n, n + length (others (begun v) (places p)))
 
--- of the ranges that begin where q does that at j counts: it has places, or is the first of none
+-- of ranges that begin alike that at j counts: it has places, or none has and it is the first
 abbrev pub Counts : FunctionValue → ℕ → ℕ × ℕ → Type 0
 Counts v j q =
     (q.0 < q.1) ⊎
