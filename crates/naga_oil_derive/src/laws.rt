@@ -11,6 +11,12 @@ ghost use Rattle.naga_oil_derive.specs.AnsweredLaw.{AnswerLaw, CallLaw, Function
 
 use super::*;
 
+/// Rows, and the parts of expressions, pass the tests of equality exactly if they are the same.
+pub fn equal_items()
+    ensures rows { (a b : Row) → IsTrue (row_eq a b) ↔ (a ≡ b) }
+    ensures parts { (a b : Parts) → IsTrue (parts_eq a b) ↔ (a ≡ b) }
+{}
+
 /// In a value each item stands in the arena of its kind; where items can be copied, each names what is there, of lower
 /// rank.
 pub fn copyable_values()
