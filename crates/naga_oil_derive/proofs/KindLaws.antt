@@ -37,7 +37,7 @@ unfolding value_of
 special m c = entries_are_there m (special_entries (special_value m.special_types)) c refl
 
 -- the keys of a map are distinct
-keys : (m : Module) → IsDistinct nat_eq (map (λ e. e.0) m.special_types.predeclared_types.entries) → HaveDistinctKeys (special_entries (value_of m).special_types)
+pub keys : (m : Module) → IsDistinct nat_eq (map (λ e. e.0) m.special_types.predeclared_types.entries) → HaveDistinctKeys (special_entries (value_of m).special_types)
 unfolding value_of
 keys m d = entries_distinct (special_value m.special_types) d
 
@@ -51,5 +51,5 @@ ranked_copyable m a = record {
 pub value_copyable : (m : Module) → CopyableItems m → IsCopyable (value_of m)
 value_copyable m c = ranked_copyable m (ranked m c)
 
-pub value_special : (m : Module) → CopyableItems m → IsDistinct nat_eq (map (λ e. e.0) m.special_types.predeclared_types.entries) → AreSpecial (value_of m)
-value_special m c d = record { there = special m c; distinct = keys m d }
+pub value_special : (m : Module) → CopyableItems m → HaveDistinctKeys (special_entries (value_of m).special_types) → AreSpecial (value_of m)
+value_special m c d = record { there = special m c; distinct = d }
