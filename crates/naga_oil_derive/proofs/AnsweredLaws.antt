@@ -13,15 +13,15 @@ use Rattle.naga_oil_derive.specs.declared.walk.Request.TheVariants.{Item, Call}
 use Rattle.naga_oil_derive.specs.Tree.{Kept}
 use Rattle.naga_oil_derive.specs.World.{goes, world, shifted, named_world}
 use Rattle.naga_oil_derive.specs.Copying.{IsSound, AreCopied}
-use Rattle.naga_oil_derive.specs.Copied.{CopyState, Copier, of_item, put_type, put, copied_names, copied_row, copied_within, copied, with_type, with_constant, with_override, with_global, with_expression, renames_by}
-use Rattle.naga_oil_derive.specs.CopiedFunction.{copied_function}
+use Rattle.naga_oil_derive.specs.Copied.{CopyState, Copier, of_item, put_type, put, copy_each, copy_row_names, copy_within, copy_item, with_type, with_constant, with_override, with_global, with_expression, renames_by}
+use Rattle.naga_oil_derive.specs.CopiedFunction.{copy_function}
 use Rattle.naga_oil_derive.specs.CopiedLaw.{HasAt}
 use Rattle.naga_oil_derive.specs.Collected.{depth}
 use Rattle.naga_oil_derive.specs.Derived.{Source, Derived}
 use Rattle.naga_oil_derive.specs.DerivedFunctions.{Meanings, meant, meant_at, requests_of, MayAsk, MayCopy, MayCall, CanImport, CanCall, KeepsFunctions, ComesLast, Answers, AllAnswered, ItemCopied, NameKnown, FunctionCopied, MeansAt, IsLocalized, going}
-use Rattle.naga_oil_derive.specs.DerivedValue.{item_imported, importing_of, after_copying, after_importing, requests_answered, function_imported, function_called, function_localized}
+use Rattle.naga_oil_derive.specs.DerivedValue.{import_item, importing_of, after_copying, after_importing, answer_requests, import_function, call_function, localize_function}
 use Rattle.naga_oil_derive.specs.DerivedLaw.{IsDerivation}
-use Rattle.naga_oil_derive.specs.Answered.{ImportState, Caller, goes_by, answered_one, answered_by, with_function, imported_by, called_by, called}
+use Rattle.naga_oil_derive.specs.Answered.{ImportState, Caller, goes_by, answer_one, answer_by, with_function, import_copy_by, import_callee_by, import_callee}
 use Rattle.naga_oil_derive.specs.AnsweredLaw.{HasForm, HasCopies, HaveCopies, CanAnswer, AnswersOnly, ImportsFunction}
 use Rattle.naga_oil_derive.specs.Renames.{rename, rename_row}
 use Rattle.naga_oil_derive.proofs.WorldLemmas.{Extends-refl}
@@ -51,12 +51,12 @@ put_beside m shift fs c (OverrideItem k) = item_beside fs c (λ r span. with_ove
 put_beside m shift fs c (GlobalItem k) = item_beside fs c (λ r span. with_global c k (rename_row (renames_by shift c.places) r) _) (λ r span. with_global (beside fs c) k (rename_row (renames_by shift c.places) r) _) (λ x s. refl) (slice_get m.global_variables k)
 put_beside m shift fs c (ExpressionItem k) = item_beside fs c (λ p span. with_expression c k (rename (renames_by shift c.places) p) _) (λ p span. with_expression (beside fs c) k (rename (renames_by shift c.places) p) _) (λ x s. refl) (slice_get m.global_expressions k)
 
-names_beside : (fs : Functions) (f : Copier) → ((c : CopyState) (p : ItemPlace) → f (beside fs c) p ≡ beside fs (f c p)) → (ps : List (Option ItemPlace)) (c : CopyState) → copied_names f (beside fs c) ps ≡ beside fs (copied_names f c ps)
+names_beside : (fs : Functions) (f : Copier) → ((c : CopyState) (p : ItemPlace) → f (beside fs c) p ≡ beside fs (f c p)) → (ps : List (Option ItemPlace)) (c : CopyState) → copy_each f (beside fs c) ps ≡ beside fs (copy_each f c ps)
 names_beside fs f h [] c = refl
 names_beside fs f h (None ∷ ps) c = names_beside fs f h ps c
-names_beside fs f h (Some p ∷ ps) c = ap (λ s. copied_names f s ps) (h c p) ∙ names_beside fs f h ps (f c p)
+names_beside fs f h (Some p ∷ ps) c = ap (λ s. copy_each f s ps) (h c p) ∙ names_beside fs f h ps (f c p)
 
-row_beside : (fs : Functions) (f : Copier) → ((c : CopyState) (p : ItemPlace) → f (beside fs c) p ≡ beside fs (f c p)) → (o : Option Row) (c : CopyState) → copied_row f (beside fs c) o ≡ beside fs (copied_row f c o)
+row_beside : (fs : Functions) (f : Copier) → ((c : CopyState) (p : ItemPlace) → f (beside fs c) p ≡ beside fs (f c p)) → (o : Option Row) (c : CopyState) → copy_row_names f (beside fs c) o ≡ beside fs (copy_row_names f c o)
 row_beside fs f h None c = refl
 row_beside fs f h (Some r) c = names_beside fs f h r.names c
 
@@ -64,12 +64,12 @@ if_beside : (fs : Functions) (b : Bool) (x y z : CopyState) → z ≡ beside fs 
 if_beside fs true x y z e = refl
 if_beside fs false x y z e = e
 
-within_beside : (n : ℕ) (m : ModuleValue) (shift : ℕ) (fs : Functions) (c : CopyState) (p : ItemPlace) → copied_within n m shift (beside fs c) p ≡ beside fs (copied_within n m shift c p)
-unfolding copied_within
+within_beside : (n : ℕ) (m : ModuleValue) (shift : ℕ) (fs : Functions) (c : CopyState) (p : ItemPlace) → copy_within n m shift (beside fs c) p ≡ beside fs (copy_within n m shift c p)
+unfolding copy_within
 within_beside zero m shift fs c p = refl
 within_beside (suc n) m shift fs c p =
-    let f = copied_within n m shift in
-    if_beside fs (is_some (goes c.places p)) c (put m shift (copied_row f c (world m p)) p) (put m shift (copied_row f (beside fs c) (world m p)) p) (ap (λ s. put m shift s p) (row_beside fs f (within_beside n m shift fs) (world m p) c) ∙ put_beside m shift fs (copied_row f c (world m p)) p)
+    let f = copy_within n m shift in
+    if_beside fs (is_some (goes c.places p)) c (put m shift (copy_row_names f c (world m p)) p) (put m shift (copy_row_names f (beside fs c) (world m p)) p) (ap (λ s. put m shift s p) (row_beside fs f (within_beside n m shift fs) (world m p) c) ∙ put_beside m shift fs (copy_row_names f c (world m p)) p)
 
 -- ---- a state of import, as a derived module
 
@@ -81,7 +81,7 @@ abbrev source_in : Source → ImportState → Source
 source_in s i = record { value = s.value; offset = s.offset; places = i.copying.places }
 
 -- an item that is copied meanwhile is imported
-item_seen : (s : Source) (i : ImportState) (p : ItemPlace) → item_imported (seen s i) p ≡ seen s (record i { copying = copied s.value s.offset i.copying p })
+item_seen : (s : Source) (i : ImportState) (p : ItemPlace) → import_item (seen s i) p ≡ seen s (record i { copying = copy_item s.value s.offset i.copying p })
 item_seen s i p = ap (after_copying (seen s i) (source_in s i)) (within_beside (depth s.value) s.value s.offset i.functions i.copying p)
 
 -- functions leave a derivation
@@ -122,14 +122,14 @@ answers_both first s i j k xs ys a b = record {
 }
 
 -- an item
-answers_item : (first : Kept) (s : Source) (i : ImportState) (p : ItemPlace) → IsDerivation first (seen s i) → HasAt s.value p → AnswersOnly first (seen s i) (seen s (record i { copying = copied s.value s.offset i.copying p })) (Item p ∷ [])
+answers_item : (first : Kept) (s : Source) (i : ImportState) (p : ItemPlace) → IsDerivation first (seen s i) → HasAt s.value p → AnswersOnly first (seen s i) (seen s (record i { copying = copy_item s.value s.offset i.copying p })) (Item p ∷ [])
 answers_item first s i p d r =
     let g = import_law first (seen s i) p d (refl, r) in
     subst (λ (e : Derived). AnswersOnly first (seen s i) e (Item p ∷ [])) (item_seen s i p) (record {
       derivation = g.derivation;
       answered = ItemCopied g.imported.0 g.imported.1 g.reads g.keeps AllAnswered;
       meanings = λ n h e. ap (λ (ns : Meanings). meant ns n) g.keeps.names ∙ e;
-      keeps = kept_functions (seen s i) (item_imported (seen s i) p) g.keeps;
+      keeps = kept_functions (seen s i) (import_item (seen s i) p) g.keeps;
     })
 
 -- ---- a call
@@ -145,23 +145,23 @@ MayCallIn m n i k = MayCall m i.names n k
 requests_later : (m : ModuleValue) (n : ℕ) (i j : ImportState) (rs : List Request) → KnowsMore i.names j.names → All (MayAsk m (MayCallIn m n i)) rs → All (MayAsk m (MayCallIn m n j)) rs
 requests_later m n i j rs w a = All-weaker (MayAsk m (MayCallIn m n i)) (MayAsk m (MayCallIn m n j)) (ask_weaker m (MayCallIn m n i) (MayCallIn m n j) (λ k h. call_later m i.names j.names w n k h)) rs a
 
-answers_one : (first : Kept) (s : Source) (n : ℕ) (f : Caller) → CallsAt first s f (MayCallIn s.value n) → (i : ImportState) (r : Request) → IsDerivation first (seen s i) → MayAsk s.value (MayCallIn s.value n i) r → AnswersOnly first (seen s i) (seen s (answered_one f s.value s.offset i r)) (r ∷ [])
+answers_one : (first : Kept) (s : Source) (n : ℕ) (f : Caller) → CallsAt first s f (MayCallIn s.value n) → (i : ImportState) (r : Request) → IsDerivation first (seen s i) → MayAsk s.value (MayCallIn s.value n i) r → AnswersOnly first (seen s i) (seen s (answer_one f s.value s.offset i r)) (r ∷ [])
 answers_one first s n f h i (Item p) d a = answers_item first s i p d a
 answers_one first s n f h i (Call k) d a = (h i k d a.0 a.1).0
 
-answers_each : (first : Kept) (s : Source) (n : ℕ) (f : Caller) → CallsAt first s f (MayCallIn s.value n) → (rs : List Request) (i : ImportState) → IsDerivation first (seen s i) → All (MayAsk s.value (MayCallIn s.value n i)) rs → AnswersOnly first (seen s i) (seen s (answered_by (answered_one f s.value s.offset) i rs)) rs
+answers_each : (first : Kept) (s : Source) (n : ℕ) (f : Caller) → CallsAt first s f (MayCallIn s.value n) → (rs : List Request) (i : ImportState) → IsDerivation first (seen s i) → All (MayAsk s.value (MayCallIn s.value n i)) rs → AnswersOnly first (seen s i) (seen s (answer_by (answer_one f s.value s.offset) i rs)) rs
 answers_each first s n f h [] i d a = answers_none first s i d
 answers_each first s n f h (r ∷ rs) i d a =
     let P = MayAsk s.value (MayCallIn s.value n i) in
-    let j = answered_one f s.value s.offset i r in
+    let j = answer_one f s.value s.offset i r in
     let one = answers_one first s n f h i r d (All-head P r rs a) in
     let rest = answers_each first s n f h rs j one.derivation (requests_later s.value n i j rs one.keeps.names (All-tail P r rs a)) in
-    answers_both first s i j (answered_by (answered_one f s.value s.offset) j rs) (r ∷ []) rs one rest
+    answers_both first s i j (answer_by (answer_one f s.value s.offset) j rs) (r ∷ []) rs one rest
 
 -- a function comes last
 comes_last : (s : Source) (j : ImportState) (v : FunctionValue) (span : Span) → HasCopies v → HasForm v → IsSome v.name → ComesLast (source_in s j) v span (seen s j) (seen s (with_function s.value s.offset j v span)) (length j.functions)
 comes_last s j v span c form named = record {
-  copy = copied_function (goes_by s.value s.offset j) v;
+  copy = copy_function (goes_by s.value s.offset j) v;
   copies = c (goes_by s.value s.offset j) form;
   target = refl;
   place = refl;
@@ -173,7 +173,7 @@ comes_last s j v span c form named = record {
 keeps_last : (s : Source) (j : ImportState) (v : FunctionValue) (span : Span) → KeepsFunctions (seen s j) (seen s (with_function s.value s.offset j v span))
 keeps_last s j v span = record {
   items = Extends-refl (seen s j).target;
-  functions = ((copied_function (goes_by s.value s.offset j) v, shifted s.offset span) ∷ [], refl);
+  functions = ((copy_function (goes_by s.value s.offset j) v, shifted s.offset span) ∷ [], refl);
   names = meaning_more j.names v.name (length j.functions);
   source = record { value = refl; offset = refl; went = λ p q g. g };
 }
@@ -210,59 +210,59 @@ call_fresh first s i j k x c form named at unknown a =
     )
 
 -- a function that stands in the source is called
-call_entry : (first : Kept) (s : Source) (n : ℕ) (f : Caller) → CallsAt first s f (MayCallIn s.value n) → (i : ImportState) (k : ℕ) (x : FunctionValue × Span) → HasCopies x.0 → IsDerivation first (seen s i) → slice_get s.value.functions k ≡ Some x → MayCall s.value i.names (suc n) k → (o : Option ℕ) → meant i.names x.0.name ≡ o → AfterCall first s i k (called_by f s.value s.offset i (Some x))
-call_entry first s n f calls i k x c d at may (Some h) e = subst (AfterCall first s i k) (sym (ap (λ v. if is_some v then i else imported_by f s.value s.offset i x.0 x.1) e)) (call_known first s i k h d (ap (meant_at i.names) at ∙ e))
+call_entry : (first : Kept) (s : Source) (n : ℕ) (f : Caller) → CallsAt first s f (MayCallIn s.value n) → (i : ImportState) (k : ℕ) (x : FunctionValue × Span) → HasCopies x.0 → IsDerivation first (seen s i) → slice_get s.value.functions k ≡ Some x → MayCall s.value i.names (suc n) k → (o : Option ℕ) → meant i.names x.0.name ≡ o → AfterCall first s i k (import_callee_by f s.value s.offset i (Some x))
+call_entry first s n f calls i k x c d at may (Some h) e = subst (AfterCall first s i k) (sym (ap (λ v. if is_some v then i else import_copy_by f s.value s.offset i x.0 x.1) e)) (call_known first s i k h d (ap (meant_at i.names) at ∙ e))
 call_entry first s n f calls i k x c d at may None e =
-    let j = answered_by (answered_one f s.value s.offset) i (requests_of x.0) in
+    let j = answer_by (answer_one f s.value s.offset) i (requests_of x.0) in
     let unknown_at : meant_at i.names (slice_get s.value.functions k) ≡ None = ap (meant_at i.names) at ∙ e in
     let can : IsSome x.0.name × MayCopy s.value (MayCall s.value i.names n) x.0 = ⊎_elim (λ w. absurd (false≢true (sym (ap is_some unknown_at) ∙ w))) (λ w. subst (λ (o : Option (FunctionValue × Span)). IfSome o (λ y. IsSome y.0.name × MayCopy s.value (MayCall s.value i.names n) y.0)) at w) may in
     let a = answers_each first s n f calls (requests_of x.0) i d can.1.requests in
-    subst (AfterCall first s i k) (sym (ap (λ v. if is_some v then i else imported_by f s.value s.offset i x.0 x.1) e)) (call_fresh first s i j k x c can.1.form can.0 at e a)
+    subst (AfterCall first s i k) (sym (ap (λ v. if is_some v then i else import_copy_by f s.value s.offset i x.0 x.1) e)) (call_fresh first s i j k x c can.1.form can.0 at e a)
 
 -- each function of the source has copies
 abbrev EachHasCopies : Source → Type 0
 EachHasCopies s = (k : ℕ) (x : FunctionValue × Span) → slice_get s.value.functions k ≡ Some x → HasCopies x.0
 
-call_by : (first : Kept) (s : Source) (n : ℕ) (f : Caller) → EachHasCopies s → CallsAt first s f (MayCallIn s.value n) → (i : ImportState) (k : ℕ) → IsDerivation first (seen s i) → k < length s.value.functions → MayCall s.value i.names (suc n) k → (o : Option (FunctionValue × Span)) → slice_get s.value.functions k ≡ o → AfterCall first s i k (called_by f s.value s.offset i o)
+call_by : (first : Kept) (s : Source) (n : ℕ) (f : Caller) → EachHasCopies s → CallsAt first s f (MayCallIn s.value n) → (i : ImportState) (k : ℕ) → IsDerivation first (seen s i) → k < length s.value.functions → MayCall s.value i.names (suc n) k → (o : Option (FunctionValue × Span)) → slice_get s.value.functions k ≡ o → AfterCall first s i k (import_callee_by f s.value s.offset i o)
 call_by first s n f c calls i k d l may None at =
     ⊎_elim (λ w. absurd (let g : None ≡ Some w.0 = sym at ∙ w.2 in cc)) (λ w. absurd (let past = w.0 in omega (arith, l, past))) (slice_get_cases s.value.functions k).1
 call_by first s n f c calls i k d l may (Some x) at = call_entry first s n f calls i k x (c k x at) d at may (meant i.names x.0.name) refl
 
-calls_at : (first : Kept) (s : Source) → EachHasCopies s → (n : ℕ) → CallsAt first s (called n s.value s.offset) (MayCallIn s.value n)
-unfolding called
+calls_at : (first : Kept) (s : Source) → EachHasCopies s → (n : ℕ) → CallsAt first s (import_callee n s.value s.offset) (MayCallIn s.value n)
+unfolding import_callee
 calls_at first s c zero i k d l may = let h = some_there (meant_at i.names (slice_get s.value.functions k)) may in call_known first s i k h.0 d h.1
-calls_at first s c (suc n) i k d l may = call_by first s n (called n s.value s.offset) c (calls_at first s c n) i k d l may (slice_get s.value.functions k) refl
+calls_at first s c (suc n) i k d l may = call_by first s n (import_callee n s.value s.offset) c (calls_at first s c n) i k d l may (slice_get s.value.functions k) refl
 
 -- ---- the laws
 
 abbrev derivation : Option Source → ModuleValue → Meanings → Derived
 derivation o t ns = record { source = o; target = t; function_names = ns }
 
-answer_any : (first : Kept) (o : Option Source) (t : ModuleValue) (ns : Meanings) (rs : List Request) → IsDerivation first (derivation o t ns) → HaveCopies (derivation o t ns) → CanAnswer (derivation o t ns) rs → AnswersOnly first (derivation o t ns) (requests_answered (derivation o t ns) rs) rs
+answer_any : (first : Kept) (o : Option Source) (t : ModuleValue) (ns : Meanings) (rs : List Request) → IsDerivation first (derivation o t ns) → HaveCopies (derivation o t ns) → CanAnswer (derivation o t ns) rs → AnswersOnly first (derivation o t ns) (answer_requests (derivation o t ns) rs) rs
 answer_any first None t ns rs d c a = absurd (false≢true a.0)
 answer_any first (Some s) t ns rs d c a =
     let n = length s.value.functions in
-    answers_each first s n (called n s.value s.offset) (calls_at first s c n) rs (importing_of (derivation (Some s) t ns) s) d a.1
+    answers_each first s n (import_callee n s.value s.offset) (calls_at first s c n) rs (importing_of (derivation (Some s) t ns) s) d a.1
 
-pub answer_law : (first : Kept) (d : Derived) (rs : List Request) → IsDerivation first d → HaveCopies d → CanAnswer d rs → AnswersOnly first d (requests_answered d rs) rs
+pub answer_law : (first : Kept) (d : Derived) (rs : List Request) → IsDerivation first d → HaveCopies d → CanAnswer d rs → AnswersOnly first d (answer_requests d rs) rs
 answer_law first d rs i c a = answer_any first d.source d.target d.function_names rs i c a
 
-call_any : (first : Kept) (o : Option Source) (t : ModuleValue) (ns : Meanings) (k : ℕ) → IsDerivation first (derivation o t ns) → HaveCopies (derivation o t ns) → CanCall (derivation o t ns) k → AnswersOnly first (derivation o t ns) (function_called (derivation o t ns) k) (Call k ∷ []) × ((h : ℕ) × MeansAt (function_called (derivation o t ns) k) k h)
+call_any : (first : Kept) (o : Option Source) (t : ModuleValue) (ns : Meanings) (k : ℕ) → IsDerivation first (derivation o t ns) → HaveCopies (derivation o t ns) → CanCall (derivation o t ns) k → AnswersOnly first (derivation o t ns) (call_function (derivation o t ns) k) (Call k ∷ []) × ((h : ℕ) × MeansAt (call_function (derivation o t ns) k) k h)
 call_any first None t ns k d c a = absurd (false≢true a.0)
 call_any first (Some s) t ns k d c a =
     let n = length s.value.functions in
     calls_at first s c n (importing_of (derivation (Some s) t ns) s) k d a.1.0 a.1.1
 
-pub call_law : (first : Kept) (d : Derived) (k : ℕ) → IsDerivation first d → HaveCopies d → CanCall d k → AnswersOnly first d (function_called d k) (Call k ∷ []) × ((h : ℕ) × MeansAt (function_called d k) k h)
+pub call_law : (first : Kept) (d : Derived) (k : ℕ) → IsDerivation first d → HaveCopies d → CanCall d k → AnswersOnly first d (call_function d k) (Call k ∷ []) × ((h : ℕ) × MeansAt (call_function d k) k h)
 call_law first d k i c a = call_any first d.source d.target d.function_names k i c a
 
-function_any : (first : Kept) (o : Option Source) (t : ModuleValue) (ns : Meanings) (v : FunctionValue) (span : Span) → IsDerivation first (derivation o t ns) → HaveCopies (derivation o t ns) → HasCopies v → CanImport (derivation o t ns) v → ImportsFunction first (derivation o t ns) (function_imported (derivation o t ns) v span) v span
+function_any : (first : Kept) (o : Option Source) (t : ModuleValue) (ns : Meanings) (v : FunctionValue) (span : Span) → IsDerivation first (derivation o t ns) → HaveCopies (derivation o t ns) → HasCopies v → CanImport (derivation o t ns) v → ImportsFunction first (derivation o t ns) (import_function (derivation o t ns) v span) v span
 function_any first None t ns v span d c w a = absurd (false≢true a.0.0)
 function_any first (Some s) t ns v span d c w a =
     let n = length s.value.functions in
     let i = importing_of (derivation (Some s) t ns) s in
-    let f = called n s.value s.offset in
-    let j = answered_by (answered_one f s.value s.offset) i (requests_of v) in
+    let f = import_callee n s.value s.offset in
+    let j = answer_by (answer_one f s.value s.offset) i (requests_of v) in
     let can = a.0.1 in
     let g = answers_each first s n f (calls_at first s c n) (requests_of v) i d can.requests in
     record {
@@ -272,12 +272,12 @@ function_any first (Some s) t ns v span d c w a =
       keeps = functions_trans (seen s i) (seen s j) (seen s (with_function s.value s.offset j v span)) g.keeps (keeps_last s j v span);
     }
 
-pub function_law : (first : Kept) (d : Derived) (v : FunctionValue) (span : Span) → IsDerivation first d → HaveCopies d → HasCopies v → CanImport d v → ImportsFunction first d (function_imported d v span) v span
+pub function_law : (first : Kept) (d : Derived) (v : FunctionValue) (span : Span) → IsDerivation first d → HaveCopies d → HasCopies v → CanImport d v → ImportsFunction first d (import_function d v span) v span
 function_law first d v span i c w a = function_any first d.source d.target d.function_names v span i c w a
 
-localized_any : (o : Option Source) (t : ModuleValue) (ns : Meanings) (v : FunctionValue) → HasCopies v → HasForm v → IsLocalized (derivation o t ns) v (function_localized o ns v)
+localized_any : (o : Option Source) (t : ModuleValue) (ns : Meanings) (v : FunctionValue) → HasCopies v → HasForm v → IsLocalized (derivation o t ns) v (localize_function o ns v)
 localized_any None t ns v c f = tt
 localized_any (Some s) t ns v c f = c (going s ns) f
 
-pub localized_law : (d : Derived) (v : FunctionValue) → HasCopies v → HasForm v → IsLocalized d v (function_localized d.source d.function_names v)
+pub localized_law : (d : Derived) (v : FunctionValue) → HasCopies v → HasForm v → IsLocalized d v (localize_function d.source d.function_names v)
 localized_law d v c f = localized_any d.source d.target d.function_names v c f

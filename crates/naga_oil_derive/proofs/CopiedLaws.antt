@@ -10,7 +10,7 @@ use Rattle.naga_oil_derive.specs.Tree.{World, Kept, ReadsAs}
 use Rattle.naga_oil_derive.specs.World.{goes, world, renamed_at, under_name}
 use Rattle.naga_oil_derive.specs.Collected.{Collects, Done, Known, Fresh, depth, names_trail}
 use Rattle.naga_oil_derive.specs.Copying.{Goes, IsSound, AreCopied, WentSomewhere}
-use Rattle.naga_oil_derive.specs.Copied.{CopyState, Copier, put, put_type, copied_names, copied_row, copied_by, copied_within, copied, all_copied, copied_type}
+use Rattle.naga_oil_derive.specs.Copied.{CopyState, Copier, put, put_type, copy_each, copy_row_names, copy_item_by, copy_within, copy_item, copy_all, copy_named_type}
 use Rattle.naga_oil_derive.specs.CopiedLaw.{IsKinded, kind_number, place_number, HasAt, IsBelowIn, IsRankedBy, IsCopyable, reads_now, spans_by, IsMidway, PutsOne, PlacesAmong, GrowsBy, HasCopyNow, trail_in}
 use Rattle.naga_oil_derive.proofs.TreeLemmas.{reads, same_or_not, puts_keeps, IsSound-copy, AreCopied-step, AreCopied-named}
 use Rattle.naga_oil_derive.proofs.WorldLemmas.{named_none, named_names}
@@ -144,15 +144,15 @@ of_each P p (x ∷ xs) a h = ⊎_elim (λ e. subst P e a.0) (λ e. of_each P p x
 abbrev CopiesAt : ModuleValue → ℕ → Kept → World → (CopyState → CopyState) → ItemPlace → Type 0
 CopiesAt m shift kept w f p = (s : CopyState) → IsMidway m kept s → reads_now m s ≡ w → GrowsBy m shift kept w s (f s) (trail_in m kept w p) × WentSomewhere (goes (f s).places) (Some p)
 
-names_grow : (m : ModuleValue) (shift : ℕ) (kept : Kept) (w : World) (f : Copier) (P : ItemPlace → Type 0) → ((p : ItemPlace) → P p → CopiesAt m shift kept w (λ s. f s p) p) → (ps : List (Option ItemPlace)) → All (λ o. IfSome o P) ps → (s : CopyState) → IsMidway m kept s → reads_now m s ≡ w → GrowsBy m shift kept w s (copied_names f s ps) (names_trail (trail_in m kept w) ps) × All (WentSomewhere (goes (copied_names f s ps).places)) ps
+names_grow : (m : ModuleValue) (shift : ℕ) (kept : Kept) (w : World) (f : Copier) (P : ItemPlace → Type 0) → ((p : ItemPlace) → P p → CopiesAt m shift kept w (λ s. f s p) p) → (ps : List (Option ItemPlace)) → All (λ o. IfSome o P) ps → (s : CopyState) → IsMidway m kept s → reads_now m s ≡ w → GrowsBy m shift kept w s (copy_each f s ps) (names_trail (trail_in m kept w) ps) × All (WentSomewhere (goes (copy_each f s ps).places)) ps
 names_grow m shift kept w f P h [] a s i e = (grows_refl m shift kept w s i e, All-nil (WentSomewhere (goes s.places)))
 names_grow m shift kept w f P h (None ∷ ps) a s i e =
     let t = names_grow m shift kept w f P h ps (All-tail (λ o. IfSome o P) None ps a) s i e in
-    (t.0, All-cons (WentSomewhere (goes (copied_names f s ps).places)) None ps tt t.1)
+    (t.0, All-cons (WentSomewhere (goes (copy_each f s ps).places)) None ps tt t.1)
 names_grow m shift kept w f P h (Some p ∷ ps) a s i e =
     let one = h p (All-head (λ o. IfSome o P) (Some p) ps a) s i e in
     let t = names_grow m shift kept w f P h ps (All-tail (λ o. IfSome o P) (Some p) ps a) (f s p) one.0.midway one.0.reads in
-    (grows_trans m shift kept w s (f s p) (copied_names f (f s p) ps) (trail_in m kept w p) (names_trail (trail_in m kept w) ps) one.0 t.0, All-cons (WentSomewhere (goes (copied_names f (f s p) ps).places)) (Some p) ps (one.1.0, t.0.went p one.1.0 one.1.1) t.1)
+    (grows_trans m shift kept w s (f s p) (copy_each f (f s p) ps) (trail_in m kept w p) (names_trail (trail_in m kept w) ps) one.0 t.0, All-cons (WentSomewhere (goes (copy_each f (f s p) ps).places)) (Some p) ps (one.1.0, t.0.went p one.1.0 one.1.1) t.1)
 
 -- ---- an item with what it names
 
@@ -187,23 +187,23 @@ if_gone : (P : CopyState → Type 0) (o : Option ItemPlace) (s u : CopyState) �
 if_gone P None s u a b = b refl
 if_gone P (Some q) s u a b = a q refl
 
-copies_by : (m : ModuleValue) (shift : ℕ) (kept : Kept) (rank : ItemPlace → ℕ) (w : World) (f : Copier) (p : ItemPlace) (r : Row) → IsKinded m → IsRankedBy m rank → world m p ≡ Some r → ((q : ItemPlace) → HasAt m q × (rank q < rank p) → CopiesAt m shift kept w (λ s. f s q) q) → CopiesAt m shift kept w (λ s. copied_by f m shift s p) p
+copies_by : (m : ModuleValue) (shift : ℕ) (kept : Kept) (rank : ItemPlace → ℕ) (w : World) (f : Copier) (p : ItemPlace) (r : Row) → IsKinded m → IsRankedBy m rank → world m p ≡ Some r → ((q : ItemPlace) → HasAt m q × (rank q < rank p) → CopiesAt m shift kept w (λ s. f s q) q) → CopiesAt m shift kept w (λ s. copy_item_by f m shift s p) p
 copies_by m shift kept rank w f p r k a is h s i e =
     let P = λ (u : CopyState). GrowsBy m shift kept w s u (trail_in m kept w p) × WentSomewhere (goes u.places) (Some p) in
-    let t = copied_names f s r.names in
+    let t = copy_each f s r.names in
     let named = names_grow m shift kept w f (λ q. HasAt m q × (rank q < rank p)) h r.names (a.names p r is) s i e in
-    let row : copied_row f s (world m p) ≡ t = ap (copied_row f s) is in
-    if_gone P (goes s.places p) s (put m shift (copied_row f s (world m p)) p) (λ q g. (grows_known m shift kept w s p q i e g, (q, g))) (λ fresh. subst (λ v. P (put m shift v p)) (sym row) (behind_names m shift kept rank w s t p r k a is i e fresh named.0 named.1))
+    let row : copy_row_names f s (world m p) ≡ t = ap (copy_row_names f s) is in
+    if_gone P (goes s.places p) s (put m shift (copy_row_names f s (world m p)) p) (λ q g. (grows_known m shift kept w s p q i e g, (q, g))) (λ fresh. subst (λ v. P (put m shift v p)) (sym row) (behind_names m shift kept rank w s t p r k a is i e fresh named.0 named.1))
 
-within_copies : (m : ModuleValue) (shift : ℕ) (kept : Kept) (rank : ItemPlace → ℕ) (w : World) → IsKinded m → IsRankedBy m rank → (n : ℕ) (p : ItemPlace) → HasAt m p → rank p < n → CopiesAt m shift kept w (λ s. copied_within n m shift s p) p
-unfolding copied_within
+within_copies : (m : ModuleValue) (shift : ℕ) (kept : Kept) (rank : ItemPlace → ℕ) (w : World) → IsKinded m → IsRankedBy m rank → (n : ℕ) (p : ItemPlace) → HasAt m p → rank p < n → CopiesAt m shift kept w (λ s. copy_within n m shift s p) p
+unfolding copy_within
 within_copies m shift kept rank w k a zero p r l s i e = absurd (omega arith)
 within_copies m shift kept rank w k a (suc n) p r l s i e =
-    copies_by m shift kept rank w (copied_within n m shift) p r.0 k a r.1 (λ q h. within_copies m shift kept rank w k a n q h.0 (let b = h.1 in omega (arith, b, l))) s i e
+    copies_by m shift kept rank w (copy_within n m shift) p r.0 k a r.1 (λ q h. within_copies m shift kept rank w k a n q h.0 (let b = h.1 in omega (arith, b, l))) s i e
 
 -- ---- the laws
 
-pub item_copies : (m : ModuleValue) (shift : ℕ) (kept : Kept) (w : World) (p : ItemPlace) → IsCopyable m → HasAt m p → CopiesAt m shift kept w (λ s. copied m shift s p) p
+pub item_copies : (m : ModuleValue) (shift : ℕ) (kept : Kept) (w : World) (p : ItemPlace) → IsCopyable m → HasAt m p → CopiesAt m shift kept w (λ s. copy_item m shift s p) p
 item_copies m shift kept w p c r = within_copies m shift kept c.rank w c.kinds c.ranked (depth m) p r (c.ranked.within p r.0 r.1)
 
 -- what is placed reads as its source
@@ -213,27 +213,27 @@ placed_reads m kept w s p q i e g = λ n. reads w (world s.target) kept (goes s.
 has_copy : (m : ModuleValue) (shift : ℕ) (kept : Kept) (w : World) (s u : CopyState) (ps : List ItemPlace) (p : ItemPlace) → GrowsBy m shift kept w s u ps → WentSomewhere (goes u.places) (Some p) → HasCopyNow kept w u p
 has_copy m shift kept w s u ps p g went = (went.0, went.1, placed_reads m kept w u p went.0 g.midway g.reads went.1)
 
-pub copied_item : (m : ModuleValue) (shift : ℕ) (kept : Kept) (s : CopyState) (p : ItemPlace) → IsCopyable m → IsMidway m kept s → HasAt m p → GrowsBy m shift kept (reads_now m s) s (copied m shift s p) (trail_in m kept (reads_now m s) p) × HasCopyNow kept (reads_now m s) (copied m shift s p) p
+pub copied_item : (m : ModuleValue) (shift : ℕ) (kept : Kept) (s : CopyState) (p : ItemPlace) → IsCopyable m → IsMidway m kept s → HasAt m p → GrowsBy m shift kept (reads_now m s) s (copy_item m shift s p) (trail_in m kept (reads_now m s) p) × HasCopyNow kept (reads_now m s) (copy_item m shift s p) p
 copied_item m shift kept s p c i r =
     let g = item_copies m shift kept (reads_now m s) p c r s i refl in
-    (g.0, has_copy m shift kept (reads_now m s) s (copied m shift s p) (trail_in m kept (reads_now m s) p) p g.0 g.1)
+    (g.0, has_copy m shift kept (reads_now m s) s (copy_item m shift s p) (trail_in m kept (reads_now m s) p) p g.0 g.1)
 
-pub copied_all : (m : ModuleValue) (shift : ℕ) (kept : Kept) (s : CopyState) (ps : List (Option ItemPlace)) → IsCopyable m → IsMidway m kept s → All (λ o. IfSome o (HasAt m)) ps → GrowsBy m shift kept (reads_now m s) s (all_copied m shift s ps) (names_trail (trail_in m kept (reads_now m s)) ps) × All (WentSomewhere (goes (all_copied m shift s ps).places)) ps
-copied_all m shift kept s ps c i a = names_grow m shift kept (reads_now m s) (copied m shift) (HasAt m) (λ p r. item_copies m shift kept (reads_now m s) p c r) ps a s i refl
+pub copied_all : (m : ModuleValue) (shift : ℕ) (kept : Kept) (s : CopyState) (ps : List (Option ItemPlace)) → IsCopyable m → IsMidway m kept s → All (λ o. IfSome o (HasAt m)) ps → GrowsBy m shift kept (reads_now m s) s (copy_all m shift s ps) (names_trail (trail_in m kept (reads_now m s)) ps) × All (WentSomewhere (goes (copy_all m shift s ps).places)) ps
+copied_all m shift kept s ps c i a = names_grow m shift kept (reads_now m s) (copy_item m shift) (HasAt m) (λ p r. item_copies m shift kept (reads_now m s) p c r) ps a s i refl
 
 gone_stays : (o : Option ItemPlace) (q : ItemPlace) (s u : CopyState) → o ≡ Some q → (if is_some o then s else u) ≡ s
 gone_stays o q s u e = ap (λ v. if is_some v then s else u) e
 
-within_again : (n : ℕ) (m : ModuleValue) (shift : ℕ) (s : CopyState) (p q : ItemPlace) → goes s.places p ≡ Some q → copied_within n m shift s p ≡ s
-unfolding copied_within
+within_again : (n : ℕ) (m : ModuleValue) (shift : ℕ) (s : CopyState) (p q : ItemPlace) → goes s.places p ≡ Some q → copy_within n m shift s p ≡ s
+unfolding copy_within
 within_again zero m shift s p q e = refl
-within_again (suc n) m shift s p q e = gone_stays (goes s.places p) q s (put m shift (copied_row (copied_within n m shift) s (world m p)) p) e
+within_again (suc n) m shift s p q e = gone_stays (goes s.places p) q s (put m shift (copy_row_names (copy_within n m shift) s (world m p)) p) e
 
-pub copied_again : (m : ModuleValue) (shift : ℕ) (s : CopyState) (p : ItemPlace) → WentSomewhere (goes s.places) (Some p) → copied m shift s p ≡ s
+pub copied_again : (m : ModuleValue) (shift : ℕ) (s : CopyState) (p : ItemPlace) → WentSomewhere (goes s.places) (Some p) → copy_item m shift s p ≡ s
 copied_again m shift s p w = within_again (depth m) m shift s p w.0 w.1
 
-pub type_again : (m : ModuleValue) (shift : ℕ) (s : CopyState) (k : ℕ) (name : Option Text) → WentSomewhere (goes s.places) (Some (TypeItem k)) → copied_type m shift name s k ≡ s
-type_again m shift s k name w = gone_stays (goes s.places (TypeItem k)) w.0 s (put_type m shift name (copied_row (copied m shift) s (world m (TypeItem k))) k) w.1
+pub type_again : (m : ModuleValue) (shift : ℕ) (s : CopyState) (k : ℕ) (name : Option Text) → WentSomewhere (goes s.places) (Some (TypeItem k)) → copy_named_type m shift name s k ≡ s
+type_again m shift s k name w = gone_stays (goes s.places (TypeItem k)) w.0 s (put_type m shift name (copy_row_names (copy_item m shift) s (world m (TypeItem k))) k) w.1
 
 -- ---- a type under a name
 
@@ -288,13 +288,13 @@ type_behind m shift kept rank s t k o r kinds a is i fresh g went =
       (c.place, c.puts.at),
     )
 
-pub copied_named : (m : ModuleValue) (shift : ℕ) (kept : Kept) (s : CopyState) (k : ℕ) (o : Option Text) → IsCopyable m → IsMidway m kept s → HasAt m (TypeItem k) → goes s.places (TypeItem k) ≡ None → GrowsBy m shift kept (renamed_at (reads_now m s) k o) s (copied_type m shift o s k) (trail_in m kept (renamed_at (reads_now m s) k o) (TypeItem k)) × HasCopyNow kept (renamed_at (reads_now m s) k o) (copied_type m shift o s k) (TypeItem k)
+pub copied_named : (m : ModuleValue) (shift : ℕ) (kept : Kept) (s : CopyState) (k : ℕ) (o : Option Text) → IsCopyable m → IsMidway m kept s → HasAt m (TypeItem k) → goes s.places (TypeItem k) ≡ None → GrowsBy m shift kept (renamed_at (reads_now m s) k o) s (copy_named_type m shift o s k) (trail_in m kept (renamed_at (reads_now m s) k o) (TypeItem k)) × HasCopyNow kept (renamed_at (reads_now m s) k o) (copy_named_type m shift o s k) (TypeItem k)
 copied_named m shift kept s k o c i r fresh =
     let p = TypeItem k in
     let w = reads_now m s in
     let new = renamed_at w k o in
-    let t = copied_names (copied m shift) s r.0.names in
-    let named = names_grow m shift kept w (copied m shift) (λ q. HasAt m q × (c.rank q < c.rank p)) (λ q h. item_copies m shift kept w q c h.0) r.0.names (c.ranked.names p r.0 r.1) s i refl in
+    let t = copy_each (copy_item m shift) s r.0.names in
+    let named = names_grow m shift kept w (copy_item m shift) (λ q. HasAt m q × (c.rank q < c.rank p)) (λ q h. item_copies m shift kept w q c h.0) r.0.names (c.ranked.names p r.0 r.1) s i refl in
     let g = type_behind m shift kept c.rank s t k o r.0 c.kinds c.ranked r.1 i fresh named.0 named.1 in
-    let is : copied_type m shift o s k ≡ put_type m shift o t k = ap (λ v. if is_some v then s else put_type m shift o (copied_row (copied m shift) s (world m p)) k) fresh ∙ ap (λ v. put_type m shift o (copied_row (copied m shift) s v) k) r.1 in
+    let is : copy_named_type m shift o s k ≡ put_type m shift o t k = ap (λ v. if is_some v then s else put_type m shift o (copy_row_names (copy_item m shift) s (world m p)) k) fresh ∙ ap (λ v. put_type m shift o (copy_row_names (copy_item m shift) s v) k) r.1 in
     subst (λ u. GrowsBy m shift kept new s u (trail_in m kept new p) × HasCopyNow kept new u p) (sym is) (g.0, has_copy m shift kept new s (put_type m shift o t k) (trail_in m kept new p) p g.0 g.1)

@@ -12,12 +12,12 @@ use Rattle.naga_oil_derive.specs.Tree.{Kept}
 use Rattle.naga_oil_derive.specs.World.{value_of, world, Extends, kept_of, special_at, special_entries, HaveDistinctKeys, with_specials}
 use Rattle.naga_oil_derive.specs.Copyable.{CopyableItems}
 use Rattle.naga_oil_derive.specs.Copying.{IsSound, AreRanked, IsCopying, WentSomewhere, places_of, goes_under, handle_under, kept_between, kept_over, special_names}
-use Rattle.naga_oil_derive.specs.Copied.{copy_state, all_copied}
+use Rattle.naga_oil_derive.specs.Copied.{copy_state, copy_all}
 use Rattle.naga_oil_derive.specs.CopiedLaw.{HasAt, IsMidway}
 use Rattle.naga_oil_derive.specs.Putting.{Putting, TypePutting}
 use Rattle.naga_oil_derive.specs.Derived.{Source, Derived, cleared, HasItem, IsImported, ReadsAsBefore, Keeps, IsSet, Sets, KeepsItems}
 use Rattle.naga_oil_derive.specs.DerivedView.{source_of, derived_of, IsSpecialThere, IsDerived}
-use Rattle.naga_oil_derive.specs.DerivedValue.{no_places, item_imported, type_renamed, source_set}
+use Rattle.naga_oil_derive.specs.DerivedValue.{no_places, import_item, rename_type, set_source}
 use Rattle.naga_oil_derive.specs.DerivedLaw.{IsSourceOf, AreThere, IsDerivation, RenamesOnly, type_place}
 use Rattle.naga_oil_derive.proofs.SpecialLemmas.{Entry}
 use Rattle.naga_oil_derive.proofs.DeriveCalls.{Shader, FunctionNames, source_in, special_later, derived_later, reads_one, keeps_one, left_source, derived_none}
@@ -90,13 +90,13 @@ type_putting_derived o s t u m n ns d k name e v i offset p =
 
 -- ---- items that are imported
 
-pub imports_law : {A B : Type 0} (a : Result A B) (o : Shader) (m : Maps) (t : Module) (ns : FunctionNames) (d e : Derived) (p : ItemPlace) → derived_of o m t ns ≡ d → IsDerived o m t → HasItem d p → OnOk a (e ≡ item_imported d p) → OnOk a ((q : ItemPlace) × IsImported d e p q)
+pub imports_law : {A B : Type 0} (a : Result A B) (o : Shader) (m : Maps) (t : Module) (ns : FunctionNames) (d e : Derived) (p : ItemPlace) → derived_of o m t ns ≡ d → IsDerived o m t → HasItem d p → OnOk a (e ≡ import_item d p) → OnOk a ((q : ItemPlace) × IsImported d e p q)
 imports_law (Ok x) o m t ns d e p v i h is = subst (λ y. (q : ItemPlace) × IsImported d y p q) (sym is) (import_law (kept_for o t) d p (derivation_seen o m t ns d v i) h).imported
 imports_law (Err x) o m t ns d e p v i h is = tt
 
 -- ---- types under a name
 
-pub renames_law : (o : Shader) (m : Maps) (t : Module) (ns : FunctionNames) (d e : Derived) (k : ℕ) (name : Option Text) → derived_of o m t ns ≡ d → IsDerived o m t → HasItem d (TypeItem k) → e ≡ type_renamed d k name → RenamesOnly (kept_for o t) d e k name (type_place e k)
+pub renames_law : (o : Shader) (m : Maps) (t : Module) (ns : FunctionNames) (d e : Derived) (k : ℕ) (name : Option Text) → derived_of o m t ns ≡ d → IsDerived o m t → HasItem d (TypeItem k) → e ≡ rename_type d k name → RenamesOnly (kept_for o t) d e k name (type_place e k)
 renames_law o m t ns d e k name v i h is =
     subst (λ y. RenamesOnly (kept_for o t) d y k name (type_place y k)) (sym is) (rename_law (kept_for o t) d k name (derivation_seen o m t ns d v i) h)
 
@@ -120,10 +120,10 @@ pub record HasSet (m : ModuleValue) (shift : ℕ) (d e : Derived) : Type 0 where
   pub set : IsSet m shift d e
   pub keeps : KeepsItems d e
 
-pub sets_law : (o : Shader) (k : Maps) (t : Module) (ns : FunctionNames) (d e : Derived) (m : Module) (es : List Entry) (shift : ℕ) → derived_of o k t ns ≡ cleared d → IsDerived o k t → CopyableItems m → HaveDistinctKeys es → es ≡ special_entries (special_value m.special_types) → e ≡ source_set d (value_of m) shift → HasSet (value_of m) shift d e
+pub sets_law : (o : Shader) (k : Maps) (t : Module) (ns : FunctionNames) (d e : Derived) (m : Module) (es : List Entry) (shift : ℕ) → derived_of o k t ns ≡ cleared d → IsDerived o k t → CopyableItems m → HaveDistinctKeys es → es ≡ special_entries (special_value m.special_types) → e ≡ set_source d (value_of m) shift → HasSet (value_of m) shift d e
 sets_law o k t ns d e m es shift v i c distinct entries is =
     let law = set_law (kept_for o t) (cleared d) (value_of m) shift (derivation_seen o k t ns (cleared d) v i) (value_copyable m c) (value_special m c (distinct_in m (subst HaveDistinctKeys entries distinct))) in
-    let made = source_set d (value_of m) shift in
+    let made = set_source d (value_of m) shift in
     subst (HasSet (value_of m) shift d) (sym is) (record {
       derivation = law.derivation;
       set = (refl, sets_over (value_of m) shift d made made.source law.set.1);
@@ -149,7 +149,7 @@ all_there : (s : Module) (es : List Entry) → CopyableItems s → HaveDistinctK
 unfolding value_of
 all_there s es c distinct entries = subst (λ (xs : List Entry). All (λ o. IfSome o (HasAt (value_of s))) (special_names xs)) (sym entries) (as_names (HasAt (value_of s)) (special_entries (special_value s.special_types)) (value_special s c (subst HaveDistinctKeys entries distinct)).there)
 
-pub special_went : (s t u : Module) (m n : Maps) (es : List Entry) → CopyableItems s → AreRanked s → HaveDistinctKeys es → es ≡ special_entries (special_value s.special_types) → IsCopying s t m → copy_state n u ≡ all_copied (value_of s) m.offset (copy_state m t) (special_names es) → All (λ (e : Entry). WentSomewhere (goes_under n) (Some (TypeItem e.1))) es
+pub special_went : (s t u : Module) (m n : Maps) (es : List Entry) → CopyableItems s → AreRanked s → HaveDistinctKeys es → es ≡ special_entries (special_value s.special_types) → IsCopying s t m → copy_state n u ≡ copy_all (value_of s) m.offset (copy_state m t) (special_names es) → All (λ (e : Entry). WentSomewhere (goes_under n) (Some (TypeItem e.1))) es
 special_went s t u m n es c a distinct entries i is =
     from_names (λ p. (q : ItemPlace) × (goes_under n p ≡ Some q)) es (names_went s t u m n (special_names es) a i (all_there s es c distinct entries) is)
 

@@ -10,10 +10,10 @@ use Rattle.naga_oil_derive.specs.Tree.{World, Kept, ReadsAs}
 use Rattle.naga_oil_derive.specs.World.{goes, world, Extends, renamed_at, kept_of, special_at}
 use Rattle.naga_oil_derive.specs.Collected.{Collects, Done, Known, Fresh}
 use Rattle.naga_oil_derive.specs.Copying.{handle_under}
-use Rattle.naga_oil_derive.specs.Copied.{CopyState, copied, copied_type}
+use Rattle.naga_oil_derive.specs.Copied.{CopyState, copy_item, copy_named_type}
 use Rattle.naga_oil_derive.specs.CopiedLaw.{HasAt, IsMidway, GrowsBy}
 use Rattle.naga_oil_derive.specs.Derived.{Source, Derived, nothing, cleared, as_read, kept, HasItem, Keeps}
-use Rattle.naga_oil_derive.specs.DerivedValue.{after_copying, item_imported, type_renamed}
+use Rattle.naga_oil_derive.specs.DerivedValue.{after_copying, import_item, rename_type}
 use Rattle.naga_oil_derive.specs.DerivedLaw.{IsSourceOf, AreThere, IsDerivation, ReadsIn, ImportsOnly, RenamesOnly, type_place}
 use Rattle.naga_oil_derive.proofs.TreeLemmas.{AreCopied-kept}
 use Rattle.naga_oil_derive.proofs.WorldLemmas.{Extends-stays, Extends-refl, Extends-trans}
@@ -113,24 +113,24 @@ keeps_after first s t ns w u ps g = record {
 
 -- ---- an item
 
-import_some : (first : Kept) (s : Source) (t : ModuleValue) (ns : List (List ℕ × ℕ)) (p : ItemPlace) → IsDerivation first (derivation (Some s) t ns) → HasAt s.value p → ImportsOnly first (derivation (Some s) t ns) (item_imported (derivation (Some s) t ns) p) p
+import_some : (first : Kept) (s : Source) (t : ModuleValue) (ns : List (List ℕ × ℕ)) (p : ItemPlace) → IsDerivation first (derivation (Some s) t ns) → HasAt s.value p → ImportsOnly first (derivation (Some s) t ns) (import_item (derivation (Some s) t ns) p) p
 import_some first s t ns p i r =
     let c : CopyState = record { places = s.places; target = t } in
     let a = copied_item s.value s.offset first c p i.source.copyable i.source.midway r in
     let b = copied_item s.value s.offset (kept s t) c p i.source.copyable (midway_now first s t i.source) r in
     record {
-      derivation = derived_after first s t ns (as_read s t) (copied s.value s.offset c p) _ i a.0;
+      derivation = derived_after first s t ns (as_read s t) (copy_item s.value s.offset c p) _ i a.0;
       places = b.0.places;
       imported = (b.1.0, record { reads = b.1.2; collects = b.0.collects; goes = b.1.1 });
       reads = a.0.reads;
-      keeps = keeps_after first s t ns (as_read s t) (copied s.value s.offset c p) _ a.0;
+      keeps = keeps_after first s t ns (as_read s t) (copy_item s.value s.offset c p) _ a.0;
     }
 
-import_any : (first : Kept) (o : Option Source) (t : ModuleValue) (ns : List (List ℕ × ℕ)) (p : ItemPlace) → IsDerivation first (derivation o t ns) → HasItem (derivation o t ns) p → ImportsOnly first (derivation o t ns) (item_imported (derivation o t ns) p) p
+import_any : (first : Kept) (o : Option Source) (t : ModuleValue) (ns : List (List ℕ × ℕ)) (p : ItemPlace) → IsDerivation first (derivation o t ns) → HasItem (derivation o t ns) p → ImportsOnly first (derivation o t ns) (import_item (derivation o t ns) p) p
 import_any first None t ns p i h = absurd (false≢true h.0)
 import_any first (Some s) t ns p i h = import_some first s t ns p i h.1
 
-pub import_law : (first : Kept) (d : Derived) (p : ItemPlace) → IsDerivation first d → HasItem d p → ImportsOnly first d (item_imported d p) p
+pub import_law : (first : Kept) (d : Derived) (p : ItemPlace) → IsDerivation first d → HasItem d p → ImportsOnly first d (import_item d p) p
 import_law first d p i h = import_any first d.source d.target d.function_names p i h
 
 -- ---- a type under a name
@@ -141,11 +141,11 @@ same_place o p q e f = let g : Some p ≡ Some q = sym e ∙ f in cc
 some_place : (o : Option ItemPlace) (q : ItemPlace) → o ≡ None → o ≡ Some q → ⊥
 some_place o q e f = none_some q (sym e ∙ f)
 
-rename_known : (first : Kept) (s : Source) (t : ModuleValue) (ns : List (List ℕ × ℕ)) (k : ℕ) (name : Option Text) (q : ItemPlace) → IsDerivation first (derivation (Some s) t ns) → goes s.places (TypeItem k) ≡ Some q → RenamesOnly first (derivation (Some s) t ns) (type_renamed (derivation (Some s) t ns) k name) k name (type_place (type_renamed (derivation (Some s) t ns) k name) k)
+rename_known : (first : Kept) (s : Source) (t : ModuleValue) (ns : List (List ℕ × ℕ)) (k : ℕ) (name : Option Text) (q : ItemPlace) → IsDerivation first (derivation (Some s) t ns) → goes s.places (TypeItem k) ≡ Some q → RenamesOnly first (derivation (Some s) t ns) (rename_type (derivation (Some s) t ns) k name) k name (type_place (rename_type (derivation (Some s) t ns) k name) k)
 rename_known first s t ns k name q i g =
     let d = derivation (Some s) t ns in
     let c : CopyState = record { places = s.places; target = t } in
-    let same : type_renamed d k name ≡ d = ap (after_copying d s) (type_again s.value s.offset c k name (q, g)) in
+    let same : rename_type d k name ≡ d = ap (after_copying d s) (type_again s.value s.offset c k name (q, g)) in
     subst (λ (e : Derived). RenamesOnly first d e k name (type_place e k)) (sym same) (record {
       derivation = i;
       places = λ p. inl refl;
@@ -154,10 +154,10 @@ rename_known first s t ns k name q i g =
       keeps = record { items = Extends-refl t; names = refl; source = record { value = refl; offset = refl; went = λ x y h. h } };
     })
 
-rename_fresh : (first : Kept) (s : Source) (t : ModuleValue) (ns : List (List ℕ × ℕ)) (k : ℕ) (name : Option Text) → IsDerivation first (derivation (Some s) t ns) → HasAt s.value (TypeItem k) → goes s.places (TypeItem k) ≡ None → RenamesOnly first (derivation (Some s) t ns) (type_renamed (derivation (Some s) t ns) k name) k name (type_place (type_renamed (derivation (Some s) t ns) k name) k)
+rename_fresh : (first : Kept) (s : Source) (t : ModuleValue) (ns : List (List ℕ × ℕ)) (k : ℕ) (name : Option Text) → IsDerivation first (derivation (Some s) t ns) → HasAt s.value (TypeItem k) → goes s.places (TypeItem k) ≡ None → RenamesOnly first (derivation (Some s) t ns) (rename_type (derivation (Some s) t ns) k name) k name (type_place (rename_type (derivation (Some s) t ns) k name) k)
 rename_fresh first s t ns k name i r n =
     let c : CopyState = record { places = s.places; target = t } in
-    let u = copied_type s.value s.offset name c k in
+    let u = copy_named_type s.value s.offset name c k in
     let w = renamed_at (as_read s t) k name in
     let a = copied_named s.value s.offset first c k name i.source.copyable i.source.midway r n in
     let b = copied_named s.value s.offset (kept s t) c k name i.source.copyable (midway_now first s t i.source) r n in
@@ -172,13 +172,13 @@ rename_fresh first s t ns k name i r n =
       keeps = keeps_after first s t ns w u _ a.0;
     }
 
-rename_by : (first : Kept) (s : Source) (t : ModuleValue) (ns : List (List ℕ × ℕ)) (k : ℕ) (name : Option Text) → IsDerivation first (derivation (Some s) t ns) → HasAt s.value (TypeItem k) → (o : Option ItemPlace) → goes s.places (TypeItem k) ≡ o → RenamesOnly first (derivation (Some s) t ns) (type_renamed (derivation (Some s) t ns) k name) k name (type_place (type_renamed (derivation (Some s) t ns) k name) k)
+rename_by : (first : Kept) (s : Source) (t : ModuleValue) (ns : List (List ℕ × ℕ)) (k : ℕ) (name : Option Text) → IsDerivation first (derivation (Some s) t ns) → HasAt s.value (TypeItem k) → (o : Option ItemPlace) → goes s.places (TypeItem k) ≡ o → RenamesOnly first (derivation (Some s) t ns) (rename_type (derivation (Some s) t ns) k name) k name (type_place (rename_type (derivation (Some s) t ns) k name) k)
 rename_by first s t ns k name i r None e = rename_fresh first s t ns k name i r e
 rename_by first s t ns k name i r (Some q) e = rename_known first s t ns k name q i e
 
-rename_any : (first : Kept) (o : Option Source) (t : ModuleValue) (ns : List (List ℕ × ℕ)) (k : ℕ) (name : Option Text) → IsDerivation first (derivation o t ns) → HasItem (derivation o t ns) (TypeItem k) → RenamesOnly first (derivation o t ns) (type_renamed (derivation o t ns) k name) k name (type_place (type_renamed (derivation o t ns) k name) k)
+rename_any : (first : Kept) (o : Option Source) (t : ModuleValue) (ns : List (List ℕ × ℕ)) (k : ℕ) (name : Option Text) → IsDerivation first (derivation o t ns) → HasItem (derivation o t ns) (TypeItem k) → RenamesOnly first (derivation o t ns) (rename_type (derivation o t ns) k name) k name (type_place (rename_type (derivation o t ns) k name) k)
 rename_any first None t ns k name i h = absurd (false≢true h.0)
 rename_any first (Some s) t ns k name i h = rename_by first s t ns k name i h.1 (goes s.places (TypeItem k)) refl
 
-pub rename_law : (first : Kept) (d : Derived) (k : ℕ) (name : Option Text) → IsDerivation first d → HasItem d (TypeItem k) → RenamesOnly first d (type_renamed d k name) k name (type_place (type_renamed d k name) k)
+pub rename_law : (first : Kept) (d : Derived) (k : ℕ) (name : Option Text) → IsDerivation first d → HasItem d (TypeItem k) → RenamesOnly first d (rename_type d k name) k name (type_place (rename_type d k name) k)
 rename_law first d k name i h = rename_any first d.source d.target d.function_names k name i h

@@ -16,12 +16,12 @@ use Rattle.naga_oil_derive.specs.Renames.{Renames}
 use Rattle.naga_oil_derive.specs.Copying.{IsCopying}
 use Rattle.naga_oil_derive.specs.Callees.{known_as, callee_at}
 use Rattle.naga_oil_derive.specs.Went.{went_by}
-use Rattle.naga_oil_derive.specs.CopiedFunction.{copied_function}
+use Rattle.naga_oil_derive.specs.CopiedFunction.{copy_function}
 use Rattle.naga_oil_derive.specs.Imported.{meanings, IsAnswerable, IsImportable}
 use Rattle.naga_oil_derive.specs.Derived.{Source, Derived}
 use Rattle.naga_oil_derive.specs.DerivedView.{source_of, derived_of, IsDerived}
 use Rattle.naga_oil_derive.specs.DerivedFunctions.{Meanings, meant, meant_at, going, having, requests_of, MayAsk, MayCopy, MayCall, MayReach, CanCopy, CanImport, CanCall, KeepsFunctions, IsLocalized, FunctionStands, IsFunctionImported, MeansAt}
-use Rattle.naga_oil_derive.specs.DerivedValue.{by_source, importing_of, after_importing, function_localized, function_imported, function_called, requests_answered}
+use Rattle.naga_oil_derive.specs.DerivedValue.{by_source, importing_of, after_importing, localize_function, import_function, call_function, answer_requests}
 use Rattle.naga_oil_derive.specs.DerivedLaw.{IsDerivation, kept_by}
 use Rattle.naga_oil_derive.specs.Answered.{ImportState, import_state}
 use Rattle.naga_oil_derive.specs.AnsweredLaw.{HasForm, HasCopies, HaveCopies, AnswersOnly, AddsOnly, ImportsFunction}
@@ -115,13 +115,13 @@ requests_there : (o : Option Source) (ns : Meanings) (v : FunctionValue) → IfS
 requests_there None ns v h = tt
 requests_there (Some s) ns v h = h.requests
 
-pub copy_answers : (d : Derived) (v : FunctionValue) → IsFair d → CanCopy d v → AnswersOnly (kept_by d) d (requests_answered d (requests_of v)) (requests_of v)
+pub copy_answers : (d : Derived) (v : FunctionValue) → IsFair d → CanCopy d v → AnswersOnly (kept_by d) d (answer_requests d (requests_of v)) (requests_of v)
 copy_answers d v i c = answer_law (kept_by d) d (requests_of v) i.derivation i.copies (c.0, requests_there d.source d.function_names v c.1)
 
-pub call_answers : (d : Derived) (k : ℕ) → IsFair d → CanCall d k → AnswersOnly (kept_by d) d (function_called d k) (Call k ∷ [])
+pub call_answers : (d : Derived) (k : ℕ) → IsFair d → CanCall d k → AnswersOnly (kept_by d) d (call_function d k) (Call k ∷ [])
 call_answers d k i c = (call_law (kept_by d) d k i.derivation i.copies c).0
 
-pub imports : (d : Derived) (f : Function) (span : Span) → IsFair d → CanImport d (function_value f) → ImportsFunction (kept_by d) d (function_imported d (function_value f) span) (function_value f) span
+pub imports : (d : Derived) (f : Function) (span : Span) → IsFair d → CanImport d (function_value f) → ImportsFunction (kept_by d) d (import_function d (function_value f) span) (function_value f) span
 imports d f span i c = function_law (kept_by d) d (function_value f) span i.derivation i.copies (function_copies f) c
 
 -- what holds of a value holds of what is equal to it
@@ -145,14 +145,14 @@ form_in None ns v is h = absurd (false≢true is)
 form_in (Some s) ns v is h = h.form
 
 -- what is made of a function that can be copied copies it
-pub localized_ok : {B : Type 0} (r : Result Function B) (d e : Derived) (f : Function) → CanCopy d (function_value f) → IfOk r (λ w. function_value w ≡ function_localized e.source e.function_names (function_value f)) → IfOk r (λ w. IsLocalized e (function_value f) (function_value w))
+pub localized_ok : {B : Type 0} (r : Result Function B) (d e : Derived) (f : Function) → CanCopy d (function_value f) → IfOk r (λ w. function_value w ≡ localize_function e.source e.function_names (function_value f)) → IfOk r (λ w. IsLocalized e (function_value f) (function_value w))
 localized_ok (Ok w) d e f can is = subst (IsLocalized e (function_value f)) (sym is) (localized_law e (function_value f) (function_copies f) (form_in d.source d.function_names (function_value f) can.0 can.1))
 localized_ok (Err x) d e f can is = tt
 
 -- the same as a value
-pub copied_value : {B : Type 0} (r : Result Function B) (o : Shader) (s : Bor Module) (n : Maps) (u : Module) (g : Functions) (qs : FunctionNames) (f : Function) → o ≡ Some s → qs ≡ g.names.entries → IfOk r (λ w. function_value w ≡ copied_function (went_by n s.now g.names) (function_value f)) → IfOk r (λ w. function_value w ≡ function_localized (derived_of o n u qs).source (derived_of o n u qs).function_names (function_value f))
+pub copied_value : {B : Type 0} (r : Result Function B) (o : Shader) (s : Bor Module) (n : Maps) (u : Module) (g : Functions) (qs : FunctionNames) (f : Function) → o ≡ Some s → qs ≡ g.names.entries → IfOk r (λ w. function_value w ≡ copy_function (went_by n s.now g.names) (function_value f)) → IfOk r (λ w. function_value w ≡ localize_function (derived_of o n u qs).source (derived_of o n u qs).function_names (function_value f))
 copied_value (Ok w) o s n u g qs f e q h =
-    subst (λ (x : Shader). function_value w ≡ function_localized (derived_of x n u qs).source (derived_of x n u qs).function_names (function_value f)) (sym e) (subst (λ (x : FunctionNames). function_value w ≡ copied_function (going (source_at s.now n) (meanings x)) (function_value f)) (sym q) (h ∙ ap (λ (r : Renames). copied_function r (function_value f)) (going_same s.now n g)))
+    subst (λ (x : Shader). function_value w ≡ localize_function (derived_of x n u qs).source (derived_of x n u qs).function_names (function_value f)) (sym e) (subst (λ (x : FunctionNames). function_value w ≡ copy_function (going (source_at s.now n) (meanings x)) (function_value f)) (sym q) (h ∙ ap (λ (r : Renames). copy_function r (function_value f)) (going_same s.now n g)))
 copied_value (Err x) o s n u g qs f e q h = tt
 
 -- ---- names

@@ -18,7 +18,7 @@ use Rattle.naga_oil_ir.specs.declared.span.Span.{Span}
 use Rattle.naga_oil_ir.specs.contracts.expression.ExpressionPartialEq.TheImpl.{ghosts}
 use Rattle.naga_oil_derive.specs.declared.walk.Walk.{Walk}
 use Rattle.naga_oil_derive.specs.Copies.{Values, Table, copied, under_table, range_under, value_links}
-use Rattle.naga_oil_derive.specs.CopiedFunction.{ExpressionState, expression_state, copy_place, with_copy, copied_expression, expressions_upto, copied_expressions, function_with, body_renames, function_by, notes_in, copied_function}
+use Rattle.naga_oil_derive.specs.CopiedFunction.{ExpressionState, expression_state, copy_place, with_copy, copy_expression, expressions_upto, copy_expressions, function_with, body_renames, function_by, notes_in, copy_function}
 use Rattle.naga_oil_derive.specs.Expressions.{IsCopyAt}
 use Rattle.naga_oil_derive.specs.Functions.{argument_under, result_under, local_under, names_under, begun, order_of}
 use Rattle.naga_oil_derive.specs.Renames.{Renames, rename_tokens}
@@ -58,14 +58,14 @@ there [] k h = absurd (omega arith)
 there (e ∷ es) zero h = (e, refl)
 there (e ∷ es) (suc k) h = there es k (omega arith)
 
-pub copied_at : (r : Renames) (source : List (Expression × Span)) (k : ℕ) (u : Bool) (t : Table) (es fs : List (Expression × Span)) (c : Expression × Span) (h : ℕ) → k < length source → IsCopyAt r t source k c → h ≡ copy_place u (expression_values es) (parts c.0) → expression_values fs ≡ with_copy u (expression_values es) (parts c.0) c.1 → expression_state (slice_set t k (Some h)) fs ≡ copied_expression r u (expression_state t es) k (slice_get (expression_values source) k)
+pub copied_at : (r : Renames) (source : List (Expression × Span)) (k : ℕ) (u : Bool) (t : Table) (es fs : List (Expression × Span)) (c : Expression × Span) (h : ℕ) → k < length source → IsCopyAt r t source k c → h ≡ copy_place u (expression_values es) (parts c.0) → expression_values fs ≡ with_copy u (expression_values es) (parts c.0) c.1 → expression_state (slice_set t k (Some h)) fs ≡ copy_expression r u (expression_state t es) k (slice_get (expression_values source) k)
 copied_at r source k u t es fs c h l is place values =
     let x = there source k l in
     let g = is x.0 x.1 in
     let vs = expression_values es in
     let p = copied r t (parts x.0.0) in
     let from : slice_get (expression_values source) k ≡ Some (parts x.0.0, x.0.1) = slice_get-map (λ (e : Expression × Span). (parts e.0, e.1)) source k ∙ ap (option_map (λ (e : Expression × Span). (parts e.0, e.1))) x.1 in
-    ap (λ n. state_of (slice_set t k (Some n)) (expression_values fs)) (place ∙ ap (copy_place u vs) g.0) ∙ ap (state_of (slice_set t k (Some (copy_place u vs p)))) (values ∙ ap (λ q. with_copy u vs q c.1) g.0 ∙ ap (with_copy u vs p) g.1) ∙ sym (ap (copied_expression r u (expression_state t es) k) from)
+    ap (λ n. state_of (slice_set t k (Some n)) (expression_values fs)) (place ∙ ap (copy_place u vs) g.0) ∙ ap (state_of (slice_set t k (Some (copy_place u vs p)))) (values ∙ ap (λ q. with_copy u vs q c.1) g.0 ∙ ap (with_copy u vs p) g.1) ∙ sym (ap (copy_expression r u (expression_state t es) k) from)
 
 -- ---- all of them
 
@@ -73,13 +73,13 @@ pub upto_start : (r : Renames) (es : List (Expression × Span)) (o : List ℕ) (
 unfolding expressions_upto
 upto_start r es o b t fs e f = ap (λ x. state_of x (expression_values fs)) (e ∙ ap (λ n. replicate n None) (count es)) ∙ ap (λ x. state_of (replicate (length (expression_values es)) None) (expression_values x)) f
 
-pub upto_step : (r : Renames) (es : Values) (o : List ℕ) (b i k : ℕ) (s u : ExpressionState) → k ≡ get_or o i 0 → s ≡ expressions_upto r es o b i → u ≡ copied_expression r (nat_lt i b) s k (slice_get es k) → u ≡ expressions_upto r es o b (i + 1)
+pub upto_step : (r : Renames) (es : Values) (o : List ℕ) (b i k : ℕ) (s u : ExpressionState) → k ≡ get_or o i 0 → s ≡ expressions_upto r es o b i → u ≡ copy_expression r (nat_lt i b) s k (slice_get es k) → u ≡ expressions_upto r es o b (i + 1)
 unfolding expressions_upto
 upto_step r es o b i k s u is e f =
     let n : suc i ≡ i + 1 = omega arith in
-    f ∙ ap (λ x. copied_expression r (nat_lt i b) s x (slice_get es x)) is ∙ ap (λ x. copied_expression r (nat_lt i b) x (get_or o i 0) (slice_get es (get_or o i 0))) e ∙ ap (expressions_upto r es o b) n
+    f ∙ ap (λ x. copy_expression r (nat_lt i b) s x (slice_get es x)) is ∙ ap (λ x. copy_expression r (nat_lt i b) x (get_or o i 0) (slice_get es (get_or o i 0))) e ∙ ap (expressions_upto r es o b) n
 
-pub upto_all : (r : Renames) (es fs : List (Expression × Span)) (o : List ℕ) (b i : ℕ) (s : ExpressionState) → es ≡ fs → i ≡ length o → s ≡ expressions_upto r (expression_values es) o b i → s ≡ copied_expressions r (expression_values fs) o b
+pub upto_all : (r : Renames) (es fs : List (Expression × Span)) (o : List ℕ) (b i : ℕ) (s : ExpressionState) → es ≡ fs → i ≡ length o → s ≡ expressions_upto r (expression_values es) o b i → s ≡ copy_expressions r (expression_values fs) o b
 upto_all r es fs o b i s same e h = h ∙ ap (λ x. expressions_upto r (expression_values x) o b i) same ∙ ap (expressions_upto r (expression_values fs) o b) e
 
 -- ---- the function
@@ -93,8 +93,8 @@ notes_same f w k =
     sym (ap (λ ks. notes_after ks (value_links v.expressions) (begun v) (replicate (length v.expressions) None) v.body) (kinds_of_values f.expressions) ∙ ap (λ ls. notes_after (kinds f.expressions) ls (begun v) (replicate (length v.expressions) None) v.body) (links_of_values f.expressions) ∙ ap (λ b. notes_after (kinds f.expressions) (operand_links f.expressions) b (replicate (length v.expressions) None) v.body) (begun_same f) ∙ ap (λ n. notes_after (kinds f.expressions) (operand_links f.expressions) (started (operand_links f.expressions) (initialisers f)) (replicate n None) v.body) (sym (count f.expressions)) ∙ sym k.emits)
 
 -- the parts of a copy make the copy
-pub function_same : (r : Renames) (f : Function) (w : Walk) (t : Table) (target : List (Expression × Span)) (ns : Notes) (m c : ℕ) (n : Text) (a : List ArgumentValue) (o : Option FunctionResult) (l : List (LocalValue × Span)) (d : List (ℕ × List ℕ)) (b : Tokens) → Walks f w → expression_state t target ≡ copied_expressions r (expression_values f.expressions) w.places.items w.began → ns ≡ w.emitted.items → m ≡ length target - (length w.places.items - w.began) → c ≡ length target → n ≡ (function_value f).name → a ≡ map (argument_under r) (function_value f).arguments → o ≡ option_map (result_under r) f.result → l ≡ map (local_under (under_table r t (range_under ns w.began m c))) (function_value f).local_variables → d ≡ names_under t [] (function_value f).named_expressions → b ≡ rename_tokens (under_table r t (range_under ns w.began m c)) (block_tokens f.body) → function_of n a o l (expression_values target) d b None ≡ copied_function r (function_value f)
-unfolding copied_function
+pub function_same : (r : Renames) (f : Function) (w : Walk) (t : Table) (target : List (Expression × Span)) (ns : Notes) (m c : ℕ) (n : Text) (a : List ArgumentValue) (o : Option FunctionResult) (l : List (LocalValue × Span)) (d : List (ℕ × List ℕ)) (b : Tokens) → Walks f w → expression_state t target ≡ copy_expressions r (expression_values f.expressions) w.places.items w.began → ns ≡ w.emitted.items → m ≡ length target - (length w.places.items - w.began) → c ≡ length target → n ≡ (function_value f).name → a ≡ map (argument_under r) (function_value f).arguments → o ≡ option_map (result_under r) f.result → l ≡ map (local_under (under_table r t (range_under ns w.began m c))) (function_value f).local_variables → d ≡ names_under t [] (function_value f).named_expressions → b ≡ rename_tokens (under_table r t (range_under ns w.began m c)) (block_tokens f.body) → function_of n a o l (expression_values target) d b None ≡ copy_function r (function_value f)
+unfolding copy_function
 function_same r f w t target ns m c n a o l d b k s emitted merged counted name arguments outcome locals named body =
     let v = function_value f in
     let S = expression_state t target in

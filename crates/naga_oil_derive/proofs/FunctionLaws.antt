@@ -16,7 +16,7 @@ use Rattle.naga_oil_derive.specs.Walk.{IsReachOrder}
 use Rattle.naga_oil_derive.specs.Walks.{IsWalkOf}
 use Rattle.naga_oil_derive.specs.Copied.{place_in, with_item_in}
 use Rattle.naga_oil_derive.specs.Copies.{Values, Table, place_under, copied, range_under, value_links, AreCopies, LacksBefore, IsPut, IsStep, Placed}
-use Rattle.naga_oil_derive.specs.CopiedFunction.{ExpressionState, copy_place, with_copy, copied_expression, expressions_upto, copied_expressions, notes_in, copied_function}
+use Rattle.naga_oil_derive.specs.CopiedFunction.{ExpressionState, copy_place, with_copy, copy_expression, expressions_upto, copy_expressions, notes_in, copy_function}
 use Rattle.naga_oil_derive.specs.CopiedFunctionLaw.{StandAlone, MayBeCopied, CopyLaw, AloneLaw}
 use Rattle.naga_oil_derive.specs.DerivedFunctions.{kinds_in, initialisers_in}
 use Rattle.naga_oil_derive.specs.Equal.{parts_eq}
@@ -49,15 +49,15 @@ put_copy true v p s = put_found v p s (position (λ (e : Parts × Span). parts_e
 put_copy false v p s = inr (λ e. absurd (false≢true e), refl, refl)
 
 -- copying the expression at a place is a step
-pub step_copied : (r : Renames) (es : Values) (u : Bool) (s : ExpressionState) (k : ℕ) → IsStep r es u k s.table s.values (copied_expression r u s k (slice_get es k)).table (copied_expression r u s k (slice_get es k)).values
+pub step_copied : (r : Renames) (es : Values) (u : Bool) (s : ExpressionState) (k : ℕ) → IsStep r es u k s.table s.values (copy_expression r u s k (slice_get es k)).table (copy_expression r u s k (slice_get es k)).values
 step_copied r es u s k a at =
     let p = copied r s.table a.0 in
     let h = copy_place u s.values p in
-    (h, ap (λ o. (copied_expression r u s k o).table) at, subst (λ (w : Values). IsPut u s.values (p, r.span a.1) h w) (sym (ap (λ o. (copied_expression r u s k o).values) at)) (put_copy u s.values p (r.span a.1)))
+    (h, ap (λ o. (copy_expression r u s k o).table) at, subst (λ (w : Values). IsPut u s.values (p, r.span a.1) h w) (sym (ap (λ o. (copy_expression r u s k o).values) at)) (put_copy u s.values p (r.span a.1)))
 
 -- ---- all of them
 
-room_kept : (r : Renames) (u : Bool) (s : ExpressionState) (k : ℕ) (o : Option (Parts × Span)) → length (copied_expression r u s k o).table ≡ length s.table
+room_kept : (r : Renames) (u : Bool) (s : ExpressionState) (k : ℕ) (o : Option (Parts × Span)) → length (copy_expression r u s k o).table ≡ length s.table
 room_kept r u s k None = refl
 room_kept r u s k (Some a) = length-set s.table k (Some (copy_place u s.values (copied r s.table a.0)))
 
@@ -72,7 +72,7 @@ placed_upto r es o b ready within zero l = so_far_start r es o b (replicate (len
 placed_upto r es o b ready within (suc i) l =
     let s = expressions_upto r es o b i in
     let k = get_or o i 0 in
-    let u = copied_expression r (nat_lt i b) s k (slice_get es k) in
+    let u = copy_expression r (nat_lt i b) s k (slice_get es k) in
     let n : i + 1 ≡ suc i = omega arith in
     let less : i < length o = omega (arith, l) in
     subst (λ m. PlacedSoFar r es o b m u.table u.values) n (so_far_step r es o b i (nat_lt i b) s.table u.table s.values u.values ready less (within i less) (room_upto r es o b i) (ltb-true i b) (ltb-false i b) (placed_upto r es o b ready within i (omega (arith, l))) (step_copied r es (nat_lt i b) s k))
@@ -87,12 +87,12 @@ pub record IsCopied (r : Renames) (v : FunctionValue) (s : ExpressionState) (m :
   pub follow : map (place_under s.table) (order_of v) ≡ began ++ run m (length (order_of v) - length (begun v))
   pub count : length s.values ≡ m + (length (order_of v) - length (begun v))
 
-pub copied_value : (r : Renames) (v : FunctionValue) → MayBeCopied v → let s = copied_expressions r v.expressions (order_of v) (length (begun v)) in IsCopied r v s (length s.values - (length (order_of v) - length (begun v)))
+pub copied_value : (r : Renames) (v : FunctionValue) → MayBeCopied v → let s = copy_expressions r v.expressions (order_of v) (length (begun v)) in IsCopied r v s (length s.values - (length (order_of v) - length (begun v)))
 copied_value r v may =
     let es = v.expressions in
     let o = order_of v in
     let b = length (begun v) in
-    let s = copied_expressions r es o b in
+    let s = copy_expressions r es o b in
     let n = length s.values - (length o - b) in
     let w = walk_of_value v may in
     let size : length (value_links es) ≡ length es = length-map es (λ (e : Parts × Span). flat_map option_to_list e.0.operands) in
@@ -111,9 +111,9 @@ copied_value r v may =
     }
 
 pub copies : CopyLaw
-unfolding copied_function
+unfolding copy_function
 copies r v may =
-    let s = copied_expressions r v.expressions (order_of v) (length (begun v)) in
+    let s = copy_expressions r v.expressions (order_of v) (length (begun v)) in
     let m = length s.values - (length (order_of v) - length (begun v)) in
     let c = copied_value r v may in
     let w = walk_of_value v may in

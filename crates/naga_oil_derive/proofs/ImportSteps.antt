@@ -15,8 +15,8 @@ use Rattle.naga_oil_ir.specs.declared.names.ItemPlace.{ItemPlace}
 use Rattle.naga_oil_derive.specs.World.{goes, value_of, shifted}
 use Rattle.naga_oil_derive.specs.Copying.{IsThere, AreRanked, IsCopying, WentSomewhere, places_of, goes_under}
 use Rattle.naga_oil_derive.specs.Callees.{known_as, known_at, callee_at}
-use Rattle.naga_oil_derive.specs.Copied.{CopyState, copy_state, copied}
-use Rattle.naga_oil_derive.specs.CopiedFunction.{copied_function}
+use Rattle.naga_oil_derive.specs.Copied.{CopyState, copy_state, copy_item}
+use Rattle.naga_oil_derive.specs.CopiedFunction.{copy_function}
 use Rattle.naga_oil_derive.specs.Naming.{Thins, Ends, Keeps, Drops, function_names}
 use Rattle.naga_oil_derive.specs.Imported.{meanings, Asks, MayImport, IsCallable, IsAnswerable, IsImportable}
 use Rattle.naga_oil_derive.specs.DerivedFunctions.{Meanings, meant, meaning}
@@ -77,7 +77,7 @@ request_added source t u m n a b shift depth ns xs ys i r copying adding may th 
     request_at source a b depth ns xs i r (subst (Thins [] ns) (sym e) th) may (names_added source t u m n a b shift copying adding) l is
 
 -- an item that is copied went somewhere
-pub item_went : (source t u : Module) (m n : Maps) (p : ItemPlace) → AreRanked source → IsCopying source t m → IsThere source p → copy_state n u ≡ copied (value_of source) m.offset (copy_state m t) p → WentSomewhere (goes (places_of n)) (Some p)
+pub item_went : (source t u : Module) (m n : Maps) (p : ItemPlace) → AreRanked source → IsCopying source t m → IsThere source p → copy_state n u ≡ copy_item (value_of source) m.offset (copy_state m t) p → WentSomewhere (goes (places_of n)) (Some p)
 unfolding goes_under
 item_went source t u m n p ranked i there e = copied_went source t u m n p ranked i there e
 
@@ -100,11 +100,11 @@ abbrev state_with : CopyState → List (FunctionValue × Span) → Meanings → 
 state_with c f n = record { copying = c; functions = f; names = n }
 
 -- the copy of a function, behind the others
-put_behind : (source : Module) (f g : Function) (span : Span) (m : Maps) (a b : Functions) → function_value g ≡ copied_function (went_by m source a.names) (function_value f) → b.copies ≡ a.copies ++ (g, shifted m.offset span) ∷ [] → (t : Module) → (import_state m t b).functions ≡ (with_function (value_of source) m.offset (import_state m t a) (function_value f) span).functions
+put_behind : (source : Module) (f g : Function) (span : Span) (m : Maps) (a b : Functions) → function_value g ≡ copy_function (went_by m source a.names) (function_value f) → b.copies ≡ a.copies ++ (g, shifted m.offset span) ∷ [] → (t : Module) → (import_state m t b).functions ≡ (with_function (value_of source) m.offset (import_state m t a) (function_value f) span).functions
 put_behind source f g span m a b made e t =
     let see = λ (x : Function × Span). (let y : FunctionValue × Span = (function_value x.0, x.1) in y) in
     let fs = map see a.copies in
-    ap (map see) e ∙ map-append see a.copies ((g, shifted m.offset span) ∷ []) ∙ ap (λ (v : FunctionValue). fs ++ entry_of v (shifted m.offset span) ∷ []) (made ∙ ap (λ r. copied_function r (function_value f)) (going_same source m a))
+    ap (map see) e ∙ map-append see a.copies ((g, shifted m.offset span) ∷ []) ∙ ap (λ (v : FunctionValue). fs ++ entry_of v (shifted m.offset span) ∷ []) (made ∙ ap (λ r. copy_function r (function_value f)) (going_same source m a))
 
 -- its name means it
 pub name_put : (f : Function) (a b : Functions) (h : ℕ) (n : String Global) → Some (string_bytes n) ≡ option_map string_bytes f.name → b.names.entries ≡ insert_entry string_eq a.names.entries n h → meanings b.names.entries ≡ meaning (meanings a.names.entries) (function_value f).name h
@@ -114,7 +114,7 @@ pub name_means : (f : Function) (a b : Functions) (h : ℕ) (n : String Global) 
 name_means f a b h n is e =
     known_same b.names f.name ∙ ap (λ (ms : Meanings). meant ms (function_value f).name) (name_put f a b h n is e) ∙ meaning_same (meanings a.names.entries) (function_value f).name h (ap is_some (sym is))
 
-pub put_value : (source : Module) (f g : Function) (span : Span) (m : Maps) (t : Module) (a b : Functions) (h : ℕ) (n : String Global) → function_value g ≡ copied_function (went_by m source a.names) (function_value f) → b.copies ≡ a.copies ++ (g, shifted m.offset span) ∷ [] → h ≡ length a.copies → Some (string_bytes n) ≡ option_map string_bytes f.name → b.names.entries ≡ insert_entry string_eq a.names.entries n h → import_state m t b ≡ with_function (value_of source) m.offset (import_state m t a) (function_value f) span
+pub put_value : (source : Module) (f g : Function) (span : Span) (m : Maps) (t : Module) (a b : Functions) (h : ℕ) (n : String Global) → function_value g ≡ copy_function (went_by m source a.names) (function_value f) → b.copies ≡ a.copies ++ (g, shifted m.offset span) ∷ [] → h ≡ length a.copies → Some (string_bytes n) ≡ option_map string_bytes f.name → b.names.entries ≡ insert_entry string_eq a.names.entries n h → import_state m t b ≡ with_function (value_of source) m.offset (import_state m t a) (function_value f) span
 put_value source f g span m t a b h n made e l is i =
     let s = import_state m t a in
     let u = with_function (value_of source) m.offset s (function_value f) span in
@@ -122,7 +122,7 @@ put_value source f g span m t a b h n made e l is i =
     ap (λ x. state_with s.copying x (meanings b.names.entries)) (put_behind source f g span m a b made e t) ∙ ap (state_with s.copying u.functions) (name_put f a b h n is i ∙ ap (meaning s.names (function_value f).name) (l ∙ sym (length-map a.copies see)))
 
 -- where its name finds no room
-pub copy_value : (source : Module) (f g : Function) (span : Span) (m : Maps) (t : Module) (a b : Functions) → function_value g ≡ copied_function (went_by m source a.names) (function_value f) → b.copies ≡ a.copies ++ (g, shifted m.offset span) ∷ [] → b.names.entries ≡ a.names.entries → import_state m t b ≡ record (with_function (value_of source) m.offset (import_state m t a) (function_value f) span) { names = (import_state m t a).names }
+pub copy_value : (source : Module) (f g : Function) (span : Span) (m : Maps) (t : Module) (a b : Functions) → function_value g ≡ copy_function (went_by m source a.names) (function_value f) → b.copies ≡ a.copies ++ (g, shifted m.offset span) ∷ [] → b.names.entries ≡ a.names.entries → import_state m t b ≡ record (with_function (value_of source) m.offset (import_state m t a) (function_value f) span) { names = (import_state m t a).names }
 copy_value source f g span m t a b made e i =
     let s = import_state m t a in
     let u = with_function (value_of source) m.offset s (function_value f) span in

@@ -21,7 +21,7 @@ use Rattle.naga_oil_derive.specs.Walk.{listed, walked, AreWithin, IsReachOrder}
 use Rattle.naga_oil_derive.specs.Walks.{Walks}
 use Rattle.naga_oil_derive.specs.Copies.{Table, value_links, FitIn}
 use Rattle.naga_oil_derive.specs.Functions.{begun, order_of, named_values, names_under, name_put}
-use Rattle.naga_oil_derive.specs.CopiedFunction.{ExpressionState, expression_state, copied_expressions}
+use Rattle.naga_oil_derive.specs.CopiedFunction.{ExpressionState, expression_state, copy_expressions}
 use Rattle.naga_oil_derive.specs.declared.walk.Walk.{Walk}
 use Rattle.naga_oil_derive.proofs.CopyLoops.{links_of_values}
 use Rattle.naga_oil_derive.proofs.FunctionLaws.{placed_upto}
@@ -55,7 +55,7 @@ value_count : (es : List (Expression × Span)) → length (expression_values es)
 value_count es = length-map es (λ (e : Expression × Span). (parts e.0, e.1))
 
 -- each expression that no initialiser reaches has a copy of its own
-pub counted : (r : Renames) (f : Function) (w : Walk) (t : Table) (target : List (Expression × Span)) → Walks f w → expression_state t target ≡ copied_expressions r (expression_values f.expressions) w.places.items w.began → length w.places.items - w.began ≤ length target
+pub counted : (r : Renames) (f : Function) (w : Walk) (t : Table) (target : List (Expression × Span)) → Walks f w → expression_state t target ≡ copy_expressions r (expression_values f.expressions) w.places.items w.began → length w.places.items - w.began ≤ length target
 counted r f w t target k e =
     let es = expression_values f.expressions in
     let o = w.places.items in

@@ -9,7 +9,7 @@ use Rattle.indexmap.specs.IndexMap.{insert_entry}
 use Rattle.naga_oil_ir.specs.Links.{has, added}
 use Rattle.naga_oil_ir.proofs.LinkLemmas.{eqb_eq, eq_eqb}
 use Rattle.naga_oil_derive.specs.Copies.{Table}
-use Rattle.naga_oil_derive.specs.CopiedFunction.{copied_function}
+use Rattle.naga_oil_derive.specs.CopiedFunction.{copy_function}
 use Rattle.naga_oil_derive.specs.CopiedFunctionLaw.{table_of, is_copied_to, named_copies, NameLaw}
 use Rattle.naga_oil_derive.specs.Functions.{name_put, names_under}
 use Rattle.naga_oil_derive.proofs.WalkLemmas.{added-append}
@@ -100,7 +100,7 @@ first_place t (e ∷ ns) done =
     first_place t ns (name_put o e.1 done) ∙ ap (λ xs. added xs (named_copies t ns)) (keys_name o e.1 done) ∙ sym (added-append (keys_of done) (option_to_list o) (named_copies t ns))
 
 pub names : NameLaw
-unfolding copied_function
+unfolding copy_function
 names r v =
     let t = table_of r v in
     record {

@@ -11,7 +11,7 @@ use Rattle.naga_oil_derive.specs.declared.maps.Maps.{Maps}
 use Rattle.naga_oil_derive.specs.Tree.{Kept}
 use Rattle.naga_oil_derive.specs.World.{goes, value_of, world, Extends, under_name}
 use Rattle.naga_oil_derive.specs.Copying.{IsThere, AreRanked, IsCopying, Grows, WentSomewhere, AreNames, goes_under, source_world, kept_between}
-use Rattle.naga_oil_derive.specs.Copied.{CopyState, copy_state, put, put_type, copied, all_copied}
+use Rattle.naga_oil_derive.specs.Copied.{CopyState, copy_state, put, put_type, copy_item, copy_all}
 use Rattle.naga_oil_derive.specs.CopiedLaw.{IsKinded, HasAt, IsBelowIn, IsCopyable, reads_now, spans_by, IsMidway, IsReady}
 use Rattle.naga_oil_derive.specs.Putting.{CanPut, Putting, NothingPut, ItemPut, TypePutting, NoType, TypeLast}
 use Rattle.naga_oil_derive.proofs.TreeLemmas.{puts_keeps}
@@ -87,7 +87,7 @@ there_name m rank p None h = tt
 there_name m rank p (Some q) h = h.0
 
 -- once what an item names was copied, the item can be put
-pub can_put : (m : ModuleValue) (shift : ℕ) (kept : Kept) (s : CopyState) (p : ItemPlace) (r : Row) → IsCopyable m → IsMidway m kept s → world m p ≡ Some r → goes s.places p ≡ None → CanPut m (all_copied m shift s r.names) p
+pub can_put : (m : ModuleValue) (shift : ℕ) (kept : Kept) (s : CopyState) (p : ItemPlace) (r : Row) → IsCopyable m → IsMidway m kept s → world m p ≡ Some r → goes s.places p ≡ None → CanPut m (copy_all m shift s r.names) p
 can_put m shift kept s p r c i at fresh =
     let w = reads_now m s in
     let below = c.ranked.names p r at in
@@ -95,7 +95,7 @@ can_put m shift kept s p r c i at fresh =
     record {
       row = r;
       there = at;
-      nowhere = still_nowhere m shift kept w s (all_copied m shift s r.names) _ p a.0 (not_among m kept w c.rank p r.names (lowers m c.rank s c.ranked) (lower_names m c.rank p r.names below)) fresh;
+      nowhere = still_nowhere m shift kept w s (copy_all m shift s r.names) _ p a.0 (not_among m kept w c.rank p r.names (lowers m c.rank s c.ranked) (lower_names m c.rank p r.names below)) fresh;
       names = a.1;
     }
 
@@ -155,7 +155,7 @@ type_putting_grows source t u m n name k i e p = later_grows source t u m n e (t
 
 -- ---- after an item was copied
 
-pub copied_went : (source t u : Module) (m n : Maps) (p : ItemPlace) → AreRanked source → IsCopying source t m → IsThere source p → copy_state n u ≡ copied (value_of source) m.offset (copy_state m t) p → WentSomewhere (goes_under n) (Some p)
+pub copied_went : (source t u : Module) (m n : Maps) (p : ItemPlace) → AreRanked source → IsCopying source t m → IsThere source p → copy_state n u ≡ copy_item (value_of source) m.offset (copy_state m t) p → WentSomewhere (goes_under n) (Some p)
 unfolding goes_under
 copied_went source t u m n p a i there e =
     let g = copied_item (value_of source) m.offset (kept_between source t) (copy_state m t) p (ranked_copyable source a) (midway_of source t m i) there in
@@ -170,24 +170,24 @@ names_of : (o : Option Row) (r : Row) (ns : List (Option ItemPlace)) → o ≡ S
 names_of o r ns e a = subst (λ x. AreNames x ns) e a
 
 -- an item can be put in the state in which its names were copied
-ready_now : (source t u : Module) (m n : Maps) (p : ItemPlace) (ns : List (Option ItemPlace)) → AreRanked source → IsCopying source t m → IsThere source p → goes_under m p ≡ None → AreNames (world (value_of source) p) ns → copy_state n u ≡ all_copied (value_of source) m.offset (copy_state m t) ns → CanPut (value_of source) (copy_state n u) p
+ready_now : (source t u : Module) (m n : Maps) (p : ItemPlace) (ns : List (Option ItemPlace)) → AreRanked source → IsCopying source t m → IsThere source p → goes_under m p ≡ None → AreNames (world (value_of source) p) ns → copy_state n u ≡ copy_all (value_of source) m.offset (copy_state m t) ns → CanPut (value_of source) (copy_state n u) p
 unfolding goes_under
 ready_now source t u m n p ns a i there fresh names e =
     let v = value_of source in
     let s = copy_state m t in
-    subst (λ x. CanPut v x p) (sym (e ∙ ap (all_copied v m.offset s) (names_of (world v p) there.0 ns there.1 names))) (can_put v m.offset (kept_between source t) s p there.0 (ranked_copyable source a) (midway_of source t m i) there.1 fresh)
+    subst (λ x. CanPut v x p) (sym (e ∙ ap (copy_all v m.offset s) (names_of (world v p) there.0 ns there.1 names))) (can_put v m.offset (kept_between source t) s p there.0 (ranked_copyable source a) (midway_of source t m i) there.1 fresh)
 
-pub putting_item : (source t u x : Module) (m n k : Maps) (p : ItemPlace) (ns : List (Option ItemPlace)) → AreRanked source → IsCopying source t m → IsThere source p → goes_under m p ≡ None → AreNames (world (value_of source) p) ns → n.offset ≡ m.offset → Putting (value_of source) m.offset (copy_state m t) (copy_state n u) → copy_state n u ≡ all_copied (value_of source) m.offset (copy_state m t) ns → copy_state k x ≡ put (value_of source) n.offset (copy_state n u) p → Putting (value_of source) m.offset (copy_state m t) (copy_state k x)
+pub putting_item : (source t u x : Module) (m n k : Maps) (p : ItemPlace) (ns : List (Option ItemPlace)) → AreRanked source → IsCopying source t m → IsThere source p → goes_under m p ≡ None → AreNames (world (value_of source) p) ns → n.offset ≡ m.offset → Putting (value_of source) m.offset (copy_state m t) (copy_state n u) → copy_state n u ≡ copy_all (value_of source) m.offset (copy_state m t) ns → copy_state k x ≡ put (value_of source) n.offset (copy_state n u) p → Putting (value_of source) m.offset (copy_state m t) (copy_state k x)
 putting_item source t u x m n k p ns a i there fresh names offset before e is =
     let v = value_of source in
     let s = copy_state n u in
     putting_trans before (ItemPut p (ready_now source t u m n p ns a i there fresh names e) (subst (λ y. Putting v m.offset y (copy_state k x)) (is ∙ ap (λ d. put v d s p) offset) NothingPut))
 
-pub putting_type : (source t u x : Module) (m n k : Maps) (h : ℕ) (name : Option Text) (ns : List (Option ItemPlace)) → AreRanked source → IsCopying source t m → IsThere source (TypeItem h) → goes_under m (TypeItem h) ≡ None → AreNames (world (value_of source) (TypeItem h)) ns → n.offset ≡ m.offset → Putting (value_of source) m.offset (copy_state m t) (copy_state n u) → copy_state n u ≡ all_copied (value_of source) m.offset (copy_state m t) ns → copy_state k x ≡ put_type (value_of source) n.offset name (copy_state n u) h → TypePutting (value_of source) m.offset name h (copy_state m t) (copy_state k x)
+pub putting_type : (source t u x : Module) (m n k : Maps) (h : ℕ) (name : Option Text) (ns : List (Option ItemPlace)) → AreRanked source → IsCopying source t m → IsThere source (TypeItem h) → goes_under m (TypeItem h) ≡ None → AreNames (world (value_of source) (TypeItem h)) ns → n.offset ≡ m.offset → Putting (value_of source) m.offset (copy_state m t) (copy_state n u) → copy_state n u ≡ copy_all (value_of source) m.offset (copy_state m t) ns → copy_state k x ≡ put_type (value_of source) n.offset name (copy_state n u) h → TypePutting (value_of source) m.offset name h (copy_state m t) (copy_state k x)
 putting_type source t u x m n k h name ns a i there fresh names offset before e is =
     TypeLast before (ready_now source t u m n (TypeItem h) ns a i there fresh names e) (is ∙ ap (λ d. put_type (value_of source) d name (copy_state n u) h) offset)
 
-pub names_went : (source t u : Module) (m n : Maps) (ns : List (Option ItemPlace)) → AreRanked source → IsCopying source t m → All (λ o. IfSome o (HasAt (value_of source))) ns → copy_state n u ≡ all_copied (value_of source) m.offset (copy_state m t) ns → All (WentSomewhere (goes_under n)) ns
+pub names_went : (source t u : Module) (m n : Maps) (ns : List (Option ItemPlace)) → AreRanked source → IsCopying source t m → All (λ o. IfSome o (HasAt (value_of source))) ns → copy_state n u ≡ copy_all (value_of source) m.offset (copy_state m t) ns → All (WentSomewhere (goes_under n)) ns
 unfolding goes_under
 names_went source t u m n ns a i there e =
     subst (λ (s : CopyState). All (WentSomewhere (goes s.places)) ns) (sym e) (copied_all (value_of source) m.offset (kept_between source t) (copy_state m t) ns (ranked_copyable source a) (midway_of source t m i) there).1

@@ -16,7 +16,7 @@ use Rattle.naga_oil_ir.specs.declared.tokens.Token.TheVariants.{Emitted}
 use Rattle.naga_oil_derive.specs.Renames.{Renames, rename_token}
 use Rattle.naga_oil_derive.specs.Walk.{IsReachOrder, externals, others, listed, brief, Notes, notes_of, notes_after, AreWithin}
 use Rattle.naga_oil_derive.specs.Copies.{Values, Table, place_under, value_links, copied, FitIn, brought, brought_range, range_under}
-use Rattle.naga_oil_derive.specs.CopiedFunction.{ExpressionState, copied_expression, copied_expressions, expressions_upto, body_renames, notes_in, copied_function}
+use Rattle.naga_oil_derive.specs.CopiedFunction.{ExpressionState, copy_expression, copy_expressions, expressions_upto, body_renames, notes_in, copy_function}
 use Rattle.naga_oil_derive.specs.CopiedFunctionLaw.{MayBeCopied, EmitsAt, LeadsAt, put_before, copies_of, range_from, RangeLaw}
 use Rattle.naga_oil_derive.specs.DerivedFunctions.{kinds_in, named_in, initialisers_in}
 use Rattle.naga_oil_derive.specs.Functions.{IsCovered, AreCovered, begun, order_of}
@@ -33,8 +33,8 @@ use Rattle.naga_oil_derive.proofs.WalkNotes.{added-grows, added-longer, noted_at
 -- ---- how many copies there are
 
 -- behind those of initialisers each place has a copy of its own
-one_more : (r : Renames) (s : ExpressionState) (k : ℕ) (o : Option (Parts × Span)) (a : Parts × Span) → o ≡ Some a → length (copied_expression r false s k o).values ≡ length s.values + 1
-one_more r s k o a e = ap (λ x. length (copied_expression r false s k x).values) e ∙ length_push s.values (copied r s.table a.0, r.span a.1)
+one_more : (r : Renames) (s : ExpressionState) (k : ℕ) (o : Option (Parts × Span)) (a : Parts × Span) → o ≡ Some a → length (copy_expression r false s k o).values ≡ length s.values + 1
+one_more r s k o a e = ap (λ x. length (copy_expression r false s k x).values) e ∙ length_push s.values (copied r s.table a.0, r.span a.1)
 
 counted : (r : Renames) (es : Values) (o : List ℕ) (b : ℕ) → ((j : ℕ) → j < length o → get_or o j 0 < length es) → (j : ℕ) → b + j ≤ length o → length (expressions_upto r es o b (b + j)).values ≡ length (expressions_upto r es o b b).values + j
 unfolding expressions_upto
@@ -47,7 +47,7 @@ counted r es o b within (suc j) l =
     let a = there es k (within i (omega (arith, l))) in
     let late : nat_lt i b ≡ false = le-ltb i b (omega arith) in
     let before = counted r es o b within j (omega (arith, l)) in
-    let one = ap (λ u. length (copied_expression r u s k (slice_get es k)).values) late ∙ one_more r s k (slice_get es k) a.0 a.1 in
+    let one = ap (λ u. length (copy_expression r u s k (slice_get es k)).values) late ∙ one_more r s k (slice_get es k) a.0 a.1 in
     ap (λ n. length (expressions_upto r es o b n).values) e ∙ one ∙ (let g : length s.values + 1 ≡ length (expressions_upto r es o b b).values + suc j = omega (arith, before) in g)
 
 -- the copies of the first places stay where they are
@@ -65,7 +65,7 @@ places_stay r es o b ready within k (suc j) l =
     let fresh : has (take k o) x ≡ false = ap (λ xs. has xs x) (sym (take-take k i o (omega arith))) ∙ has_part k (take i o) x (ready.once i x (slice_get-get_or o i 0 less)) in
     ap (λ n. map (place_under (expressions_upto r es o b n).table) (take k o)) e ∙ ap (λ (t : Table). map (place_under t) (take k o)) put.1 ∙ map_other s.table x put.0 (take k o) fresh ∙ places_stay r es o b ready within k j (omega (arith, l))
 
-copies_first : (r : Renames) (es : Values) (o : List ℕ) (b : ℕ) → IsReachOrder (value_links es) o → ((j : ℕ) → j < length o → get_or o j 0 < length es) → (k : ℕ) → b ≤ k → k ≤ length o → length (added [] (map (place_under (copied_expressions r es o b).table) (take k o))) ≡ length (expressions_upto r es o b k).values
+copies_first : (r : Renames) (es : Values) (o : List ℕ) (b : ℕ) → IsReachOrder (value_links es) o → ((j : ℕ) → j < length o → get_or o j 0 < length es) → (k : ℕ) → b ≤ k → k ≤ length o → length (added [] (map (place_under (copy_expressions r es o b).table) (take k o))) ≡ length (expressions_upto r es o b k).values
 copies_first r es o b ready within k l h =
     let e : k + (length o - k) ≡ length o = omega (arith, h) in
     let stay = ap (λ n. map (place_under (expressions_upto r es o b n).table) (take k o)) (sym e) ∙ places_stay r es o b ready within k (length o - k) (omega (arith, e)) in
@@ -128,7 +128,7 @@ emitted b e = Some (Emitted (b, e))
 -- ---- the ranges of a function
 
 abbrev state_of : Renames → FunctionValue → ExpressionState
-state_of r v = copied_expressions r v.expressions (order_of v) (length (begun v))
+state_of r v = copy_expressions r v.expressions (order_of v) (length (begun v))
 
 -- how many copies initialisers have
 abbrev merged_of : Renames → FunctionValue → ℕ
@@ -186,8 +186,8 @@ range_empty n m c p b e l = ap (λ t. pair_of (brought n m b) (if t then brought
 emitted_as : (u : Renames) (ts : Tokens) (i : ℕ) (p : ℕ × ℕ) (a b x y : ℕ) → slice_get ts i ≡ Some (Emitted p) → u.range p ≡ pair_of a b → a ≡ x → b ≡ y → slice_get (map (rename_token u) ts) i ≡ emitted x y
 emitted_as u ts i p a b x y at e f g = renamed_at u ts i p at ∙ ap (λ (q : ℕ × ℕ). Some (Emitted q)) e ∙ ap (λ z. emitted z b) f ∙ ap (emitted x) g
 
-range_begins : (r : Renames) (v : FunctionValue) → MayBeCopied v → (j : ℕ) (q : ℕ × ℕ) → LeadsAt v j q → EmitsAt (copied_function r v) j (range_from v q (copies_of r v (put_before v j q)))
-unfolding copied_function
+range_begins : (r : Renames) (v : FunctionValue) → MayBeCopied v → (j : ℕ) (q : ℕ × ℕ) → LeadsAt v j q → EmitsAt (copy_function r v) j (range_from v q (copies_of r v (put_before v j q)))
+unfolding copy_function
 range_begins r v may j q at =
     let ns = notes_in v in
     let n = length (begun v) in
@@ -201,8 +201,8 @@ range_begins r v may j q at =
     let less = λ (l : q.1 ≤ q.0). let none : e ≡ 0 = ap (λ ps. length (others (begun v) ps)) (places_empty q l) in let last : brought_in r v k ≡ copies_of r v (put_before v j q) + e = omega (arith, none, x.begins) in emitted_as u v.body j q (brought_in r v k) (brought_in r v k) (copies_of r v (put_before v j q)) (copies_of r v (put_before v j q) + e) at.emits (range ∙ range_empty n m c q k (k + e) l) x.begins last in
     ⊎_elim (λ l. emitted_as u v.body j q (brought_in r v k) (brought_in r v (k + e)) (copies_of r v (put_before v j q)) (copies_of r v (put_before v j q) + e) at.emits (range ∙ range_wide n m c q k (k + e) l) x.begins x.ends) less (cases_lt q.0 q.1)
 
-range_shared : (r : Renames) (v : FunctionValue) → MayBeCopied v → (i j : ℕ) (p q : ℕ × ℕ) → EmitsAt v i p → p.1 ≤ p.0 → LeadsAt v j q → p.0 ≡ q.0 → EmitsAt (copied_function r v) i (copies_of r v (put_before v j q), copies_of r v (put_before v j q))
-unfolding copied_function
+range_shared : (r : Renames) (v : FunctionValue) → MayBeCopied v → (i j : ℕ) (p q : ℕ × ℕ) → EmitsAt v i p → p.1 ≤ p.0 → LeadsAt v j q → p.0 ≡ q.0 → EmitsAt (copy_function r v) i (copies_of r v (put_before v j q), copies_of r v (put_before v j q))
+unfolding copy_function
 range_shared r v may i j p q emits l at f =
     let ns = notes_in v in
     let n = length (begun v) in
@@ -214,8 +214,8 @@ range_shared r v may i j p q emits l at f =
     let num = copies_of r v (put_before v j q) in
     emitted_as (body_renames r (state_of r v) (order_of v) n ns) v.body i p (brought_in r v k) (brought_in r v k) num num emits (range_noted ns n m c p q k (k + e) f x.noted ∙ range_empty n m c p k (k + e) l) x.begins x.begins
 
-range_behind : (r : Renames) (v : FunctionValue) (i : ℕ) (p : ℕ × ℕ) → EmitsAt v i p → length v.expressions ≤ p.0 → EmitsAt (copied_function r v) i (length (copied_function r v).expressions, length (copied_function r v).expressions)
-unfolding copied_function
+range_behind : (r : Renames) (v : FunctionValue) (i : ℕ) (p : ℕ × ℕ) → EmitsAt v i p → length v.expressions ≤ p.0 → EmitsAt (copy_function r v) i (length (copy_function r v).expressions, length (copy_function r v).expressions)
+unfolding copy_function
 range_behind r v i p at l =
     let ns = notes_in v in
     let n = length (begun v) in
@@ -225,7 +225,7 @@ range_behind r v i p at l =
     emitted_as (body_renames r (state_of r v) (order_of v) n ns) v.body i p c c c c at (ap (λ o. brought_range n m c p (option_flatten o)) (slice_get_past ns p.0 (omega (arith, l, long)))) refl refl
 
 pub ranges : RangeLaw
-unfolding copied_function
+unfolding copy_function
 ranges r v may =
     let o = order_of v in
     let n = length (begun v) in

@@ -17,7 +17,7 @@ use Rattle.naga_oil_ir.proofs.LinkLemmas.{same_bool, eqb_eq, eq_eqb, only, itsel
 use Rattle.naga_oil_derive.specs.Renames.{Renames}
 use Rattle.naga_oil_derive.specs.Walk.{externals, listed}
 use Rattle.naga_oil_derive.specs.Copies.{Values, Table, place_under, copied, value_links, AreCopies}
-use Rattle.naga_oil_derive.specs.CopiedFunction.{copied_expressions, copied_function}
+use Rattle.naga_oil_derive.specs.CopiedFunction.{copy_expressions, copy_function}
 use Rattle.naga_oil_derive.specs.CopiedFunctionLaw.{MayBeCopied, table_of, spoken, reached_in, IsOfReached, ReachedLaw}
 use Rattle.naga_oil_derive.specs.DerivedFunctions.{kinds_in, initialisers_in}
 use Rattle.naga_oil_derive.specs.Functions.{begun, order_of}
@@ -117,9 +117,9 @@ within_order v may k i =
     omega (arith, l, size)
 
 pub reached : ReachedLaw
-unfolding copied_function
+unfolding copy_function
 reached r v may =
-    let s = copied_expressions r v.expressions (order_of v) (length (begun v)) in
+    let s = copy_expressions r v.expressions (order_of v) (length (begun v)) in
     let c = (copied_value r v may).copies in
     record {
       went = λ k. c.went k ∙ order_reached v may k;

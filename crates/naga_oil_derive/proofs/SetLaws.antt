@@ -18,7 +18,7 @@ use Rattle.naga_oil_derive.specs.Copying.{IsSound, AreCopied, WentSomewhere, han
 use Rattle.naga_oil_derive.specs.Copied.{CopyState}
 use Rattle.naga_oil_derive.specs.CopiedLaw.{HasAt, IsCopyable, AreSpecial, AreRoomy, reads_now, spans_by, IsMidway, PlacesAmong, trail_in}
 use Rattle.naga_oil_derive.specs.Derived.{Source, Derived, as_read, kept, type_under, with_special_types, KeepsItems}
-use Rattle.naga_oil_derive.specs.DerivedValue.{first_places, special_copied, source_set}
+use Rattle.naga_oil_derive.specs.DerivedValue.{first_places, copy_special, set_source}
 use Rattle.naga_oil_derive.specs.DerivedLaw.{AreThere, IsDerivation, Settles, SetsOnly}
 use Rattle.naga_oil_derive.proofs.TreeLemmas.{AreCopied-start}
 use Rattle.naga_oil_derive.proofs.CopyLemmas.{none_some, flat_none as nothing_there}
@@ -270,20 +270,20 @@ keeps_part d e u f xs ext is names = record {
   names = names;
 }
 
-pub set_law : (first : Kept) (d : Derived) (m : ModuleValue) (shift : ℕ) → IsDerivation first d → IsCopyable m → AreSpecial m → SetsOnly m shift d (source_set d m shift)
+pub set_law : (first : Kept) (d : Derived) (m : ModuleValue) (shift : ℕ) → IsDerivation first d → IsCopyable m → AreSpecial m → SetsOnly m shift d (set_source d m shift)
 set_law first d m shift i c a =
     let f = first_in m d.target in
     let es = entries_in m in
     let begin = start d m in
     let w = reads_now m begin in
-    let u = special_copied d m shift in
+    let u = copy_special d m shift in
     let all = copied_all m shift f begin (special_names es) c (midway_first first d m i a) (as_names (HasAt m) es a.there) in
     let went = from_names (λ p. (q : ItemPlace) × (goes u.places p ≡ Some q)) es all.1 in
     let ext = Collects-extends all.0.collects in
     let same = special_same d.target u.target ext in
     let x = with_specials u.target.special_types (type_under u.places) es in
     let is : SetsTo m d.target.special_types x u.places = ap (λ v. with_specials v (type_under u.places) es) same in
-    let e = source_set d m shift in
+    let e = set_source d m shift in
     let s : Source = record { value = m; offset = shift; places = u.places } in
     let begun = all.0.midway.copied.stand in
     let stand = stands_set m d.target x u.places a is begun went in

@@ -6,11 +6,11 @@ use Rattle.naga_oil_ir.specs.declared.span.Span.{Span}
 use Rattle.naga_oil_derive.specs.declared.walk.Request.{Request}
 use Rattle.naga_oil_derive.specs.declared.walk.Request.TheVariants.{Call}
 use Rattle.naga_oil_derive.specs.Copies.{value_links}
-use Rattle.naga_oil_derive.specs.CopiedFunction.{copied_function}
+use Rattle.naga_oil_derive.specs.CopiedFunction.{copy_function}
 use Rattle.naga_oil_derive.specs.Derived.{Source, Derived}
 use Rattle.naga_oil_derive.specs.DerivedFunctions.{kinds_in, named_in, initialisers_in, MayAsk, MayReach, CanImport, CanCall, KeepsFunctions, KeepsMeanings, AreAnswered, IsFunctionImported, MeansAt, IsLocalized}
 use Rattle.naga_oil_derive.specs.DerivedLaw.{IsDerivation}
-use Rattle.naga_oil_derive.specs.DerivedValue.{importing_of, after_importing, requests_answered, function_imported, function_called, function_localized}
+use Rattle.naga_oil_derive.specs.DerivedValue.{importing_of, after_importing, answer_requests, import_function, call_function, localize_function}
 use Rattle.naga_oil_derive.specs.Answered.{ImportState}
 use Rattle.naga_oil_derive.specs.Putting.{Adding}
 use Rattle.naga_oil_derive.specs.Functions.{Copies}
@@ -25,7 +25,7 @@ HasForm v =
 
 -- wherever its items and functions go, what is made of a function of that form copies it
 abbrev pub HasCopies : FunctionValue → Type 0
-HasCopies v = (r : Renames) → HasForm v → Copies r v (copied_function r v)
+HasCopies v = (r : Renames) → HasForm v → Copies r v (copy_function r v)
 
 -- so it is with each function of the source
 abbrev pub HaveCopies : Derived → Type 0
@@ -49,14 +49,14 @@ pub record AnswersOnly (first : Kept) (d e : Derived) (rs : List Request) : Type
 abbrev pub AnswerLaw : Type 0
 AnswerLaw = (first : Kept) (d : Derived) (rs : List Request) →
     IsDerivation first d → HaveCopies d → CanAnswer d rs →
-    AnswersOnly first d (requests_answered d rs) rs
+    AnswersOnly first d (answer_requests d rs) rs
 
 -- LAW: a function of the source is called, and then its name means one
 abbrev pub CallLaw : Type 0
 CallLaw = (first : Kept) (d : Derived) (k : ℕ) →
     IsDerivation first d → HaveCopies d → CanCall d k →
-    AnswersOnly first d (function_called d k) (Call k ∷ []) ×
-    ((h : ℕ) × MeansAt (function_called d k) k h)
+    AnswersOnly first d (call_function d k) (Call k ∷ []) ×
+    ((h : ℕ) × MeansAt (call_function d k) k h)
 
 -- a function was imported behind what it names, and all else stayed
 pub record ImportsFunction (first : Kept) (d e : Derived) (v : FunctionValue) (span : Span) : Type 0 where
@@ -69,12 +69,12 @@ pub record ImportsFunction (first : Kept) (d e : Derived) (v : FunctionValue) (s
 abbrev pub FunctionLaw : Type 0
 FunctionLaw = (first : Kept) (d : Derived) (v : FunctionValue) (span : Span) →
     IsDerivation first d → HaveCopies d → HasCopies v → CanImport d v →
-    ImportsFunction first d (function_imported d v span) v span
+    ImportsFunction first d (import_function d v span) v span
 
 -- LAW: a function over the handles of the source is localized
 abbrev pub LocalizedLaw : Type 0
 LocalizedLaw = (d : Derived) (v : FunctionValue) → HasCopies v → HasForm v →
-    IsLocalized d v (function_localized d.source d.function_names v)
+    IsLocalized d v (localize_function d.source d.function_names v)
 
 -- items and functions were added, and all else stayed
 pub record AddsOnly (first : Kept) (d e : Derived) : Type 0 where

@@ -98,31 +98,31 @@ abbrev pub Copier : Type 0
 Copier = CopyState → ItemPlace → CopyState
 
 -- what is named is copied in order
-abbrev pub copied_names : Copier → CopyState → List (Option ItemPlace) → CopyState
-copied_names f s [] = s
-copied_names f s (None ∷ ps) = copied_names f s ps
-copied_names f s (Some p ∷ ps) = copied_names f (f s p) ps
+abbrev pub copy_each : Copier → CopyState → List (Option ItemPlace) → CopyState
+copy_each f s [] = s
+copy_each f s (None ∷ ps) = copy_each f s ps
+copy_each f s (Some p ∷ ps) = copy_each f (f s p) ps
 
-abbrev pub copied_row : Copier → CopyState → Option Row → CopyState
-copied_row f s None = s
-copied_row f s (Some r) = copied_names f s r.names
+abbrev pub copy_row_names : Copier → CopyState → Option Row → CopyState
+copy_row_names f s None = s
+copy_row_names f s (Some r) = copy_each f s r.names
 
 -- what went somewhere stays there; else what the item names is copied by f, then the item
-abbrev pub copied_by : Copier → ModuleValue → ℕ → Copier
-copied_by f m shift s p = if is_some (goes s.places p) then s else put m shift (copied_row f s (world m p)) p
+abbrev pub copy_item_by : Copier → ModuleValue → ℕ → Copier
+copy_item_by f m shift s p = if is_some (goes s.places p) then s else put m shift (copy_row_names f s (world m p)) p
 
 -- n is more than the depth of the item
-unfoldable pub copied_within : ℕ → ModuleValue → ℕ → Copier
-copied_within zero m shift s p = s
-copied_within (suc n) m shift s p = copied_by (copied_within n m shift) m shift s p
+unfoldable pub copy_within : ℕ → ModuleValue → ℕ → Copier
+copy_within zero m shift s p = s
+copy_within (suc n) m shift s p = copy_item_by (copy_within n m shift) m shift s p
 
 -- the item at a place is copied, and first what it names
-abbrev pub copied : ModuleValue → ℕ → Copier
-copied m shift s p = copied_within (depth m) m shift s p
+abbrev pub copy_item : ModuleValue → ℕ → Copier
+copy_item m shift s p = copy_within (depth m) m shift s p
 
-abbrev pub all_copied : ModuleValue → ℕ → CopyState → List (Option ItemPlace) → CopyState
-all_copied m shift s ps = copied_names (copied m shift) s ps
+abbrev pub copy_all : ModuleValue → ℕ → CopyState → List (Option ItemPlace) → CopyState
+copy_all m shift s ps = copy_each (copy_item m shift) s ps
 
 -- a type is copied under a name if one is given, and first what it names
-abbrev pub copied_type : ModuleValue → ℕ → Option Text → CopyState → ℕ → CopyState
-copied_type m shift name s k = if is_some (goes s.places (TypeItem k)) then s else put_type m shift name (copied_row (copied m shift) s (world m (TypeItem k))) k
+abbrev pub copy_named_type : ModuleValue → ℕ → Option Text → CopyState → ℕ → CopyState
+copy_named_type m shift name s k = if is_some (goes s.places (TypeItem k)) then s else put_type m shift name (copy_row_names (copy_item m shift) s (world m (TypeItem k))) k

@@ -13,7 +13,7 @@ use Rattle.naga_oil_ir.specs.declared.tokens.Token.{Token}
 use Rattle.naga_oil_ir.specs.declared.tokens.Token.TheVariants.{Use, Give, GiveCall, Emitted}
 use Rattle.naga_oil_derive.specs.Renames.{Renames}
 use Rattle.naga_oil_derive.specs.Copies.{Values, Table, place_under, copied, value_links}
-use Rattle.naga_oil_derive.specs.CopiedFunction.{copied_expressions, copied_function}
+use Rattle.naga_oil_derive.specs.CopiedFunction.{copy_expressions, copy_function}
 use Rattle.naga_oil_derive.specs.DerivedFunctions.{kinds_in, named_in, initialisers_in}
 use Rattle.naga_oil_derive.specs.Functions.{Copies, begun, order_of, names_under}
 use Rattle.naga_oil_derive.specs.Walk.{externals, others, walked}
@@ -33,7 +33,7 @@ pub record MayBeCopied (v : FunctionValue) : Type 0 where
 
 -- what copying a function gives is a copy of it
 abbrev pub CopyLaw : Type 0
-CopyLaw = (r : Renames) (v : FunctionValue) → MayBeCopied v → Copies r v (copied_function r v)
+CopyLaw = (r : Renames) (v : FunctionValue) → MayBeCopied v → Copies r v (copy_function r v)
 
 -- in each function external expressions and results have no operands
 abbrev pub AloneLaw : Type 0
@@ -43,7 +43,7 @@ AloneLaw = (f : Function) → StandAlone (expression_values f.expressions)
 
 -- where the copy of each expression stands
 abbrev pub table_of : Renames → FunctionValue → Table
-table_of r v = (copied_expressions r v.expressions (order_of v) (length (begun v))).table
+table_of r v = (copy_expressions r v.expressions (order_of v) (length (begun v))).table
 
 -- what a part of a body uses, gives or emits
 abbrev pub spoken : Token → List ℕ
@@ -74,7 +74,7 @@ pub record OnlyReached (r : Renames) (v : FunctionValue) : Type 0 where
       (k : ℕ) → is_some (option_flatten (slice_get (table_of r v) k)) ≡ has (reached_in v) k
   -- and nothing else stands among the copies
   pub only :
-      (h : ℕ) (e : Parts × Span) → slice_get (copied_function r v).expressions h ≡ Some e →
+      (h : ℕ) (e : Parts × Span) → slice_get (copy_function r v).expressions h ≡ Some e →
       IsOfReached r v h e.0
 
 -- exactly what is reached is copied
@@ -140,7 +140,7 @@ pub record RangesStand (r : Renames) (v w : FunctionValue) : Type 0 where
 
 -- where emitted ranges go
 abbrev pub RangeLaw : Type 0
-RangeLaw = (r : Renames) (v : FunctionValue) → MayBeCopied v → RangesStand r v (copied_function r v)
+RangeLaw = (r : Renames) (v : FunctionValue) → MayBeCopied v → RangesStand r v (copy_function r v)
 
 -- ---- names
 
@@ -157,11 +157,11 @@ pub record NamesStand (r : Renames) (v : FunctionValue) : Type 0 where
   -- of the names of what stands at one place the last stays
   pub last :
       (h : ℕ) →
-      lookup (nat_eq h) (copied_function r v).named_expressions ≡
+      lookup (nat_eq h) (copy_function r v).named_expressions ≡
       lookup (is_copied_to (table_of r v) h) (reverse v.named_expressions)
   -- at the first's place
   pub first :
-      keys_of (copied_function r v).named_expressions ≡
+      keys_of (copy_function r v).named_expressions ≡
       added [] (named_copies (table_of r v) v.named_expressions)
 
 -- which names a copy has

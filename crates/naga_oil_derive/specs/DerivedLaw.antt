@@ -11,7 +11,7 @@ use Rattle.naga_oil_derive.specs.Collected.{depth, reached, names_trail}
 use Rattle.naga_oil_derive.specs.Copying.{IsSound}
 use Rattle.naga_oil_derive.specs.CopiedLaw.{IsKinded, HasAt, IsCopyable, AreSpecial, IsMidway, PlacesAmong}
 use Rattle.naga_oil_derive.specs.Derived.{Source, Derived, nothing, cleared, as_read, kept, HasItem, IsImported, IsKnown, IsRenamed, Keeps, ReadsAsBefore, KeepsItems, IsSet, special_places}
-use Rattle.naga_oil_derive.specs.DerivedValue.{item_imported, type_renamed, source_set, place_by}
+use Rattle.naga_oil_derive.specs.DerivedValue.{import_item, rename_type, set_source, place_by}
 
 -- ---- between calls
 
@@ -83,7 +83,7 @@ pub record ImportsOnly (first : Kept) (d e : Derived) (p : ItemPlace) : Type 0 w
 -- LAW: an item of the source is imported
 abbrev pub ImportLaw : Type 0
 ImportLaw = (first : Kept) (d : Derived) (p : ItemPlace) →
-    IsDerivation first d → HasItem d p → ImportsOnly first d (item_imported d p) p
+    IsDerivation first d → HasItem d p → ImportsOnly first d (import_item d p) p
 
 -- a type was copied under a name to h, or it was known there, and all else stayed
 pub record RenamesOnly (first : Kept) (d e : Derived) (k : ℕ) (name : Option Text) (h : ℕ) : Type 0 where
@@ -101,7 +101,7 @@ type_place d k = place_by (λ m. m.types) d.source k
 abbrev pub RenameLaw : Type 0
 RenameLaw = (first : Kept) (d : Derived) (k : ℕ) (name : Option Text) →
     IsDerivation first d → HasItem d (TypeItem k) →
-    RenamesOnly first d (type_renamed d k name) k name (type_place (type_renamed d k name) k)
+    RenamesOnly first d (rename_type d k name) k name (type_place (rename_type d k name) k)
 
 -- ---- the source
 
@@ -141,4 +141,4 @@ pub record SetsOnly (m : ModuleValue) (shift : ℕ) (d e : Derived) : Type 0 whe
 -- LAW: a module of which items can be copied is set as the source
 abbrev pub SetLaw : Type 0
 SetLaw = (first : Kept) (d : Derived) (m : ModuleValue) (shift : ℕ) →
-    IsDerivation first d → IsCopyable m → AreSpecial m → SetsOnly m shift d (source_set d m shift)
+    IsDerivation first d → IsCopyable m → AreSpecial m → SetsOnly m shift d (set_source d m shift)

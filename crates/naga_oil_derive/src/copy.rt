@@ -1,7 +1,7 @@
 //! Items that are copied with what they name.
 ghost use Rattle.std.specs.Prelude.{◌≡◌, All, Some, IfOk, OnOk, OnErr, option_map, option_copied, string_bytes};
 ghost use Rattle.naga_oil_derive.specs.World.{value_of, world};
-ghost use Rattle.naga_oil_derive.specs.Copied.{copy_state, put_type, put, copied, all_copied, copied_type};
+ghost use Rattle.naga_oil_derive.specs.Copied.{copy_state, put_type, put, copy_item, copy_all, copy_named_type};
 ghost use Rattle.naga_oil_derive.specs.Copying.{IsThere, AreRanked, IsBelowItem, AreLong, IsCopying, AreNames, special_names};
 ghost use Rattle.naga_oil_derive.specs.Putting.{Putting, TypePutting};
 
@@ -94,7 +94,7 @@ impl Copying {
         requires ranked { AreRanked source.now }
         requires below { All (IsBelowItem source.now item.now) list.now }
         requires copying { IsCopying source.now self.old.target self.old.maps }
-        ensures copied { OnOk result (copy_state self.new.maps self.new.target ≡ all_copied (value_of source.now) self.old.maps.offset (copy_state self.old.maps self.old.target) list.now) }
+        ensures copied { OnOk result (copy_state self.new.maps self.new.target ≡ copy_all (value_of source.now) self.old.maps.offset (copy_state self.old.maps self.old.target) list.now) }
         ensures putting { Putting (value_of source.now) self.old.maps.offset (copy_state self.old.maps self.old.target) (copy_state self.new.maps self.new.target) }
         ensures offset { self.new.maps.offset ≡ self.old.maps.offset }
     {
@@ -111,7 +111,7 @@ impl Copying {
         requires there { IsThere source.now item.now }
         requires ranked { AreRanked source.now }
         requires copying { IsCopying source.now self.old.target self.old.maps }
-        ensures copied { OnOk result (copy_state self.new.maps self.new.target ≡ copied (value_of source.now) self.old.maps.offset (copy_state self.old.maps self.old.target) item.now) }
+        ensures copied { OnOk result (copy_state self.new.maps self.new.target ≡ copy_item (value_of source.now) self.old.maps.offset (copy_state self.old.maps self.old.target) item.now) }
         ensures putting { Putting (value_of source.now) self.old.maps.offset (copy_state self.old.maps self.old.target) (copy_state self.new.maps self.new.target) }
         ensures offset { self.new.maps.offset ≡ self.old.maps.offset }
     {
@@ -129,7 +129,7 @@ impl Copying {
         requires there { IsThere source.now (ItemPlace.TypeItem handle) }
         requires ranked { AreRanked source.now }
         requires copying { IsCopying source.now self.old.target self.old.maps }
-        ensures copied { OnOk result (copy_state self.new.maps self.new.target ≡ copied_type (value_of source.now) self.old.maps.offset (option_map (λ n. Some (string_bytes n)) name) (copy_state self.old.maps self.old.target) handle) }
+        ensures copied { OnOk result (copy_state self.new.maps self.new.target ≡ copy_named_type (value_of source.now) self.old.maps.offset (option_map (λ n. Some (string_bytes n)) name) (copy_state self.old.maps self.old.target) handle) }
         ensures putting { TypePutting (value_of source.now) self.old.maps.offset (option_map (λ n. Some (string_bytes n)) name) handle (copy_state self.old.maps self.old.target) (copy_state self.new.maps self.new.target) }
         ensures offset { self.new.maps.offset ≡ self.old.maps.offset }
     {
@@ -148,7 +148,7 @@ impl Copying {
         requires ranked { AreRanked source.now }
         requires there { All (λ e. IsThere source.now (ItemPlace.TypeItem e.1)) entries.now }
         requires copying { IsCopying source.now self.old.target self.old.maps }
-        ensures copied { OnOk result (copy_state self.new.maps self.new.target ≡ all_copied (value_of source.now) self.old.maps.offset (copy_state self.old.maps self.old.target) (special_names entries.now)) }
+        ensures copied { OnOk result (copy_state self.new.maps self.new.target ≡ copy_all (value_of source.now) self.old.maps.offset (copy_state self.old.maps self.old.target) (special_names entries.now)) }
         ensures putting { Putting (value_of source.now) self.old.maps.offset (copy_state self.old.maps self.old.target) (copy_state self.new.maps self.new.target) }
         ensures offset { self.new.maps.offset ≡ self.old.maps.offset }
     {

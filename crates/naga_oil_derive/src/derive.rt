@@ -3,7 +3,7 @@ ghost use Rattle.std.specs.Prelude.{◌≡◌, ◌<◌, ◌↔◌, Some, IsTrue,
 ghost use Rattle.naga_oil_ir.specs.declared.names.ItemPlace.{ItemPlace};
 ghost use Rattle.naga_oil_derive.specs.World.{value_of, special_entries};
 ghost use Rattle.naga_oil_derive.specs.Copyable.{CopyableItems};
-ghost use Rattle.naga_oil_derive.specs.DerivedValue.{item_imported, type_renamed, source_set, place_by};
+ghost use Rattle.naga_oil_derive.specs.DerivedValue.{import_item, rename_type, set_source, place_by};
 ghost use Rattle.naga_oil_derive.specs.Derived.{Derived, nothing, cleared, mapped_span, HasItem, IsImported, IsKnown, IsRenamed, Keeps, KeepsItems, ReadsAsBefore, IsSet};
 
 use super::*;
@@ -60,7 +60,7 @@ impl<'a> DerivedModule<'a> {
     pub fn set_shader_source(&mut self, shader: &'a Module, span_offset: usize) -> Tried
         requires { CopyableItems shader.now }
         ensures set { OnOk result (IsSet (value_of shader.now) span_offset self.old self.new) }
-        ensures value { OnOk result (self.new ≡ source_set self.old (value_of shader.now) span_offset) }
+        ensures value { OnOk result (self.new ≡ set_source self.old (value_of shader.now) span_offset) }
         ensures err { OnErr result (self.new.source ≡ (cleared self.old).source) }
         ensures keeps { KeepsItems self.old self.new }
     {
@@ -98,7 +98,7 @@ impl<'a> DerivedModule<'a> {
         ensures imported { OnOk result ((q : ItemPlace) × IsImported self.old self.new item q) }
         ensures reads { ReadsAsBefore self.old self.new }
         ensures keeps { Keeps self.old self.new }
-        ensures value { OnOk result (self.new ≡ item_imported self.old item) }
+        ensures value { OnOk result (self.new ≡ import_item self.old item) }
     {
         let Some(shader) = self.shader else {
             return Ok(());
@@ -112,7 +112,7 @@ impl<'a> DerivedModule<'a> {
         ensures imported { IfOk result (λ h. IsImported self.old self.new (ItemPlace.TypeItem h_type.now) (ItemPlace.TypeItem h)) }
         ensures reads { ReadsAsBefore self.old self.new }
         ensures keeps { Keeps self.old self.new }
-        ensures value { OnOk result (self.new ≡ item_imported self.old (ItemPlace.TypeItem h_type.now)) }
+        ensures value { OnOk result (self.new ≡ import_item self.old (ItemPlace.TypeItem h_type.now)) }
         ensures place { IfOk result (λ h. h ≡ place_by (λ m. m.types) self.new.source h_type.now) }
     {
         self.import(ItemPlace::TypeItem(*h_type))?;
@@ -126,7 +126,7 @@ impl<'a> DerivedModule<'a> {
         ensures known { IfOk result (λ h. IsKnown self.old self.new h_type.now h) }
         ensures renamed { IfOk result (λ h. IsRenamed self.old self.new h_type.now (option_map (λ n. Some (string_bytes n)) name) h) }
         ensures keeps { Keeps self.old self.new }
-        ensures value { OnOk result (self.new ≡ type_renamed self.old h_type.now (option_map (λ n. Some (string_bytes n)) name)) }
+        ensures value { OnOk result (self.new ≡ rename_type self.old h_type.now (option_map (λ n. Some (string_bytes n)) name)) }
         ensures place { IfOk result (λ h. h ≡ place_by (λ m. m.types) self.new.source h_type.now) }
     {
         let Some(shader) = self.shader else {
@@ -142,7 +142,7 @@ impl<'a> DerivedModule<'a> {
         ensures imported { IfOk result (λ h. IsImported self.old self.new (ItemPlace.ConstantItem h_const.now) (ItemPlace.ConstantItem h)) }
         ensures reads { ReadsAsBefore self.old self.new }
         ensures keeps { Keeps self.old self.new }
-        ensures value { OnOk result (self.new ≡ item_imported self.old (ItemPlace.ConstantItem h_const.now)) }
+        ensures value { OnOk result (self.new ≡ import_item self.old (ItemPlace.ConstantItem h_const.now)) }
         ensures place { IfOk result (λ h. h ≡ place_by (λ m. m.constants) self.new.source h_const.now) }
     {
         self.import(ItemPlace::ConstantItem(*h_const))?;
@@ -155,7 +155,7 @@ impl<'a> DerivedModule<'a> {
         ensures imported { IfOk result (λ h. IsImported self.old self.new (ItemPlace.GlobalItem h_global.now) (ItemPlace.GlobalItem h)) }
         ensures reads { ReadsAsBefore self.old self.new }
         ensures keeps { Keeps self.old self.new }
-        ensures value { OnOk result (self.new ≡ item_imported self.old (ItemPlace.GlobalItem h_global.now)) }
+        ensures value { OnOk result (self.new ≡ import_item self.old (ItemPlace.GlobalItem h_global.now)) }
         ensures place { IfOk result (λ h. h ≡ place_by (λ m. m.global_variables) self.new.source h_global.now) }
     {
         self.import(ItemPlace::GlobalItem(*h_global))?;
@@ -168,7 +168,7 @@ impl<'a> DerivedModule<'a> {
         ensures imported { IfOk result (λ h. IsImported self.old self.new (ItemPlace.ExpressionItem h_expr) (ItemPlace.ExpressionItem h)) }
         ensures reads { ReadsAsBefore self.old self.new }
         ensures keeps { Keeps self.old self.new }
-        ensures value { OnOk result (self.new ≡ item_imported self.old (ItemPlace.ExpressionItem h_expr)) }
+        ensures value { OnOk result (self.new ≡ import_item self.old (ItemPlace.ExpressionItem h_expr)) }
         ensures place { IfOk result (λ h. h ≡ place_by (λ m. m.global_expressions) self.new.source h_expr) }
     {
         self.import(ItemPlace::ExpressionItem(h_expr))?;
@@ -181,7 +181,7 @@ impl<'a> DerivedModule<'a> {
         ensures imported { IfOk result (λ h. IsImported self.old self.new (ItemPlace.OverrideItem h_override.now) (ItemPlace.OverrideItem h)) }
         ensures reads { ReadsAsBefore self.old self.new }
         ensures keeps { Keeps self.old self.new }
-        ensures value { OnOk result (self.new ≡ item_imported self.old (ItemPlace.OverrideItem h_override.now)) }
+        ensures value { OnOk result (self.new ≡ import_item self.old (ItemPlace.OverrideItem h_override.now)) }
         ensures place { IfOk result (λ h. h ≡ place_by (λ m. m.overrides) self.new.source h_override.now) }
     {
         self.import(ItemPlace::OverrideItem(*h_override))?;

@@ -4,9 +4,9 @@ ghost use Rattle.naga_oil_ir.specs.ModuleValue.{function_value};
 ghost use Rattle.naga_oil_derive.specs.Callees.{known_as, callee_at};
 ghost use Rattle.naga_oil_derive.specs.Copying.{AreRanked, IsCopying};
 ghost use Rattle.naga_oil_derive.specs.World.{value_of};
-ghost use Rattle.naga_oil_derive.specs.CopiedFunction.{copied_function};
+ghost use Rattle.naga_oil_derive.specs.CopiedFunction.{copy_function};
 ghost use Rattle.naga_oil_derive.specs.DerivedFunctions.{requests_of};
-ghost use Rattle.naga_oil_derive.specs.Answered.{import_state, answered, called, imported as imported_value};
+ghost use Rattle.naga_oil_derive.specs.Answered.{import_state, answer_all, import_callee, import_copy as imported_value};
 ghost use Rattle.naga_oil_derive.specs.Putting.{Adding};
 ghost use Rattle.naga_oil_derive.specs.Imported.{IsAnswerable, IsImportable};
 ghost use Rattle.naga_oil_derive.specs.Went.{went_by};
@@ -90,8 +90,8 @@ pub fn localize(
     requires ranked { AreRanked source.now }
     requires copying { IsCopying source.now copying.old.target copying.old.maps }
     requires form { IsImportable source.now functions.old depth function.now }
-    ensures copied { IfOk result (λ f. function_value f ≡ copied_function (went_by copying.new.maps source.now functions.new.names) (function_value function.now)) }
-    ensures value { OnOk result (import_state copying.new.maps copying.new.target functions.new ≡ answered depth (value_of source.now) copying.old.maps.offset (import_state copying.old.maps copying.old.target functions.old) (requests_of (function_value function.now))) }
+    ensures copied { IfOk result (λ f. function_value f ≡ copy_function (went_by copying.new.maps source.now functions.new.names) (function_value function.now)) }
+    ensures value { OnOk result (import_state copying.new.maps copying.new.target functions.new ≡ answer_all depth (value_of source.now) copying.old.maps.offset (import_state copying.old.maps copying.old.target functions.old) (requests_of (function_value function.now))) }
     ensures adding { Adding (value_of source.now) copying.old.maps.offset (import_state copying.old.maps copying.old.target functions.old) (import_state copying.new.maps copying.new.target functions.new) }
     ensures offset { copying.new.maps.offset ≡ copying.old.maps.offset }
 {
@@ -122,7 +122,7 @@ pub fn import_callee(
     requires copying { IsCopying source.now copying.old.target copying.old.maps }
     requires answerable { IsAnswerable source.now functions.old depth (Request.Call handle) }
     ensures callee { IfOk result (λ h. callee_at functions.new.names source.now.functions handle ≡ Some h) }
-    ensures value { OnOk result (import_state copying.new.maps copying.new.target functions.new ≡ called depth (value_of source.now) copying.old.maps.offset (import_state copying.old.maps copying.old.target functions.old) handle) }
+    ensures value { OnOk result (import_state copying.new.maps copying.new.target functions.new ≡ import_callee depth (value_of source.now) copying.old.maps.offset (import_state copying.old.maps copying.old.target functions.old) handle) }
     ensures adding { Adding (value_of source.now) copying.old.maps.offset (import_state copying.old.maps copying.old.target functions.old) (import_state copying.new.maps copying.new.target functions.new) }
     ensures offset { copying.new.maps.offset ≡ copying.old.maps.offset }
 {

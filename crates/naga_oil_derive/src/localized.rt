@@ -6,7 +6,7 @@ ghost use Rattle.naga_oil_ir.specs.ModuleValue.{expression_values, argument_valu
 ghost use Rattle.naga_oil_derive.specs.Walks.{Walks};
 ghost use Rattle.naga_oil_derive.specs.Went.{went};
 ghost use Rattle.naga_oil_derive.specs.Copies.{under_table, range_under, FitIn};
-ghost use Rattle.naga_oil_derive.specs.CopiedFunction.{copy_place as place_of_copy, with_copy, expression_state, copied_expression, copied_expressions, copied_function};
+ghost use Rattle.naga_oil_derive.specs.CopiedFunction.{copy_place as place_of_copy, with_copy, expression_state, copy_expression, copy_expressions, copy_function};
 ghost use Rattle.naga_oil_derive.specs.Expressions.{IsCopyAt};
 ghost use Rattle.naga_oil_derive.specs.Functions.{argument_under, result_under, local_under, names_under, name_put, named_values, local_values};
 
@@ -92,7 +92,7 @@ impl Copies {
         requires place { place < length source.now }
         requires room { length self.old.table.items ≡ length source.now }
         ensures room { length self.new.table.items ≡ length self.old.table.items }
-        ensures copied { OnOk result (expression_state self.new.table.items self.new.target ≡ copied_expression (went names.entry) unique (expression_state self.old.table.items self.old.target) place (slice_get (expression_values source.now) place)) }
+        ensures copied { OnOk result (expression_state self.new.table.items self.new.target ≡ copy_expression (went names.entry) unique (expression_state self.old.table.items self.old.target) place (slice_get (expression_values source.now) place)) }
     {
         let copy = self.copy_at(names, source, place)?;
         let handle = put(&mut self.target, copy, unique)?;
@@ -105,7 +105,7 @@ impl Copies {
 /// share a copy.
 pub fn copy_expressions(names: Went<'_>, function: &Function, walk: &Walk) -> Tried<Copies>
     requires { Walks function.now walk.now }
-    ensures { IfOk result (λ c. expression_state c.table.items c.target ≡ copied_expressions (went names.entry) (expression_values function.now.expressions) walk.now.places.items walk.now.began) }
+    ensures { IfOk result (λ c. expression_state c.table.items c.target ≡ copy_expressions (went names.entry) (expression_values function.now.expressions) walk.now.places.items walk.now.began) }
 {
     let source = function.expressions.as_slice();
     let mut copies = Copies {
@@ -174,7 +174,7 @@ impl Copied<'_> {
 /// The copy of a function whose items and callees were copied.
 pub fn localized(names: Went<'_>, function: &Function, walk: &Walk) -> Tried<Function>
     requires { Walks function.now walk.now }
-    ensures { IfOk result (λ f. function_value f ≡ copied_function (went names.entry) (function_value function.now)) }
+    ensures { IfOk result (λ f. function_value f ≡ copy_function (went names.entry) (function_value function.now)) }
 {
     let Copies { target, table } = copy_expressions(names, function, walk)?;
     let copied = Copied {

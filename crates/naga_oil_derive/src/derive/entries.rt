@@ -5,7 +5,7 @@ ghost use Rattle.naga_oil_ir.specs.declared.names.ItemPlace.{ItemPlace};
 ghost use Rattle.naga_oil_derive.specs.World.{value_of};
 ghost use Rattle.naga_oil_derive.specs.Derived.{Keeps};
 ghost use Rattle.naga_oil_derive.specs.DerivedFunctions.{KeepsFunctions, AreAnswered};
-ghost use Rattle.naga_oil_derive.specs.CopiedEntry.{items_imported, sizes_names, mesh_names, entries_state, entry_copied, entries_copied, module_made};
+ghost use Rattle.naga_oil_derive.specs.CopiedEntry.{import_items, sizes_names, mesh_names, entries_state, copy_entry, copy_entries, make_module};
 ghost use Rattle.naga_oil_derive.specs.DerivedEntries.{HasNamed, named_request, sizes_requests, mesh_requests, HasSizes, HasMesh, CanCopyEntry, CanCopyEntries, Went, SizesWent, MeshWent, EntryCopied, EntriesCopied, IsMadeWith};
 
 use super::*;
@@ -18,7 +18,7 @@ impl<'a> DerivedModule<'a> {
     fn copied_expression(&mut self, expression: Option<Operand>) -> Tried<Option<Operand>>
         requires { HasNamed self.old (option_map ItemPlace.ExpressionItem expression) }
         ensures answered { OnOk result (AreAnswered self.old (named_request (option_map ItemPlace.ExpressionItem expression)) self.new) }
-        ensures value { OnOk result (self.new ≡ items_imported self.old (option_map ItemPlace.ExpressionItem expression ∷ [])) }
+        ensures value { OnOk result (self.new ≡ import_items self.old (option_map ItemPlace.ExpressionItem expression ∷ [])) }
         ensures went { IfOk result (λ h. Went self.new (option_map ItemPlace.ExpressionItem expression) (option_map ItemPlace.ExpressionItem h)) }
         ensures keeps { Keeps self.old self.new }
     {
@@ -31,7 +31,7 @@ impl<'a> DerivedModule<'a> {
     fn copied_payload(&mut self, payload: Payload) -> Tried<Payload>
         requires { HasNamed self.old (option_map ItemPlace.GlobalItem payload) }
         ensures answered { OnOk result (AreAnswered self.old (named_request (option_map ItemPlace.GlobalItem payload)) self.new) }
-        ensures value { OnOk result (self.new ≡ items_imported self.old (option_map ItemPlace.GlobalItem payload ∷ [])) }
+        ensures value { OnOk result (self.new ≡ import_items self.old (option_map ItemPlace.GlobalItem payload ∷ [])) }
         ensures went { IfOk result (λ h. Went self.new (option_map ItemPlace.GlobalItem payload) (option_map ItemPlace.GlobalItem h)) }
         ensures keeps { Keeps self.old self.new }
     {
@@ -44,7 +44,7 @@ impl<'a> DerivedModule<'a> {
     fn copied_sizes(&mut self, sizes: Sizes) -> Tried<Sizes>
         requires { HasSizes self.old sizes }
         ensures answered { OnOk result (AreAnswered self.old (sizes_requests sizes) self.new) }
-        ensures value { OnOk result (self.new ≡ items_imported self.old (sizes_names sizes)) }
+        ensures value { OnOk result (self.new ≡ import_items self.old (sizes_names sizes)) }
         ensures went { IfOk result (SizesWent self.new sizes) }
         ensures keeps { Keeps self.old self.new }
     {
@@ -58,7 +58,7 @@ impl<'a> DerivedModule<'a> {
     fn copied_mesh(&mut self, mesh: Option<MeshInfo>) -> Tried<Option<MeshInfo>>
         requires { IfSome mesh (HasMesh self.old) }
         ensures answered { OnOk result (AreAnswered self.old (mesh_requests mesh) self.new) }
-        ensures value { OnOk result (self.new ≡ items_imported self.old (mesh_names mesh)) }
+        ensures value { OnOk result (self.new ≡ import_items self.old (mesh_names mesh)) }
         ensures went { IfOk result (MeshWent self.new mesh) }
         ensures keeps { Keeps self.old self.new }
     {
@@ -77,7 +77,7 @@ impl<'a> DerivedModule<'a> {
     fn copied_entry(&mut self, entry: &EntryPoint) -> Tried<EntryPoint>
         requires { CanCopyEntry self.old (entry_value entry.now) }
         ensures copied { IfOk result (λ e. EntryCopied self.old self.new (entry_value entry.now) (entry_value e)) }
-        ensures value { IfOk result (λ e. entries_state self.new (entry_value e ∷ []) ≡ entry_copied (entries_state self.old []) (entry_value entry.now)) }
+        ensures value { IfOk result (λ e. entries_state self.new (entry_value e ∷ []) ≡ copy_entry (entries_state self.old []) (entry_value entry.now)) }
         ensures keeps { KeepsFunctions self.old self.new }
     {
         Ok(EntryPoint {
@@ -95,7 +95,7 @@ impl<'a> DerivedModule<'a> {
     fn copied_entries(&mut self, entries: &[EntryPoint]) -> Tried<Vec<EntryPoint>>
         requires { All (λ e. CanCopyEntry self.old (entry_value e)) entries.now }
         ensures copied { IfOk result (λ v. EntriesCopied self.old (map entry_value entries.now) (map entry_value v.items) self.new) }
-        ensures value { IfOk result (λ v. entries_state self.new (map entry_value v.items) ≡ entries_copied (entries_state self.old []) (map entry_value entries.now)) }
+        ensures value { IfOk result (λ v. entries_state self.new (map entry_value v.items) ≡ copy_entries (entries_state self.old []) (map entry_value entries.now)) }
         ensures keeps { KeepsFunctions self.old self.new }
     {
         let mut copies = Vec::new(self.copying.alloc);
@@ -110,7 +110,7 @@ impl<'a> DerivedModule<'a> {
         requires set { IsSome self.source }
         requires entries { CanCopyEntries self }
         ensures made { IfOk result (λ m. IsMadeWith self.entry (value_of m)) }
-        ensures value { IfOk result (λ m. value_of m ≡ module_made self.entry) }
+        ensures value { IfOk result (λ m. value_of m ≡ make_module self.entry) }
     {
         let source = self.shader.unwrap();
         let entries = self.copied_entries(&source.entry_points)?;

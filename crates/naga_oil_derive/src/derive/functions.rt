@@ -2,7 +2,7 @@
 ghost use Rattle.naga_oil_derive.specs.declared.walk.Request.{Request};
 ghost use Rattle.std.specs.Prelude.{◌≡◌, ◌∷◌, ℕ, [], Ok, Some, None, IfOk, OnOk};
 ghost use Rattle.naga_oil_ir.specs.ModuleValue.{function_value};
-ghost use Rattle.naga_oil_derive.specs.DerivedValue.{function_imported, function_imported_once, requests_answered, function_called, function_localized};
+ghost use Rattle.naga_oil_derive.specs.DerivedValue.{import_function, import_function_if_new, answer_requests, call_function, localize_function};
 ghost use Rattle.naga_oil_derive.specs.DerivedFunctions.{having, meant, CanCopy, CanImport, CanCall, KeepsFunctions, KeepsMeanings, IsLocalized, IsFunctionImported, MeansAt, requests_of, AreAnswered};
 
 use super::*;
@@ -39,8 +39,8 @@ impl<'a> DerivedModule<'a> {
         ensures answered { OnOk result (AreAnswered self.old (requests_of (function_value func.now)) self.new) }
         ensures copies { IfOk result (λ f. IsLocalized self.new (function_value func.now) (function_value f)) }
         ensures keeps { KeepsFunctions self.old self.new }
-        ensures value { OnOk result (self.new ≡ requests_answered self.old (requests_of (function_value func.now))) }
-        ensures copy { IfOk result (λ f. function_value f ≡ function_localized self.new.source self.new.function_names (function_value func.now)) }
+        ensures value { OnOk result (self.new ≡ answer_requests self.old (requests_of (function_value func.now))) }
+        ensures copy { IfOk result (λ f. function_value f ≡ localize_function self.new.source self.new.function_names (function_value func.now)) }
     {
         let source = self.shader.unwrap();
         let depth = source.functions.len();
@@ -56,7 +56,7 @@ impl<'a> DerivedModule<'a> {
         requires { CanImport self.old (function_value func.now) }
         ensures imported { IfOk result (IsFunctionImported self.old self.new (function_value func.now) span) }
         ensures keeps { KeepsFunctions self.old self.new }
-        ensures value { OnOk result (self.new ≡ function_imported self.old (function_value func.now) span) }
+        ensures value { OnOk result (self.new ≡ import_function self.old (function_value func.now) span) }
         ensures means { IfOk result (λ h. meant self.new.function_names (function_value func.now).name ≡ Some h) }
     {
         let source = self.shader.unwrap();
@@ -74,7 +74,7 @@ impl<'a> DerivedModule<'a> {
         ensures known { (h : ℕ) → meant self.old.function_names (function_value func.now).name ≡ Some h → (result ≡ Ok h) × (self.new ≡ self.old) }
         ensures imported { meant self.old.function_names (function_value func.now).name ≡ None → IfOk result (IsFunctionImported self.old self.new (function_value func.now) span) }
         ensures keeps { KeepsFunctions self.old self.new }
-        ensures value { OnOk result (self.new ≡ function_imported_once self.old (function_value func.now) span) }
+        ensures value { OnOk result (self.new ≡ import_function_if_new self.old (function_value func.now) span) }
         ensures means { IfOk result (λ h. meant self.new.function_names (function_value func.now).name ≡ Some h) }
     {
         match known_as(&self.function_names, &func.name) {
@@ -90,7 +90,7 @@ impl<'a> DerivedModule<'a> {
         ensures answered { OnOk result (AreAnswered self.old (Request.Call h_func.now ∷ []) self.new) }
         ensures means { IfOk result (MeansAt self.new h_func.now) }
         ensures keeps { KeepsFunctions self.old self.new }
-        ensures value { OnOk result (self.new ≡ function_called self.old h_func.now) }
+        ensures value { OnOk result (self.new ≡ call_function self.old h_func.now) }
     {
         let source = self.shader.unwrap();
         let depth = source.functions.len();

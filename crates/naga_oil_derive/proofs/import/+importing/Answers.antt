@@ -6,11 +6,11 @@ use Rattle.naga_oil_ir.specs.declared.span.Span.{Span}
 use Rattle.naga_oil_derive.specs.World.{value_of}
 use Rattle.naga_oil_derive.specs.Callees.{known_as, callee_at}
 use Rattle.naga_oil_derive.specs.Copying.{AreRanked, IsCopying, kept_between}
-use Rattle.naga_oil_derive.specs.Copied.{CopyState, copy_state, copied}
+use Rattle.naga_oil_derive.specs.Copied.{CopyState, copy_state, copy_item}
 use Rattle.naga_oil_derive.specs.DerivedFunctions.{requests_of, meant}
 use Rattle.naga_oil_derive.specs.Imported.{IsImportable, IsAnswerable}
 use Rattle.naga_oil_derive.specs.Naming.{function_names}
-use Rattle.naga_oil_derive.specs.Answered.{ImportState, import_state, answered_one, answered, called, with_function}
+use Rattle.naga_oil_derive.specs.Answered.{ImportState, import_state, answer_one, answer_all, import_callee, with_function}
 use Rattle.naga_oil_derive.specs.Putting.{Putting, Adding, NothingAdded}
 use Rattle.naga_oil_derive.specs.declared.copy.Copying.{Copying}
 use Rattle.naga_oil_derive.specs.declared.import.Functions.{Functions}
@@ -194,7 +194,7 @@ localize-loop-request-preserved t c =
     let x = c.request-item.result in
     let v = value_of source in
     let d = old.maps.offset in
-    let F = answered_one (called c.args.depth v d) v d in
+    let F = answer_one (import_callee c.args.depth v d) v d in
     let copying : IsCopying source now.target now.maps = copying_added source old.target now.target old.maps now.maps own fs d c.requires.copying i.adding in
     let kept = kept_between source now.target in
     let added : (u : ImportState) → Adding v d m u → Added v kept m u = λ u a. adding_adds kept (value_kinds source) a (midway_of source now.target now.maps copying) in
@@ -205,7 +205,7 @@ localize-loop-request-preserved t c =
           let e = w.in_ok-copy_item-in-Item.ensures in
           let p = w.in-Item.item in
           let u = import_state n.maps n.target fs in
-          let is : copy_state n.maps n.target ≡ copied v d (copy_state now.maps now.target) p = e.copied ∙ ap (λ z. copied v z (copy_state now.maps now.target) p) i.offset in
+          let is : copy_state n.maps n.target ≡ copy_item v d (copy_state now.maps now.target) p = e.copied ∙ ap (λ z. copy_item v z (copy_state now.maps now.target) p) i.offset in
           let more : Adding v d m u = items_added (subst (λ z. Putting v z (copy_state now.maps now.target) (copy_state n.maps n.target)) i.offset e.putting) in
           let r = request_added source old.target now.target old.maps now.maps own fs d c.args.depth (function_names c.args.function.now) xs c.in_ok-walk.walk.requests.items k x c.requires.copying i.adding c.requires.form.requests c.in_ok-walk.ensures.requests c.deref-request-items.ensures.value c.loop-request-test.true c.request-item.is in
           let went = item_went source now.target n.target now.maps n.maps p c.requires.ranked copying (subst (IsAnswerable source fs c.args.depth) w.in-Item.is r) e.copied in
@@ -221,7 +221,7 @@ localize-loop-request-preserved t c =
           let e = w.in_ok-import_callee-in-Call.ensures in
           let h = w.in-Call.handle in
           let u = import_state n.maps n.target f in
-          let is : u ≡ F m (Call h) = e.value ∙ ap (λ z. called c.args.depth v z m h) i.offset in
+          let is : u ≡ F m (Call h) = e.value ∙ ap (λ z. import_callee c.args.depth v z m h) i.offset in
           let more : Adding v d m u = subst (λ z. Adding v z m u) i.offset e.adding in
           let next : Trail v F m (x ∷ []) u = subst (λ (r : Request). Trail v F m (r ∷ []) u) (sym w.in-Call.is) (Step is (was_later v kept m u (added u more)) (ap is_some (callee_value source f h ∙ e.callee)) Still) in
           record {
@@ -240,11 +240,11 @@ localize-returns-clause-value t c =
     let s = import_state c.args.copying.now.maps c.args.copying.now.target c.args.functions.now in
     let m = import_state c.loop-request.copying.maps c.loop-request.copying.target c.loop-request.functions in
     let xs = c.deref-request-items.result.now in
-    let F = answered_one (called c.args.depth v d) v d in
+    let F = answer_one (import_callee c.args.depth v d) v d in
     let all = take_all c.loop-request.request-index xs c.loop-request-test.false ∙ c.deref-request-items.ensures.value in
     let trail : Trail v F s c.in_ok-walk.walk.requests.items m = subst (λ (rs : List Request). Trail v F s rs m) all c.loop-request.invariant.trail in
-    let is = thin_answered v c.args.depth d s m (function_names f) c.in_ok-walk.walk.requests.items c.in_ok-walk.ensures.requests (λ r a. absurd (none-some r a.1)) trail ∙ ap (answered c.args.depth v d s) (sym (requests_same f)) in
-    on_ok c.localized.result (m ≡ answered c.args.depth v d s (requests_of (function_value f))) is
+    let is = thin_answered v c.args.depth d s m (function_names f) c.in_ok-walk.walk.requests.items c.in_ok-walk.ensures.requests (λ r a. absurd (none-some r a.1)) trail ∙ ap (answer_all c.args.depth v d s) (sym (requests_same f)) in
+    on_ok c.localized.result (m ≡ answer_all c.args.depth v d s (requests_of (function_value f))) is
 
 pub localize-returns-clause-adding : goal.localize-returns-clause-adding
 localize-returns-clause-adding t c = c.loop-request.invariant.adding

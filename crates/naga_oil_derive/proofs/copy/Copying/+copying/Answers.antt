@@ -1,7 +1,7 @@
 use Rattle.std.proofs.Common.{◌∙◌, ◌<◌, ◌+◌, ◌*◌, arith, subst, sym, ap, refl, rules}
 use Rattle.naga_oil_derive.specs.Copying.{IsBelowItem, IsCopying, goes_under, rank}
 use Rattle.naga_oil_derive.specs.World.{value_of}
-use Rattle.naga_oil_derive.specs.Copied.{CopyState, copy_state, copied, put}
+use Rattle.naga_oil_derive.specs.Copied.{CopyState, copy_state, copy_item, put}
 use Rattle.naga_oil_derive.specs.Putting.{Putting, NothingPut}
 use Rattle.naga_oil_derive.proofs.CopyLemmas.{none_of, not_some, all_at}
 use Rattle.naga_oil_derive.proofs.CopiedLemmas.{copied_none, copied_some, copied_all, gone, fresh}
@@ -16,7 +16,7 @@ copy_names-loop-name-preserved-in_default t c =
     let i = c.loop-name.invariant in
     let is = not_some c.name-item.result c.in_default.not-Some in
     record {
-      state = copied_none (copied (value_of c.args.source.now) c.args.self.now.maps.offset) (copy_state c.args.self.now.maps c.args.self.now.target) (copy_state c.loop-name.self.maps c.loop-name.self.target) c.args.list.now c.loop-name.name-index c.name-item.result c.loop-name-test.true c.name-item.is is i.state;
+      state = copied_none (copy_item (value_of c.args.source.now) c.args.self.now.maps.offset) (copy_state c.args.self.now.maps c.args.self.now.target) (copy_state c.loop-name.self.maps c.loop-name.self.target) c.args.list.now c.loop-name.name-index c.name-item.result c.loop-name-test.true c.name-item.is is i.state;
       putting = i.putting;
       offset = i.offset;
     }
@@ -40,7 +40,7 @@ copy_names-loop-name-preserved t c =
     let i = c.loop-name.invariant in
     let e = c.copy_item.ensures in
     record {
-      state = copied_some (copied (value_of c.args.source.now) c.args.self.now.maps.offset) (copy_state c.args.self.now.maps c.args.self.now.target) (copy_state c.loop-name.self.maps c.loop-name.self.target) (copy_state c.copy_item.new.self.maps c.copy_item.new.self.target) c.args.list.now c.loop-name.name-index c.name-item.result _ c.loop-name-test.true c.name-item.is c.in-Some.is i.state (c.in_ok-copy_item.ensures.copied ∙ ap (λ d. copied (value_of c.args.source.now) d (copy_state c.loop-name.self.maps c.loop-name.self.target) c.in-Some.place) i.offset);
+      state = copied_some (copy_item (value_of c.args.source.now) c.args.self.now.maps.offset) (copy_state c.args.self.now.maps c.args.self.now.target) (copy_state c.loop-name.self.maps c.loop-name.self.target) (copy_state c.copy_item.new.self.maps c.copy_item.new.self.target) c.args.list.now c.loop-name.name-index c.name-item.result _ c.loop-name-test.true c.name-item.is c.in-Some.is i.state (c.in_ok-copy_item.ensures.copied ∙ ap (λ d. copy_item (value_of c.args.source.now) d (copy_state c.loop-name.self.maps c.loop-name.self.target) c.in-Some.place) i.offset);
       putting = putting_next i.offset i.putting e.putting;
       offset = e.offset ∙ i.offset;
     }
@@ -50,7 +50,7 @@ pub copy_names-returns-in_err-copy_item-clause-putting :
 copy_names-returns-in_err-copy_item-clause-putting t c = putting_next c.loop-name.invariant.offset c.loop-name.invariant.putting c.copy_item.ensures.putting
 
 pub copy_names-returns-clause-copied : goal.copy_names-returns-clause-copied
-copy_names-returns-clause-copied t c = copied_all (copied (value_of c.args.source.now) c.args.self.now.maps.offset) (copy_state c.args.self.now.maps c.args.self.now.target) (copy_state c.loop-name.self.maps c.loop-name.self.target) c.args.list.now c.loop-name.name-index c.loop-name-test.false c.loop-name.invariant.state
+copy_names-returns-clause-copied t c = copied_all (copy_item (value_of c.args.source.now) c.args.self.now.maps.offset) (copy_state c.args.self.now.maps c.args.self.now.target) (copy_state c.loop-name.self.maps c.loop-name.self.target) c.args.list.now c.loop-name.name-index c.loop-name-test.false c.loop-name.invariant.state
 
 pub copy_item-returns-then-has_gone-clause-copied :
     goal.copy_item-returns-then-has_gone-clause-copied

@@ -2,7 +2,7 @@ use Rattle.std.proofs.Common.{◌<◌, ◌≤◌, ◌∙◌, ap, Some, subst, sy
 use Rattle.naga_oil_ir.specs.declared.names.ItemPlace.TheVariants.{TypeItem}
 use Rattle.naga_oil_derive.specs.World.{value_of}
 use Rattle.naga_oil_derive.specs.Copying.{IsThere, special_names}
-use Rattle.naga_oil_derive.specs.Copied.{copy_state, copied}
+use Rattle.naga_oil_derive.specs.Copied.{copy_state, copy_item}
 use Rattle.naga_oil_derive.specs.Putting.{NothingPut}
 use Rattle.naga_oil_derive.proofs.CopiedLemmas.{copied_some, copied_all}
 use Rattle.naga_oil_derive.proofs.PuttingLemmas.{putting_copying, putting_next}
@@ -37,7 +37,7 @@ loop-handle-preserved c =
     let l = subst (λ m. k < m) (sym (names_length es)) c.loop-handle-test.true in
     let g = name_get es k c.loop-handle-item.result c.loop-handle-test.true c.loop-handle-item.is in
     record {
-      state = copied_some (copied v d) s t (copy_state c.copy_item.new.self.maps c.copy_item.new.self.target) ns k (Some p) p l g refl i.state (c.in_ok-copy_item.ensures.copied ∙ ap (λ x. copied v x t p) i.offset);
+      state = copied_some (copy_item v d) s t (copy_state c.copy_item.new.self.maps c.copy_item.new.self.target) ns k (Some p) p l g refl i.state (c.in_ok-copy_item.ensures.copied ∙ ap (λ x. copy_item v x t p) i.offset);
       putting = putting_next i.offset i.putting e.putting;
       offset = e.offset ∙ i.offset;
     }
@@ -45,4 +45,4 @@ loop-handle-preserved c =
 pub returns-clause-copied : goal.returns-clause-copied
 returns-clause-copied c =
     let es = c.args.entries.now in
-    copied_all (copied (value_of c.args.source.now) c.args.self.now.maps.offset) (copy_state c.args.self.now.maps c.args.self.now.target) (copy_state c.loop-handle.self.maps c.loop-handle.self.target) (special_names es) c.loop-handle.handle-index (subst (λ m. m ≤ c.loop-handle.handle-index) (sym (names_length es)) c.loop-handle-test.false) c.loop-handle.invariant.state
+    copied_all (copy_item (value_of c.args.source.now) c.args.self.now.maps.offset) (copy_state c.args.self.now.maps c.args.self.now.target) (copy_state c.loop-handle.self.maps c.loop-handle.self.target) (special_names es) c.loop-handle.handle-index (subst (λ m. m ≤ c.loop-handle.handle-index) (sym (names_length es)) c.loop-handle-test.false) c.loop-handle.invariant.state

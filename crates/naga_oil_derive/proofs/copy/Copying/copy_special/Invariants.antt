@@ -1,13 +1,13 @@
 use Rattle.std.proofs.Common.{◌≡◌, take}
 use Rattle.naga_oil_derive.specs.Copying.{special_names}
 use Rattle.naga_oil_derive.specs.World.{value_of}
-use Rattle.naga_oil_derive.specs.Copied.{copy_state, all_copied}
+use Rattle.naga_oil_derive.specs.Copied.{copy_state, copy_all}
 use Rattle.naga_oil_derive.specs.Putting.{Putting}
 use Rattle.naga_oil_derive.proofs.copy.Copying.copy_special.Given as goal
 
 abbrev pub invariant-loop-handle : goal.invariant-loop-handle
 invariant-loop-handle l = record {
-  state : copy_state l.self.maps l.self.target ≡ all_copied (value_of l.source) l.fn.self.maps.offset (copy_state l.fn.self.maps l.fn.self.target) (take l.handle-index (special_names l.entries));
+  state : copy_state l.self.maps l.self.target ≡ copy_all (value_of l.source) l.fn.self.maps.offset (copy_state l.fn.self.maps l.fn.self.target) (take l.handle-index (special_names l.entries));
   putting : Putting (value_of l.source) l.fn.self.maps.offset (copy_state l.fn.self.maps l.fn.self.target) (copy_state l.self.maps l.self.target);
   offset : l.self.maps.offset ≡ l.fn.self.maps.offset;
 }

@@ -3,7 +3,7 @@ use Rattle.naga_oil_ir.specs.ModuleValue.{EntryValue, entry_value}
 use Rattle.naga_oil_ir.specs.declared.module.EntryPoint.{EntryPoint}
 use Rattle.naga_oil_derive.specs.DerivedEntries.{CanCopyEntry, EntriesCopied, NoEntries}
 use Rattle.std.proofs.Common.{◌∙◌}
-use Rattle.naga_oil_derive.specs.CopiedEntry.{entries_state, entries_copied}
+use Rattle.naga_oil_derive.specs.CopiedEntry.{entries_state, copy_entries}
 use Rattle.naga_oil_derive.proofs.EntryValues.{entries_next}
 use Rattle.naga_oil_derive.proofs.EntrySteps.{functions_same, functions_trans, entry_later, entries_step}
 use Rattle.naga_oil_derive.proofs.derive.DerivedModule.copied_entries.Goals as goal
@@ -35,7 +35,7 @@ pub returns-clause-value : goal.returns-clause-value
 returns-clause-value c =
     let d = c.args.self.now in
     let xs = c.args.entries.now in
-    c.loop-entry.invariant.value ∙ ap (λ (ys : List EntryPoint). entries_copied (entries_state d []) (map entry_value ys)) (take_all c.loop-entry.entry-index xs c.loop-entry-test.false)
+    c.loop-entry.invariant.value ∙ ap (λ (ys : List EntryPoint). copy_entries (entries_state d []) (map entry_value ys)) (take_all c.loop-entry.entry-index xs c.loop-entry-test.false)
 
 pub returns-in_err-copied_entry-clause-keeps : goal.returns-in_err-copied_entry-clause-keeps
 returns-in_err-copied_entry-clause-keeps c = functions_trans c.args.self.now c.loop-entry.self c.copied_entry.new.self c.loop-entry.invariant.keeps c.copied_entry.ensures.keeps

@@ -5,7 +5,7 @@ use Rattle.naga_oil_derive.proofs.EntryAnswers.{answered_then}
 use Rattle.naga_oil_derive.proofs.EntrySteps.{Keeps-trans, kept_functions, functions_trans, if_mesh_later, sizes_on, mesh_on}
 use Rattle.std.proofs.Common.{◌∷◌, []}
 use Rattle.naga_oil_ir.specs.ModuleValue.{entry_value}
-use Rattle.naga_oil_derive.specs.DerivedValue.{function_localized}
+use Rattle.naga_oil_derive.specs.DerivedValue.{localize_function}
 use Rattle.naga_oil_derive.specs.CopiedEntry.{sizes_names, mesh_names}
 use Rattle.naga_oil_derive.proofs.EntryValues.{items_then, sizes_placed, mesh_went, payload_placed, still_set, entry_is, entry_made}
 use Rattle.naga_oil_derive.proofs.derive.DerivedModule.copied_entry.Goals as goal
@@ -91,7 +91,7 @@ returns-clause-value c =
     let bf = Keeps-trans b e f c.copied_mesh.ensures.keeps c.copied_payload.ensures.keeps in
     let df = functions_trans d a f c.localize_function.ensures.keeps (kept_functions a f (Keeps-trans a b f c.copied_sizes.ensures.keeps bf)) in
     let set = still_set d.source f.source c.requires.function.0 df.source in
-    let copy = function_localized a.source a.function_names v.function in
+    let copy = localize_function a.source a.function_names v.function in
     let items = items_then a b f (sizes_names v.workgroup_size_overrides) (mesh_names v.mesh_info ++ option_map GlobalItem v.task_payload ∷ []) c.in_ok-copied_sizes.ensures.value (items_then b e f (mesh_names v.mesh_info) (option_map GlobalItem v.task_payload ∷ []) c.in_ok-copied_mesh.ensures.value c.in_ok-copied_payload.ensures.value) in
     let sizes = sizes_placed f v.workgroup_size_overrides c.in_ok-copied_sizes.field-0 set (sizes_on b f v.workgroup_size_overrides c.in_ok-copied_sizes.field-0 bf.source c.in_ok-copied_sizes.ensures.went) in
     let mesh = mesh_went f v.mesh_info c.in_ok-copied_mesh.field-0 set (mesh_on e f v.mesh_info c.in_ok-copied_mesh.field-0 c.copied_payload.ensures.keeps.source c.in_ok-copied_mesh.ensures.went) in

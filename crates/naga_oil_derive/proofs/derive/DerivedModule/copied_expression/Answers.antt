@@ -4,7 +4,7 @@ use Rattle.naga_oil_derive.specs.DerivedFunctions.{AreAnswered}
 use Rattle.naga_oil_derive.specs.DerivedEntries.{named_request}
 use Rattle.naga_oil_derive.proofs.EntryAnswers.{answered_none, answered_item}
 use Rattle.std.proofs.Common.{◌∷◌, [], refl}
-use Rattle.naga_oil_derive.specs.CopiedEntry.{items_imported}
+use Rattle.naga_oil_derive.specs.CopiedEntry.{import_items}
 use Rattle.naga_oil_derive.proofs.derive.DerivedModule.copied_expression.Goals as goal
 
 pub returns-in-None-clause-answered : goal.returns-in-None-clause-answered
@@ -21,10 +21,10 @@ returns-in_ok-import_global_expression-in-Some-clause-answered c =
 pub returns-in-None-clause-value : goal.returns-in-None-clause-value
 returns-in-None-clause-value c =
     let d = c.args.self.now in
-    subst (λ (o : Option ℕ). d ≡ items_imported d (option_map ExpressionItem o ∷ [])) (sym c.in-None.is) refl
+    subst (λ (o : Option ℕ). d ≡ import_items d (option_map ExpressionItem o ∷ [])) (sym c.in-None.is) refl
 
 pub returns-in_ok-import_global_expression-in-Some-clause-value : goal.returns-in_ok-import_global_expression-in-Some-clause-value
 returns-in_ok-import_global_expression-in-Some-clause-value c =
     let d = c.args.self.now in
     let e = c.import_global_expression.new.self in
-    subst (λ (o : Option ℕ). e ≡ items_imported d (option_map ExpressionItem o ∷ [])) (sym c.in-Some.is) c.in_ok-import_global_expression-in-Some.ensures.value
+    subst (λ (o : Option ℕ). e ≡ import_items d (option_map ExpressionItem o ∷ [])) (sym c.in-Some.is) c.in_ok-import_global_expression-in-Some.ensures.value

@@ -7,7 +7,7 @@ use Rattle.naga_oil_derive.specs.DerivedEntries.{MeshWent, MeshGoes, named_reque
 use Rattle.naga_oil_derive.proofs.ImportSteps.{none_if}
 use Rattle.naga_oil_derive.proofs.EntryAnswers.{answered_none, answered_item, answered_then}
 use Rattle.naga_oil_derive.proofs.EntrySteps.{Keeps-trans, went_on, imported_went}
-use Rattle.naga_oil_derive.specs.CopiedEntry.{items_imported, mesh_names}
+use Rattle.naga_oil_derive.specs.CopiedEntry.{import_items, mesh_names}
 use Rattle.naga_oil_derive.proofs.EntryValues.{mesh_imported}
 use Rattle.naga_oil_derive.proofs.derive.DerivedModule.copied_mesh.Goals as goal
 
@@ -99,9 +99,9 @@ pub returns-clause-value : goal.returns-clause-value
 returns-clause-value c =
     let d = c.args.self.now in
     let g = c.copied_expression-2.new.self in
-    subst (λ (o : Option MeshInfo). g ≡ items_imported d (mesh_names o)) (sym c.in-Some.is) (mesh_imported d c.import_type.new.self c.import_type-2.new.self c.import_global.new.self c.copied_expression.new.self g c.in-Some.mesh c.in_ok-import_type.ensures.value c.in_ok-import_type-2.ensures.value c.in_ok-import_global.ensures.value c.in_ok-copied_expression.ensures.value c.in_ok-copied_expression-2.ensures.value)
+    subst (λ (o : Option MeshInfo). g ≡ import_items d (mesh_names o)) (sym c.in-Some.is) (mesh_imported d c.import_type.new.self c.import_type-2.new.self c.import_global.new.self c.copied_expression.new.self g c.in-Some.mesh c.in_ok-import_type.ensures.value c.in_ok-import_type-2.ensures.value c.in_ok-import_global.ensures.value c.in_ok-copied_expression.ensures.value c.in_ok-copied_expression-2.ensures.value)
 
 pub returns-in_default-clause-value : goal.returns-in_default-clause-value
 returns-in_default-clause-value c =
     let d = c.args.self.now in
-    subst (λ (o : Option MeshInfo). d ≡ items_imported d (mesh_names o)) (sym (none_if c.args.mesh c.in_default.not-Some)) refl
+    subst (λ (o : Option MeshInfo). d ≡ import_items d (mesh_names o)) (sym (none_if c.args.mesh c.in_default.not-Some)) refl

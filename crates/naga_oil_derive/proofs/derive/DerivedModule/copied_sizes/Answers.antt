@@ -6,7 +6,7 @@ use Rattle.naga_oil_derive.proofs.ImportSteps.{none_if}
 use Rattle.naga_oil_derive.proofs.EntryAnswers.{answered_none, three_answered}
 use Rattle.naga_oil_derive.proofs.EntrySteps.{Keeps-trans, went_on, three_went}
 use Rattle.std.proofs.Common.{ap, ◌∙◌, refl}
-use Rattle.naga_oil_derive.specs.CopiedEntry.{items_imported, sizes_names}
+use Rattle.naga_oil_derive.specs.CopiedEntry.{import_items, sizes_names}
 use Rattle.naga_oil_derive.proofs.EntryValues.{three_imported}
 use Rattle.naga_oil_derive.proofs.derive.DerivedModule.copied_sizes.Goals as goal
 
@@ -69,12 +69,12 @@ returns-clause-value c =
     let e = c.copied_expression-3.new.self in
     let long : length c.in-Some.sizes ≡ 3 = omega arith in
     let E = option_map ExpressionItem in
-    let x = c.in_ok-x.ensures.value ∙ ap (λ (o : Option ℕ). items_imported d (E o ∷ [])) (sym c.index-sizes-0.is) in
-    let y = c.in_ok-y.ensures.value ∙ ap (λ (o : Option ℕ). items_imported a (E o ∷ [])) (sym c.index-sizes-1.is) in
-    let z = c.in_ok-z.ensures.value ∙ ap (λ (o : Option ℕ). items_imported b (E o ∷ [])) (sym c.index-sizes-2.is) in
-    subst (λ (o : Option (List (Option ℕ))). e ≡ items_imported d (sizes_names o)) (sym c.in-Some.is) (three_imported d a b e c.in-Some.sizes c.index-sizes-0.result c.index-sizes-1.result c.index-sizes-2.result long c.index-sizes-0.is c.index-sizes-1.is c.index-sizes-2.is x y z)
+    let x = c.in_ok-x.ensures.value ∙ ap (λ (o : Option ℕ). import_items d (E o ∷ [])) (sym c.index-sizes-0.is) in
+    let y = c.in_ok-y.ensures.value ∙ ap (λ (o : Option ℕ). import_items a (E o ∷ [])) (sym c.index-sizes-1.is) in
+    let z = c.in_ok-z.ensures.value ∙ ap (λ (o : Option ℕ). import_items b (E o ∷ [])) (sym c.index-sizes-2.is) in
+    subst (λ (o : Option (List (Option ℕ))). e ≡ import_items d (sizes_names o)) (sym c.in-Some.is) (three_imported d a b e c.in-Some.sizes c.index-sizes-0.result c.index-sizes-1.result c.index-sizes-2.result long c.index-sizes-0.is c.index-sizes-1.is c.index-sizes-2.is x y z)
 
 pub returns-in_default-clause-value : goal.returns-in_default-clause-value
 returns-in_default-clause-value c =
     let d = c.args.self.now in
-    subst (λ (o : Option (List (Option ℕ))). d ≡ items_imported d (sizes_names o)) (sym (none_if c.args.sizes c.in_default.not-Some)) refl
+    subst (λ (o : Option (List (Option ℕ))). d ≡ import_items d (sizes_names o)) (sym (none_if c.args.sizes c.in_default.not-Some)) refl

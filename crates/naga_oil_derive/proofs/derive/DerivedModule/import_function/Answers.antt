@@ -1,9 +1,9 @@
 use Rattle.std.proofs.Common.{◌≡◌, ◌∙◌, length, OnOk, sym, subst}
 use Rattle.naga_oil_ir.specs.ModuleValue.{function_value}
 use Rattle.naga_oil_derive.specs.World.{value_of}
-use Rattle.naga_oil_derive.specs.DerivedValue.{function_imported}
+use Rattle.naga_oil_derive.specs.DerivedValue.{import_function}
 use Rattle.naga_oil_derive.specs.DerivedView.{derived_of}
-use Rattle.naga_oil_derive.specs.Answered.{import_state, imported}
+use Rattle.naga_oil_derive.specs.Answered.{import_state, import_copy}
 use Rattle.naga_oil_derive.proofs.FunctionValues.{functions_length, named_there}
 use Rattle.naga_oil_derive.proofs.FunctionCalls.{IsCall, call_holds, call_keeps, call_value, one_in, copying_in, fair, imports, imported_ok, name_ok}
 use Rattle.naga_oil_derive.proofs.derive.DerivedModule.import_function.Goals as goal
@@ -40,15 +40,15 @@ invariant_of-self c = call_holds c.self.inside.shader c.unwrap-source.result c.s
 pub returns-clause-keeps : goal.returns-clause-keeps
 returns-clause-keeps c = call_keeps c.self.inside.shader c.unwrap-source.result c.self.inside.copying.target c.take-taken.new.target c.import-handle.new.copying.target c.put.new.target c.self.inside.copying.maps c.import-handle.new.copying.maps c.take-taken.result c.import-handle.new.functions c.self.inside.function_names.entries c.put.new.names.entries c.args.self.now (call c)
 
-value : (c : goal.After-put) → OnOk c.import-handle.result (derived_of c.self.inside.shader c.import-handle.new.copying.maps c.put.new.target c.put.new.names.entries ≡ function_imported c.args.self.now (function_value c.args.func.now) c.args.span)
+value : (c : goal.After-put) → OnOk c.import-handle.result (derived_of c.self.inside.shader c.import-handle.new.copying.maps c.put.new.target c.put.new.names.entries ≡ import_function c.args.self.now (function_value c.args.func.now) c.args.span)
 value c =
     let s = c.self.inside in
     let u = c.import-handle.new in
     let v = value_of c.unwrap-source.result.now in
     let d = s.copying.maps.offset in
     let deep = c.len-depth.ensures ∙ sym (functions_length c.unwrap-source.result.now) in
-    let own = subst (λ q. OnOk c.import-handle.result (import_state u.copying.maps u.copying.target u.functions ≡ imported q v d (import_state s.copying.maps c.take-taken.new.target c.take-taken.result) (function_value c.args.func.now) c.args.span)) deep c.import-handle.ensures.value in
-    call_value c.import-handle.result c.self.inside.shader c.unwrap-source.result c.self.inside.copying.target c.take-taken.new.target c.import-handle.new.copying.target c.put.new.target c.self.inside.copying.maps c.import-handle.new.copying.maps c.take-taken.result c.import-handle.new.functions c.self.inside.function_names.entries c.put.new.names.entries c.args.self.now (λ x y. imported (length x.value.functions) x.value x.offset y (function_value c.args.func.now) c.args.span) (call c) own
+    let own = subst (λ q. OnOk c.import-handle.result (import_state u.copying.maps u.copying.target u.functions ≡ import_copy q v d (import_state s.copying.maps c.take-taken.new.target c.take-taken.result) (function_value c.args.func.now) c.args.span)) deep c.import-handle.ensures.value in
+    call_value c.import-handle.result c.self.inside.shader c.unwrap-source.result c.self.inside.copying.target c.take-taken.new.target c.import-handle.new.copying.target c.put.new.target c.self.inside.copying.maps c.import-handle.new.copying.maps c.take-taken.result c.import-handle.new.functions c.self.inside.function_names.entries c.put.new.names.entries c.args.self.now (λ x y. import_copy (length x.value.functions) x.value x.offset y (function_value c.args.func.now) c.args.span) (call c) own
 
 pub returns-clause-value : goal.returns-clause-value
 returns-clause-value c = value c
@@ -59,4 +59,4 @@ returns-clause-means c = name_ok c.import-handle.result c.import-handle.new.func
 pub returns-clause-imported : goal.returns-clause-imported
 returns-clause-imported c =
     let d = c.args.self.now in
-    imported_ok c.import-handle.result d (derived_of c.self.inside.shader c.import-handle.new.copying.maps c.put.new.target c.put.new.names.entries) (function_imported c.args.self.now (function_value c.args.func.now) c.args.span) (function_value c.args.func.now) c.args.span (value c) (imports d c.args.func.now c.args.span (fair c.self.inside.shader c.self.inside.copying.maps c.self.inside.copying.target c.self.inside.function_names.entries c.args.self.now c.self.view_is c.self.invariant) c.requires) (name_ok c.import-handle.result c.import-handle.new.functions c.put.new.names.entries c.args.func.now (λ i. (c.put.ensures.names i).entries) c.import-handle.ensures.means)
+    imported_ok c.import-handle.result d (derived_of c.self.inside.shader c.import-handle.new.copying.maps c.put.new.target c.put.new.names.entries) (import_function c.args.self.now (function_value c.args.func.now) c.args.span) (function_value c.args.func.now) c.args.span (value c) (imports d c.args.func.now c.args.span (fair c.self.inside.shader c.self.inside.copying.maps c.self.inside.copying.target c.self.inside.function_names.entries c.args.self.now c.self.view_is c.self.invariant) c.requires) (name_ok c.import-handle.result c.import-handle.new.functions c.put.new.names.entries c.args.func.now (λ i. (c.put.ensures.names i).entries) c.import-handle.ensures.means)

@@ -4,7 +4,7 @@ use Rattle.naga_oil_derive.specs.DerivedFunctions.{meant}
 use Rattle.naga_oil_derive.proofs.FunctionCalls.{meant_in, one_meant, none_meant, meant_none}
 use Rattle.std.proofs.Common.{◌∙◌, sym, subst, OnOk, is_some, if◌then◌else◌}
 use Rattle.naga_oil_ir.specs.ModuleValue.{function_value}
-use Rattle.naga_oil_derive.specs.DerivedValue.{function_imported}
+use Rattle.naga_oil_derive.specs.DerivedValue.{import_function}
 use Rattle.naga_oil_derive.proofs.derive.DerivedModule.import_function_if_new.Goals as goal
 
 pub returns-in-Some-clause-known : goal.returns-in-Some-clause-known
@@ -37,7 +37,7 @@ returns-in-Some-clause-value c =
     let d = c.args.self.now in
     let o = c.args.func.now.name in
     let is = c.in-Some.ensures ∙ meant_in s.shader s.copying.maps s.copying.target s.function_names d o c.self.view_is in
-    ap (λ x. if is_some x then d else function_imported d (function_value c.args.func.now) c.args.span) is
+    ap (λ x. if is_some x then d else import_function d (function_value c.args.func.now) c.args.span) is
 
 pub returns-in-Some-clause-means : goal.returns-in-Some-clause-means
 returns-in-Some-clause-means c =
@@ -51,4 +51,4 @@ returns-in-None-clause-value c =
     let o = c.args.func.now.name in
     let e = c.import_function.new.self in
     let is = c.in-None.ensures ∙ meant_in s.shader s.copying.maps s.copying.target s.function_names d o c.self.view_is in
-    subst (λ x. OnOk c.import_function.result (e ≡ if is_some x then d else function_imported d (function_value c.args.func.now) c.args.span)) is c.import_function.ensures.value
+    subst (λ x. OnOk c.import_function.result (e ≡ if is_some x then d else import_function d (function_value c.args.func.now) c.args.span)) is c.import_function.ensures.value

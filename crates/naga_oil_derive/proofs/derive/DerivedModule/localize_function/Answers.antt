@@ -2,9 +2,9 @@ use Rattle.std.proofs.Common.{◌≡◌, ◌∙◌, length, OnOk, sym, subst}
 use Rattle.naga_oil_ir.specs.ModuleValue.{function_value}
 use Rattle.naga_oil_derive.specs.World.{value_of}
 use Rattle.naga_oil_derive.specs.DerivedFunctions.{requests_of, AreAnswered, KeepsMeanings}
-use Rattle.naga_oil_derive.specs.DerivedValue.{requests_answered}
+use Rattle.naga_oil_derive.specs.DerivedValue.{answer_requests}
 use Rattle.naga_oil_derive.specs.DerivedView.{derived_of}
-use Rattle.naga_oil_derive.specs.Answered.{import_state, answered}
+use Rattle.naga_oil_derive.specs.Answered.{import_state, answer_all}
 use Rattle.naga_oil_derive.proofs.FunctionValues.{functions_length}
 use Rattle.naga_oil_derive.proofs.FunctionCalls.{IsCall, call_holds, call_keeps, call_value, one_in, copying_in, fair, copy_answers, on_ok_by, localized_ok, copied_value}
 use Rattle.naga_oil_derive.proofs.derive.DerivedModule.localize_function.Goals as goal
@@ -38,15 +38,15 @@ invariant_of-self c = call_holds c.self.inside.shader c.unwrap-source.result c.s
 pub returns-clause-keeps : goal.returns-clause-keeps
 returns-clause-keeps c = call_keeps c.self.inside.shader c.unwrap-source.result c.self.inside.copying.target c.take-taken.new.target c.localize-copy.new.copying.target c.put.new.target c.self.inside.copying.maps c.localize-copy.new.copying.maps c.take-taken.result c.localize-copy.new.functions c.self.inside.function_names.entries c.put.new.names.entries c.args.self.now (call c)
 
-value : (c : goal.After-put) → OnOk c.localize-copy.result (derived_of c.self.inside.shader c.localize-copy.new.copying.maps c.put.new.target c.put.new.names.entries ≡ requests_answered c.args.self.now (requests_of (function_value c.args.func.now)))
+value : (c : goal.After-put) → OnOk c.localize-copy.result (derived_of c.self.inside.shader c.localize-copy.new.copying.maps c.put.new.target c.put.new.names.entries ≡ answer_requests c.args.self.now (requests_of (function_value c.args.func.now)))
 value c =
     let s = c.self.inside in
     let u = c.localize-copy.new in
     let v = value_of c.unwrap-source.result.now in
     let d = s.copying.maps.offset in
     let deep = c.len-depth.ensures ∙ sym (functions_length c.unwrap-source.result.now) in
-    let own = subst (λ q. OnOk c.localize-copy.result (import_state u.copying.maps u.copying.target u.functions ≡ answered q v d (import_state s.copying.maps c.take-taken.new.target c.take-taken.result) (requests_of (function_value c.args.func.now)))) deep c.localize-copy.ensures.value in
-    call_value c.localize-copy.result c.self.inside.shader c.unwrap-source.result c.self.inside.copying.target c.take-taken.new.target c.localize-copy.new.copying.target c.put.new.target c.self.inside.copying.maps c.localize-copy.new.copying.maps c.take-taken.result c.localize-copy.new.functions c.self.inside.function_names.entries c.put.new.names.entries c.args.self.now (λ x y. answered (length x.value.functions) x.value x.offset y (requests_of (function_value c.args.func.now))) (call c) own
+    let own = subst (λ q. OnOk c.localize-copy.result (import_state u.copying.maps u.copying.target u.functions ≡ answer_all q v d (import_state s.copying.maps c.take-taken.new.target c.take-taken.result) (requests_of (function_value c.args.func.now)))) deep c.localize-copy.ensures.value in
+    call_value c.localize-copy.result c.self.inside.shader c.unwrap-source.result c.self.inside.copying.target c.take-taken.new.target c.localize-copy.new.copying.target c.put.new.target c.self.inside.copying.maps c.localize-copy.new.copying.maps c.take-taken.result c.localize-copy.new.functions c.self.inside.function_names.entries c.put.new.names.entries c.args.self.now (λ x y. answer_all (length x.value.functions) x.value x.offset y (requests_of (function_value c.args.func.now))) (call c) own
 
 pub returns-clause-value : goal.returns-clause-value
 returns-clause-value c = value c
@@ -56,14 +56,14 @@ returns-clause-meanings c =
     let d = c.args.self.now in
     let v = function_value c.args.func.now in
     let a = copy_answers d v (fair c.self.inside.shader c.self.inside.copying.maps c.self.inside.copying.target c.self.inside.function_names.entries c.args.self.now c.self.view_is c.self.invariant) c.requires in
-    on_ok_by c.localize-copy.result (KeepsMeanings d) (derived_of c.self.inside.shader c.localize-copy.new.copying.maps c.put.new.target c.put.new.names.entries) (requests_answered c.args.self.now (requests_of (function_value c.args.func.now))) (value c) a.meanings
+    on_ok_by c.localize-copy.result (KeepsMeanings d) (derived_of c.self.inside.shader c.localize-copy.new.copying.maps c.put.new.target c.put.new.names.entries) (answer_requests c.args.self.now (requests_of (function_value c.args.func.now))) (value c) a.meanings
 
 pub returns-clause-answered : goal.returns-clause-answered
 returns-clause-answered c =
     let d = c.args.self.now in
     let v = function_value c.args.func.now in
     let a = copy_answers d v (fair c.self.inside.shader c.self.inside.copying.maps c.self.inside.copying.target c.self.inside.function_names.entries c.args.self.now c.self.view_is c.self.invariant) c.requires in
-    on_ok_by c.localize-copy.result (AreAnswered d (requests_of v)) (derived_of c.self.inside.shader c.localize-copy.new.copying.maps c.put.new.target c.put.new.names.entries) (requests_answered c.args.self.now (requests_of (function_value c.args.func.now))) (value c) a.answered
+    on_ok_by c.localize-copy.result (AreAnswered d (requests_of v)) (derived_of c.self.inside.shader c.localize-copy.new.copying.maps c.put.new.target c.put.new.names.entries) (answer_requests c.args.self.now (requests_of (function_value c.args.func.now))) (value c) a.answered
 
 pub returns-clause-copy : goal.returns-clause-copy
 returns-clause-copy c = copied_value c.localize-copy.result c.self.inside.shader c.unwrap-source.result c.localize-copy.new.copying.maps c.put.new.target c.localize-copy.new.functions c.put.new.names.entries c.args.func.now c.unwrap-source.ensures (λ i. (c.put.ensures.names i).entries) c.localize-copy.ensures.copied

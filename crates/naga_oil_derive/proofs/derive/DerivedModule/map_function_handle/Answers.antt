@@ -2,10 +2,10 @@ use Rattle.std.proofs.Common.{◌≡◌, ◌∷◌, [], ◌∙◌, length, OnOk,
 use Rattle.naga_oil_ir.specs.ModuleValue.{function_value}
 use Rattle.naga_oil_derive.specs.World.{value_of}
 use Rattle.naga_oil_derive.specs.DerivedFunctions.{AreAnswered, KeepsMeanings}
-use Rattle.naga_oil_derive.specs.DerivedValue.{function_called}
+use Rattle.naga_oil_derive.specs.DerivedValue.{call_function}
 use Rattle.naga_oil_derive.specs.DerivedView.{derived_of}
 use Rattle.naga_oil_derive.specs.declared.walk.Request.TheVariants.{Call}
-use Rattle.naga_oil_derive.specs.Answered.{import_state, called}
+use Rattle.naga_oil_derive.specs.Answered.{import_state, import_callee}
 use Rattle.naga_oil_derive.proofs.FunctionValues.{functions_length}
 use Rattle.naga_oil_derive.proofs.FunctionCalls.{IsCall, call_holds, call_keeps, call_value, call_in, copying_in, fair, call_answers, on_ok_by, means_ok}
 use Rattle.naga_oil_derive.proofs.derive.DerivedModule.map_function_handle.Goals as goal
@@ -39,15 +39,15 @@ invariant_of-self c = call_holds c.self.inside.shader c.unwrap-source.result c.s
 pub returns-clause-keeps : goal.returns-clause-keeps
 returns-clause-keeps c = call_keeps c.self.inside.shader c.unwrap-source.result c.self.inside.copying.target c.take-taken.new.target c.import_callee-handle.new.copying.target c.put.new.target c.self.inside.copying.maps c.import_callee-handle.new.copying.maps c.take-taken.result c.import_callee-handle.new.functions c.self.inside.function_names.entries c.put.new.names.entries c.args.self.now (call c)
 
-value : (c : goal.After-put) → OnOk c.import_callee-handle.result (derived_of c.self.inside.shader c.import_callee-handle.new.copying.maps c.put.new.target c.put.new.names.entries ≡ function_called c.args.self.now c.args.h_func.now)
+value : (c : goal.After-put) → OnOk c.import_callee-handle.result (derived_of c.self.inside.shader c.import_callee-handle.new.copying.maps c.put.new.target c.put.new.names.entries ≡ call_function c.args.self.now c.args.h_func.now)
 value c =
     let s = c.self.inside in
     let u = c.import_callee-handle.new in
     let v = value_of c.unwrap-source.result.now in
     let d = s.copying.maps.offset in
     let deep = c.len-depth.ensures ∙ sym (functions_length c.unwrap-source.result.now) in
-    let own = subst (λ q. OnOk c.import_callee-handle.result (import_state u.copying.maps u.copying.target u.functions ≡ called q v d (import_state s.copying.maps c.take-taken.new.target c.take-taken.result) c.args.h_func.now)) deep c.import_callee-handle.ensures.value in
-    call_value c.import_callee-handle.result c.self.inside.shader c.unwrap-source.result c.self.inside.copying.target c.take-taken.new.target c.import_callee-handle.new.copying.target c.put.new.target c.self.inside.copying.maps c.import_callee-handle.new.copying.maps c.take-taken.result c.import_callee-handle.new.functions c.self.inside.function_names.entries c.put.new.names.entries c.args.self.now (λ x y. called (length x.value.functions) x.value x.offset y c.args.h_func.now) (call c) own
+    let own = subst (λ q. OnOk c.import_callee-handle.result (import_state u.copying.maps u.copying.target u.functions ≡ import_callee q v d (import_state s.copying.maps c.take-taken.new.target c.take-taken.result) c.args.h_func.now)) deep c.import_callee-handle.ensures.value in
+    call_value c.import_callee-handle.result c.self.inside.shader c.unwrap-source.result c.self.inside.copying.target c.take-taken.new.target c.import_callee-handle.new.copying.target c.put.new.target c.self.inside.copying.maps c.import_callee-handle.new.copying.maps c.take-taken.result c.import_callee-handle.new.functions c.self.inside.function_names.entries c.put.new.names.entries c.args.self.now (λ x y. import_callee (length x.value.functions) x.value x.offset y c.args.h_func.now) (call c) own
 
 pub returns-clause-value : goal.returns-clause-value
 returns-clause-value c = value c
@@ -59,10 +59,10 @@ pub returns-clause-meanings : goal.returns-clause-meanings
 returns-clause-meanings c =
     let d = c.args.self.now in
     let a = call_answers d c.args.h_func.now (fair c.self.inside.shader c.self.inside.copying.maps c.self.inside.copying.target c.self.inside.function_names.entries c.args.self.now c.self.view_is c.self.invariant) c.requires in
-    on_ok_by c.import_callee-handle.result (KeepsMeanings d) (derived_of c.self.inside.shader c.import_callee-handle.new.copying.maps c.put.new.target c.put.new.names.entries) (function_called c.args.self.now c.args.h_func.now) (value c) a.meanings
+    on_ok_by c.import_callee-handle.result (KeepsMeanings d) (derived_of c.self.inside.shader c.import_callee-handle.new.copying.maps c.put.new.target c.put.new.names.entries) (call_function c.args.self.now c.args.h_func.now) (value c) a.meanings
 
 pub returns-clause-answered : goal.returns-clause-answered
 returns-clause-answered c =
     let d = c.args.self.now in
     let a = call_answers d c.args.h_func.now (fair c.self.inside.shader c.self.inside.copying.maps c.self.inside.copying.target c.self.inside.function_names.entries c.args.self.now c.self.view_is c.self.invariant) c.requires in
-    on_ok_by c.import_callee-handle.result (AreAnswered d (Call c.args.h_func.now ∷ [])) (derived_of c.self.inside.shader c.import_callee-handle.new.copying.maps c.put.new.target c.put.new.names.entries) (function_called c.args.self.now c.args.h_func.now) (value c) a.answered
+    on_ok_by c.import_callee-handle.result (AreAnswered d (Call c.args.h_func.now ∷ [])) (derived_of c.self.inside.shader c.import_callee-handle.new.copying.maps c.put.new.target c.put.new.names.entries) (call_function c.args.self.now c.args.h_func.now) (value c) a.answered

@@ -1,5 +1,5 @@
 use Rattle.std.proofs.Common.{Some, option_map, string_bytes, subst}
-use Rattle.naga_oil_derive.specs.Copied.{copied_type}
+use Rattle.naga_oil_derive.specs.Copied.{copy_named_type}
 use Rattle.naga_oil_derive.specs.Derived.{IsKnown, IsRenamed}
 use Rattle.naga_oil_derive.specs.DerivedView.{derived_of}
 use Rattle.naga_oil_derive.proofs.DerivedValues.{copied_now}
@@ -38,7 +38,7 @@ pub returns-clause-value : goal.returns-clause-value
 returns-clause-value c =
     let s = c.self.inside in
     let n = c.copy_named_type.new.self in
-    copied_now s.shader c.in-Some.shader s.copying.target n.target s.copying.maps n.maps s.function_names.entries c.args.self.now (λ x y. copied_type x.value x.offset (option_map (λ z. Some (string_bytes z)) c.args.name) y c.args.h_type.now) c.in-Some.is c.self.view_is c.copy_named_type.ensures.offset c.in_ok-copy_named_type.ensures.copied
+    copied_now s.shader c.in-Some.shader s.copying.target n.target s.copying.maps n.maps s.function_names.entries c.args.self.now (λ x y. copy_named_type x.value x.offset (option_map (λ z. Some (string_bytes z)) c.args.name) y c.args.h_type.now) c.in-Some.is c.self.view_is c.copy_named_type.ensures.offset c.in_ok-copy_named_type.ensures.copied
 
 pub returns-clause-known : goal.returns-clause-known
 returns-clause-known c =
