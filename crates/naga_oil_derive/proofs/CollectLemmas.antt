@@ -3,14 +3,12 @@ use Rattle.std.specs.List.{AllZip}
 use Rattle.std.proofs.lemmas.List.Elements.{All-head, All-tail}
 use Rattle.naga_oil_ir.specs.Rows.{Row}
 use Rattle.naga_oil_ir.specs.ModuleValue.{ModuleValue}
-use Rattle.naga_oil_ir.specs.declared.module.Module.{Module}
 use Rattle.naga_oil_ir.specs.declared.span.Span.{Span}
 use Rattle.naga_oil_ir.specs.declared.names.ItemPlace.{ItemPlace}
-use Rattle.naga_oil_derive.specs.declared.maps.Maps.{Maps}
 use Rattle.naga_oil_derive.specs.Tree.{World, Kept, Tree, Then, Absent, Item, tree, trees, row_tree, kept_tree, reading}
-use Rattle.naga_oil_derive.specs.World.{value_of, world}
+use Rattle.naga_oil_derive.specs.World.{world}
 use Rattle.naga_oil_derive.specs.Collected.{names_trail, row_trail, kept_trail, reached, depth, Stands, Collects, Done, Known, Fresh, Comes}
-use Rattle.naga_oil_derive.specs.Copying.{IsWhole, Goes, NameGoesTo, AreCopied, IsSound, Fetches, goes_under, source_world, kept_between, copied_span, rank, IsCopying, trail_of, CollectsItem}
+use Rattle.naga_oil_derive.specs.Copying.{IsWhole, Goes, NameGoesTo, AreCopied, IsSound, Fetches, rank}
 use Rattle.naga_oil_derive.proofs.TreeLemmas.{reads, same_place, tree-later, trees_same}
 use Rattle.naga_oil_ir.proofs.LinkLemmas.{eqb_eq, eq_eqb}
 use Rattle.naga_oil_ir.specs.declared.names.ItemPlace.TheVariants.{TypeItem, ConstantItem, OverrideItem, GlobalItem, ExpressionItem}
@@ -127,10 +125,6 @@ pub others_of : (v u : World) (s : Row) (q : ItemPlace) → Fetches v u s q → 
 others_of v u s q f x r e = ⊎_elim inl (λ n. inr n.0) (f.only x r e)
 
 -- ---- requests
-
-pub known_item : (source t : Module) (m : Maps) (p q : ItemPlace) → IsCopying source t m → goes_under m p ≡ Some q → CollectsItem source m t p t
-unfolding trail_of
-known_item source t m p q i g = Collects-copied (source_world source t m) (value_of t) (kept_between source t) (goes_under m) (copied_span source m) i.copied (depth (value_of source)) p q g
 
 pub step_at : (w : World) (kept : Kept) (rank_of : ItemPlace → ℕ) → Lowers w rank_of → (d e : ℕ) → d ≡ suc e → (p : ItemPlace) (r : Row) → rank_of p < d → w p ≡ Some r → kept p ≡ None → names_trail (reached d w kept) r.names ++ p ∷ [] ≡ reached d w kept p
 unfolding reached

@@ -8,10 +8,10 @@ use Rattle.naga_oil_ir.specs.declared.names.ItemPlace.{ItemPlace}
 use Rattle.naga_oil_ir.specs.declared.names.ItemPlace.TheVariants.{TypeItem, ConstantItem, OverrideItem, GlobalItem, ExpressionItem}
 use Rattle.naga_oil_derive.specs.declared.maps.Maps.{Maps}
 use Rattle.naga_oil_derive.specs.Tree.{World}
-use Rattle.naga_oil_derive.specs.World.{value_of, world, goes, named_world, under_name, name_at, kept_of}
-use Rattle.naga_oil_derive.specs.Copying.{Goes, goes_under, source_world, kept_between, WentSomewhere, IsCopying, Grows, HasCopy}
+use Rattle.naga_oil_derive.specs.World.{goes, named_world, under_name, name_at, kept_of}
+use Rattle.naga_oil_derive.specs.Copying.{Goes, goes_under, kept_between}
 use Rattle.naga_oil_derive.proofs.TreeLemmas.{reads}
-use Rattle.naga_oil_derive.proofs.WorldLemmas.{named_some, named_same, Extends-refl, Extends-trans}
+use Rattle.naga_oil_derive.proofs.WorldLemmas.{named_some, named_same}
 
 -- ---- maps
 
@@ -84,17 +84,7 @@ pub kept_same : (source t u : Module) → special_value u.special_types ≡ spec
 unfolding kept_between
 kept_same source t u e = ap (kept_of (special_value source.special_types)) e
 
-pub Grows-refl : (m : Maps) (t : Module) → Grows m m t t
-Grows-refl m t = record { went = λ p q g. g; offset = refl; extends = Extends-refl (value_of t); special = refl }
-
-pub Grows-trans : {m n o : Maps} {t u v : Module} → Grows m n t u → Grows n o u v → Grows m o t v
-Grows-trans {t} {u} {v} a b = record { went = λ p q g. b.went p q (a.went p q g); offset = b.offset ∙ a.offset; extends = Extends-trans (value_of t) (value_of u) (value_of v) a.extends b.extends; special = b.special ∙ a.special }
-
 -- ---- names
 
 pub all_at : (P : Option ItemPlace → Type 0) (xs : List (Option ItemPlace)) (i : ℕ) (x : Option ItemPlace) → i < length xs → x ≡ get_or xs i x → All P xs → P x
 all_at P xs i x l e a = subst P (sym e) (a i x l)
-
--- what was copied has a copy that reads as it
-pub HasCopy-went : (source target : Module) (m : Maps) (p : ItemPlace) → IsCopying source target m → WentSomewhere (goes_under m) (Some p) → HasCopy source target m p
-HasCopy-went source target m p i w = (w.0, w.1, λ n. reads (source_world source target m) (world (value_of target)) (kept_between source target) (goes_under m) i.copied n p w.0 w.1)

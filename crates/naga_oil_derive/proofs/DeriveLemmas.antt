@@ -19,13 +19,12 @@ use Rattle.naga_oil_ir.specs.declared.names.ItemPlace.TheVariants.{TypeItem, Con
 use Rattle.naga_oil_derive.specs.declared.maps.Maps.{Maps}
 use Rattle.naga_oil_derive.specs.declared.special.SpecialKey.{SpecialKey}
 use Rattle.naga_oil_derive.specs.declared.special.SpecialKey.TheVariants.{RayDesc, RayIntersection, RayVertexReturn, Predeclared}
-use Rattle.naga_oil_derive.specs.Tree.{World, ReadsAs}
+use Rattle.naga_oil_derive.specs.Tree.{World}
 use Rattle.naga_oil_derive.specs.World.{value_of, world, named_world, under_name, name_at, special_entry, special_entries, special_at, or_option, kept_in, with_special, with_specials}
-use Rattle.naga_oil_derive.specs.Copying.{Goes, IsCopying, Grows, WentSomewhere, CollectsItem, places_of, goes_under, source_world, kept_between, copied_span, trail_of}
-use Rattle.naga_oil_derive.specs.Derived.{Source, Derived, as_read, Imports, IsLaterSource}
+use Rattle.naga_oil_derive.specs.Copying.{Goes, Grows, places_of, goes_under}
+use Rattle.naga_oil_derive.specs.Derived.{Source, IsLaterSource}
 use Rattle.naga_oil_derive.proofs.TreeLemmas.{same_number}
 use Rattle.naga_oil_ir.proofs.LinkLemmas.{eqb_eq}
-use Rattle.naga_oil_derive.proofs.CopyLemmas.{kept_same, HasCopy-went}
 use Rattle.naga_oil_derive.proofs.SpecialLemmas.{Entry, coded, entries_nested, more_case, special_set, special_others}
 
 -- ---- the module of nothing
@@ -165,21 +164,6 @@ mapped_none (Some k) e = cc
 
 abbrev pub source_at : Module → Maps → Source
 source_at s m = record { value = value_of s; offset = m.offset; places = places_of m }
-
-abbrev pub derived_at : Module → Maps → Module → List (List ℕ × ℕ) → Derived
-derived_at s m t ns = record { source = Some (source_at s m); target = value_of t; function_names = ns }
-
-pub import_one : (s t u : Module) (m n : Maps) (ns : List (List ℕ × ℕ)) (p : ItemPlace) → IsCopying s u n → Grows m n t u → source_world s u n ≡ source_world s t m → WentSomewhere (goes_under n) (Some p) → CollectsItem s m t p u → (q : ItemPlace) × Imports (source_at s m) (as_read (source_at s m) (value_of t)) (derived_at s m t ns) (derived_at s n u ns) p q
-unfolding source_world goes_under kept_between copied_span trail_of value_of
-import_one s t u m n ns p i g reads_same w c =
-    let h = HasCopy-went s u n p i w in (
-      h.0,
-      record {
-        reads = subst (λ k. ReadsAs (source_world s t m) (world (value_of u)) k p h.0) (kept_same s t u g.special) (subst (λ v. ReadsAs v (world (value_of u)) (kept_between s u) p h.0) reads_same h.2);
-        collects = c;
-        goes = h.1;
-      },
-    )
 
 pub later_source : (s t u : Module) (m n : Maps) → Grows m n t u → IsLaterSource (source_at s m) (source_at s n)
 unfolding goes_under

@@ -72,9 +72,6 @@ functions_trans d e f x y =
 pub functions_same : (d : Derived) → KeepsFunctions d d
 functions_same d = record { items = Extends-refl d.target; functions = Begins-refl d.target.functions; names = λ n h. h; source = source_same d.source }
 
-pub Keeps-same : (d : Derived) → Keeps d d
-Keeps-same d = record { items = Extends-refl d.target; names = refl; source = source_same d.source }
-
 -- ---- what is there stays there
 
 has_in : (a b : Option Source) (p : ItemPlace) → KeepsSource a b → IsSome a × IfSome a (λ s. (r : Row) × (world s.value p ≡ Some r)) → IsSome b × IfSome b (λ s. (r : Row) × (world s.value p ≡ Some r))

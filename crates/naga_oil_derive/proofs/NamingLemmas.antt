@@ -1,11 +1,11 @@
 -- Names that are added without repeats.
-use Rattle.std.proofs.Common.{◌≡◌, ⊎_elim, ℕ, zero, suc, ◌+◌, ◌<◌, ◌≤◌, Bool, true, false, ◌==◌, List, [], ◌∷◌, ◌++◌, length, take, get_or, slice_get, option_to_list, Option, Some, None, refl, ap, sym, ◌∙◌, subst, arith, All}
+use Rattle.std.proofs.Common.{◌≡◌, ⊎_elim, ℕ, zero, suc, ◌+◌, ◌<◌, true, ◌==◌, List, [], ◌∷◌, ◌++◌, length, take, get_or, slice_get, Option, Some, None, refl, ap, sym, ◌∙◌, subst, arith, All}
 use Rattle.std.specs.List.{flat_map}
-use Rattle.std.proofs.lemmas.List.{append-nil, append_assoc, take_more, take_all}
+use Rattle.std.proofs.lemmas.List.{append-nil, append_assoc, take_more}
 use Rattle.std.proofs.lemmas.List.Concat.{flat_map-append}
 use Rattle.std.proofs.lemmas.List.Elements.{All-weaker, All-head, All-tail}
 use Rattle.std.proofs.lemmas.Bool.{or_cases, or_left, or_right}
-use Rattle.std.proofs.lemmas.Option.{slice_get_within, none-some, same_Some}
+use Rattle.std.proofs.lemmas.Option.{slice_get_within}
 use Rattle.naga_oil_ir.specs.Links.{Links, linked, AreEarlier, has, added}
 use Rattle.naga_oil_ir.specs.declared.parts.Named.{Named}
 use Rattle.naga_oil_ir.proofs.LinkLemmas.{slice_get-append_within, slice_get-append_at, has-added, only, eq_eqb}
@@ -44,9 +44,6 @@ thins_known s (x ∷ xs) a = Drops a.0 (thins_known s xs a.1)
 
 pub Adds-known : (s xs : List Request) → AllAmong s xs → Adds s xs s
 Adds-known s xs a = ([], sym (append-nil s), thins_known s xs a)
-
-pub Adds-new : (s : List Request) (x : Request) → Adds s (x ∷ []) (s ++ x ∷ [])
-Adds-new s x = (x ∷ [], refl, Keeps Ends)
 
 Thins-append : {s xs zs : List Request} (ys ws : List Request) → Thins s xs zs → Thins (s ++ zs) ys ws → Thins s (xs ++ ys) (zs ++ ws)
 Thins-append {s} ys ws Ends b = subst (λ t. Thins t ys ws) (append-nil s) b

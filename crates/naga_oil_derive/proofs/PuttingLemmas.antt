@@ -10,9 +10,9 @@ use Rattle.naga_oil_ir.specs.declared.names.ItemPlace.TheVariants.{TypeItem}
 use Rattle.naga_oil_derive.specs.declared.maps.Maps.{Maps}
 use Rattle.naga_oil_derive.specs.Tree.{Kept}
 use Rattle.naga_oil_derive.specs.World.{goes, value_of, world, Extends, under_name}
-use Rattle.naga_oil_derive.specs.Copying.{IsThere, AreRanked, IsCopying, Grows, WentSomewhere, AreNames, CollectsItem, goes_under, source_world, kept_between, copied_span, trail_of}
+use Rattle.naga_oil_derive.specs.Copying.{IsThere, AreRanked, IsCopying, Grows, WentSomewhere, AreNames, goes_under, source_world, kept_between}
 use Rattle.naga_oil_derive.specs.Copied.{CopyState, copy_state, put, put_type, copy_item, copy_all}
-use Rattle.naga_oil_derive.specs.CopiedLaw.{IsKinded, HasAt, IsBelowIn, IsCopyable, reads_now, spans_by, IsMidway, IsReady, GrowsBy}
+use Rattle.naga_oil_derive.specs.CopiedLaw.{IsKinded, HasAt, IsBelowIn, IsCopyable, reads_now, spans_by, IsMidway, IsReady}
 use Rattle.naga_oil_derive.specs.Putting.{CanPut, Putting, NothingPut, ItemPut, TypePutting, NoType, TypeLast}
 use Rattle.naga_oil_derive.proofs.TreeLemmas.{puts_keeps}
 use Rattle.naga_oil_derive.proofs.CopyLemmas.{kept_same}
@@ -160,12 +160,6 @@ unfolding goes_under
 copied_went source t u m n p a i there e =
     let g = copied_item (value_of source) m.offset (kept_between source t) (copy_state m t) p (ranked_copyable source a) (midway_of source t m i) there in
     (g.1.0, ap (λ (s : CopyState). goes s.places p) e ∙ g.1.1)
-
-pub copied_collects : (source t u : Module) (m n : Maps) (p : ItemPlace) → AreRanked source → IsCopying source t m → IsThere source p → copy_state n u ≡ copy_item (value_of source) m.offset (copy_state m t) p → CollectsItem source m t p u
-unfolding source_world goes_under copied_span trail_of
-copied_collects source t u m n p a i there e =
-    let g = copied_item (value_of source) m.offset (kept_between source t) (copy_state m t) p (ranked_copyable source a) (midway_of source t m i) there in
-    (subst (λ (s : CopyState). GrowsBy (value_of source) m.offset (kept_between source t) (reads_now (value_of source) (copy_state m t)) (copy_state m t) s (trail_of source t m p)) (sym e) g.0).collects
 
 -- ---- items put behind others
 

@@ -1,8 +1,7 @@
 -- What is walked over is requested.
-use Rattle.std.proofs.Common.{◌≡◌, ⊎_elim, ℕ, zero, suc, ◌+◌, ◌-◌, ◌<◌, ◌≤◌, Bool, true, false, cond, List, [], ◌∷◌, ◌++◌, length, map, take, get_or, slice_get, option_map, option_to_list, Option, Some, None, IsSome, is_some, not, Result, Ok, Err, OnOk, refl, ap, sym, ◌∙◌, subst, arith}
+use Rattle.std.proofs.Common.{◌≡◌, ℕ, ◌+◌, ◌-◌, ◌<◌, ◌≤◌, true, false, cond, List, [], ◌∷◌, ◌++◌, length, take, get_or, slice_get, Option, Some, None, Result, Ok, Err, OnOk, refl, ap, sym, ◌∙◌, subst, arith}
 use Rattle.std.specs.List.{flat_map}
-use Rattle.std.proofs.lemmas.Bool.{false≢true}
-use Rattle.std.proofs.lemmas.List.{append-nil, append_assoc, take_more, take_all, map-append}
+use Rattle.std.proofs.lemmas.List.{append-nil, take_more}
 use Rattle.std.proofs.lemmas.List.Elements.{filter-append}
 use Rattle.naga_oil_ir.specs.Links.{Links, linked, lists, has, added, AreEarlier}
 use Rattle.naga_oil_ir.specs.BodyForm.{run, places, is_external, kinds, named_of, operand_links, IsReading}
@@ -14,18 +13,17 @@ use Rattle.naga_oil_ir.specs.declared.form.Reading.{Reading}
 use Rattle.naga_oil_ir.specs.declared.names.ItemPlace.{ItemPlace}
 use Rattle.naga_oil_ir.specs.Rows.{named_place}
 use Rattle.naga_oil_ir.specs.declared.parts.Named.{Named}
-use Rattle.naga_oil_ir.specs.declared.parts.Named.TheVariants.{Nothing, TypeOf, ConstantAt, OverrideAt, GlobalAt, LocalAt, ArgumentAt, FunctionAt}
 use Rattle.naga_oil_ir.specs.declared.span.Span.{Span}
 use Rattle.naga_oil_ir.specs.declared.tokens.Token.{Token}
 use Rattle.naga_oil_ir.specs.declared.tokens.Token.TheVariants.{At, Head, Plain, Flag, Absent, Open, Close, Use, Give, GiveCall, Emitted, Callee}
-use Rattle.naga_oil_derive.specs.Walk.{IsReachOrder, Notes, externals, brief, notes_of}
+use Rattle.naga_oil_derive.specs.Walk.{Notes, externals, brief, notes_of}
 use Rattle.naga_oil_derive.specs.Walks.{IsOver}
 use Rattle.naga_oil_derive.specs.Naming.{item_of, asked, requested, requests_at, names_from, local_names, token_names, signature_names, function_names, IsAmong, Thins, Adds}
 use Rattle.naga_oil_derive.specs.declared.walk.Request.{Request}
 use Rattle.naga_oil_derive.specs.declared.walk.Request.TheVariants.{Item}
 use Rattle.naga_oil_derive.specs.declared.walk.Walk.{Walk}
 use Rattle.naga_oil_derive.proofs.WalkLemmas.{run-next, flat_run}
-use Rattle.naga_oil_derive.proofs.NamingLemmas.{among_left, covers_add, request_among, Adds-none, Adds-new, Adds-all, Adds-append, Adds-keeps, Adds-places, Adds-more_at, names-step}
+use Rattle.naga_oil_derive.proofs.NamingLemmas.{among_left, covers_add, request_among, Adds-none, Adds-all, Adds-append, Adds-keeps, Adds-places, names-step}
 
 pub ok_then : {A B : Type 0} (r : Result A B) (P Q : Type 0) → (P → Q) → OnOk r P → OnOk r Q
 ok_then (Ok x) P Q f h = f h
@@ -132,26 +130,6 @@ walk_requests f rd xs ls ts ex i el et s t u w es et1 a b =
 
 -- ---- what is asked for a name
 
-pub asked_item : (n : Named) → ((f : ℕ) → n ≡ FunctionAt f → ⊥) → asked n ≡ requested (named_place n)
-asked_item Nothing h = refl
-asked_item (TypeOf k) h = refl
-asked_item (ConstantAt k) h = refl
-asked_item (OverrideAt k) h = refl
-asked_item (GlobalAt k) h = refl
-asked_item (LocalAt k) h = refl
-asked_item (ArgumentAt k) h = refl
-asked_item (FunctionAt k) h = absurd (h k refl)
-
-pub asked_named : (n : Named) → IsSome (named_place n) → asked n ≡ requested (named_place n)
-asked_named Nothing h = refl
-asked_named (TypeOf k) h = refl
-asked_named (ConstantAt k) h = refl
-asked_named (OverrideAt k) h = refl
-asked_named (GlobalAt k) h = refl
-asked_named (LocalAt k) h = refl
-asked_named (ArgumentAt k) h = refl
-asked_named (FunctionAt k) h = absurd (false≢true h)
-
 pub item_at : (ns : List Named) (k : ℕ) (n : Named) → Some n ≡ slice_get ns k → requests_at ns k ≡ requested (named_place n)
 item_at ns k n e = ap (λ (o : Option Named). requested (item_of o)) (sym e)
 
@@ -162,14 +140,6 @@ none_asked s ns k e = sym (ap (λ (o : Option ItemPlace). s ++ requested o) e �
 pub none_if : {A : Type 0} (o : Option A) → ((x : A) → o ≡ Some x → ⊥) → o ≡ None
 none_if None f = refl
 none_if (Some x) f = absurd (f x refl)
-
-pub none_from : {A : Type 0} (o : Option A) (b : Bool) → is_some o ≡ not b → b ≡ true → o ≡ None
-none_from None b e f = refl
-none_from (Some x) b e f = absurd (false≢true (sym (e ∙ ap not f)))
-
-pub some_from : {A : Type 0} (o : Option A) (b : Bool) → is_some o ≡ not b → b ≡ false → IsSome o
-some_from None b e f = absurd (false≢true (e ∙ ap not f))
-some_from (Some x) b e f = refl
 
 -- ---- the other parts of a body
 

@@ -14,12 +14,6 @@ use Rattle.naga_oil_derive.proofs.SpecialLemmas.{Entry, coded, insert_absent, mo
 
 -- ---- the entries one after another
 
-pub entries_first : (s : SpecialValue) (a b c : List Entry) → a ≡ [] ++ special_entry RayDesc s.ray_desc → b ≡ a ++ special_entry RayIntersection s.ray_intersection → c ≡ b ++ special_entry RayVertexReturn s.ray_vertex_return → c ++ coded s.predeclared_types ≡ special_entries s
-entries_first s a b c ea eb ec =
-    let y = special_entry RayIntersection s.ray_intersection in
-    let z = special_entry RayVertexReturn s.ray_vertex_return in
-    ap (λ v. v ++ coded s.predeclared_types) (ec ∙ ap (λ v. v ++ z) (eb ∙ ap (λ v. v ++ y) ea))
-
 pub entries_next : (es : List Entry) (c h : ℕ) (left rest : List (ℕ × ℕ)) (all : List Entry) → es ++ coded left ≡ all → left ≡ (c, h) ∷ rest → (es ++ (Predeclared c, h) ∷ []) ++ coded rest ≡ all
 entries_next es c h left rest all e f = append_assoc es ((Predeclared c, h) ∷ []) (coded rest) ∙ ap (λ (v : List (ℕ × ℕ)). es ++ coded v) (sym f) ∙ e
 

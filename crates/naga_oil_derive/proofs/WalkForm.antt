@@ -1,7 +1,7 @@
 -- For a body that passes the test of form the brief listing gives the order of first reach.
-use Rattle.std.proofs.Common.{◌≡◌, ◌≢◌, ⊎_elim, ◌⊎◌, inl, inr, ℕ, zero, suc, ◌+◌, ◌-◌, ◌<◌, ◌≤◌, Bool, true, false, cond, ◌||◌, ◌&&◌, ◌==◌, not, List, [], ◌∷◌, ◌++◌, length, slice_get, Option, Some, None, All, refl, ap, sym, ◌∙◌, subst, arith}
-use Rattle.std.specs.List.{flat_map, filter}
-use Rattle.std.proofs.lemmas.Bool.{cases_Bool, or_cases, or_left, or_right, and_parts, and_from, false≢true, false_from_ne_true, not_from_true, not_from_false}
+use Rattle.std.proofs.Common.{◌≡◌, ◌≢◌, ⊎_elim, ◌⊎◌, inl, inr, ℕ, ◌+◌, ◌-◌, Bool, true, false, cond, ◌||◌, ◌==◌, not, List, [], ◌∷◌, ◌++◌, Option, All, refl, ap, sym, ◌∙◌, subst}
+use Rattle.std.specs.List.{flat_map}
+use Rattle.std.proofs.lemmas.Bool.{cases_Bool, or_cases, or_left, or_right, false≢true, false_from_ne_true}
 use Rattle.std.proofs.lemmas.List.{append-nil, append_assoc}
 use Rattle.std.proofs.lemmas.List.Elements.{filter-append}
 use Rattle.naga_oil_ir.specs.Body.{Tokens}
@@ -11,7 +11,7 @@ use Rattle.naga_oil_ir.specs.BodyForm.{places, is_external, is_result, is_known,
 use Rattle.naga_oil_ir.specs.Links.{Links, linked, AreEarlier, trail, has, added}
 use Rattle.naga_oil_ir.proofs.LinkLemmas.{has-append, has-added, only, itself, trail-step, All-has}
 use Rattle.naga_oil_derive.specs.Walk.{IsReachOrder, Holds, externals, others, listed, brief}
-use Rattle.naga_oil_derive.proofs.WalkLemmas.{Holds-append, Holds-left, Holds-right, Holds-head, Holds-one, added-append, added-known, added-keeps, added-holds, added-externals, IsReachOrder-add, trail_in}
+use Rattle.naga_oil_derive.proofs.WalkLemmas.{added-append, added-known, added-keeps, added-holds, added-externals, IsReachOrder-add, trail_in}
 
 -- external expressions and results name nothing
 pub record IsPlain (ks : List ℕ) (ls : Links) : Type 0 where

@@ -1,23 +1,20 @@
 -- Orders of places: adding, and what stands ready.
-use Rattle.std.proofs.Common.{is_none, is_some, nat_lt, option_map, Option, ◌≡◌, ⊎_elim, ◌⊎◌, inl, inr, ℕ, zero, suc, ◌+◌, ◌-◌, ◌<◌, ◌≤◌, Bool, true, false, cond, ◌||◌, ◌&&◌, ◌==◌, not, List, [], ◌∷◌, ◌++◌, length, take, get_or, slice_get, slice_set, Some, None, refl, ap, sym, ◌∙◌, subst, arith}
-use Rattle.std.specs.List.{flat_map, filter}
+use Rattle.std.proofs.Common.{is_none, is_some, nat_lt, Option, ◌≡◌, ⊎_elim, ◌⊎◌, ℕ, zero, suc, ◌+◌, ◌-◌, ◌<◌, ◌≤◌, Bool, true, false, cond, ◌||◌, ◌==◌, not, List, [], ◌∷◌, ◌++◌, length, take, get_or, slice_get, slice_set, Some, None, refl, ap, sym, ◌∙◌, subst, arith}
+use Rattle.std.specs.List.{flat_map}
 use Rattle.std.specs.Option.{option_flatten}
-use Rattle.std.proofs.lemmas.Bool.{cases_order, cases_Bool, cond_both, le-ltb, or_cases, or_left, or_right, and_parts, and_from, not-true, not_from_false, false≢true}
-use Rattle.std.proofs.lemmas.List.{set_past, take-append-le, take_at, append-nil, append_assoc, take_more, length_push}
+use Rattle.std.proofs.lemmas.Bool.{cases_order, cases_Bool, cond_both, le-ltb, or_cases, or_left, or_right, false≢true}
+use Rattle.std.proofs.lemmas.List.{set_past, take-append-le, take_at, append-nil, take_more, length_push}
 use Rattle.std.proofs.lemmas.List.Concat.{flat_map-append}
-use Rattle.std.proofs.lemmas.Option.{slice_get_within, slice_get_past, none-some, same_Some, slice_get_read}
+use Rattle.std.proofs.lemmas.Option.{slice_get_within, none-some, same_Some}
 use Rattle.std.proofs.lemmas.List.Elements.{filter-append}
 use Rattle.naga_oil_ir.specs.Body.{Tokens}
 use Rattle.naga_oil_ir.specs.declared.tokens.Token.{Token}
 use Rattle.naga_oil_ir.specs.BodyForm.{run, places, is_external}
-use Rattle.naga_oil_ir.specs.Links.{Links, linked, AreEarlier, reach, trail, has, added, started, AreMarks}
+use Rattle.naga_oil_ir.specs.Links.{Links, linked, AreEarlier, reach, trail, has, added, AreMarks}
 use Rattle.naga_oil_ir.proofs.LinkLemmas.{has-append, has-added, marked-set, or_false, only, itself, in_one, in_all, slice_get-append_within, slice_get-append_at, trail-step, eq_eqb}
 use Rattle.naga_oil_derive.specs.Walk.{IsReachOrder, Holds, externals, Notes, noted, notes_of, notes_after, brief}
 
 -- ---- lists
-
-pub Holds-append : (o xs ys : List ℕ) → Holds o xs → Holds o ys → Holds o (xs ++ ys)
-Holds-append o xs ys a b = λ x h. ⊎_elim (λ i. a x i) (λ i. b x i) (or_cases (has xs x) (has ys x) (sym (has-append xs ys x) ∙ h))
 
 pub Holds-left : (o xs ys : List ℕ) → Holds o (xs ++ ys) → Holds o xs
 Holds-left o xs ys a = λ x h. a x (has-append xs ys x ∙ or_left (has xs x) (has ys x) h)
@@ -27,9 +24,6 @@ Holds-right o xs ys a = λ x h. a x (has-append xs ys x ∙ or_right (has xs x) 
 
 pub Holds-head : (o : List ℕ) (x : ℕ) (xs : List ℕ) → Holds o (x ∷ xs) → has o x ≡ true
 Holds-head o x xs a = Holds-left o (x ∷ []) xs a x (itself x)
-
-pub Holds-one : (o : List ℕ) (x : ℕ) → has o x ≡ true → Holds o (x ∷ [])
-Holds-one o x h = λ y i. subst (λ v. has o v ≡ true) (only x y i) h
 
 -- ---- adding
 
@@ -59,9 +53,6 @@ added-token f o ts i t h is =
     sym (added-append o (flat_map f (take i ts)) (f t)) ∙ ap (added o) (sym (ap (flat_map f) (take_more ts i t h ∙ ap (λ y. take i ts ++ y ∷ []) (sym is)) ∙ flat_map-append f (take i ts) (t ∷ []) ∙ ap (λ u. flat_map f (take i ts) ++ u) (append-nil (f t))))
 
 -- ---- places that stand ready
-
-none_past : (o : List ℕ) (i k : ℕ) → length o ≤ i → slice_get o i ≡ Some k → ⊥
-none_past o i k h e = none-some k (sym (slice_get_past o i h) ∙ e)
 
 at_last : (o : List ℕ) (k i j : ℕ) → i ≡ length o → slice_get (o ++ k ∷ []) i ≡ Some j → k ≡ j
 at_last o k i j h e = same_Some k j (sym (slice_get-append_at o k) ∙ ap (slice_get (o ++ k ∷ [])) (sym h) ∙ e)

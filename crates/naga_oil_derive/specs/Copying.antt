@@ -148,10 +148,6 @@ source_world source target m = named_world (world (value_of source)) (world (val
 unfoldable pub kept_between : Module → Module → Kept
 kept_between source target = kept_of (special_value source.special_types) (special_value target.special_types)
 
--- the span that the copy of an item gets
-unfoldable pub copied_span : Module → Maps → ItemPlace → Option Span
-copied_span source m p = option_map (shifted m.offset) (span_at (value_of source) p)
-
 pub record IsCopying (source target : Module) (m : Maps) : Type 0 where
   pub long : AreLong m source
   pub sound : IsSound (world (value_of target))
@@ -170,18 +166,3 @@ WentSomewhere m o = IfSome o (λ p. (q : ItemPlace) × (m p ≡ Some q))
 -- ns are what the item names, if it is there
 abbrev pub AreNames : Option Row → List (Option ItemPlace) → Type 0
 AreNames o ns = IfSome o (λ r. ns ≡ r.names)
-
--- what a request for the item at a place adds
-abbrev pub IsCollected : Module → Maps → Module → List ItemPlace → Module → Type 0
-IsCollected source m t ps u = Collects (source_world source t m) (kept_between source t) (copied_span source m) (value_of t) ps (value_of u)
-
--- what a request for the item at a place reaches
-unfoldable pub trail_of : Module → Module → Maps → ItemPlace → List ItemPlace
-trail_of source target m p = reached (depth (value_of source)) (source_world source target m) (kept_between source target) p
-
-abbrev pub CollectsItem : Module → Maps → Module → ItemPlace → Module → Type 0
-CollectsItem source m t p u = IsCollected source m t (trail_of source t m p) u
-
--- the item at a place has a copy, which reads as it
-abbrev pub HasCopy : Module → Module → Maps → ItemPlace → Type 0
-HasCopy source target m p = (q : ItemPlace) × (goes_under m p ≡ Some q) × ReadsAs (source_world source target m) (world (value_of target)) (kept_between source target) p q
