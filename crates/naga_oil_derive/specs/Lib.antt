@@ -21,6 +21,7 @@ pub mod DerivedEntries
 pub mod Equal
 pub mod Copied
 pub mod CopiedFunction
+mod CopiedRows
 pub mod Answered
 pub mod DerivedValue
 pub mod CopiedEntry
