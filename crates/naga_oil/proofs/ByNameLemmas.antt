@@ -26,7 +26,7 @@ use Rattle.naga_oil_ir.specs.declared.names.ItemPlace.TheVariants.{TypeItem, Con
 use Rattle.naga_oil_ir.specs.declared.span.Span.{Span}
 use Rattle.naga_oil_derive.specs.Derived.{Derived}
 use Rattle.naga_oil_lines.specs.DirectivesText.{in_order}
-use Rattle.naga_oil_pre.specs.Recorded.{is_among}
+use Rattle.naga_oil_lines.specs.Text.{is_among}
 use Rattle.naga_oil.specs.BuiltModule.{BuiltModule, owns}
 use Rattle.naga_oil.specs.ByName.{ByName, with_places, places_where, places_by, is_name, place_names, names_of_functions, IsIndexOf}
 use Rattle.naga_oil.specs.CopiedSteps.{owns_named, owns_function}

@@ -18,7 +18,7 @@ use Rattle.naga_oil_redirect.specs.Redirected.{matched, redirected}
 use Rattle.naga_oil_ir.specs.declared.redirect_error.RedirectError.{RedirectError}
 use Rattle.naga_oil_ir.specs.declared.redirect_error.RedirectError.TheVariants as code
 use Rattle.naga_oil_pre.specs.Fault.{Fault, redirection}
-use Rattle.naga_oil_pre.specs.Recorded.{is_among}
+use Rattle.naga_oil_lines.specs.Text.{is_among}
 use Rattle.naga_oil_pre.specs.View.{fault_of, redirect_error}
 use Rattle.naga_oil.specs.Chains.{sent_down}
 

@@ -14,7 +14,7 @@ use Rattle.naga_oil_ir.specs.declared.span.Span.{Span}
 use Rattle.naga_oil_ir.specs.Rows.{Text}
 use Rattle.naga_oil_lines.specs.DirectivesText.{in_order, with_name}
 use Rattle.naga_oil_pre.specs.Fault.{Fault}
-use Rattle.naga_oil_pre.specs.Recorded.{is_among}
+use Rattle.naga_oil_lines.specs.Text.{is_among}
 use Rattle.naga_oil_pre.specs.View.{fault_of}
 use Rattle.naga_oil_pre.specs.declared.fault.ComposerErrorInner.{ComposerErrorInner}
 use Rattle.naga_oil_derive.specs.Derived.{Derived, nothing, IsKnown, IsRenamed, IsSet, Keeps, KeepsItems}

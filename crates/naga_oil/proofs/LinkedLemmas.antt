@@ -18,7 +18,7 @@ use Rattle.naga_oil_pre.specs.Fault.{Fault}
 use Rattle.naga_oil_pre.specs.View.{fault_of, Gives}
 use Rattle.naga_oil_pre.specs.declared.fault.ComposerErrorInner.{ComposerErrorInner}
 use Rattle.naga_oil.specs.BuiltModule.{BuiltModule, Builds, built_of, builds_of}
-use Rattle.naga_oil_registry.specs.Definition.{texts}
+use Rattle.naga_oil_lines.specs.Text.{texts}
 use Rattle.naga_oil.specs.Linked.{Asked, asked_of, asked_steps, link_steps, linked_value, placed_build, is_entered, with_place, entered_after, ImportsLinked, NotBuilt, Known, Entered, WholeLinked}
 use Rattle.naga_oil.specs.Relations.{GivesBy}
 use Rattle.naga_oil.specs.Steps.{Source, Set, Left, Taken, AreTaken, OneStep}

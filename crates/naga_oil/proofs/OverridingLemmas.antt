@@ -9,9 +9,8 @@ use Rattle.indexmap.specs.IndexMap.{insert_entry}
 use Rattle.naga_oil_lines.specs.Uses.{Import, import_of}
 use Rattle.naga_oil_lines.specs.declared.import_definition.ImportDefinition.{ImportDefinition}
 use Rattle.naga_oil_pre.specs.Fault.{not_virtual}
-use Rattle.naga_oil_pre.specs.Recorded.{is_among}
+use Rattle.naga_oil_lines.specs.Text.{is_among, texts}
 use Rattle.naga_oil.specs.BuiltModule.{BuiltModule, Builds, Overriding, built_of}
-use Rattle.naga_oil_registry.specs.Definition.{texts}
 use Rattle.naga_oil.specs.Overriding.{with_new, overridden, build_named}
 use Rattle.naga_oil.specs.Virtuals.{imported_build, unless_virtual}
 use Rattle.naga_oil.specs.declared.compose.module.ComposableModule.{ComposableModule}

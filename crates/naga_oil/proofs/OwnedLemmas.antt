@@ -19,8 +19,7 @@ use Rattle.naga_oil_ir.specs.declared.types.GlobalVariable.{GlobalVariable}
 use Rattle.naga_oil_ir.specs.declared.types.Override.{Override}
 use Rattle.naga_oil_marks.specs.Marks.{has_module_mark, with_decoration}
 use Rattle.naga_oil_lines.specs.DirectivesText.{with_name, in_order}
-use Rattle.naga_oil_pre.specs.Recorded.{is_among}
-use Rattle.naga_oil_registry.specs.Definition.{texts}
+use Rattle.naga_oil_lines.specs.Text.{is_among, texts}
 use Rattle.naga_oil.specs.Owned.{with_owned_name, owned_item, owned_function, with_text, function_names, demoted_name, demoted_function, demoted}
 use Rattle.naga_oil_registry.proofs.MergedLemmas.{bytes-insert}
 use Rattle.naga_oil_registry.proofs.NamesLemmas.{among-in_order, among_texts}

@@ -16,7 +16,8 @@ use Rattle.naga_oil.specs.Afresh.{Setting, Unless, UnlessBuilt, EachReached, Rea
 use Rattle.naga_oil.specs.Building.{by_steps, IsBuilt}
 use Rattle.naga_oil.specs.Built.{build_place, preprocessed_of}
 use Rattle.naga_oil.specs.BuiltModule.{BuiltModule, Builds}
-use Rattle.naga_oil_registry.specs.Definition.{Definition, Defs, texts}
+use Rattle.naga_oil_registry.specs.Definition.{Definition, Defs}
+use Rattle.naga_oil_lines.specs.Text.{texts}
 use Rattle.naga_oil_registry.specs.Descriptor.{ShaderSource}
 use Rattle.naga_oil.specs.Made.{Unread, here, there, UnreadFor, Reading, OneUnread, any_use, may_use}
 use Rattle.naga_oil_registry.specs.Merged.{recorded_names}

@@ -11,7 +11,7 @@ use Rattle.naga_oil_pre.specs.declared.fault.ComposerErrorInner.{ComposerErrorIn
 use Rattle.naga_oil.specs.Built.{ToldAt}
 use Rattle.naga_oil.specs.BuiltModule.{Overriding}
 use Rattle.naga_oil.specs.Chains.{sent_down, all_sent_down}
-use Rattle.naga_oil_registry.specs.Definition.{texts}
+use Rattle.naga_oil_lines.specs.Text.{texts}
 use Rattle.naga_oil.specs.Refused.{Answers, Place, Refused, nowhere, place_of, refused_of}
 use Rattle.naga_oil.specs.Relations.{GivesBy, AnswersBy}
 use Rattle.naga_oil.specs.declared.compose.error.ComposerError.{ComposerError}

@@ -20,7 +20,7 @@ use Rattle.naga_oil_ir.specs.declared.module.Function.{Function}
 use Rattle.naga_oil_ir.specs.declared.span.Span.{Span}
 use Rattle.naga_oil_ir.specs.declared.types.StructMember.{StructMember}
 use Rattle.naga_oil_pre.specs.Fault.{Fault}
-use Rattle.naga_oil_pre.specs.Recorded.{is_among}
+use Rattle.naga_oil_lines.specs.Text.{is_among}
 use Rattle.naga_oil_pre.specs.View.{Fails, fault_of}
 use Rattle.naga_oil_pre.specs.declared.fault.ComposerErrorInner.{ComposerErrorInner}
 use Rattle.naga_oil.specs.Built.{header_text, parsed_text}

@@ -6,8 +6,7 @@ use Rattle.naga_oil_ir.specs.ModuleValue.{ModuleValue}
 use Rattle.naga_oil_ir.specs.declared.names.ItemPlace.{ItemPlace}
 use Rattle.naga_oil_ir.specs.declared.names.ItemPlace.TheVariants.{TypeItem, ConstantItem, OverrideItem, GlobalItem, ExpressionItem}
 use Rattle.naga_oil_lines.specs.Uses.{Import, import_of}
-use Rattle.naga_oil_pre.specs.Recorded.{is_among}
-use Rattle.naga_oil_registry.specs.Definition.{texts}
+use Rattle.naga_oil_lines.specs.Text.{is_among, texts}
 use Rattle.naga_oil.specs.declared.compose.module.ComposableModule.{ComposableModule}
 
 -- functions, each with those that override it

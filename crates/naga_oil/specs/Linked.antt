@@ -17,10 +17,9 @@ use Rattle.naga_oil_derive.specs.DerivedEntries.{IsMadeWith}
 use Rattle.naga_oil_lines.specs.DirectivesText.{in_order}
 use Rattle.naga_oil_lines.specs.Uses.{Import}
 use Rattle.naga_oil_pre.specs.Fault.{Fault}
-use Rattle.naga_oil_pre.specs.Recorded.{is_among}
+use Rattle.naga_oil_lines.specs.Text.{is_among, texts}
 use Rattle.naga_oil.specs.Built.{header_text}
 use Rattle.naga_oil.specs.BuiltModule.{BuiltModule, Builds, owns}
-use Rattle.naga_oil_registry.specs.Definition.{texts}
 use Rattle.naga_oil.specs.Places.{places_of, name_at}
 use Rattle.naga_oil.specs.Steps.{Step, Source, NoSource, Item, CopyIfNew, Taken, AreTaken}
 

@@ -2,7 +2,7 @@
 use Rattle.std.specs.Prelude.{ℕ, List, [], ◌∷◌, ◌++◌, fold, if◌then◌else◌, bytes_eq, Option, Some, None}
 use Rattle.std.specs.Map.{lookup}
 use Rattle.naga_oil_lines.specs.Uses.{Import}
-use Rattle.naga_oil_pre.specs.Recorded.{is_among}
+use Rattle.naga_oil_lines.specs.Text.{is_among}
 pub use Rattle.naga_oil.specs.BuiltModule.{overriding_of}
 use Rattle.naga_oil.specs.BuiltModule.{BuiltModule, Overriding, Builds}
 

@@ -12,7 +12,7 @@ use Rattle.naga_oil_ir.specs.declared.types.GlobalVariable.{GlobalVariable}
 use Rattle.naga_oil_ir.specs.declared.types.Override.{Override}
 use Rattle.naga_oil_marks.specs.Marks.{has_module_mark, with_decoration}
 use Rattle.naga_oil_lines.specs.DirectivesText.{with_name}
-use Rattle.naga_oil_pre.specs.Recorded.{is_among}
+use Rattle.naga_oil_lines.specs.Text.{is_among}
 use Rattle.naga_oil.specs.BuiltModule.{BuiltModule}
 
 -- ---- names

@@ -4,7 +4,7 @@ use Rattle.naga_oil_ir.specs.ModuleValue.{ModuleValue, FunctionValue}
 use Rattle.naga_oil_ir.specs.Rows.{Text}
 use Rattle.naga_oil_ir.specs.declared.names.ItemPlace.{ItemPlace}
 use Rattle.naga_oil_ir.specs.declared.span.Span.{Span}
-use Rattle.naga_oil_pre.specs.Recorded.{is_among}
+use Rattle.naga_oil_lines.specs.Text.{is_among}
 use Rattle.naga_oil.specs.BuiltModule.{BuiltModule}
 use Rattle.naga_oil.specs.ByName.{ByName, IsIndexOf, places_where}
 use Rattle.naga_oil.specs.CopiedSteps.{owns_named, owns_function}

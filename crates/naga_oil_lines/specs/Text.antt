@@ -1,7 +1,9 @@
--- A text from its front, as bytes and as characters.
-use Rattle.std.specs.Prelude.{◌≡◌, ℕ, ◌<◌, ◌++◌, ◌==◌, if◌then◌else◌, Option, Some, None, option_and_then, List, [], ◌∷◌, length}
+-- A text from its front, as bytes and as characters; and several texts.
+use Rattle.std.specs.Prelude.{◌≡◌, ℕ, ◌<◌, ◌++◌, ◌==◌, if◌then◌else◌, Bool, Option, Some, None, option_and_then, List, [], ◌∷◌, length, map, bytes_eq, String, string_bytes}
 use Rattle.std.specs.Char.{encode_utf8}
+use Rattle.std.specs.List.{list_any}
 use Rattle.std.specs.Str.{chars, IsUtf8}
+use Rattle.std.specs.declared.alloc.Global.{Global}
 
 -- the text is the character c and then rest
 pub record BeginsWithChar (text : List ℕ) (c : ℕ) (rest : List ℕ) : Type 0 where
@@ -19,3 +21,13 @@ unfoldable pub past_word : List ℕ → List ℕ → Option (List ℕ)
 past_word [] cs = Some cs
 past_word (w ∷ ws) [] = None
 past_word (w ∷ ws) (c ∷ cs) = if c == w then past_word ws cs else None
+
+-- ---- several texts
+
+-- strings as texts
+abbrev pub texts : List (String Global) → List (List ℕ)
+texts ss = map (λ s. string_bytes s) ss
+
+-- whether a name is one of these
+abbrev pub is_among : List (List ℕ) → List ℕ → Bool
+is_among names name = list_any (bytes_eq name) names

@@ -58,9 +58,5 @@ asked [] = None
 asked (command ∷ words) = task_of command >>= task_asked words
 
 -- ---- as the code has them
--- words as texts
-abbrev pub texts : List (String Global) → List (List ℕ)
-texts words = map string_bytes words
-
 abbrev pub asked_of : Request → Asked
 asked_of a = record { task = a.task; files = texts_of a.files.items; imports = texts_of a.imports.items }

@@ -3,7 +3,8 @@ ghost use Rattle.std.specs.Prelude.{◌≡◌, ◌≤◌, None, map, OnOk, IfOk,
 ghost use Rattle.std.specs.Io.KnownBytes.{Appends};
 ghost use Rattle.naga_oil_mini.specs.declared.mini.refusal.Refusal.{Refusal};
 ghost use Rattle.naga_oil_mini.specs.Names.{texts_of};
-ghost use Rattle.naga_oil_mini.specs.Words.{texts, asked};
+ghost use Rattle.naga_oil_mini.specs.Words.{asked};
+ghost use Rattle.naga_oil_lines.specs.Text.{texts};
 ghost use Rattle.naga_oil_mini.specs.Told.{AppendsFront, IsAsked, Refuses, RefusesFiles, LeavesOut, Tells, TellsFront, Writes, status_of};
 
 mod body_reader;

@@ -7,7 +7,7 @@ use Rattle.std.proofs.lemmas.Slice.Eq.{bytes_eq-Decides}
 use Rattle.std.proofs.lemmas.List.Folds.{list_any-append}
 use Rattle.naga_oil_pre.specs.declared.scope.ScopeLevel.{ScopeLevel}
 use Rattle.naga_oil_pre.specs.Line.{Line, source_lines, end_place}
-use Rattle.naga_oil_lines.specs.Text.{◌>>=◌}
+use Rattle.naga_oil_lines.specs.Text.{◌>>=◌, is_among}
 use Rattle.naga_oil_pre.specs.LineKinds as grammar
 use Rattle.naga_oil_pre.specs.Kind.{LineKind, version, condition, endif, imports, import_path, define, other, kind_of, unversioned_kind_of, read_as, ◌or_else◌, Condition, defined, undefined, compares, otherwise}
 use Rattle.naga_oil_pre.specs.Fault.{Fault, invalid_version, invalid_import, Definitions, evaluated, comparison, is_met}
@@ -18,7 +18,7 @@ use Rattle.naga_oil_pre.specs.Step.{Step, step, else_step, end_step, opened, sca
 use Rattle.naga_oil_lines.specs.Substituted.{substituted, sites, first_ambiguous, used_by}
 use Rattle.naga_oil_pre.specs.Preprocessed as becomes
 use Rattle.naga_oil_pre.specs.Preprocessed.{Status, blanked, shown, imported, noted, Known, nothing_known, Output, written, passage, shown_passage, prepend_passage, prepend, end_status, condition_status, end_line, padded, spaces, tokens_of, preprocessed}
-use Rattle.naga_oil_pre.specs.Recorded.{condition_names, text_names, kind_names, line_names, names_of, is_among, is_recorded, AgreeOn}
+use Rattle.naga_oil_pre.specs.Recorded.{condition_names, text_names, kind_names, line_names, names_of, is_recorded, AgreeOn}
 use Rattle.naga_oil_pre.proofs.LoopLemmas.{told_first}
 
 -- ---- agreement on lists of names

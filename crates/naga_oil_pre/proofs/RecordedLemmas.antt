@@ -14,7 +14,8 @@ use Rattle.std.proofs.lemmas.Map.Text.{btree_set_updates_text}
 use Rattle.std.proofs.lemmas.Slice.Eq.{bytes_eq-Decides}
 use Rattle.std.proofs.lemmas.Str.{chars-append, chars_from_encodes}
 use Rattle.naga_oil_pre.specs.MetadataView.{has_with, Gains}
-use Rattle.naga_oil_pre.specs.Recorded.{is_among, names_from}
+use Rattle.naga_oil_pre.specs.Recorded.{names_from}
+use Rattle.naga_oil_lines.specs.Text.{is_among}
 use Rattle.naga_oil_pre.specs.Replaced.{HashName, hash_name, pieces, name_of}
 use Rattle.naga_oil_pre.specs.Splits.{SplitsHashName, SplitsAtHash}
 

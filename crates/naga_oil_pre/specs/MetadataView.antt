@@ -9,7 +9,7 @@ use Rattle.naga_oil_pre.specs.declared.metadata.Findings.{Findings}
 use Rattle.naga_oil_pre.specs.declared.metadata.PreprocessorMetaData.{PreprocessorMetaData}
 use Rattle.naga_oil_pre.specs.KnownView.{known_of}
 use Rattle.naga_oil_pre.specs.Metadata.{Found, Metadata}
-use Rattle.naga_oil_pre.specs.Recorded.{is_among}
+use Rattle.naga_oil_lines.specs.Text.{is_among}
 
 -- whether a name is in the set or one of the names that are left
 abbrev pub has_with : BTreeSet (String Global) → (left : List (List ℕ)) → List ℕ → Bool

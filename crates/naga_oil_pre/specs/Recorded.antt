@@ -1,6 +1,7 @@
 -- The names that a text records: those of its conditions and its `#` names, of every line, whichever arms are active.
-use Rattle.std.specs.Prelude.{◌≡◌, ℕ, Bool, true, List, [], ◌∷◌, ◌++◌, bytes_eq}
-use Rattle.std.specs.List.{flat_map, list_any}
+use Rattle.std.specs.Prelude.{◌≡◌, ℕ, Bool, true, List, [], ◌∷◌, ◌++◌}
+use Rattle.std.specs.List.{flat_map}
+use Rattle.naga_oil_lines.specs.Text.{is_among}
 use Rattle.naga_oil_pre.specs.Line.{Line, source_lines}
 use Rattle.naga_oil_pre.specs.Kind.{LineKind, version, condition, endif, imports, import_path, define, other, unversioned_kind_of, Condition, defined, undefined, compares, otherwise}
 use Rattle.naga_oil_pre.specs.Fault.{Definitions}
@@ -38,10 +39,6 @@ names_from cs = flat_map name_of (pieces 0 cs)
 -- the names that lines record, also lines that an import takes
 unfoldable pub names_of : List Line → List (List ℕ)
 names_of lines = flat_map line_names lines
-
--- whether a name is one of these
-abbrev pub is_among : List (List ℕ) → List ℕ → Bool
-is_among names name = list_any (bytes_eq name) names
 
 -- whether a text records a name
 abbrev pub is_recorded : (text name : List ℕ) → Bool

@@ -8,7 +8,8 @@ use Rattle.std.specs.Ordering.{nat_cmp, match_ordering}
 use Rattle.std.specs.String.{string_cmp}
 use Rattle.naga_oil_pre.specs.declared.shader_def.ShaderDefValue.{ShaderDefValue}
 use Rattle.naga_oil_lines.specs.DirectivesText.{with_name}
-use Rattle.naga_oil_registry.specs.Definition.{Defs, texts}
+use Rattle.naga_oil_registry.specs.Definition.{Defs}
+use Rattle.naga_oil_lines.specs.Text.{texts}
 use Rattle.naga_oil_registry.specs.Merged.{with_def}
 
 abbrev pub named : List (String Global × ShaderDefValue) → Defs

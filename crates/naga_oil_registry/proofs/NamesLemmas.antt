@@ -19,8 +19,8 @@ use Rattle.naga_oil_pre.specs.Extracted.{extracted}
 use Rattle.naga_oil_pre.specs.Fault.{Fault}
 use Rattle.naga_oil_pre.specs.Line.{source_lines}
 use Rattle.naga_oil_pre.specs.Metadata.{Found, Metadata, metadata, metadata_behind, metadata_with, found_in, nothing_found}
-use Rattle.naga_oil_pre.specs.Recorded.{is_among, is_recorded}
-use Rattle.naga_oil_registry.specs.Definition.{texts}
+use Rattle.naga_oil_pre.specs.Recorded.{is_recorded}
+use Rattle.naga_oil_lines.specs.Text.{is_among, texts}
 
 abbrev order : List ℕ → List ℕ → Ordering
 order a b = slice_cmp nat_cmp a b

@@ -3,6 +3,7 @@ use Rattle.std.specs.Prelude.{ℕ, List, map, String, string_bytes}
 use Rattle.std.specs.declared.alloc.Global.{Global}
 use Rattle.std.specs.BTreeMap.{BTreeMap}
 use Rattle.naga_oil_ir.specs.declared.language.ShaderLanguage.{ShaderLanguage}
+use Rattle.naga_oil_lines.specs.Text.{texts}
 use Rattle.naga_oil_lines.specs.Uses.{Import, Use, import_of, use_of}
 use Rattle.naga_oil_lines.specs.Directives.{Directives, directives_of}
 use Rattle.naga_oil_pre.specs.declared.shader_def.ShaderDefValue.{ShaderDefValue}
@@ -14,9 +15,6 @@ Defs = List (List ℕ × ShaderDefValue)
 
 abbrev pub defs_of : BTreeMap (String Global) ShaderDefValue → Defs
 defs_of m = map (λ e. (string_bytes e.0, e.1)) m.entries
-
-abbrev pub texts : List (String Global) → List (List ℕ)
-texts ss = map (λ s. string_bytes s) ss
 
 pub record Definition : Type 0 where
   pub name : List ℕ

@@ -3,7 +3,7 @@ use Rattle.std.specs.Prelude.{◌≡◌, string_bytes}
 use Rattle.naga_oil_lines.specs.DirectivesText.{in_order}
 use Rattle.naga_oil_pre.specs.MetadataView.{metadata_of}
 use Rattle.naga_oil_registry.specs.Added.{Described}
-use Rattle.naga_oil_registry.specs.Definition.{texts}
+use Rattle.naga_oil_lines.specs.Text.{texts}
 use Rattle.naga_oil_registry.specs.Merged.{recorded_names}
 use Rattle.naga_oil_registry.specs.declared.adding.Described as code
 

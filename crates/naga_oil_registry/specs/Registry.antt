@@ -3,7 +3,8 @@ use Rattle.std.specs.Prelude.{◌≡◌, ◌≤◌, ℕ, List, [], ◌∷◌, �
 use Rattle.std.specs.List.{list_any, list_all, flat_map, range_with_len}
 use Rattle.naga_oil_lines.specs.DirectivesText.{in_order}
 use Rattle.naga_oil_lines.specs.Uses.{Use}
-use Rattle.naga_oil_pre.specs.Recorded.{is_among, is_recorded}
+use Rattle.naga_oil_pre.specs.Recorded.{is_recorded}
+use Rattle.naga_oil_lines.specs.Text.{is_among}
 use Rattle.naga_oil_registry.specs.Definition.{Definition}
 use Rattle.naga_oil_registry.specs.Merged.{recorded_names}
 

@@ -3,7 +3,8 @@ ghost use Rattle.std.specs.Prelude.{◌≡◌, ℕ, ◌++◌, List, map, fold, I
 ghost use Rattle.std.specs.List.{flat_map};
 ghost use Rattle.naga_oil_lines.specs.DirectivesText.{with_name};
 ghost use Rattle.naga_oil_lines.specs.Uses.{use_of, import_of};
-ghost use Rattle.naga_oil_registry.specs.Definition.{definition_of, defs_of, texts};
+ghost use Rattle.naga_oil_registry.specs.Definition.{definition_of, defs_of};
+ghost use Rattle.naga_oil_lines.specs.Text.{texts};
 ghost use Rattle.naga_oil_registry.specs.Merged.{overwritten, merged, used_at_start};
 
 use super::*;

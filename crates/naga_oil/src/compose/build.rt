@@ -10,7 +10,8 @@ ghost use Rattle.naga_oil.specs.Built.{answered, build_place, IsToldAt, ToldAt, 
 ghost use Rattle.naga_oil.specs.Building.{by_steps, WholeText, NoWholeText};
 ghost use Rattle.naga_oil.specs.BuiltModule.{BuiltModule, built_of, builds_of};
 ghost use Rattle.naga_oil.specs.Begun.{decoration_of, nothing_built, begun};
-ghost use Rattle.naga_oil_registry.specs.Definition.{definition_of, defs_of, texts};
+ghost use Rattle.naga_oil_registry.specs.Definition.{definition_of, defs_of};
+ghost use Rattle.naga_oil_lines.specs.Text.{texts};
 ghost use Rattle.naga_oil.specs.Headed.{first_lines, HeadingAnswers};
 ghost use Rattle.naga_oil.specs.Linked.{HeaderAnswers};
 ghost use Rattle.naga_oil.specs.Overriding.{overriding_of, overridden_by, with_overriding, build_named, with_build, imported_overriding};

@@ -3,7 +3,7 @@ ghost use Rattle.std.specs.Prelude.{◌≡◌, ◌++◌, [], ◌∷◌, ℕ, Lis
 ghost use Rattle.std.specs.List.{flat_map, range_with_len};
 ghost use Rattle.naga_oil_ir.specs.ModuleValue.{module_value};
 ghost use Rattle.naga_oil.specs.ByName.{places_by, with_places, is_name, IsIndexOf, names_of_functions, HasItems};
-ghost use Rattle.naga_oil_registry.specs.Definition.{texts};
+ghost use Rattle.naga_oil_lines.specs.Text.{texts};
 ghost use Rattle.naga_oil.specs.Linked.{asked_names};
 ghost use Rattle.naga_oil.specs.Places.{name_at};
 ghost use Rattle.naga_oil.specs.Wanted.{is_wanted, ArePlacesWhere};

@@ -7,12 +7,11 @@ ghost use Rattle.naga_oil_ir.specs.ModuleValue.{argument_value, function_value, 
 ghost use Rattle.naga_oil_ir.specs.WellFormed.{WellFormed};
 ghost use Rattle.naga_oil_ir.specs.declared.names.ItemPlace.{ItemPlace};
 ghost use Rattle.naga_oil_lines.specs.DirectivesText.{in_order};
-ghost use Rattle.naga_oil_pre.specs.Recorded.{is_among};
+ghost use Rattle.naga_oil_lines.specs.Text.{is_among, texts};
 ghost use Rattle.naga_oil_derive.specs.DerivedEntries.{CanCopyEntries};
 ghost use Rattle.naga_oil.specs.BuiltModule.{built_of};
 ghost use Rattle.naga_oil.specs.CopiedSteps.{special_names, own_type_at, own_types, owning_types, owns_function, item_steps, type_in_module, type_in_header, in_module, in_header, copy_step, stub_steps, module_steps, header_steps, IsFilled, IsUnfilled, IsFinished, IsUnfinished, IsCopied, IsUncopied};
 ghost use Rattle.naga_oil.specs.CopySources.{CopiesFrom, IsFunctionOf, stub_of};
-ghost use Rattle.naga_oil_registry.specs.Definition.{texts};
 ghost use Rattle.naga_oil_marks.specs.Marks.{has_module_mark};
 ghost use Rattle.naga_oil.specs.Places.{places_of};
 ghost use Rattle.naga_oil.specs.Relations.{GivesBy};

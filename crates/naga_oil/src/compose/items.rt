@@ -7,7 +7,7 @@ ghost use Rattle.naga_oil_lines.specs.DirectivesText.{in_order, with_name};
 ghost use Rattle.naga_oil_marks.specs.Marks.{with_decoration};
 ghost use Rattle.naga_oil_derive.specs.Derived.{HasItem, Keeps};
 ghost use Rattle.naga_oil.specs.BuiltModule.{built_of, owns};
-ghost use Rattle.naga_oil_registry.specs.Definition.{texts};
+ghost use Rattle.naga_oil_lines.specs.Text.{texts};
 ghost use Rattle.naga_oil.specs.Owned.{constant_rows, override_rows, global_rows, function_values, with_owned_name, with_owned, owned_item, owned_function, item_names, function_texts, decorated_items, owning, with_text, name_or_main, unbound_argument, unbound_result, demoted_name, demoted_function, demoted, demotable, function_names, with_demoted, owning_demoted};
 ghost use Rattle.naga_oil.specs.Places.{places_of, name_at};
 ghost use Rattle.naga_oil.specs.Steps.{Item as item_step, Taken};

@@ -8,7 +8,7 @@ ghost use Rattle.naga_oil_lines.specs.Uses.{import_of};
 ghost use Rattle.naga_oil.specs.BuiltModule.{built_of, builds_of};
 ghost use Rattle.naga_oil.specs.ByName.{HasItems};
 ghost use Rattle.naga_oil.specs.CopySources.{CopiesFrom};
-ghost use Rattle.naga_oil_registry.specs.Definition.{texts};
+ghost use Rattle.naga_oil_lines.specs.Text.{texts};
 ghost use Rattle.naga_oil.specs.Linked.{asked_names, asked_of, overriding_names, place_steps, function_steps, link_steps, is_entered, entered_after, ImportsLinked};
 ghost use Rattle.naga_oil.specs.Steps.{AreTaken};
 ghost use Rattle.naga_oil.specs.Wanted.{owned_function_steps, source_steps};

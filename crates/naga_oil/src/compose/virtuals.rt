@@ -11,7 +11,7 @@ ghost use Rattle.naga_oil_pre.specs.View.{fault_of};
 ghost use Rattle.naga_oil.specs.Relations.{GivesBy};
 ghost use Rattle.std.specs.Option.{option_or};
 ghost use Rattle.naga_oil.specs.BuiltModule.{built_of, builds_of};
-ghost use Rattle.naga_oil_registry.specs.Definition.{texts};
+ghost use Rattle.naga_oil_lines.specs.Text.{texts};
 ghost use Rattle.naga_oil_registry.specs.KeywordsView.{marked_of};
 ghost use Rattle.naga_oil.specs.Virtuals.{AreItemAndCode, names_of, blanked, override_name, marked_override, imported_build, override_fault, are_parts, item_and_code, with_override, with_overrides, functions_in};
 ghost use Rattle.naga_oil.specs.Overriding.{overriding_of, with_new, overridden};

@@ -4,7 +4,7 @@ ghost use Rattle.naga_oil_ir.specs.ModuleValue.{module_value, function_value};
 ghost use Rattle.naga_oil_ir.specs.Rows.{type_row, constant_row, global_row, member_label};
 ghost use Rattle.naga_oil_pre.specs.View.{Gives};
 ghost use Rattle.naga_oil.specs.BuiltModule.{built_of};
-ghost use Rattle.naga_oil_registry.specs.Definition.{texts};
+ghost use Rattle.naga_oil_lines.specs.Text.{texts};
 ghost use Rattle.naga_oil.specs.Writeback.{named_item, named_items, named_functions, struct_members, last_named, lost_member, lost_of, lost_at, lost_among, lost, unless_lost, came_back};
 ghost use Rattle.naga_oil.specs.WritebackView.{labels_of, named_of, held};
 

@@ -1,7 +1,7 @@
 // Definitions that are given by words.
 ghost use Rattle.std.specs.Prelude.{◌≡◌, Ok, OnOk, IfOk, IfErr, option_map, string_bytes};
 ghost use Rattle.std.specs.BTreeMap.{get_by_text};
-ghost use Rattle.naga_oil_mini.specs.Words.{texts};
+ghost use Rattle.naga_oil_lines.specs.Text.{texts};
 ghost use Rattle.naga_oil_mini.specs.Defined.{given_value, definition_word, defined_by};
 ghost use Rattle.naga_oil_pre.specs.Metadata.{none_defined, with_definition};
 ghost use Rattle.naga_oil_mini.specs.Told.{RefusesDefinitions};

@@ -4,7 +4,8 @@ use Rattle.std.specs.List.{flat_map}
 use Rattle.naga_oil_lines.specs.DirectivesText.{in_order}
 use Rattle.naga_oil_lines.specs.Uses.{use_of, import_of}
 use Rattle.naga_oil_registry.specs.Added.{all_uses, new_definition}
-use Rattle.naga_oil_registry.specs.Definition.{definition_of, defs_of, texts}
+use Rattle.naga_oil_registry.specs.Definition.{definition_of, defs_of}
+use Rattle.naga_oil_lines.specs.Text.{texts}
 use Rattle.naga_oil_registry.specs.DescribedView.{described_of}
 use Rattle.naga_oil_registry.specs.Descriptor.{module_source}
 use Rattle.naga_oil_registry.specs.Merged.{recorded_names, merged, used_at_start}

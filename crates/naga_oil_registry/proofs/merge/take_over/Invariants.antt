@@ -1,7 +1,8 @@
 use Rattle.std.proofs.Common.{◌≡◌, map, drop, fold}
 use Rattle.std.specs.List.{flat_map}
 use Rattle.naga_oil_lines.specs.DirectivesText.{with_name}
-use Rattle.naga_oil_registry.specs.Definition.{defs_of, texts, definition_of}
+use Rattle.naga_oil_registry.specs.Definition.{defs_of, definition_of}
+use Rattle.naga_oil_lines.specs.Text.{texts}
 use Rattle.naga_oil_registry.specs.Merged.{merged}
 use Rattle.naga_oil_registry.proofs.merge.take_over.Given as goal
 

@@ -1,5 +1,5 @@
 use Rattle.std.proofs.Common.{◌≡◌, drop}
-use Rattle.naga_oil_registry.specs.Definition.{texts}
+use Rattle.naga_oil_lines.specs.Text.{texts}
 use Rattle.naga_oil.specs.Overriding.{overriding_of, overridden_by}
 use Rattle.naga_oil.proofs.compose.build.add_overriding.Given as goal
 

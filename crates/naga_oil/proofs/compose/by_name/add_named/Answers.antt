@@ -7,7 +7,7 @@ use Rattle.std.specs.List.{flat_map}
 use Rattle.std.specs.Option.{option_map_or}
 use Rattle.std.specs.Ordering.{nat_cmp}
 use Rattle.naga_oil.specs.ByName.{with_places, places_by}
-use Rattle.naga_oil_registry.specs.Definition.{texts}
+use Rattle.naga_oil_lines.specs.Text.{texts}
 use Rattle.naga_oil.proofs.compose.by_name.add_named.Goals as goal
 
 pub loop-name-preserved : goal.loop-name-preserved

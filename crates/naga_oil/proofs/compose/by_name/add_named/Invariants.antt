@@ -1,7 +1,7 @@
 use Rattle.std.proofs.Common.{◌≡◌}
 use Rattle.std.specs.List.{flat_map}
 use Rattle.naga_oil.specs.ByName.{places_by, with_places}
-use Rattle.naga_oil_registry.specs.Definition.{texts}
+use Rattle.naga_oil_lines.specs.Text.{texts}
 use Rattle.naga_oil.proofs.compose.by_name.add_named.Given as goal
 
 abbrev pub invariant-loop-name : goal.invariant-loop-name

@@ -2,7 +2,7 @@ use Rattle.std.proofs.Common.{◌≡◌, [], None, IfOk, ap, subst, sym, ◌∙�
 use Rattle.std.proofs.lemmas.Result.{IfOk-weaker}
 use Rattle.std.specs.List.{flat_map, range_with_len}
 use Rattle.naga_oil.specs.ByName.{places_by, with_places}
-use Rattle.naga_oil_registry.specs.Definition.{texts}
+use Rattle.naga_oil_lines.specs.Text.{texts}
 use Rattle.naga_oil.specs.Linked.{Asked, asked_names}
 use Rattle.naga_oil.specs.Wanted.{is_wanted, ArePlacesWhere}
 use Rattle.naga_oil.proofs.ByNameLemmas.{all_wanted, some_wanted}

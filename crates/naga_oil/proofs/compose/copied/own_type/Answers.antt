@@ -4,7 +4,7 @@ use Rattle.naga_oil_ir.specs.declared.names.ItemPlace.TheVariants.{TypeItem}
 use Rattle.naga_oil_lines.specs.DirectivesText.{with_name}
 use Rattle.naga_oil.specs.BuiltModule.{built_of}
 use Rattle.naga_oil.specs.CopiedSteps.{owning_types}
-use Rattle.naga_oil_registry.specs.Definition.{texts}
+use Rattle.naga_oil_lines.specs.Text.{texts}
 use Rattle.naga_oil.specs.Places.{name_at}
 use Rattle.naga_oil_registry.proofs.MergedLemmas.{bytes-insert}
 use Rattle.naga_oil.proofs.CopiedLemmas.{type_kept, type_owned}

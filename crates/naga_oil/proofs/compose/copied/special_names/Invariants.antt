@@ -3,7 +3,7 @@ use Rattle.std.specs.List.{filter_map}
 use Rattle.naga_oil_ir.specs.ModuleValue.{module_value}
 use Rattle.naga_oil_lines.specs.DirectivesText.{in_order, with_name}
 use Rattle.naga_oil.specs.CopiedSteps.{special_names}
-use Rattle.naga_oil_registry.specs.Definition.{texts}
+use Rattle.naga_oil_lines.specs.Text.{texts}
 use Rattle.naga_oil.specs.Places.{name_in}
 use Rattle.naga_oil.proofs.compose.copied.special_names.Given as goal
 

@@ -3,7 +3,7 @@ use Rattle.std.proofs.lemmas.List.{map-append}
 use Rattle.naga_oil_ir.specs.ModuleValue.{entry_value, function_value}
 use Rattle.naga_oil_ir.specs.Spans.{undefined}
 use Rattle.naga_oil_lines.specs.DirectivesText.{with_name}
-use Rattle.naga_oil_registry.specs.Definition.{texts}
+use Rattle.naga_oil_lines.specs.Text.{texts}
 use Rattle.naga_oil.specs.Owned.{demoted_name, function_names, function_values}
 use Rattle.naga_oil_registry.proofs.MergedLemmas.{bytes-insert}
 use Rattle.naga_oil.proofs.OwnedLemmas.{demoted-none, demoted-one, is_known}

@@ -2,7 +2,7 @@ use Rattle.std.proofs.Common.{[], ◌∙◌, ap, sym, fold, arith}
 use Rattle.std.proofs.lemmas.List.{drop_all}
 use Rattle.naga_oil_ir.specs.ModuleValue.{function_value}
 use Rattle.naga_oil_lines.specs.DirectivesText.{with_name}
-use Rattle.naga_oil_registry.specs.Definition.{texts}
+use Rattle.naga_oil_lines.specs.Text.{texts}
 use Rattle.naga_oil.specs.Owned.{function_names, function_values, with_text}
 use Rattle.naga_oil.proofs.OwnedLemmas.{named-more, names-begin}
 use Rattle.naga_oil.proofs.compose.items.function_names.Goals as goal

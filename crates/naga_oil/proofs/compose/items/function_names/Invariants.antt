@@ -1,6 +1,6 @@
 use Rattle.std.proofs.Common.{◌≡◌, drop, fold}
 use Rattle.naga_oil_lines.specs.DirectivesText.{in_order, with_name}
-use Rattle.naga_oil_registry.specs.Definition.{texts}
+use Rattle.naga_oil_lines.specs.Text.{texts}
 use Rattle.naga_oil.specs.Owned.{function_names, function_values}
 use Rattle.naga_oil.proofs.compose.items.function_names.Given as goal
 

@@ -1,5 +1,5 @@
 use Rattle.std.proofs.Common.{◌≡◌, ◌++◌, map, fold, take, drop}
-use Rattle.naga_oil_registry.specs.Definition.{texts}
+use Rattle.naga_oil_lines.specs.Text.{texts}
 use Rattle.naga_oil.specs.Owned.{constant_rows, item_names, owned_item, with_owned}
 use Rattle.naga_oil.proofs.compose.items.own_constants.Given as goal
 

@@ -1,6 +1,6 @@
 use Rattle.std.proofs.Common.{◌∙◌, get_or, arith}
 use Rattle.naga_oil_ir.specs.Rows.{override_row}
-use Rattle.naga_oil_registry.specs.Definition.{texts}
+use Rattle.naga_oil_lines.specs.Text.{texts}
 use Rattle.naga_oil.specs.Owned.{owned_item, with_owned}
 use Rattle.naga_oil.proofs.OwnedLemmas.{changed-more, folded-more, override_owned}
 use Rattle.naga_oil.proofs.compose.items.own_overrides.Goals as goal

@@ -1,7 +1,7 @@
 use Rattle.std.proofs.Common.{◌≡◌, ◌+◌, List, ◌∷◌, drop, fold, sym, ap, ◌∙◌, rules, String, Global}
 use Rattle.std.specs.String.{string_bytes}
 use Rattle.naga_oil_lines.specs.DirectivesText.{with_name}
-use Rattle.naga_oil_registry.specs.Definition.{texts}
+use Rattle.naga_oil_lines.specs.Text.{texts}
 use Rattle.naga_oil.proofs.LinkedLemmas.{next_item}
 use Rattle.naga_oil_registry.proofs.MergedLemmas.{bytes-insert}
 use Rattle.naga_oil.proofs.compose.link.add_names.Goals as goal

@@ -1,6 +1,6 @@
 use Rattle.std.proofs.Common.{◌≡◌, ◌++◌, map, drop, fold}
 use Rattle.naga_oil_lines.specs.DirectivesText.{with_name, in_order}
-use Rattle.naga_oil_registry.specs.Definition.{texts}
+use Rattle.naga_oil_lines.specs.Text.{texts}
 use Rattle.naga_oil.proofs.compose.link.decorated.Given as goal
 
 abbrev pub invariant-loop-item : goal.invariant-loop-item

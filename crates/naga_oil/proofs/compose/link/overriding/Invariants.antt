@@ -2,7 +2,7 @@ use Rattle.std.proofs.Common.{◌≡◌, fold}
 use Rattle.std.specs.List.{flat_map}
 use Rattle.naga_oil_lines.specs.DirectivesText.{with_name, in_order}
 use Rattle.naga_oil.specs.BuiltModule.{built_of}
-use Rattle.naga_oil_registry.specs.Definition.{texts}
+use Rattle.naga_oil_lines.specs.Text.{texts}
 use Rattle.naga_oil.specs.Linked.{overriding_names}
 use Rattle.naga_oil.proofs.compose.link.overriding.Given as goal
 

@@ -1,7 +1,7 @@
 use Rattle.std.proofs.Common.{◌≡◌, map, string_bytes}
 use Rattle.naga_oil.specs.BuiltModule.{overriding_of}
 use Rattle.naga_oil.specs.Chains.{all_sent_down}
-use Rattle.naga_oil_registry.specs.Definition.{texts}
+use Rattle.naga_oil_lines.specs.Text.{texts}
 use Rattle.naga_oil.proofs.compose.make.send_all_down.Given as goal
 
 abbrev pub invariant-loop-base : goal.invariant-loop-base

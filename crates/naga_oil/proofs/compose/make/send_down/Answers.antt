@@ -3,9 +3,8 @@ use Rattle.std.proofs.lemmas.List.{at_drop_more, at_drop_all}
 use Rattle.std.proofs.lemmas.Result.{err_from_is_err_and}
 use Rattle.std.specs.String.{string_bytes}
 use Rattle.naga_oil_redirect.specs.Redirected.{matched, redirected}
-use Rattle.naga_oil_pre.specs.Recorded.{is_among}
+use Rattle.naga_oil_lines.specs.Text.{is_among, texts}
 use Rattle.naga_oil.specs.Chains.{sent_down}
-use Rattle.naga_oil_registry.specs.Definition.{texts}
 use Rattle.naga_oil.proofs.ChainLemmas.{none_omitted, one_omitted, sent_more, not_sent, all_sent, refused_redirection}
 use Rattle.naga_oil.proofs.compose.make.send_down.Goals as goal
 

@@ -1,8 +1,7 @@
 use Rattle.std.proofs.Common.{◌≡◌, ℕ, List, [], drop, string_bytes}
 use Rattle.std.specs.BTreeSet.{contains_text}
-use Rattle.naga_oil_pre.specs.Recorded.{is_among}
+use Rattle.naga_oil_lines.specs.Text.{is_among, texts}
 use Rattle.naga_oil.specs.Chains.{sent_down}
-use Rattle.naga_oil_registry.specs.Definition.{texts}
 use Rattle.naga_oil.proofs.compose.make.send_down.Given as goal
 
 abbrev pub invariant-loop-other : goal.invariant-loop-other

@@ -1,7 +1,7 @@
 use Rattle.std.proofs.Common.{◌≡◌, ◌+◌, ◌∷◌, List, map, drop, fold, sym, ap, ◌∙◌, arith}
 use Rattle.std.proofs.lemmas.List.{at_drop_more}
 use Rattle.naga_oil_lines.specs.DirectivesText.{with_name}
-use Rattle.naga_oil_registry.specs.Definition.{texts}
+use Rattle.naga_oil_lines.specs.Text.{texts}
 use Rattle.naga_oil_registry.specs.KeywordsView.{marked_of}
 use Rattle.naga_oil_registry.proofs.MergedLemmas.{bytes-insert}
 use Rattle.naga_oil.proofs.compose.virtuals.names_of.Goals as goal

@@ -1,6 +1,6 @@
 use Rattle.std.proofs.Common.{◌≡◌, map, drop, fold}
 use Rattle.naga_oil_lines.specs.DirectivesText.{with_name}
-use Rattle.naga_oil_registry.specs.Definition.{texts}
+use Rattle.naga_oil_lines.specs.Text.{texts}
 use Rattle.naga_oil_registry.specs.KeywordsView.{marked_of}
 use Rattle.naga_oil.specs.Virtuals.{names_of}
 use Rattle.naga_oil.proofs.compose.virtuals.names_of.Given as goal

@@ -2,9 +2,8 @@ use Rattle.std.proofs.Common.{◌≡◌, Bool, true, false, Option, Some, None, 
 use Rattle.std.specs.String.{string_bytes}
 use Rattle.naga_oil_lines.specs.Uses.{import_of}
 use Rattle.naga_oil_pre.specs.Fault.{not_virtual}
-use Rattle.naga_oil_pre.specs.Recorded.{is_among}
+use Rattle.naga_oil_lines.specs.Text.{is_among, texts}
 use Rattle.naga_oil.specs.BuiltModule.{built_of, builds_of}
-use Rattle.naga_oil_registry.specs.Definition.{texts}
 use Rattle.naga_oil.specs.Virtuals.{imported_build, unless_virtual}
 use Rattle.naga_oil_registry.proofs.NamesLemmas.{among_texts}
 use Rattle.naga_oil.proofs.OverridingLemmas.{virtual_there, not_virtual_there}

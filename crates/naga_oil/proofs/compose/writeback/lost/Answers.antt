@@ -3,7 +3,7 @@ use Rattle.std.proofs.Math.Seq.{take-length}
 use Rattle.naga_oil_ir.specs.ModuleValue.{module_value}
 use Rattle.naga_oil_redirect.specs.Redirected.{function_values}
 use Rattle.naga_oil.specs.BuiltModule.{built_of}
-use Rattle.naga_oil_registry.specs.Definition.{texts}
+use Rattle.naga_oil_lines.specs.Text.{texts}
 use Rattle.naga_oil.specs.Writeback.{named_functions}
 use Rattle.naga_oil.specs.WritebackView.{named_of}
 use Rattle.naga_oil.proofs.WritebackLemmas.{seen, same_value, same_among, some_first, none_first, lost-is, all_taken}

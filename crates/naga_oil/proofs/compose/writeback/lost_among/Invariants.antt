@@ -1,5 +1,5 @@
 use Rattle.std.proofs.Common.{◌≡◌, map, drop}
-use Rattle.naga_oil_registry.specs.Definition.{texts}
+use Rattle.naga_oil_lines.specs.Text.{texts}
 use Rattle.naga_oil.specs.Writeback.{lost_among}
 use Rattle.naga_oil.specs.WritebackView.{named_of, held}
 use Rattle.naga_oil.proofs.compose.writeback.lost_among.Given as goal

@@ -1,7 +1,6 @@
 use Rattle.std.proofs.Common.{◌≡◌, ◌++◌, List, Bool, true, false, Option, Some, None, option_map, refl, sym, ap, ◌∙◌}
 use Rattle.std.specs.List.{list_any}
-use Rattle.naga_oil_pre.specs.Recorded.{is_among}
-use Rattle.naga_oil_registry.specs.Definition.{texts}
+use Rattle.naga_oil_lines.specs.Text.{is_among, texts}
 use Rattle.naga_oil.specs.Writeback.{lost_of}
 use Rattle.naga_oil.specs.WritebackView.{named_of, held}
 use Rattle.naga_oil_registry.proofs.NamesLemmas.{among_texts}

@@ -4,7 +4,8 @@ use Rattle.naga_oil_lines.specs.Uses.{Import, import_of}
 use Rattle.naga_oil.specs.Afresh.{setting_of}
 use Rattle.naga_oil.specs.Building.{WholeText, NoWholeText, NotRead, NotHeaded}
 use Rattle.naga_oil.specs.BuiltModule.{built_of, builds_of, overriding_of}
-use Rattle.naga_oil_registry.specs.Definition.{definition_of, texts}
+use Rattle.naga_oil_registry.specs.Definition.{definition_of}
+use Rattle.naga_oil_lines.specs.Text.{texts}
 use Rattle.naga_oil.specs.Headed.{HeadingAnswers}
 use Rattle.naga_oil.specs.Virtuals.{Functions, functions_in}
 use Rattle.naga_oil.proofs.ShaderLemmas.{fault_then}

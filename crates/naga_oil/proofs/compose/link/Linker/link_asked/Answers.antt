@@ -2,7 +2,7 @@ use Rattle.std.proofs.Common.{◌≡◌, ◌++◌, ℕ, List, map, Some, OnOk, s
 use Rattle.naga_oil_lines.specs.DirectivesText.{in_order}
 use Rattle.naga_oil_lines.specs.Uses.{import_of}
 use Rattle.naga_oil.specs.BuiltModule.{built_of}
-use Rattle.naga_oil_registry.specs.Definition.{texts}
+use Rattle.naga_oil_lines.specs.Text.{texts}
 use Rattle.naga_oil.specs.Linked.{link_steps}
 use Rattle.naga_oil.specs.Steps.{AreTaken}
 use Rattle.naga_oil.proofs.compose.link.Linker.link_asked.Goals as goal

@@ -7,7 +7,7 @@ use Rattle.naga_oil_ir.specs.declared.module.Function.{Function}
 use Rattle.naga_oil_ir.specs.declared.span.Span.{Span}
 use Rattle.naga_oil.specs.BuiltModule.{built_of}
 use Rattle.naga_oil.specs.ByName.{names_of_functions}
-use Rattle.naga_oil_registry.specs.Definition.{texts}
+use Rattle.naga_oil_lines.specs.Text.{texts}
 use Rattle.naga_oil.specs.Linked.{asked_names}
 use Rattle.naga_oil.specs.Steps.{Step, AreTaken, NoStep}
 use Rattle.naga_oil.specs.Wanted.{owned_function_steps}
