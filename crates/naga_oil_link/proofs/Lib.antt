@@ -1,0 +1,13 @@
+pub mod ByNameLemmas
+pub mod CopiedLemmas
+pub mod DecisionLemmas
+pub mod FormGivenLemmas
+pub mod FormItemsLemmas
+pub mod FormLawLemmas
+pub mod FormPartsLemmas
+pub mod FormedLemmas
+pub mod LinkedLemmas
+pub mod NamesLemmas
+pub mod OwnedLemmas
+pub mod PlaceLemmas
+pub mod SourceLemmas

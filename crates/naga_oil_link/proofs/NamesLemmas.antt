@@ -1,0 +1,61 @@
+-- Names in byte order: which are among them.
+use Rattle.std.proofs.Common.{◌≡◌, ℕ, List, [], ◌∷◌, Bool, true, false, ◌||◌, refl, sym, ap, ◌∙◌, String, Global, string_bytes, Ordering, Less, Equal, Greater}
+use Rattle.std.proofs.lemmas.Map.Lookups.{exact_bytes}
+use Rattle.std.proofs.lemmas.Map.Text.{is_eq-slice_cmp}
+use Rattle.std.specs.BTreeMap.{is_at}
+use Rattle.std.specs.BTreeSet.{insert_key}
+use Rattle.std.specs.Cmp.Lexicographic.{slice_cmp}
+use Rattle.std.specs.List.{list_any, fold}
+use Rattle.std.specs.Ordering.{nat_cmp, match_ordering}
+use Rattle.std.specs.Str.{bytes_eq}
+use Rattle.std.specs.String.{string_cmp}
+use Rattle.naga_oil_lines.specs.DirectivesText.{with_name, in_order}
+use Rattle.naga_oil_lines.specs.Text.{is_among, texts}
+
+pub or_last : (a b : Bool) → (a || b) ≡ (b || a)
+or_last true true = refl
+or_last true false = refl
+or_last false true = refl
+or_last false false = refl
+
+pub or_twice : (a b : Bool) → (a || b) ≡ ((a || b) || a)
+or_twice true b = refl
+or_twice false true = refl
+or_twice false false = refl
+
+pub or_between : (a b c : Bool) → (a || (b || c)) ≡ ((a || b) || c)
+or_between true b c = refl
+or_between false b c = refl
+
+-- a name that is inserted is among them
+among-with_name : (ks : List (List ℕ)) (k n : List ℕ) → is_among (with_name ks k) n ≡ (is_among ks n || bytes_eq n k)
+among-with_name [] k n = or_last (bytes_eq n k) false
+among-with_name (x ∷ xs) k n = by (slice_cmp nat_cmp k x) refl (among-with_name xs k n)
+  where
+    by : (o : Ordering) → slice_cmp nat_cmp k x ≡ o → is_among (with_name xs k) n ≡ (is_among xs n || bytes_eq n k) → is_among (match_ordering o (k ∷ x ∷ xs) (x ∷ xs) (x ∷ with_name xs k)) n ≡ (is_among (x ∷ xs) n || bytes_eq n k)
+    by Less e rest = or_last (bytes_eq n k) (is_among (x ∷ xs) n)
+    by Equal e rest = or_twice (bytes_eq n x) (is_among xs n) ∙ ap (λ y. is_among (x ∷ xs) n || bytes_eq n y) (sym (exact_bytes k x e))
+    by Greater e rest = ap (λ b. bytes_eq n x || b) rest ∙ or_between (bytes_eq n x) (is_among xs n) (bytes_eq n k)
+
+among-fold : (ks names : List (List ℕ)) (n : List ℕ) → is_among (fold with_name ks names) n ≡ (is_among ks n || is_among names n)
+among-fold ks [] n = or_last false (is_among ks n)
+among-fold ks (name ∷ names) n = among-fold (with_name ks name) names n ∙ ap (λ b. b || is_among names n) (among-with_name ks name n) ∙ sym (or_between (is_among ks n) (bytes_eq n name) (is_among names n))
+
+pub among-in_order : (names : List (List ℕ)) (n : List ℕ) → is_among (in_order names) n ≡ is_among names n
+unfolding in_order
+among-in_order names n = among-fold [] names n
+
+-- what a set of names is asked
+pub among_texts : (ks : List (String Global)) (n : List ℕ) → list_any (is_at (λ k. slice_cmp nat_cmp n (string_bytes k))) ks ≡ is_among (texts ks) n
+among_texts [] n = refl
+among_texts (k ∷ ks) n = ap (λ b. b || list_any (is_at (λ k. slice_cmp nat_cmp n (string_bytes k))) ks) (is_eq-slice_cmp n (string_bytes k)) ∙ ap (λ b. bytes_eq n (string_bytes k) || b) (among_texts ks n)
+
+-- a name that is inserted
+pub bytes-insert : (ks : List (String Global)) (name : String Global) → texts (insert_key string_cmp ks name) ≡ with_name (texts ks) (string_bytes name)
+bytes-insert [] name = refl
+bytes-insert (k ∷ ks) name = by (slice_cmp nat_cmp (string_bytes name) (string_bytes k)) (bytes-insert ks name)
+  where
+    by : (o : Ordering) → texts (insert_key string_cmp ks name) ≡ with_name (texts ks) (string_bytes name) → texts (match_ordering o (name ∷ k ∷ ks) (k ∷ ks) (k ∷ insert_key string_cmp ks name)) ≡ match_ordering o (string_bytes name ∷ string_bytes k ∷ texts ks) (string_bytes k ∷ texts ks) (string_bytes k ∷ with_name (texts ks) (string_bytes name))
+    by Less rest = refl
+    by Equal rest = refl
+    by Greater rest = ap (λ ns. string_bytes k ∷ ns) rest

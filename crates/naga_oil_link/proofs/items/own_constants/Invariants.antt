@@ -1,0 +1,13 @@
+use Rattle.std.proofs.Common.{◌≡◌, ◌++◌, map, fold, take, drop}
+use Rattle.naga_oil_lines.specs.Text.{texts}
+use Rattle.naga_oil_link.specs.Owned.{constant_rows, is_own_name, item_names, owned_item, with_owned}
+use Rattle.naga_oil_link.proofs.ByNameLemmas.{places_before}
+use Rattle.naga_oil_link.proofs.items.own_constants.Given as goal
+
+abbrev pub invariant-loop-at : goal.invariant-loop-at
+invariant-loop-at l = record {
+  items : constant_rows (take l.at l.item-items) ++ map (owned_item l.suffix) (constant_rows (drop l.at l.item-items)) ≡ map (owned_item l.suffix) (constant_rows l.fn.of);
+  owned : fold (with_owned l.suffix) (texts l.owned.keys) (item_names (constant_rows (drop l.at l.item-items))) ≡ fold (with_owned l.suffix) (texts l.fn.owned.keys) (item_names (constant_rows l.fn.of));
+  left : drop l.at l.item-items ≡ drop l.at l.fn.of;
+  places : l.places.keys ≡ places_before is_own_name (item_names (constant_rows l.fn.of)) l.at;
+}

@@ -1,0 +1,14 @@
+use Rattle.std.proofs.Common.{◌≡◌, ◌++◌, ℕ, List, map, Some, OnOk, subst, ◌∙◌}
+use Rattle.naga_oil_lines.specs.DirectivesText.{in_order}
+use Rattle.naga_oil_lines.specs.Text.{texts}
+use Rattle.naga_oil_lines.specs.Uses.{import_of}
+use Rattle.naga_oil_link.specs.BuiltModule.{built_of}
+use Rattle.naga_oil_link.specs.Linked.{link_items}
+use Rattle.naga_oil_link.proofs.link.Linker.link_asked.Goals as goal
+
+pub returns-clause-value : goal.returns-clause-value
+returns-clause-value c =
+    let b = built_of c.args.build.now in
+    let s = c.args.self.now in
+    let same : texts c.in_ok-asked.asked.keys ≡ in_order (map (λ item. item ++ b.decoration) (import_of c.args.import.now).items) = c.in_ok-asked.ensures ∙ (λ k. in_order (map (λ item. item ++ c.as_str.ensures.value k) (texts (c.deref.ensures.value k)))) in
+    subst (λ (names : List (List ℕ)). OnOk c.link_items.result (c.link_items.new.self.derived ≡ link_items s.of_headers b (Some names) s.derived)) same c.link_items.ensures.value

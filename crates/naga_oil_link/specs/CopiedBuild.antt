@@ -1,0 +1,134 @@
+-- The module that a build holds, and its header: copies of what was parsed, as values.
+use Rattle.std.specs.Prelude.{ℕ, Bool, true, false, ◌++◌, List, fold, option_map, nat_lt, length, Option, Some, None, if◌then◌else◌}
+use Rattle.naga_oil_ir.specs.ModuleValue.{ModuleValue, FunctionValue}
+use Rattle.naga_oil_ir.specs.Rows.{Text}
+use Rattle.naga_oil_ir.specs.declared.names.ItemPlace.{ItemPlace}
+use Rattle.naga_oil_ir.specs.declared.names.ItemPlace.TheVariants.{TypeItem, ConstantItem, OverrideItem, GlobalItem, ExpressionItem}
+use Rattle.naga_oil_ir.specs.declared.span.Span.{Span}
+use Rattle.naga_oil_lines.specs.Text.{◌>>=◌, is_among}
+use Rattle.naga_oil_derive.specs.CopiedEntry.{make_module}
+use Rattle.naga_oil_derive.specs.Derived.{Derived, nothing}
+use Rattle.naga_oil_derive.specs.DerivedValue.{import_item, rename_type, import_function, set_source, place_by}
+use Rattle.naga_oil_derive.specs.World.{special_entries}
+use Rattle.naga_oil_link.specs.BuiltModule.{BuiltModule}
+use Rattle.naga_oil_link.specs.CopySources.{stub_of}
+use Rattle.naga_oil_link.specs.Form.{if_formed}
+use Rattle.naga_oil_link.specs.OwnPlaces.{OwnPlaces, own_of, nothing_own, is_own, with_own}
+use Rattle.naga_oil_link.specs.declared.copied.OwnCopies.{OwnCopies as CodeCopies}
+use Rattle.naga_oil_link.specs.Places.{name_at, places_of}
+
+-- ---- items
+
+-- copies of one source, and where the copies of its own items stand
+pub record OwnCopies : Type 0 where
+  pub derived : Derived
+  pub own : OwnPlaces
+
+-- where an item went
+abbrev pub went_to : Derived → ItemPlace → ItemPlace
+went_to d (TypeItem k) = TypeItem (place_by (λ p. p.types) d.source k)
+went_to d (ConstantItem k) = ConstantItem (place_by (λ p. p.constants) d.source k)
+went_to d (OverrideItem k) = OverrideItem (place_by (λ p. p.overrides) d.source k)
+went_to d (GlobalItem k) = GlobalItem (place_by (λ p. p.global_variables) d.source k)
+went_to d (ExpressionItem k) = ExpressionItem (place_by (λ p. p.global_expressions) d.source k)
+
+-- as the code has them
+abbrev pub copies_of : CodeCopies → OwnCopies
+copies_of c = record { derived = c.derived; own = own_of c.own }
+
+-- an own item was copied
+abbrev pub with_copy : OwnPlaces → ItemPlace → Derived → OwnCopies
+with_copy own p d = record { derived = d; own = with_own own (went_to d p) }
+
+-- the name of an own type with the decoration
+abbrev pub decorated_type : ModuleValue → (decoration : List ℕ) → ItemPlace → Text
+decorated_type m d p = option_map (λ n. n ++ d) (name_at m p)
+
+-- an own item is copied, a type under its decorated name
+abbrev pub import_own : ModuleValue → (decoration : List ℕ) → Derived → ItemPlace → Derived
+import_own m n d (TypeItem k) = rename_type d k (option_map Some (decorated_type m n (TypeItem k)))
+import_own m n d (ConstantItem k) = import_item d (ConstantItem k)
+import_own m n d (OverrideItem k) = import_item d (OverrideItem k)
+import_own m n d (GlobalItem k) = import_item d (GlobalItem k)
+import_own m n d (ExpressionItem k) = import_item d (ExpressionItem k)
+
+abbrev pub copy_own : ModuleValue → (decoration : List ℕ) → OwnCopies → ItemPlace → OwnCopies
+copy_own m n c p = with_copy c.own p (import_own m n c.derived p)
+
+abbrev pub is_type : ItemPlace → Bool
+is_type (TypeItem k) = true
+is_type (ConstantItem k) = false
+is_type (OverrideItem k) = false
+is_type (GlobalItem k) = false
+is_type (ExpressionItem k) = false
+
+-- of items that aren't own the types are copied, where all types are
+abbrev pub copy_other : (all_types : Bool) → OwnCopies → ItemPlace → OwnCopies
+copy_other true c p = if is_type p then record c { derived = import_item c.derived p } else c
+copy_other false c p = c
+
+abbrev pub copy_at : (all_types : Bool) → ModuleValue → OwnPlaces → (decoration : List ℕ) → OwnCopies → ItemPlace → OwnCopies
+copy_at all_types m own d c p = if is_own own p then copy_own m d c p else copy_other all_types c p
+
+-- of a source nothing is copied yet but its special types
+abbrev pub nothing_copied : ModuleValue → OwnCopies
+nothing_copied m = record { derived = set_source nothing m 0; own = nothing_own }
+
+-- the own items of a module in order, and maybe all its types
+unfoldable pub copy_places : (all_types : Bool) → ModuleValue → OwnPlaces → (decoration : List ℕ) → OwnCopies
+copy_places all_types m own d = fold (copy_at all_types m own d) (nothing_copied m) (places_of m)
+
+-- ---- functions
+
+-- a function is copied with its span
+abbrev pub copy_with_body : Derived → FunctionValue × Span → Derived
+copy_with_body d f = import_function d f.0 f.1
+
+abbrev pub has_name_among : List (List ℕ) → Text → Bool
+has_name_among names None = false
+has_name_among names (Some n) = is_among names n
+
+-- a function is copied without its body, if its name is among these
+abbrev pub copy_stub : (names : List (List ℕ)) → Derived → FunctionValue × Span → Derived
+copy_stub names d f = if has_name_among names f.0.name then import_function d (stub_of f.0) f.1 else d
+
+-- ---- the module and its header
+
+-- all types, the own items, and then all functions
+abbrev pub copy_whole : ModuleValue → OwnPlaces → (decoration : List ℕ) → OwnCopies
+copy_whole m own d = let c = copy_places true m own d in record c { derived = fold copy_with_body c.derived m.functions }
+
+-- the own items, and then the functions of these names without their bodies
+abbrev pub copy_header : ModuleValue → OwnPlaces → (decoration : List ℕ) → (functions : List (List ℕ)) → OwnCopies
+copy_header m own d functions = let c = copy_places false m own d in record c { derived = fold (copy_stub functions) c.derived m.functions }
+
+-- a build that holds a module, and a header
+abbrev pub with_header : BuiltModule → OwnPlaces → ModuleValue → BuiltModule
+with_header b own m = record b { header = m; own_in_header = own }
+
+abbrev pub with_value : BuiltModule → OwnPlaces → ModuleValue → BuiltModule
+with_value b own m = record b { value = m; own_in_value = own }
+
+-- a build with these copies as its header; none if they have the wrong form
+abbrev pub put_header : OwnCopies → BuiltModule → Option BuiltModule
+put_header c b = option_map (with_header b c.own) (if_formed c.derived.target)
+
+-- a build with these copies as its module, with the entry points of their source; none if they have the wrong form
+abbrev pub put_whole : OwnCopies → BuiltModule → Option BuiltModule
+put_whole c b = option_map (with_value b c.own) (if_formed (make_module c.derived))
+
+abbrev pub have_special : OwnCopies → Bool
+have_special c = nat_lt 0 (length (special_entries c.derived.target.special_types))
+
+-- a build that holds copies of a module, of which these items are its own, with the module's entry points; none if one of the two
+-- has the wrong form
+unfoldable pub copy_build : ModuleValue → OwnPlaces → BuiltModule → Option BuiltModule
+copy_build m own b = put_header (copy_header m own b.decoration b.functions) b >>= put_whole (copy_whole m own b.decoration)
+
+-- whether the copy of a module has special types
+unfoldable pub copies_special : ModuleValue → OwnPlaces → (decoration : List ℕ) → Bool
+copies_special m own d = have_special (copy_whole m own d)
+
+-- a build, and whether it has special types
+abbrev pub with_special : Bool → Option BuiltModule → Option (BuiltModule × Bool)
+with_special special b = option_map (λ c. (c, special)) b

@@ -1,0 +1,36 @@
+-- What modules are copied from.
+use Rattle.std.specs.Prelude.{◌≡◌, ℕ, [], slice_get, Some, None}
+use Rattle.naga_oil_ir.specs.ModuleValue.{FunctionValue}
+use Rattle.naga_oil_ir.specs.WellFormed.{WellFormed}
+use Rattle.naga_oil_ir.specs.declared.module.Function.{Function}
+use Rattle.naga_oil_ir.specs.declared.module.Module.{Module}
+use Rattle.naga_oil_ir.specs.declared.span.Span.{Span}
+use Rattle.naga_oil_derive.specs.World.{value_of}
+use Rattle.naga_oil_derive.specs.Derived.{Source, Derived}
+
+-- a module that passes the test of form is the source
+pub record IsSource (m : Module) (d : Derived) : Type 0 where
+  pub form : WellFormed m [] 4294967295
+  pub source : Source
+  pub set : d.source ≡ Some source
+  pub value : source.value ≡ value_of m
+
+unfoldable pub CopiesFrom : Module → Derived → Type 0
+CopiesFrom m d = IsSource m d
+
+-- a function of a module, with its span
+abbrev pub IsFunctionOf : Module → Function × Span → Type 0
+IsFunctionOf m e = (k : ℕ) × (slice_get m.functions k ≡ Some e)
+
+-- a function's name, arguments and result alone
+abbrev pub stub_of : FunctionValue → FunctionValue
+stub_of f = record {
+  name = f.name;
+  arguments = f.arguments;
+  result = f.result;
+  local_variables = [];
+  expressions = [];
+  named_expressions = [];
+  body = [];
+  diagnostic_filter_leaf = None;
+}

@@ -1,0 +1,18 @@
+-- The definitions that the contracts of this crate cite.
+pub mod BuiltModule
+pub mod ByName
+pub mod CopiedBuild
+pub mod CopySources
+pub mod Form
+pub mod FormItems
+pub mod FormParts
+mod FormRows
+pub mod FormView
+pub mod LinkView
+pub mod Linked
+pub mod LinkedRows
+pub mod OwnPlaces
+pub mod Owned
+pub mod OwnedRows
+pub mod Places
+pub mod Wanted

@@ -1,0 +1,344 @@
+//! The module that a build holds and its header, copied from what was parsed.
+ghost use Rattle.std.specs.Prelude.{◌≡◌, [], true, false, IfOk, IsSome, OnOk, fold, map, option_map, string_bytes};
+ghost use Rattle.naga_oil_ir.specs.Body.{block_tokens};
+ghost use Rattle.naga_oil_ir.specs.ItemForm.{IsThere};
+ghost use Rattle.naga_oil_ir.specs.ModuleValue.{argument_value, function_value, module_value};
+ghost use Rattle.naga_oil_ir.specs.WellFormed.{WellFormed};
+ghost use Rattle.naga_oil_derive.specs.Derived.{HasItem, Keeps};
+ghost use Rattle.naga_oil_derive.specs.DerivedEntries.{CanCopyEntries};
+ghost use Rattle.naga_oil_derive.specs.DerivedValue.{import_item};
+ghost use Rattle.naga_oil_lines.specs.Text.{texts};
+ghost use Rattle.naga_oil_link.specs.BuiltModule.{built_of};
+ghost use Rattle.naga_oil_link.specs.CopiedBuild.{copies_of, nothing_copied, decorated_type, went_to, import_own, copy_own, copy_other, copy_at, copy_places, copy_with_body, copy_stub, copy_header, copy_whole, have_special, put_header, put_whole, with_special, copy_build, copies_special, has_name_among};
+ghost use Rattle.naga_oil_link.specs.CopySources.{CopiesFrom, IsFunctionOf, stub_of};
+ghost use Rattle.naga_oil_link.specs.FormView.{GivesFormed};
+ghost use Rattle.naga_oil_link.specs.OwnPlaces.{own_of};
+ghost use Rattle.naga_oil_link.specs.Places.{places_of, name_at};
+
+use super::items::{name_at, named, places_of};
+use super::*;
+use naga_oil_derive::copied_name;
+use naga_oil_ir::Block;
+
+/// Copies an item of the source, and answers where it went.
+pub fn import_item(into: &mut DerivedModule<'_>, place: ItemPlace) -> Tried<ItemPlace>
+    requires { HasItem into.old place }
+    ensures keeps { Keeps into.old into.new }
+    ensures value { OnOk result (into.new ≡ import_item into.old place) }
+    ensures place { IfOk result (λ p. p ≡ went_to into.new place) }
+{
+    match place {
+        ItemPlace::TypeItem(handle) => into.import_type(&handle).map(ItemPlace::TypeItem),
+        ItemPlace::ConstantItem(handle) => into.import_const(&handle).map(ItemPlace::ConstantItem),
+        ItemPlace::OverrideItem(handle) => {
+            into.import_pipeline_override(&handle)
+                .map(ItemPlace::OverrideItem)
+        }
+        ItemPlace::GlobalItem(handle) => into.import_global(&handle).map(ItemPlace::GlobalItem),
+        ItemPlace::ExpressionItem(handle) => {
+            into.import_global_expression(handle)
+                .map(ItemPlace::ExpressionItem)
+        }
+    }
+}
+
+/// Whether a function has one of these names.
+pub fn has_name_among(function: &Function, names: &Names) -> bool
+    ensures { result ≡ has_name_among (texts names.now.keys) (function_value function.now).name }
+{
+    match named(&function.name) {
+        Some(name) => names.contains(name),
+        None => false,
+    }
+}
+
+// The arguments of a function.
+fn arguments_of(alloc: Global, arguments: &[FunctionArgument]) -> Tried<Vec<FunctionArgument>>
+    ensures { IfOk result (λ copies. map argument_value copies.items ≡ map argument_value arguments.now) }
+{
+    let mut copies = Vec::with_capacity(alloc, arguments.len())?;
+    for argument in arguments {
+        let name = copied_name(&argument.name)?;
+        copies.push(FunctionArgument { name, ..*argument })?;
+    }
+    Ok(copies)
+}
+
+// A body of no statements.
+fn no_body(alloc: Global) -> Block
+    ensures { block_tokens result ≡ [] }
+{
+    let body = Vec::new(alloc);
+    Block { body }
+}
+
+// A function's name, arguments and result alone.
+fn stub(alloc: Global, function: &Function) -> Tried<Function>
+    ensures { IfOk result (λ s. function_value s ≡ stub_of (function_value function.now)) }
+{
+    let name = copied_name(&function.name)?;
+    let arguments = arguments_of(alloc, &function.arguments)?;
+    let local_variables = Arena::new(alloc);
+    let expressions = Arena::new(alloc);
+    let named_expressions = IndexMap::new(alloc);
+    let body = no_body(alloc);
+    Ok(Function {
+        name,
+        arguments,
+        result: function.result,
+        local_variables,
+        expressions,
+        named_expressions,
+        body,
+        diagnostic_filter_leaf: None,
+    })
+}
+
+// The decorated name of a type.
+fn decorated_type(
+    alloc: Global,
+    of: &Module,
+    place: ItemPlace,
+    decoration: &str,
+) -> Tried<Option<String>>
+    ensures { IfOk result (λ name. option_map string_bytes name ≡ decorated_type (module_value of.now) decoration.now place) }
+{
+    let Some(name) = name_at(of, place) else {
+        return Ok(None);
+    };
+    Ok(Some(format!(in alloc; "{name}{decoration}")?))
+}
+
+// Copies an own item of the source, a type under its decorated name, and answers where it went.
+fn import_own(
+    alloc: Global,
+    source: &Module,
+    decoration: &str,
+    place: ItemPlace,
+    into: &mut DerivedModule<'_>,
+) -> Tried<ItemPlace>
+    requires { HasItem into.old place }
+    ensures keeps { Keeps into.old into.new }
+    ensures value { OnOk result (into.new ≡ import_own (module_value source.now) decoration.now into.old place) }
+    ensures place { IfOk result (λ p. p ≡ went_to into.new place) }
+{
+    match place {
+        ItemPlace::TypeItem(handle) => {
+            let name = decorated_type(alloc, source, place, decoration)?;
+            into.rename_type(&handle, name).map(ItemPlace::TypeItem)
+        }
+        _ => import_item(into, place),
+    }
+}
+
+// What is copied of a source, and where the copies of its own items stand.
+#[derive(Drop)]
+struct OwnCopies<'m> {
+    derived: DerivedModule<'m>,
+    own: OwnItems,
+}
+
+impl<'m> OwnCopies<'m> {
+    // Nothing is copied yet but the special types of the source.
+    fn new(alloc: Global, source: &'m Module) -> Tried<OwnCopies<'m>>
+        requires { WellFormed source.now [] 4294967295 }
+        ensures source { IfOk result (λ c. CopiesFrom source.now c.derived) }
+        ensures value { IfOk result (λ c. copies_of c ≡ nothing_copied (module_value source.now)) }
+    {
+        let mut derived = DerivedModule::new(alloc);
+        derived.set_shader_source(source, 0)?;
+        let own = OwnItems::new(alloc);
+        Ok(OwnCopies { derived, own })
+    }
+
+    // Copies an own item.
+    fn copy_own(
+        &mut self,
+        alloc: Global,
+        source: &Module,
+        decoration: &str,
+        place: ItemPlace,
+    ) -> Tried
+        requires there { IsThere source.now place }
+        requires source { CopiesFrom source.now self.old.derived }
+        ensures source { CopiesFrom source.now self.new.derived }
+        ensures value { OnOk result (copies_of self.new ≡ copy_own (module_value source.now) decoration.now (copies_of self.old) place) }
+    {
+        let went = import_own(alloc, source, decoration, place, &mut self.derived)?;
+        self.own.insert(went)
+    }
+
+    // Copies an item that isn't own, if it is a type and all types are copied.
+    fn copy_other(&mut self, source: &Module, place: ItemPlace, all_types: bool) -> Tried
+        requires there { IsThere source.now place }
+        requires source { CopiesFrom source.now self.old.derived }
+        ensures source { CopiesFrom source.now self.new.derived }
+        ensures value { OnOk result (copies_of self.new ≡ copy_other all_types (copies_of self.old) place) }
+    {
+        match place {
+            ItemPlace::TypeItem(_) if all_types => {
+                import_item(&mut self.derived, place)?;
+                Ok(())
+            }
+            _ => Ok(()),
+        }
+    }
+
+    // Copies an own item, and of others the types, where all types are copied.
+    fn copy_at(
+        &mut self,
+        alloc: Global,
+        source: &Module,
+        own: &OwnItems,
+        decoration: &str,
+        place: &ItemPlace,
+        all_types: bool,
+    ) -> Tried
+        requires there { IsThere source.now place.now }
+        requires source { CopiesFrom source.now self.old.derived }
+        ensures source { CopiesFrom source.now self.new.derived }
+        ensures value { OnOk result (copies_of self.new ≡ copy_at all_types (module_value source.now) (own_of own.now) decoration.now (copies_of self.old) place.now) }
+    {
+        if own.contains(*place) {
+            self.copy_own(alloc, source, decoration, *place)
+        } else {
+            self.copy_other(source, *place, all_types)
+        }
+    }
+
+    // Copies functions.
+    fn copy_functions(&mut self, source: &Module) -> Tried
+        requires { CopiesFrom source.now self.old.derived }
+        ensures source { CopiesFrom source.now self.new.derived }
+        ensures value { OnOk result (self.new.derived ≡ fold copy_with_body self.old.derived (module_value source.now).functions) }
+        ensures own { self.new.own ≡ self.old.own }
+    {
+        for item in source.functions.as_slice() {
+            self.derived.import_function(&item.0, item.1)?;
+        }
+        Ok(())
+    }
+
+    // Copies a function without its body, if it has one of these names.
+    fn copy_stub(
+        &mut self,
+        alloc: Global,
+        source: &Module,
+        item: &(Function, Span),
+        names: &Names,
+    ) -> Tried
+        requires function { IsFunctionOf source.now item.now }
+        requires source { CopiesFrom source.now self.old.derived }
+        ensures source { CopiesFrom source.now self.new.derived }
+        ensures value { OnOk result (self.new.derived ≡ copy_stub (texts names.now.keys) self.old.derived (function_value item.now.0, item.now.1)) }
+        ensures own { self.new.own ≡ self.old.own }
+    {
+        let (function, span) = item;
+        if !has_name_among(function, names) {
+            return Ok(());
+        }
+        let stub = stub(alloc, function)?;
+        self.derived.import_function(&stub, *span)?;
+        Ok(())
+    }
+
+    // The same of all functions.
+    fn copy_stubs(&mut self, alloc: Global, source: &Module, names: &Names) -> Tried
+        requires { CopiesFrom source.now self.old.derived }
+        ensures source { CopiesFrom source.now self.new.derived }
+        ensures value { OnOk result (self.new.derived ≡ fold (copy_stub (texts names.now.keys)) self.old.derived (module_value source.now).functions) }
+        ensures own { self.new.own ≡ self.old.own }
+    {
+        for item in source.functions.as_slice() {
+            self.copy_stub(alloc, source, item, names)?;
+        }
+        Ok(())
+    }
+}
+
+// The own items of a source, and maybe all its types.
+fn copy_places<'m>(
+    alloc: Global,
+    source: &'m Module,
+    own: &OwnItems,
+    decoration: &str,
+    all_types: bool,
+) -> Tried<OwnCopies<'m>>
+    requires { WellFormed source.now [] 4294967295 }
+    ensures source { IfOk result (λ c. CopiesFrom source.now c.derived) }
+    ensures value { IfOk result (λ c. copies_of c ≡ copy_places all_types (module_value source.now) (own_of own.now) decoration.now) }
+{
+    let mut copies = OwnCopies::new(alloc, source)?;
+    let places = places_of(alloc, source)?;
+    for place in &places {
+        copies.copy_at(alloc, source, own, decoration, place, all_types)?;
+    }
+    Ok(copies)
+}
+
+// The header: the own items, and the functions of these names without their bodies.
+fn copy_header<'m>(
+    alloc: Global,
+    source: &'m Module,
+    own: &OwnItems,
+    decoration: &str,
+    names: &Names,
+) -> Tried<OwnCopies<'m>>
+    requires { WellFormed source.now [] 4294967295 }
+    ensures { IfOk result (λ c. copies_of c ≡ copy_header (module_value source.now) (own_of own.now) decoration.now (texts names.now.keys)) }
+{
+    let mut copies = copy_places(alloc, source, own, decoration, false)?;
+    copies.copy_stubs(alloc, source, names)?;
+    Ok(copies)
+}
+
+// The module: all types, the own items, and all functions.
+fn copy_whole<'m>(
+    alloc: Global,
+    source: &'m Module,
+    own: &OwnItems,
+    decoration: &str,
+) -> Tried<OwnCopies<'m>>
+    requires { WellFormed source.now [] 4294967295 }
+    ensures source { IfOk result (λ c. CopiesFrom source.now c.derived) }
+    ensures value { IfOk result (λ c. copies_of c ≡ copy_whole (module_value source.now) (own_of own.now) decoration.now) }
+{
+    let mut copies = copy_places(alloc, source, own, decoration, true)?;
+    copies.copy_functions(source)?;
+    Ok(copies)
+}
+
+// Puts copies into a build as its header.
+fn put_header(alloc: Global, header: OwnCopies<'_>, built: &mut Build) -> Formed
+    ensures { GivesFormed (λ done. built_of built.new) result (put_header (copies_of header.entry) (built_of built.old)) }
+{
+    built.header_ir = Header::new(alloc, Module::from(header.derived))?;
+    built.own_in_header = header.own;
+    Ok(())
+}
+
+// Puts copies into a build as its module, with the entry points of their source. Says whether there are special types.
+fn put_whole(alloc: Global, whole: OwnCopies<'_>, built: &mut Build) -> Formed<bool>
+    requires set { IsSome whole.derived.source }
+    requires entries { CanCopyEntries whole.derived }
+    ensures { GivesFormed (λ special. (built_of built.new, special)) result (with_special (have_special (copies_of whole.entry)) (put_whole (copies_of whole.entry) (built_of built.old))) }
+{
+    let has_special_types = whole.derived.has_required_special_types();
+    built.module_ir = FormedModule::new(alloc, whole.derived.into_module_with_entrypoints()?)?;
+    built.own_in_module = whole.own;
+    Ok(has_special_types)
+}
+
+/// Copies into a build, of a parsed module, all types and functions, and of the other items those that are its own, with the
+/// module's entry points; the names of own types are decorated. The build's header has its own items, functions without bodies.
+/// Says whether there are special types.
+pub fn copy_build(alloc: Global, source: &Module, own: &OwnItems, built: &mut Build) -> Formed<bool>
+    requires { WellFormed source.now [] 4294967295 }
+    ensures { GivesFormed (λ special. (built_of built.new, special)) result (with_special (copies_special (module_value source.now) (own_of own.now) (string_bytes built.old.decorated_name)) (copy_build (module_value source.now) (own_of own.now) (built_of built.old))) }
+{
+    let decoration = built.decorated_name.as_str();
+    let header = copy_header(alloc, source, own, decoration, &built.owned_functions)?;
+    let whole = copy_whole(alloc, source, own, decoration)?;
+    put_header(alloc, header, built)?;
+    put_whole(alloc, whole, built)
+}

@@ -1,0 +1,368 @@
+//! The items of a parsed module: those whose names have no mark of a module are its own and get its decoration.
+ghost use Rattle.std.specs.Prelude.{◌≡◌, ◌++◌, ◌||◌, All, IfOk, OnOk, fold, length, map, not, option_map, string_bytes};
+ghost use Rattle.std.specs.List.{flat_map};
+ghost use Rattle.naga_oil_ir.specs.ItemForm.{IsThere};
+ghost use Rattle.naga_oil_ir.specs.ModuleValue.{ModuleValue, argument_value, entry_value, function_value, module_value};
+ghost use Rattle.naga_oil_lines.specs.DirectivesText.{in_order, with_name};
+ghost use Rattle.naga_oil_lines.specs.Text.{texts, is_among};
+ghost use Rattle.naga_oil_marks.specs.Marks.{has_module_mark, with_decoration};
+ghost use Rattle.naga_oil_link.specs.BuiltModule.{built_of};
+ghost use Rattle.naga_oil_link.specs.ByName.{places_where};
+ghost use Rattle.naga_oil_link.specs.OwnPlaces.{own_of};
+ghost use Rattle.naga_oil_link.specs.Owned.{constant_rows, override_rows, global_rows, function_values, with_owned_name, with_owned, owned_item, owned_function, item_names, function_texts, decorated_items, special_names, is_own_name, is_own_type, own_places, with_own_type, owning, with_text, name_or_main, unbound_argument, unbound_result, demoted_name, demoted_function, demoted, demotable, function_names, with_demoted, owning_demoted, owned_module, owned_build};
+ghost use Rattle.naga_oil_link.specs.Places.{places_of, name_at};
+
+use super::*;
+use naga_oil_derive::special::special_entries;
+
+/// A name, if there is one.
+pub fn named(name: &Option<String>) -> Option<&str>
+    ensures { option_map (λ n. n.now) result ≡ option_map string_bytes name.now }
+{
+    name.as_ref().map(|name| name.as_str())
+}
+
+/// The places of the types, constants, overrides and globals of a module, in this order.
+pub fn places_of(alloc: Global, of: &Module) -> Tried<Vec<ItemPlace>>
+    ensures there { IfOk result (λ places. All (IsThere of.now) places.items) }
+    ensures places { IfOk result (λ places. places.items ≡ places_of (module_value of.now)) }
+{
+    let mut places = Vec::new(alloc);
+    for at in 0..of.types.len() {
+        places.push(ItemPlace::TypeItem(Index::new(at)))?;
+    }
+    for at in 0..of.constants.len() {
+        places.push(ItemPlace::ConstantItem(Index::new(at)))?;
+    }
+    for at in 0..of.overrides.len() {
+        places.push(ItemPlace::OverrideItem(Index::new(at)))?;
+    }
+    for at in 0..of.global_variables.len() {
+        places.push(ItemPlace::GlobalItem(Index::new(at)))?;
+    }
+    Ok(places)
+}
+
+/// The name of the type, constant, override or global at a place.
+pub fn name_at(of: &Module, place: ItemPlace) -> Option<&str>
+    ensures { option_map (λ n. n.now) result ≡ name_at (module_value of.now) place }
+{
+    match place {
+        ItemPlace::TypeItem(handle) => named(&of.types.get_handle(handle)?.name),
+        ItemPlace::ConstantItem(handle) => named(&of.constants.try_get(handle)?.name),
+        ItemPlace::OverrideItem(handle) => named(&of.overrides.try_get(handle)?.name),
+        ItemPlace::GlobalItem(handle) => named(&of.global_variables.try_get(handle)?.name),
+        ItemPlace::ExpressionItem(_) => None,
+    }
+}
+
+// The names of the special types.
+fn special_names(alloc: Global, of: &Module) -> Tried<Names>
+    ensures { IfOk result (λ names. texts names.keys ≡ in_order (special_names (module_value of.now))) }
+{
+    let entries = special_entries(&of.special_types, alloc)?;
+    let mut names = Names::new(alloc);
+    for (_, handle) in &entries {
+        note(alloc, &mut names, name_at(of, ItemPlace::TypeItem(*handle)))?;
+    }
+    Ok(names)
+}
+
+// Whether a type of a name isn't owned: it has a mark, or a special type has it.
+fn is_kept(special: &Names, name: &str) -> bool
+    ensures { result ≡ (is_among (texts special.now.keys) name.now || has_module_mark name.now) }
+{
+    special.contains(name) | has_module_mark(name)
+}
+
+// Notes the decorated name of a type if it is owned. Says whether it is.
+fn own_type(
+    alloc: Global,
+    ty: &Type,
+    special: &Names,
+    suffix: &str,
+    owned: &mut Names,
+) -> Tried<bool>
+    ensures own { IfOk result (λ own. (m : ModuleValue) → texts special.now.keys ≡ in_order (special_names m) → own ≡ is_own_type m (option_map string_bytes ty.now.name)) }
+    ensures owned { OnOk result ((m : ModuleValue) → texts special.now.keys ≡ in_order (special_names m) → texts owned.new.keys ≡ with_own_type m suffix.now (texts owned.old.keys) (option_map string_bytes ty.now.name)) }
+{
+    let Some(name) = named(&ty.name) else {
+        return Ok(false);
+    };
+    if is_kept(special, name) {
+        return Ok(false);
+    }
+    owned.insert(format!(in alloc; "{name}{suffix}")?)?;
+    Ok(true)
+}
+
+// The types that are owned, whose decorated names are noted.
+fn own_types(alloc: Global, of: &Module, suffix: &str, owned: &mut Names) -> Tried<Places>
+    ensures places { IfOk result (λ places. places.keys ≡ places_where (is_own_type (module_value of.now)) (item_names (module_value of.now).types)) }
+    ensures owned { OnOk result (texts owned.new.keys ≡ fold (with_own_type (module_value of.now) suffix.now) (texts owned.old.keys) (item_names (module_value of.now).types)) }
+{
+    let special = special_names(alloc, of)?;
+    let mut places = Places::new(alloc);
+    for (at, ty) in of.types.items().iter().enumerate() {
+        if own_type(alloc, ty, &special, suffix, owned)? {
+            places.insert(at)?;
+        }
+    }
+    Ok(places)
+}
+
+// Decorates a name if it is owned, and notes it. Says whether it is.
+fn own_name(name: &mut String, suffix: &str, owned: &mut Names) -> Tried<bool>
+    ensures own { IfOk result (λ own. own ≡ not (has_module_mark (string_bytes name.old))) }
+    ensures name { OnOk result (string_bytes name.new ≡ with_decoration suffix.now (string_bytes name.old)) }
+    ensures owned { OnOk result (texts owned.new.keys ≡ with_owned_name suffix.now (texts owned.old.keys) (string_bytes name.old)) }
+{
+    let own = add_decoration(name, suffix)?;
+    if own {
+        owned.insert(name.clone()?)?;
+    }
+    Ok(own)
+}
+
+// The same of a name that may be absent.
+fn own_text(name: &mut Option<String>, suffix: &str, owned: &mut Names) -> Tried<bool>
+    ensures own { IfOk result (λ own. own ≡ is_own_name (option_map string_bytes name.old)) }
+    ensures name { OnOk result (option_map string_bytes name.new ≡ option_map (with_decoration suffix.now) (option_map string_bytes name.old)) }
+    ensures owned { OnOk result (texts owned.new.keys ≡ with_owned suffix.now (texts owned.old.keys) (option_map string_bytes name.old)) }
+{
+    match name {
+        Some(name) => own_name(name, suffix, owned),
+        None => Ok(false),
+    }
+}
+
+// Decorates the constants that are owned, and gives their places.
+fn own_constants(
+    alloc: Global,
+    of: &mut Arena<Constant>,
+    suffix: &str,
+    owned: &mut Names,
+) -> Tried<Places>
+    ensures items { OnOk result (constant_rows of.new ≡ map (owned_item suffix.now) (constant_rows of.old)) }
+    ensures owned { OnOk result (texts owned.new.keys ≡ fold (with_owned suffix.now) (texts owned.old.keys) (item_names (constant_rows of.old))) }
+    ensures places { IfOk result (λ places. places.keys ≡ places_where is_own_name (item_names (constant_rows of.old))) }
+{
+    let mut items = mem::replace(of, Arena::new(alloc)).into_items();
+    let mut places = Places::new(alloc);
+    for (at, item) in items.iter_mut().enumerate() {
+        if own_text(&mut item.0.name, suffix, owned)? {
+            places.insert(at)?;
+        }
+    }
+    *of = Arena::from_items(items);
+    Ok(places)
+}
+
+// Decorates the overrides that are owned, and gives their places.
+fn own_overrides(
+    alloc: Global,
+    of: &mut Arena<Override>,
+    suffix: &str,
+    owned: &mut Names,
+) -> Tried<Places>
+    ensures items { OnOk result (override_rows of.new ≡ map (owned_item suffix.now) (override_rows of.old)) }
+    ensures owned { OnOk result (texts owned.new.keys ≡ fold (with_owned suffix.now) (texts owned.old.keys) (item_names (override_rows of.old))) }
+    ensures places { IfOk result (λ places. places.keys ≡ places_where is_own_name (item_names (override_rows of.old))) }
+{
+    let mut items = mem::replace(of, Arena::new(alloc)).into_items();
+    let mut places = Places::new(alloc);
+    for (at, item) in items.iter_mut().enumerate() {
+        if own_text(&mut item.0.name, suffix, owned)? {
+            places.insert(at)?;
+        }
+    }
+    *of = Arena::from_items(items);
+    Ok(places)
+}
+
+// Decorates the globals that are owned, and gives their places.
+fn own_vars(
+    alloc: Global,
+    of: &mut Arena<GlobalVariable>,
+    suffix: &str,
+    owned: &mut Names,
+) -> Tried<Places>
+    ensures items { OnOk result (global_rows of.new ≡ map (owned_item suffix.now) (global_rows of.old)) }
+    ensures owned { OnOk result (texts owned.new.keys ≡ fold (with_owned suffix.now) (texts owned.old.keys) (item_names (global_rows of.old))) }
+    ensures places { IfOk result (λ places. places.keys ≡ places_where is_own_name (item_names (global_rows of.old))) }
+{
+    let mut items = mem::replace(of, Arena::new(alloc)).into_items();
+    let mut places = Places::new(alloc);
+    for (at, item) in items.iter_mut().enumerate() {
+        if own_text(&mut item.0.name, suffix, owned)? {
+            places.insert(at)?;
+        }
+    }
+    *of = Arena::from_items(items);
+    Ok(places)
+}
+
+// Decorates the functions that are owned.
+fn own_functions(alloc: Global, of: &mut Arena<Function>, suffix: &str, owned: &mut Names) -> Tried
+    ensures items { OnOk result (function_values of.new ≡ map (owned_function suffix.now) (function_values of.old)) }
+    ensures owned { OnOk result (texts owned.new.keys ≡ fold (with_owned suffix.now) (texts owned.old.keys) (function_texts (function_values of.old))) }
+{
+    let mut items = mem::replace(of, Arena::new(alloc)).into_items();
+    for item in items.iter_mut() {
+        own_text(&mut item.0.name, suffix, owned)?;
+    }
+    *of = Arena::from_items(items);
+    Ok(())
+}
+
+// Decorates what a parsed module owns, but for its types, which are decorated as they are copied; gives the places of all of it.
+fn own_items(alloc: Global, of: &mut Module, built: &mut Build) -> Tried<OwnItems>
+    ensures items { OnOk result (module_value of.new ≡ decorated_items (string_bytes built.old.decorated_name) (module_value of.old)) }
+    ensures built { OnOk result (built_of built.new ≡ owning (module_value of.old) (built_of built.old)) }
+    ensures own { IfOk result (λ own. own_of own ≡ own_places (module_value of.old)) }
+{
+    let decoration = built.decorated_name.as_str();
+    let types = own_types(alloc, of, decoration, &mut built.owned_types)?;
+    let owned = &mut built.owned_constants;
+    let constants = own_constants(alloc, &mut of.constants, decoration, owned)?;
+    let owned = &mut built.owned_pipeline_overrides;
+    let overrides = own_overrides(alloc, &mut of.overrides, decoration, owned)?;
+    let owned = &mut built.owned_vars;
+    let globals = own_vars(alloc, &mut of.global_variables, decoration, owned)?;
+    let owned = &mut built.owned_functions;
+    own_functions(alloc, &mut of.functions, decoration, owned)?;
+    #[rattlefmt::skip]
+    Ok(OwnItems { types, constants, overrides, globals })
+}
+
+// A function's name, or `main`.
+fn name_or_main(alloc: Global, name: Option<String>) -> Tried<String>
+    ensures { IfOk result (λ n. string_bytes n ≡ name_or_main (option_map string_bytes name)) }
+{
+    match name {
+        Some(name) => Ok(name),
+        None => String::from_str(alloc, "main"),
+    }
+}
+
+// Takes the bindings of arguments away.
+fn unbind(arguments: &mut [FunctionArgument])
+    ensures { map argument_value arguments.new ≡ map unbound_argument (map argument_value arguments.old) }
+{
+    for argument in arguments.iter_mut() {
+        argument.binding = None;
+    }
+}
+
+// A result without its binding.
+fn unbound(of: Option<FunctionResult>) -> Option<FunctionResult>
+    ensures { result ≡ option_map unbound_result of }
+{
+    let binding = None;
+    of.map(|FunctionResult { ty, .. }| FunctionResult { ty, binding })
+}
+
+// The function of an entry point, decorated and without bindings, and its name.
+fn demoted(alloc: Global, of: EntryPoint, decoration: &str) -> Tried<(String, Function)>
+    ensures name { IfOk result (λ r. string_bytes r.0 ≡ demoted_name decoration.now (entry_value of)) }
+    ensures function { IfOk result (λ r. function_value r.1 ≡ demoted_function decoration.now (entry_value of)) }
+{
+    let mut function = of.function;
+    let mut name = name_or_main(alloc, function.name.take())?;
+    name.push_str(decoration)?;
+    unbind(&mut function.arguments);
+    function.result = unbound(function.result);
+    function.name = Some(name.clone()?);
+    Ok((name, function))
+}
+
+/// Notes a name, if there is one.
+pub fn note(alloc: Global, names: &mut Names, name: Option<&str>) -> Tried
+    ensures { OnOk result (texts names.new.keys ≡ with_text (texts names.old.keys) (option_map (λ n. n.now) name.entry)) }
+{
+    if let Some(name) = name {
+        names.insert(String::from_str(alloc, name)?)?;
+    }
+    Ok(())
+}
+
+// The names of functions.
+fn function_names(alloc: Global, functions: &Arena<Function>) -> Tried<Names>
+    ensures { IfOk result (λ names. texts names.keys ≡ in_order (function_names (function_values functions.now))) }
+{
+    let mut names = Names::new(alloc);
+    for item in functions.as_slice() {
+        note(alloc, &mut names, named(&item.0.name))?;
+    }
+    Ok(names)
+}
+
+// Puts the function of an entry point last and notes its name, unless it is one of the names.
+fn demote_one(
+    alloc: Global,
+    entry_point: EntryPoint,
+    decoration: &str,
+    names: &Names,
+    functions: &mut Arena<Function>,
+    owned: &mut Names,
+) -> Tried
+    ensures functions { OnOk result (function_values functions.new ≡ function_values functions.old ++ demoted decoration.now (texts names.now.keys) (entry_value entry_point)) }
+    ensures owned { OnOk result (texts owned.new.keys ≡ fold with_name (texts owned.old.keys) (function_names (demoted decoration.now (texts names.now.keys) (entry_value entry_point)))) }
+{
+    let (name, function) = demoted(alloc, entry_point, decoration)?;
+    if names.contains(name.as_str()) {
+        return Ok(());
+    }
+    owned.insert(name)?;
+    functions.append(function, Span::UNDEFINED)?;
+    Ok(())
+}
+
+// Puts the functions of entry points behind others and notes their names, but for those whose names these have.
+fn demote_all(
+    alloc: Global,
+    entry_points: Vec<EntryPoint>,
+    decoration: &str,
+    functions: &mut Arena<Function>,
+    owned: &mut Names,
+) -> Tried
+    ensures functions { OnOk result (function_values functions.new ≡ function_values functions.old ++ flat_map (demoted decoration.now (function_names (function_values functions.old))) (map entry_value entry_points.items)) }
+    ensures owned { OnOk result (texts owned.new.keys ≡ fold with_name (texts owned.old.keys) (function_names (flat_map (demoted decoration.now (function_names (function_values functions.old))) (map entry_value entry_points.items)))) }
+{
+    if entry_points.is_empty() {
+        return Ok(());
+    }
+    let names = function_names(alloc, functions)?;
+    for entry_point in entry_points {
+        demote_one(alloc, entry_point, decoration, &names, functions, owned)?;
+    }
+    Ok(())
+}
+
+// Makes the entry points functions behind the others, decorated, without bindings and with no span. One whose function has
+// the name of another function is left out.
+fn demote(alloc: Global, of: &mut Module, built: &mut Build) -> Tried
+    ensures items { OnOk result (module_value of.new ≡ with_demoted (demotable (string_bytes built.old.decorated_name) (module_value of.old)) (module_value of.old)) }
+    ensures built { OnOk result (built_of built.new ≡ owning_demoted (demotable (string_bytes built.old.decorated_name) (module_value of.old)) (built_of built.old)) }
+{
+    let entry_points = mem::replace(&mut of.entry_points, Vec::new(alloc));
+    let decoration = built.decorated_name.as_str();
+    let (functions, owned) = (&mut of.functions, &mut built.owned_functions);
+    demote_all(alloc, entry_points, decoration, functions, owned)
+}
+
+/// Decorates what a build owns of a parsed module, entry points too where it isn't the shader, whose index is 0; types get their
+/// decoration as they are copied. Gives the places of its own items, and how many functions there were before.
+pub fn own(alloc: Global, source: &mut Module, built: &mut Build) -> Tried<(OwnItems, usize)>
+    ensures own { IfOk result (λ r. own_of r.0 ≡ own_places (module_value source.old)) }
+    ensures functions { IfOk result (λ r. r.1 ≡ length (module_value source.old).functions) }
+    ensures items { OnOk result (module_value source.new ≡ owned_module built.old.index (string_bytes built.old.decorated_name) (module_value source.old)) }
+    ensures built { OnOk result (built_of built.new ≡ owned_build built.old.index (module_value source.old) (built_of built.old)) }
+{
+    let own = own_items(alloc, source, built)?;
+    let functions = source.functions.len();
+    if built.index > 0 {
+        demote(alloc, source, built)?;
+    }
+    Ok((own, functions))
+}

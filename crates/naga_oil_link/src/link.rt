@@ -1,0 +1,223 @@
+//! One module out of builds: what is asked for of each, behind what that imports.
+ghost use Rattle.std.specs.Prelude.{◌≡◌, ◌++◌, [], IfOk, OnOk, fold, map, slice_get};
+ghost use Rattle.naga_oil_ir.specs.ModuleValue.{module_value};
+ghost use Rattle.naga_oil_ir.specs.WellFormed.{WellFormed};
+ghost use Rattle.naga_oil_derive.specs.Derived.{nothing};
+ghost use Rattle.naga_oil_lines.specs.DirectivesText.{with_name, in_order};
+ghost use Rattle.naga_oil_lines.specs.Text.{texts};
+ghost use Rattle.naga_oil_lines.specs.Uses.{import_of};
+ghost use Rattle.naga_oil_link.specs.BuiltModule.{built_of, builds_of};
+ghost use Rattle.naga_oil_link.specs.ByName.{HasItems};
+ghost use Rattle.naga_oil_link.specs.CopySources.{CopiesFrom};
+ghost use Rattle.naga_oil_link.specs.Linked.{asked_names, asked_of, overriding_names, link_places, link_functions, link_source, link_items, link_header, link_whole};
+ghost use Rattle.naga_oil_link.specs.LinkView.{link_own_function, LinksImports};
+ghost use Rattle.naga_oil_link.specs.OwnPlaces.{own_of};
+
+use super::by_name::{Asked, NamedItems, add_named, wanted};
+use super::copied::{has_name_among, import_item};
+use super::*;
+use naga_oil_lines::ImportDefinition as Import;
+
+/// The builds of a make by their names, each behind those that it imports.
+pub type Builds = IndexMap<String, Build>;
+
+// The decorated names of items.
+fn decorated(alloc: Global, items: &[String], decoration: &str) -> Tried<Names>
+    ensures { IfOk result (λ names. texts names.keys ≡ in_order (map (λ item. item ++ decoration.now) (texts items.now))) }
+{
+    let mut names = Names::new(alloc);
+    for item in items {
+        let name = format!(in alloc; "{item}{decoration}")?;
+        names.insert(name)?;
+    }
+    Ok(names)
+}
+
+// Adds names.
+fn add_names(names: &mut Names, others: &[String]) -> Tried
+    ensures { OnOk result (texts names.new.keys ≡ fold with_name (texts names.old.keys) (texts others.now)) }
+{
+    for name in others {
+        names.insert(name.clone()?)?;
+    }
+    Ok(())
+}
+
+// The functions that override others.
+fn overriding(alloc: Global, of: &Build) -> Tried<Names>
+    ensures { IfOk result (λ names. texts names.keys ≡ in_order (overriding_names (built_of of.now))) }
+{
+    let mut names = Names::new(alloc);
+    for others in of.override_functions.values() {
+        add_names(&mut names, others)?;
+    }
+    Ok(names)
+}
+
+// Links the function at a place, if the build owns it, unless one of its name was linked.
+fn link_function(into: &mut DerivedModule, of: &Build, source: &Module, at: usize) -> Tried
+    requires { CopiesFrom source.now into.old }
+    ensures source { CopiesFrom source.now into.new }
+    ensures value { OnOk result (into.new ≡ link_own_function (built_of of.now) into.old (slice_get (module_value source.now).functions at)) }
+{
+    let Some(item) = source.functions.as_slice().get(at) else {
+        return Ok(());
+    };
+    if !has_name_among(&item.0, &of.owned_functions) {
+        return Ok(());
+    }
+    into.import_function_if_new(&item.0, item.1)?;
+    Ok(())
+}
+
+// What is linked of a build: a module of it, its items by their names, and which of them are its own.
+#[derive(Clone, Copy)]
+struct Linked<'b, 'n> {
+    of: &'b Build,
+    from: &'b Module,
+    by: &'n NamedItems,
+    own: &'b OwnItems,
+}
+
+// A module that is linked of builds, of their headers or whole.
+#[derive(Drop)]
+struct Linker<'b> {
+    alloc: Global,
+    builds: &'b Builds,
+    of_headers: bool,
+    derived: DerivedModule<'b>,
+    // The places of the builds whose imports were linked.
+    descended: BTreeSet<usize>,
+}
+
+impl<'b> Linker<'b> {
+    // Nothing is linked yet.
+    fn new(alloc: Global, builds: &'b Builds, of_headers: bool) -> Linker<'b>
+        ensures given { (result.builds ≡ builds.entry) × (result.of_headers ≡ of_headers) }
+        ensures linked { (result.derived ≡ nothing) × (result.descended.keys ≡ []) }
+    {
+        let (derived, descended) = (DerivedModule::new(alloc), BTreeSet::new(alloc));
+        #[rattlefmt::skip]
+        Linker { alloc, builds, of_headers, derived, descended }
+    }
+
+    // Links the types, constants, overrides and globals of a build that are asked for.
+    fn link_places(&mut self, of: Linked<'b, '_>, asked: Asked) -> Tried
+        requires items { HasItems (module_value of.from.now) of.by.now }
+        requires source { CopiesFrom of.from.now self.old.derived }
+        ensures source { CopiesFrom of.entry.from.now self.new.derived }
+        ensures value { OnOk result (self.new.derived ≡ link_places (own_of of.entry.own.now) (module_value of.entry.from.now) (asked_names asked.entry) self.old.derived) }
+        ensures rest { self.new ≡ record self.old { derived = self.new.derived } }
+    {
+        let places = wanted(self.alloc, &of.by.by_name, of.by.places.len(), asked)?;
+        for at in places.iter() {
+            let Some(place) = of.by.places.get(*at) else {
+                continue;
+            };
+            if !of.own.contains(*place) {
+                continue;
+            }
+            import_item(&mut self.derived, *place)?;
+        }
+        Ok(())
+    }
+
+    // Links the functions of a build that are asked for, and all that override others.
+    fn link_functions(&mut self, of: Linked<'b, '_>, asked: Asked) -> Tried
+        requires items { HasItems (module_value of.from.now) of.by.now }
+        requires source { CopiesFrom of.from.now self.old.derived }
+        ensures value { OnOk result (self.new.derived ≡ link_functions (built_of of.entry.of.now) (module_value of.entry.from.now) (asked_names asked.entry) self.old.derived) }
+        ensures rest { self.new ≡ record self.old { derived = self.new.derived } }
+    {
+        let overriding = overriding(self.alloc, of.of)?;
+        let mut places = wanted(self.alloc, &of.by.functions, of.from.functions.len(), asked)?;
+        add_named(&mut places, &of.by.functions, &overriding)?;
+        for at in places.iter() {
+            link_function(&mut self.derived, of.of, of.from, *at)?;
+        }
+        Ok(())
+    }
+
+    // Links what is asked for of a module of a build, which has items of these names.
+    fn link_source(&mut self, of: Linked<'b, '_>, asked: Asked) -> Tried
+        requires form { WellFormed of.from.now [] 4294967295 }
+        requires items { HasItems (module_value of.from.now) of.by.now }
+        ensures value { OnOk result (self.new.derived ≡ link_source (built_of of.entry.of.now) (own_of of.entry.own.now) (module_value of.entry.from.now) (asked_names asked.entry) self.old.derived) }
+        ensures rest { self.new ≡ record self.old { derived = self.new.derived } }
+    {
+        let shift = of.of.index * 2_097_152;
+        self.derived.set_shader_source(of.from, shift)?;
+        self.link_places(of, asked)?;
+        self.link_functions(of, asked)?;
+        self.derived.clear_shader_source();
+        Ok(())
+    }
+
+    // Links the items of a build that are asked for; by none all that it owns.
+    fn link_items(&mut self, of: &'b Build, asked: Asked<'_>) -> Tried
+        ensures value { OnOk result (self.new.derived ≡ link_items self.old.of_headers (built_of of.now) (asked_names asked.entry) self.old.derived) }
+        ensures rest { self.new ≡ record self.old { derived = self.new.derived } }
+    {
+        if self.of_headers {
+            let (from, by) = of.header_ir.named();
+            let own = &of.own_in_header;
+            return self.link_source(Linked { of, from, by, own }, asked);
+        }
+        let from = of.module_ir.get();
+        let by = &NamedItems::new(self.alloc, from)?;
+        let own = &of.own_in_module;
+        self.link_source(Linked { of, from, by, own }, asked)
+    }
+
+    // Links what an import asks for of a build.
+    fn link_asked(&mut self, import: &Import, build: &'b Build) -> Tried
+        ensures value { OnOk result (self.new.derived ≡ link_items self.old.of_headers (built_of build.now) (asked_of (import_of import.now) (built_of build.now)) self.old.derived) }
+        ensures rest { self.new ≡ record self.old { derived = self.new.derived } }
+    {
+        let asked = decorated(self.alloc, &import.items, build.decorated_name.as_str())?;
+        self.link_items(build, Some(&asked))
+    }
+
+    // Links what imports ask for of the builds before a place, behind what those import, into which it descends once.
+    fn link_imports(&mut self, imports: &[Import], end: usize) -> Tried
+        ensures value { OnOk result (LinksImports self.old.of_headers (builds_of self.old.builds.now) end (map import_of imports.now) self.old.derived self.old.descended.keys self.new.derived self.new.descended.keys) }
+        ensures rest { (self.new.builds ≡ self.old.builds) × (self.new.of_headers ≡ self.old.of_headers) }
+    {
+        // With the length it is known that no two builds have one name.
+        let _unique = self.builds.len();
+        for import in imports {
+            let Some((place, _, build)) = self.builds.get_full(import.import.as_str()) else {
+                continue;
+            };
+            if end <= place {
+                continue;
+            }
+            if self.descended.insert(place)? {
+                self.link_imports(&build.imports, place)?;
+            }
+            self.link_asked(import, build)?;
+        }
+        Ok(())
+    }
+}
+
+/// The header of imports: what they ask for of the headers of their builds, behind what those import.
+pub fn link_header(alloc: Global, builds: &Builds, imports: &[Import]) -> Tried<Module>
+    ensures { IfOk result (λ header. module_value header ≡ link_header (builds_of builds.now) (map import_of imports.now)) }
+{
+    let mut linker = Linker::new(alloc, builds, true);
+    linker.link_imports(imports, builds.len())?;
+    Ok(Module::from(linker.derived))
+}
+
+/// The whole of a build: all that it owns, behind what it imports, with its entry points.
+pub fn link_whole<'b>(alloc: Global, builds: &'b Builds, of: &'b Build) -> Tried<Module>
+    ensures { IfOk result (λ whole. module_value whole ≡ link_whole (builds_of builds.now) (built_of of.now)) }
+{
+    let mut linker = Linker::new(alloc, builds, false);
+    linker.link_imports(&of.imports, builds.len())?;
+    linker.link_items(of, None)?;
+    let Linker { mut derived, .. } = linker;
+    derived.set_shader_source(of.module_ir.get(), 0)?;
+    derived.into_module_with_entrypoints()
+}
