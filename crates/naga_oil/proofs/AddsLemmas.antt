@@ -30,14 +30,14 @@ tells inner e place v whole is fails up = go (refused_of e) is
     go (Some r) h = up r (at_place inner place r v h.0 h.1 fails)
 
 -- a fact that holds where the inner fault does holds unless memory ran out
-unless_memory : (inner : ComposerErrorInner) (e : ComposerError) (place : Place) (P : Type 0) → IsRefusal inner e place → ((f : Fault) → fault_of inner ≡ Some f → P) → MatchOption (fault_of e.inner) (Unit {0}) (λ f. P)
+pub unless_memory : (inner : ComposerErrorInner) (e : ComposerError) (place : Place) (P : Type 0) → IsRefusal inner e place → ((f : Fault) → fault_of inner ≡ Some f → P) → MatchOption (fault_of e.inner) (Unit {0}) (λ f. P)
 unless_memory inner e place P is h = go (fault_of e.inner) is
   where
     go : (o : Option Fault) → MatchOption (option_map (λ f. record { fault = f; place = place_of e.source }) o) (place_of e.source ≡ nowhere) (λ (r : Refused). (fault_of inner ≡ Some r.fault) × (r.place ≡ place)) → MatchOption o (Unit {0}) (λ f. P)
     go None k = tt
     go (Some f) k = h f k.0
 
-failed : {Y : Type 0} (inner : ComposerErrorInner) (f : Fault) (v : Result Y Fault) → fault_of inner ≡ Some f → Fails inner v → v ≡ Err f
+pub failed : {Y : Type 0} (inner : ComposerErrorInner) (f : Fault) (v : Result Y Fault) → fault_of inner ≡ Some f → Fails inner v → v ≡ Err f
 failed inner f v is fails = subst (λ (o : Option Fault). MatchOption o (Unit {0}) (λ f. v ≡ Err f)) is fails
 
 module _ {B X Y : Type 0} (view : X → Y) (shown : Definition → Y) (old : State B) (m : ModuleSource) (inner : ComposerErrorInner) (e : ComposerError) where

@@ -1,6 +1,7 @@
 -- Calls that are sent down the functions that override another.
 use mathlib.Core.Path.{fun_ext}
-use Rattle.std.proofs.Common.{◌≡◌, ℕ, List, [], ◌∷◌, Bool, true, false, cond, ◌||◌, MatchOption, Result, Ok, Err, String, Global, string_bytes, refl, sym, ap, ◌∙◌}
+use Rattle.std.proofs.Common.{◌≡◌, ℕ, List, [], ◌∷◌, map, length, Bool, true, false, cond, if◌then◌else◌, ◌||◌, Option, Some, None, MatchOption, Result, Ok, Err, String, Vec, Global, string_bytes, refl, sym, ap, ◌∙◌}
+use Rattle.std.proofs.lemmas.List.{length-map, nil_from_length}
 use Rattle.std.proofs.lemmas.Map.Text.{btree_set_updates_text}
 use Rattle.std.proofs.lemmas.Bool.Decides.{Decides-like, same_from_decides}
 use Rattle.std.proofs.lemmas.Slice.Eq.{bytes_eq-Decides}
@@ -14,13 +15,20 @@ use Rattle.std.specs.Str.{bytes_eq}
 use Rattle.std.specs.String.{string_cmp}
 use Rattle.naga_oil_ir.specs.ModuleValue.{ModuleValue}
 use Rattle.naga_oil_ir.specs.RedirectFault.{RedirectFault, redirect_fault}
+use Rattle.naga_oil_redirect.specs.PutInOrder.{put_in_order}
 use Rattle.naga_oil_redirect.specs.Redirected.{matched, redirected}
 use Rattle.naga_oil_ir.specs.declared.redirect_error.RedirectError.{RedirectError}
 use Rattle.naga_oil_ir.specs.declared.redirect_error.RedirectError.TheVariants as code
 use Rattle.naga_oil_pre.specs.Fault.{Fault, redirection}
-use Rattle.naga_oil_lines.specs.Text.{is_among}
+use Rattle.naga_oil_pre.specs.declared.fault.ComposerErrorInner.{ComposerErrorInner}
+use Rattle.naga_oil_lines.specs.Text.{is_among, texts}
+use Rattle.naga_oil_registry.specs.Added.{◌>>=◌}
+use Rattle.naga_oil_link.specs.BuiltModule.{Overriding}
+use Rattle.naga_oil_link.specs.FormView.{GivesFormed}
+use Rattle.naga_oil_ir.specs.declared.check_form.FormFault.{FormFault}
+use Rattle.naga_oil_ir.specs.declared.check_form.FormFault.TheVariants.{WrongForm, Memory}
 use Rattle.naga_oil_pre.specs.View.{fault_of, redirect_error}
-use Rattle.naga_oil.specs.Chains.{sent_down}
+use Rattle.naga_oil.specs.Chain.{sent_down, all_sent_down, check_apart, put_in_order_as, chain_all, chain}
 
 -- ---- the functions that are omitted
 pub same_bytes : (a b : List ℕ) → bytes_eq a b ≡ bytes_eq b a
@@ -56,10 +64,87 @@ unfolding sent_down
 all_sent m original omitted = refl
 
 -- what a redirection is refused for
-pub refused_redirection : (e : RedirectError) (value : Result (ℕ × ℕ) RedirectFault) (told : Result ModuleValue Fault) → ((f : RedirectFault) → value ≡ Err f → told ≡ Err (redirection f))
+pub refused_redirection : {X : Type 0} (e : RedirectError) (value : Result X RedirectFault) (told : Result ModuleValue Fault) → ((f : RedirectFault) → value ≡ Err f → told ≡ Err (redirection f))
     → MatchOption (redirect_fault e) (Unit {0}) (λ f. value ≡ Err f) → MatchOption (fault_of (redirect_error e)) (Unit {0}) (λ f. told ≡ Err f)
 refused_redirection (code.FunctionNotFound name) value told so h = so _ h
 refused_redirection (code.ArgumentMismatch replacement original) value told so h = so _ h
 refused_redirection (code.ReturnTypeMismatch replacement original) value told so h = so _ h
 refused_redirection (code.CircularReference names) value told so h = so _ h
 refused_redirection code.Memory value told so h = h
+
+-- ---- one chain more
+pub all_more : (m n : ModuleValue) (base : List ℕ) (others : List (List ℕ)) (more : Overriding) → sent_down m base others [] ≡ Ok n → all_sent_down m ((base, others) ∷ more) ≡ all_sent_down n more
+unfolding all_sent_down
+all_more m n base others more e = rw e refl
+
+pub all_refused : (m : ModuleValue) (base : List ℕ) (others : List (List ℕ)) (more : Overriding) (f : Fault) → sent_down m base others [] ≡ Err f → all_sent_down m ((base, others) ∷ more) ≡ Err f
+unfolding all_sent_down
+all_refused m base others more f e = rw e refl
+
+pub all_down : (m : ModuleValue) → all_sent_down m [] ≡ Ok m
+unfolding all_sent_down
+all_down m = refl
+
+-- what holds of a fault, if there is one
+pub fault_then : (e : ComposerErrorInner) (P Q : Fault → Type 0) → ((f : Fault) → P f → Q f) → MatchOption (fault_of e) (Unit {0}) P → MatchOption (fault_of e) (Unit {0}) Q
+fault_then e P Q so h = by (fault_of e) h
+  where
+    by : (o : Option Fault) → MatchOption o (Unit {0}) P → MatchOption o (Unit {0}) Q
+    by None h = tt
+    by (Some f) h = so f h
+
+-- ---- the whole chain, step by step
+abbrev ordered_after : Result ModuleValue Fault → Result ModuleValue Fault
+ordered_after r = r >>= λ sent. put_in_order_as (put_in_order sent)
+
+abbrev sent_after : Overriding → Result ModuleValue Fault → Result ModuleValue Fault
+sent_after all r = r >>= λ formed. ordered_after (all_sent_down formed all)
+
+module _ (all : Overriding) (m : ModuleValue) where
+  pub not_formed : (f : Fault) → check_apart m ≡ Err f → chain_all all m ≡ Err f
+  unfolding chain_all
+  not_formed f e = ap (sent_after all) e
+
+  pub not_all_sent : (formed : ModuleValue) → check_apart m ≡ Ok formed → (f : Fault) → all_sent_down formed all ≡ Err f → chain_all all m ≡ Err f
+  unfolding chain_all
+  not_all_sent formed e f h = ap (sent_after all) e ∙ ap ordered_after h
+
+  pub sent_and_ordered : (formed : ModuleValue) → check_apart m ≡ Ok formed → (sent : ModuleValue) → all_sent_down formed all ≡ Ok sent → chain_all all m ≡ put_in_order_as (put_in_order sent)
+  unfolding chain_all
+  sent_and_ordered formed e sent h = ap (sent_after all) e ∙ ap ordered_after h
+
+-- where a function is overridden, and where none is
+pub chains : (all : Overriding) (m : ModuleValue) → (all ≡ [] → ⊥) → chain all m ≡ chain_all all m
+chains [] m some = absurd (some refl)
+chains (o ∷ more) m some = refl
+
+pub no_chains : (all : Overriding) (m : ModuleValue) → all ≡ [] → chain all m ≡ Ok m
+no_chains all m none = ap (λ os. chain os m) none
+
+abbrev chain_of : String Global × Vec (String Global) Global → List ℕ × List (List ℕ)
+chain_of e = (string_bytes e.0, texts e.1.items)
+
+-- a list of chains has as many as there are
+pub none_overridden : (es : List (String Global × Vec (String Global) Global)) → length es ≡ 0 → map chain_of es ≡ []
+none_overridden es e = ap (map chain_of) (nil_from_length es e)
+
+pub some_overridden : (es : List (String Global × Vec (String Global) Global)) → map chain_of es ≡ [] → length es ≡ 0
+some_overridden es e = sym (length-map es chain_of) ∙ ap length e
+
+-- ---- the test of form, passed and refused
+abbrev pub told_if : Bool → Option (Unit {0})
+told_if b = if b then Some tt else None
+
+pub passed : (b : Bool) → told_if b ≡ Some tt → b ≡ true
+passed true e = refl
+passed false e = absurd cc
+
+failed : (b : Bool) → told_if b ≡ None → b ≡ false
+failed true e = absurd cc
+failed false e = refl
+
+-- where a test that another needs is refused
+pub refused_apart : {X : Type 0} (view : X → ModuleValue) (e : FormFault) (test apart : Bool) (m : ModuleValue) → (test ≡ false → apart ≡ false) → GivesFormed {X = Unit {0}} (λ done. done) (Err e) (told_if test)
+    → GivesFormed view (Err e) (if apart then Some m else None)
+refused_apart view WrongForm test apart m so h = ap (λ (b : Bool). if b then Some m else None) (so (failed test h))
+refused_apart view Memory test apart m so h = tt

@@ -1,29 +1,29 @@
--- What a make comes to, at each of its ends.
-use Rattle.std.proofs.Common.{◌≡◌, ◌≤◌, ◌∙◌, ℕ, List, [], ◌∷◌, map, All, Option, Some, None, MatchOption, option_map, Result, Ok, Err, refl, sym, ap, subst, inl, inr}
+-- What a make comes to, and its registered modules.
+use Rattle.std.proofs.Common.{◌≡◌, ◌≤◌, ℕ, List, [], ◌∷◌, map, All, Option, Some, None, MatchOption, Result, Ok, Err, refl, sym, ap, inl, inr}
 use Rattle.std.proofs.lemmas.List.Elements.{All-nil, All-cons}
 use Rattle.naga_oil_ir.specs.Backend.{FrontEnd}
+use Rattle.naga_oil_ir.specs.ModuleValue.{ModuleValue, module_value}
 use Rattle.naga_oil_ir.specs.declared.module.Module.{Module}
 use Rattle.naga_oil_pre.specs.Fault.{Fault}
 use Rattle.naga_oil_pre.specs.View.{fault_of, Fails}
 use Rattle.naga_oil_pre.specs.declared.fault.ComposerErrorInner.{ComposerErrorInner}
-use Rattle.naga_oil_registry.specs.declared.definition.ComposableModuleDefinition.{ComposableModuleDefinition}
-use Rattle.naga_oil.specs.declared.compose.error.ComposerError.{ComposerError}
 use Rattle.naga_oil_registry.specs.Added.{read_source, counter_behind, counter_after}
-use Rattle.naga_oil.specs.Afresh.{Setting}
-use Rattle.naga_oil.specs.BuiltModule.{Builds}
 use Rattle.naga_oil_registry.specs.Definition.{Definition, definition_of}
 use Rattle.naga_oil_registry.specs.Descriptor.{ShaderSource}
-use Rattle.naga_oil.specs.Makes.{Makes, AnswersMake, make_setting}
-use Rattle.naga_oil.specs.Refused.{Refused, refused_of, place_of, nowhere, in_text, UnlessMemory}
 use Rattle.naga_oil_registry.specs.Registry.{IsRegistry}
+use Rattle.naga_oil_registry.specs.declared.definition.ComposableModuleDefinition.{ComposableModuleDefinition}
+use Rattle.naga_oil_link.specs.BuiltModule.{Builds}
+use Rattle.naga_oil_build.specs.Held.{Settings}
+use Rattle.naga_oil.specs.Answer.{make, answer}
+use Rattle.naga_oil.specs.MakeView.{memory_nowhere}
+use Rattle.naga_oil.specs.Makes.{Makes, settings_of}
+use Rattle.naga_oil.specs.Outcome.{Outcome, Does, given, done_with}
+use Rattle.naga_oil.specs.Refused.{Place, Refused, refused_of, in_text, placed, UnlessMemory}
 use Rattle.naga_oil.specs.State.{State}
-use Rattle.naga_oil.proofs.AddsLemmas.{IsRefusal}
-
-failed : {Y : Type 0} (inner : ComposerErrorInner) (f : Fault) (v : Result Y Fault) → fault_of inner ≡ Some f → Fails inner v → v ≡ Err f
-failed inner f v is fails = subst (λ (o : Option Fault). MatchOption o (Unit {0}) (λ f. v ≡ Err f)) is fails
-
-same_fault : {Y : Type 0} (f g : Fault) (v : Result Y Fault) → v ≡ Err f → v ≡ Err g → g ≡ f
-same_fault f g v a b = cc
+use Rattle.naga_oil.specs.declared.compose.error.ComposerError.{ComposerError}
+use Rattle.naga_oil.proofs.AddsLemmas.{IsRefusal, failed, unless_memory}
+use Rattle.naga_oil.proofs.DoesLemmas.{does_answers}
+use Rattle.naga_oil.proofs.PlacedLemmas.{tells_on, tells_placed, answers_same}
 
 always : {X E F : Type 0} (told : E → Option F) (r : Result X E) (P : Type 0) → P → UnlessMemory told r P
 always told (Ok x) P p = p
@@ -33,56 +33,44 @@ always {X} {E} {F} told (Err e) P p = go (told e)
     go None = tt
     go (Some f) = p
 
--- the source isn't read
-module _ {B : Type 0} (old : State B) (m : ShaderSource) (inner : ComposerErrorInner) (e : ComposerError) (is : IsRefusal inner e (in_text m.file_path m.source 0)) (fails : Fails inner (read_source old.counter m.source)) where
-  told_so : (f : Fault) → read_source old.counter m.source ≡ Err f → (o : Option Refused) → MatchOption o (place_of e.source ≡ nowhere) (λ (r : Refused). (fault_of inner ≡ Some r.fault) × (r.place ≡ in_text m.file_path m.source 0)) → MatchOption o (place_of e.source ≡ nowhere) (λ s. s ≡ record { fault = f; place = in_text m.file_path m.source 0 })
-  told_so f bad None h = h
-  told_so f bad (Some r) h =
-      let g : r.fault ≡ f = same_fault f r.fault (read_source old.counter m.source) bad (failed inner r.fault (read_source old.counter m.source) h.0 fails) in
-      λ i. record { fault = g i; place = h.1 i }
+module _ {B : Type 0} (front : B → FrontEnd) (old : State B) (m : ShaderSource) where
+  abbrev source_place : Place
+  source_place = in_text m.file_path m.source 0
 
-  uncounted : (o : Option Fault) → MatchOption (option_map (λ f. record { fault = f; place = place_of e.source }) o) (place_of e.source ≡ nowhere) (λ (r : Refused). (fault_of inner ≡ Some r.fault) × (r.place ≡ in_text m.file_path m.source 0)) → MatchOption o (Unit {0}) (λ f. old.counter ≡ counter_after old.counter m.source)
-  uncounted None h = tt
-  uncounted (Some f) h = ap (counter_behind old.counter) (sym (failed inner f (read_source old.counter m.source) h.0 fails))
+  abbrev behind : List ℕ × ℕ → Builds → Outcome ModuleValue Refused
+  behind read = make (settings_of front old) old.registry m read.0
 
-  unanswered : (S : Refused → Type 0) (text : List ℕ) (next : ℕ) → read_source old.counter m.source ≡ Ok (text, next) → (o : Option Refused) → MatchOption o (place_of e.source ≡ nowhere) (λ (r : Refused). (fault_of inner ≡ Some r.fault) × (r.place ≡ in_text m.file_path m.source 0)) → MatchOption o (place_of e.source ≡ nowhere) S
-  unanswered S text next read None h = h
-  unanswered S text next read (Some r) h = let bad : read_source old.counter m.source ≡ Err r.fault = failed inner r.fault (read_source old.counter m.source) h.0 fails in absurd cc
-
-  pub makes-unread : (front : B → FrontEnd) → Makes front old m (Err e) old
-  makes-unread front = record {
-    counter = record { exact = uncounted (fault_of e.inner) is; either = inl refl };
-    unread = λ f bad. told_so f bad (refused_of e) is;
-    answer = λ text next read. unanswered _ text next read (refused_of e) is;
+  -- the source isn't read
+  pub makes_unread : (inner : ComposerErrorInner) (e : ComposerError) → IsRefusal inner e source_place → Fails inner (read_source old.counter m.source) → Makes front old m (Err e) old
+  unfolding answer
+  makes_unread inner e is fails = record {
+    reply = tells_on e (placed source_place (read_source old.counter m.source)) (answer (settings_of front old) old.registry old.counter m).result
+        (λ r bad. ap (λ (v : Result (List ℕ × ℕ) Refused). (done_with (given v []) behind v).result) bad)
+        (tells_placed inner e source_place (read_source old.counter m.source) is fails);
+    counter = record {
+      exact = unless_memory inner e source_place (old.counter ≡ counter_after old.counter m.source) is (λ f has. ap (counter_behind old.counter) (sym (failed inner f (read_source old.counter m.source) has fails)));
+      either = inl refl;
+    };
     rest = refl;
   }
 
--- what is answered of the same text and modules, over nothing
-pub same_answer : (s : Setting) (ds es : List Definition) (m : ShaderSource) (text read : List ℕ) (bs : Builds) (result : Result Module ComposerError) → ds ≡ es → text ≡ read → bs ≡ [] → AnswersMake s ds m text bs result → AnswersMake s es m read [] result
-same_answer s ds es m text read bs result a b c h =
-    subst (λ (x : List Definition). AnswersMake s x m read [] result) a (subst (λ (x : List ℕ). AnswersMake s ds m x [] result) b (subst (λ (x : Builds). AnswersMake s ds m text x result) c h))
+  -- it is read, and the shader is made
+  pub makes_read : (result : Result Module ComposerError) (text : List ℕ) (counter : ℕ) (builds : Builds) → read_source old.counter m.source ≡ Ok (text, counter)
+      → Does module_value refused_of memory_nowhere result builds (make (settings_of front old) old.registry m text []) → Makes front old m result (record old { counter = counter })
+  unfolding answer
+  makes_read result text counter builds read does =
+      let counted : counter ≡ counter_after old.counter m.source = ap (counter_behind old.counter) (sym read) in
+      record {
+        reply = answers_same module_value result (make (settings_of front old) old.registry m text []).result (answer (settings_of front old) old.registry old.counter m).result
+            (ap (λ (v : Result (List ℕ × ℕ) Fault). (done_with (given (placed source_place v) []) behind (placed source_place v)).result) read)
+            (does_answers module_value result builds (make (settings_of front old) old.registry m text []) does);
+        counter = record { exact = always (λ e. fault_of e.inner) result (counter ≡ counter_after old.counter m.source) counted; either = inr counted };
+        rest = refl;
+      }
 
-text_read : Result (List ℕ × ℕ) Fault → List ℕ
-text_read (Ok read) = read.0
-text_read (Err f) = []
-
-read_once : (v : Result (List ℕ × ℕ) Fault) (text other : List ℕ) (counter next : ℕ) → v ≡ Ok (text, counter) → v ≡ Ok (other, next) → text ≡ other
-unfolding text_read
-read_once v text other counter next a b = ap text_read (sym a) ∙ ap text_read b
-
--- it is read
-pub makes-read : {B : Type 0} (front : B → FrontEnd) (old : State B) (m : ShaderSource) (result : Result Module ComposerError) (text : List ℕ) (counter : ℕ) → read_source old.counter m.source ≡ Ok (text, counter) → AnswersMake (make_setting front old m) old.registry m text [] result
-    → Makes front old m result (record old { counter = counter })
-makes-read front old m result text counter read answers =
-    let counted : counter ≡ counter_after old.counter m.source = ap (counter_behind old.counter) (sym read) in
-    record {
-      counter = record { exact = always (λ e. fault_of e.inner) result (counter ≡ counter_after old.counter m.source) counted; either = inr counted };
-      unread = λ f bad. absurd cc;
-      answer = λ other next again. subst (λ (x : List ℕ). AnswersMake (make_setting front old m) old.registry m x [] result) (read_once (read_source old.counter m.source) text other counter next read again) answers;
-      rest = refl;
-    }
-
--- ---- indices
+-- the same shader over the same modules, of which nothing is built
+pub same_make : (s : Settings) (ds es : List Definition) (m : ShaderSource) (text read : List ℕ) (bs : Builds) → ds ≡ es → text ≡ read → bs ≡ [] → make s es m read [] ≡ make s ds m text bs
+same_make s ds es m text read bs a b c = λ i. make s (sym a i) m (sym b i) (sym c i)
 
 -- each registered module's index is small
 pub small_indices : (ds : List ComposableModuleDefinition) → IsRegistry (map definition_of ds) → All (λ d. d.module_index ≤ 2047) ds

@@ -14,7 +14,7 @@ use Rattle.naga_oil_pre.specs.declared.shader_def.ShaderDefValue.TheVariants as 
 use Rattle.naga_oil_pre.specs.contracts.shader_def.ShaderDefValuePartialEq.TheImpl.{ghosts}
 use Rattle.naga_oil_registry.specs.Definition.{Defs}
 use Rattle.naga_oil_registry.specs.Merged.{with_def}
-use Rattle.naga_oil.specs.Merging.{value_of, same_value, has_value, agrees, defs_union}
+use Rattle.naga_oil.specs.Shader.{value_of, same_value, has_value, agrees, defs_union}
 use Rattle.naga_oil_registry.proofs.MergedLemmas.{named}
 
 -- what a map holds under a name

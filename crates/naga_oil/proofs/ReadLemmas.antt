@@ -1,125 +1,213 @@
--- What a make reads of its shader, and what it answers, at each end.
-use Rattle.std.proofs.Common.{◌≡◌, ℕ, List, [], ◌∷◌, map, true, sym, ap, subst, ◌∙◌, refl, MatchOption, Result, Ok, Err, IsErrAnd, String, Global, string_bytes}
+-- What a make reads of its shader.
+use Rattle.std.proofs.Common.{◌≡◌, ℕ, zero, suc, List, [], ◌∷◌, map, Bool, true, false, ◌||◌, cond, refl, sym, ap, subst, ◌∙◌, Option, Some, None, option_map, Result, Ok, Err, String, Global, string_bytes, Ordering, Less, Equal, Greater}
+use Rattle.std.proofs.lemmas.Bool.{or_from, true≢false}
+use Rattle.std.proofs.lemmas.Cmp.{nat_list_cmp_total}
+use Rattle.std.proofs.lemmas.List.Folds.{list_any-append}
+use Rattle.std.proofs.lemmas.Map.Lookups.{exact_bytes}
+use Rattle.std.proofs.lemmas.Map.Text.{is_eq-slice_cmp}
+use Rattle.std.proofs.lemmas.Slice.Eq.{bytes_eq-Decides}
 use Rattle.std.specs.Cmp.Lexicographic.{slice_cmp}
+use Rattle.std.specs.List.{cons_option, flat_map, AllByRecursion}
 use Rattle.std.specs.List.Sorted.{IsStrictlySortedBy}
-use Rattle.std.specs.Ordering.{nat_cmp}
-use Rattle.std.specs.String.{string_cmp}
 use Rattle.std.specs.Map.{keys_of}
-use Rattle.naga_oil_ir.specs.ModuleValue.{ModuleValue}
+use Rattle.std.specs.Ordering.{nat_cmp, is_eq, ordering_reverse}
+use Rattle.std.specs.Str.{bytes_eq}
+use Rattle.std.specs.String.{string_cmp}
+use Rattle.naga_oil_lines.specs.Directives.{Directives}
 use Rattle.naga_oil_lines.specs.DirectivesText.{in_order}
-use Rattle.naga_oil_lines.specs.Uses.{Use}
-use Rattle.naga_oil_pre.specs.Fault.{Fault}
-use Rattle.naga_oil_pre.specs.Metadata.{Metadata, metadata}
-use Rattle.naga_oil_pre.specs.Preprocessed.{Output}
+use Rattle.naga_oil_lines.specs.Leaves.{Leaf, SyntaxFault}
+use Rattle.naga_oil_lines.specs.Text.{is_among, texts}
+use Rattle.naga_oil_lines.proofs.NamesInOrder.{names_rise}
+use Rattle.naga_oil_pre.specs.DefineValue.{defined_value}
+use Rattle.naga_oil_pre.specs.Extracted.{extracted}
+use Rattle.naga_oil_pre.specs.Fault.{Fault, Definitions}
+use Rattle.naga_oil_pre.specs.Kind.{LineKind, version, condition, endif, imports, import_path, define, other, unversioned_kind_of}
+use Rattle.naga_oil_pre.specs.Line.{Line, source_lines}
+use Rattle.naga_oil_pre.specs.Metadata.{Found, Metadata, metadata, metadata_behind, metadata_with, found_in, found_behind, nothing_found, defined_as, defined_behind, with_defines, with_import, going_on, left_open}
+use Rattle.naga_oil_pre.specs.Reading.{braces_after}
 use Rattle.naga_oil_pre.specs.declared.shader_def.ShaderDefValue.{ShaderDefValue}
-use Rattle.naga_oil.specs.Afresh.{Setting, Unless, UnlessBuilt, EachReached, Reached, Unreached, defined}
-use Rattle.naga_oil.specs.Building.{by_steps, IsBuilt}
-use Rattle.naga_oil.specs.Built.{build_place, preprocessed_of}
-use Rattle.naga_oil.specs.BuiltModule.{BuiltModule, Builds}
+use Rattle.naga_oil_registry.specs.Added.{◌>>=◌}
 use Rattle.naga_oil_registry.specs.Definition.{Definition, Defs}
-use Rattle.naga_oil_lines.specs.Text.{texts}
 use Rattle.naga_oil_registry.specs.Descriptor.{ShaderSource}
-use Rattle.naga_oil.specs.Made.{Unread, here, there, UnreadFor, Reading, OneUnread, any_use, may_use}
 use Rattle.naga_oil_registry.specs.Merged.{recorded_names}
-use Rattle.naga_oil.specs.Merging.{shader_definition, defs_union_over}
-use Rattle.naga_oil.specs.Read.{IsShader, FirstRead, NotFirstRead, NotJoined, NotReached, SecondRead, NotSecondRead, NotReachedAgain, with_own, IsUnread, NotFirst, NotSecond}
-use Rattle.naga_oil.specs.Refused.{Refused, refused_of, place_of, nowhere, in_text}
-use Rattle.naga_oil.specs.Shader.{ShaderAnswers}
-use Rattle.naga_oil.specs.Whole.{refusal, IsToldFor, FinishAnswers, Finished}
-use Rattle.naga_oil_registry.specs.declared.descriptor.ShaderType.{ShaderType}
-use Rattle.naga_oil.specs.declared.compose.error.ComposerError.{ComposerError}
-use Rattle.naga_oil.specs.declared.compose.make.ReadFault.{ReadFault}
-use Rattle.naga_oil.specs.declared.compose.make.ReadFault.TheVariants as reading
-use Rattle.naga_oil.proofs.AfreshLemmas.{refusal_weaker, told_answers}
 use Rattle.naga_oil_registry.proofs.MergedLemmas.{named}
-use Rattle.naga_oil_registry.proofs.NamesLemmas.{sorted_texts}
-use Rattle.naga_oil.proofs.ShaderLemmas.{fault_then}
+use Rattle.naga_oil_registry.proofs.NamesLemmas.{sorted_texts, among-in_order}
+use Rattle.naga_oil.specs.Reach.{defined}
+use Rattle.naga_oil.specs.Shader.{name_defined, names_defined, defs_among, shader_definition, shader_found, read_shader}
 
--- ---- answers
+-- ---- definitions in byte order are told by what they say of names among which theirs are
 
--- an error is told for one of more reasons
-unread_on : (F G : Unread → Type 0) (e : ReadFault) → ((w : Unread) → F w → G w) → UnreadFor F e → UnreadFor G e
-unread_on F G (reading.Here inner) h k = fault_then inner (λ f. F (here f)) (λ f. G (here f)) (λ f. h (here f)) k
-unread_on F G (reading.There e) h k = refusal_weaker e (λ r. F (there r)) (λ r. G (there r)) (λ r. h (there r)) k
+abbrev order : List ℕ → List ℕ → Ordering
+order a b = slice_cmp nat_cmp a b
 
--- an answer is one of more
-pub reading_weaker : {X : Type 0} (P Q : X → Type 0) (F G : Unread → Type 0) (r : Result X ReadFault) → ((x : X) → P x → Q x) → ((w : Unread) → F w → G w) → Reading P F r → Reading Q G r
-reading_weaker P Q F G (Ok x) h k g = h x g
-reading_weaker P Q F G (Err e) h k g = unread_on F G e k g
+-- each name stands above this one
+abbrev Above : List ℕ → List (List ℕ) → Type 0
+Above n names = AllByRecursion (λ m. order n m ≡ Less) names
 
--- an error that is passed on
-pub reading_passed : {X : Type 0} (Q : X → Type 0) (F G : Unread → Type 0) (e : ReadFault) (y : Result X ReadFault) → ((w : Unread) → F w → G w) → UnreadFor F e → IsErrAnd y (λ o. o ≡ e) → Reading Q G y
-reading_passed Q F G e (Ok y) h g j = absurd j
-reading_passed Q F G e (Err o) h g j = subst (λ z. UnreadFor G z) (sym j) (unread_on F G e h g)
+abbrev names_in : Defs → List (List ℕ)
+names_in defs = map (λ d. d.0) defs
 
--- why a shader isn't read, told of its text
-pub told_unread : (path text : List ℕ) (fault : ReadFault) (e : ComposerError) (F : Unread → Type 0) (S : Refused → Type 0) → ((w : Unread) → F w → S (refusal path text w)) → UnreadFor F fault → IsToldFor path text fault e → MatchOption (refused_of e) (place_of e.source ≡ nowhere) S
-told_unread path text (reading.Here inner) e F S so g h =
-    refusal_weaker e (λ w. (f : Fault) × F (here f) × (w ≡ record { fault = f; place = in_text path text 0 })) S
-    (λ r k. subst (λ (x : Refused). S x) (sym k.2) (so (here k.0) k.1))
-    (told_answers {X = Unit {0}} (λ u. Unit {0}) (λ f. F (here f)) (in_text path text 0) (Err inner) (Err e) h g)
-told_unread path text (reading.There c) e F S so g h =
-    subst (λ (z : ComposerError). MatchOption (refused_of z) (place_of z.source ≡ nowhere) S) (sym h) (refusal_weaker c (λ r. F (there r)) S (λ r. so (there r)) g)
+above_more : (x y : List ℕ) (zs : List (List ℕ)) → order x y ≡ Less → Above y zs → Above x zs
+above_more x y [] e h = tt
+above_more x y (z ∷ zs) e h = (nat_list_cmp_total.trans x y z e h.0, above_more x y zs e h.1)
+
+-- a name below all is among none
+not_above : (x : List ℕ) (zs : List (List ℕ)) → Above x zs → is_among zs x ≡ false
+not_above x [] h = refl
+not_above x (z ∷ zs) h = or_from (bytes_eq x z) (is_among zs x) (sym (is_eq-slice_cmp x z) ∙ ap is_eq h.0) (not_above x zs h.1)
+
+-- and isn't defined
+undefined_above : (x : List ℕ) (defs : Defs) → Above x (names_in defs) → defined defs x ≡ None
+undefined_above x [] h = refl
+undefined_above x (d ∷ defs) h = ap (λ o. cond (is_eq o) (Some d.1) (defined defs x)) h.0 ∙ undefined_above x defs h.1
+
+first_defined : (d : List ℕ × ShaderDefValue) (defs : Defs) → defined (d ∷ defs) d.0 ≡ Some d.1
+first_defined d defs = ap (λ b. cond b (Some d.1) (defined defs d.0)) (is_eq-slice_cmp d.0 d.0 ∙ (bytes_eq-Decides d.0 d.0).1 refl)
+
+-- of names above the first, the others say as much
+behind_first : (d : List ℕ × ShaderDefValue) (defs : Defs) (names : List (List ℕ)) → Above d.0 names → defs_among (defined (d ∷ defs)) names ≡ defs_among (defined defs) names
+behind_first d defs [] h = refl
+behind_first d defs (n ∷ names) h =
+    let apart : order n d.0 ≡ Greater = nat_list_cmp_total.antisymm n d.0 ∙ ap ordering_reverse h.0 in
+    ap (λ o. cons_option (option_map (λ v. (n, v)) (cond (is_eq o) (Some d.1) (defined defs n))) (defs_among (defined (d ∷ defs)) names)) apart
+    ∙ ap (λ (ds : Defs). cons_option (option_map (λ v. (n, v)) (defined defs n)) ds) (behind_first d defs names h.1)
+
+-- what isn't among names isn't defined
+abbrev Covers : List (List ℕ) → Defs → Type 0
+Covers names defs = (m : List ℕ) → is_among names m ≡ false → defined defs m ≡ None
+
+from_names : (names : List (List ℕ)) (defs : Defs) → IsStrictlySortedBy (slice_cmp nat_cmp) names → IsStrictlySortedBy (slice_cmp nat_cmp) (names_in defs) → Covers names defs → defs_among (defined defs) names ≡ defs
+unfolding IsStrictlySortedBy
+from_names [] [] s t h = refl
+from_names [] (d ∷ defs) s t h = let none = h d.0 refl in let some = first_defined d defs in absurd cc
+from_names (n ∷ names) [] s t h = from_names names [] s.1 t (λ m e. refl)
+from_names (n ∷ names) (d ∷ defs) s t h = by (order n d.0) refl (λ k. from_names names defs s.1 t.1 k) (λ k. from_names names (d ∷ defs) s.1 t k)
+  where
+    -- but for the first name
+    but_first : (P : List ℕ → Type 0) (m : List ℕ) → P n → (bytes_eq m n ≡ false → P m) → P m
+    but_first P m p k = go (bytes_eq m n) refl
+      where
+        go : (b : Bool) → bytes_eq m n ≡ b → P m
+        go true e = subst P (sym ((bytes_eq-Decides m n).0 e)) p
+        go false e = k e
+
+    asked : (m : List ℕ) → is_among names m ≡ false → bytes_eq m n ≡ false → defined (d ∷ defs) m ≡ None
+    asked m k e = h m (ap (λ b. b || is_among names m) e ∙ k)
+
+    by : (o : Ordering) → order n d.0 ≡ o → (Covers names defs → defs_among (defined defs) names ≡ defs) → (Covers names (d ∷ defs) → defs_among (defined (d ∷ defs)) names ≡ d ∷ defs) → defs_among (defined (d ∷ defs)) (n ∷ names) ≡ d ∷ defs
+    by Less e behind rest =
+        let none : defined (d ∷ defs) n ≡ None = undefined_above n (d ∷ defs) (e, above_more n d.0 (names_in defs) e t.0) in
+        ap (λ o. cons_option (option_map (λ v. (n, v)) o) (defs_among (defined (d ∷ defs)) names)) none
+        ∙ rest (λ m k. but_first (λ x. defined (d ∷ defs) x ≡ None) m none (asked m k))
+    by Equal e behind rest =
+        let same : n ≡ d.0 = exact_bytes n d.0 e in
+        let none : defined defs n ≡ None = ap (defined defs) same ∙ undefined_above d.0 defs t.0 in
+        let apart = λ (m : List ℕ) (f : bytes_eq m n ≡ false). ap (λ b. cond b (Some d.1) (defined defs m)) (is_eq-slice_cmp m d.0 ∙ ap (bytes_eq m) (sym same) ∙ f) in
+        let more : defs_among (defined (d ∷ defs)) names ≡ defs =
+        behind_first d defs names (subst (λ x. Above x names) same s.0) ∙ behind (λ m k. but_first (λ x. defined defs x ≡ None) m none (λ f. sym (apart m f) ∙ asked m k f)) in
+        ap (λ o. cons_option (option_map (λ v. (n, v)) (cond (is_eq o) (Some d.1) (defined defs n))) (defs_among (defined (d ∷ defs)) names)) e
+        ∙ ap (λ (ds : Defs). (n, d.1) ∷ ds) more ∙ ap (λ x. (x, d.1) ∷ defs) same
+    by Greater e behind rest =
+        let below : order d.0 n ≡ Less = nat_list_cmp_total.antisymm d.0 n ∙ ap ordering_reverse e in
+        let none = h d.0 (not_above d.0 (n ∷ names) (below, above_more d.0 n names below s.0)) in
+        let some = first_defined d defs in
+        absurd cc
+
+-- ---- what isn't among the names that lines define isn't defined
+
+module _ (name : List ℕ) where
+  -- the name isn't defined in what was found
+  abbrev Undefined : Result Found Fault → Type 0
+  Undefined (Ok found) = found.defines name ≡ None
+  Undefined (Err f) = Unit {0}
+
+  behind_import : (found : Found) (at : ℕ) (r : Result (List Leaf) SyntaxFault) → found.defines name ≡ None → Undefined (with_import found at r)
+  behind_import found at (Ok leaves) h = h
+  behind_import found at (Err f) h = tt
+
+  apart_names : (named_so : List ℕ) → is_among (named_so ∷ []) name ≡ false → bytes_eq named_so name ≡ false
+  apart_names named_so h = go (bytes_eq named_so name) refl
+    where
+      go : (b : Bool) → bytes_eq named_so name ≡ b → b ≡ false
+      go false e = refl
+      go true e = let is : name ≡ named_so = sym ((bytes_eq-Decides named_so name).0 e) in absurd (true≢false (sym (ap (λ b. b || false) ((bytes_eq-Decides name named_so).1 is)) ∙ h))
+
+  behind_value : (found : Found) (at : ℕ) (named_so : List ℕ) (text : Option (List ℕ)) (value : Option ShaderDefValue) → found.defines name ≡ None → bytes_eq named_so name ≡ false → Undefined (with_defines found (defined_as found.defines at named_so text value))
+  behind_value found at named_so text (Some value) h e = ap (λ b. cond b (Some value) (found.defines name)) e ∙ h
+  behind_value found at named_so text None h e = tt
+
+  behind_define : (allow_defines : Bool) (found : Found) (at : ℕ) (named_so : List ℕ) (text : Option (List ℕ)) → found.defines name ≡ None → bytes_eq named_so name ≡ false → Undefined (with_defines found (defined_behind allow_defines found.defines at named_so text))
+  behind_define true found at named_so text h e = behind_value found at named_so text (defined_value text) h e
+  behind_define false found at named_so text h e = tt
+
+  behind_line : (allow_defines : Bool) (found : Found) (l : Line) (k : LineKind) (more : List Line) → found.defines name ≡ None → is_among (name_defined k) name ≡ false → Undefined (found_behind allow_defines found l k more)
+  behind_line allow_defines found l (condition is_else c) more h e = h
+  behind_line allow_defines found l endif more h e = h
+  behind_line allow_defines found l imports more h e = behind_import found l.at _ h
+  behind_line allow_defines found l (import_path path) more h e = h
+  behind_line allow_defines found l (define named_so text) more h e = behind_define allow_defines found l.at named_so text h (apart_names named_so e)
+  behind_line allow_defines found l (version known) more h e = h
+  behind_line allow_defines found l other more h e = h
+
+  abbrev line_names : Line → List (List ℕ)
+  line_names l = name_defined (unversioned_kind_of l.covered)
+
+  parts_of : (l : Line) (more : List Line) → is_among (flat_map line_names (l ∷ more)) name ≡ false → (is_among (line_names l) name ≡ false) × (is_among (flat_map line_names more) name ≡ false)
+  parts_of l more e = go (is_among (line_names l) name) (is_among (flat_map line_names more) name) (sym (list_any-append (bytes_eq name) (line_names l) (flat_map line_names more)) ∙ e)
+    where
+      go : (a b : Bool) → (a || b) ≡ false → (a ≡ false) × (b ≡ false)
+      go true b e = absurd (true≢false e)
+      go false b e = (refl, e)
+
+  -- of the lines that an import takes nothing is defined
+  behind_lines : (allow_defines : Bool) (found : Found) (braces : ℕ) (lines : List Line) → found.defines name ≡ None → is_among (flat_map line_names lines) name ≡ false → Undefined (found_in allow_defines found braces lines)
+  behind_lines allow_defines found braces [] h e = h
+  behind_lines allow_defines found zero (l ∷ more) h e =
+      go (found_behind allow_defines found l (unversioned_kind_of l.covered) more) (behind_line allow_defines found l (unversioned_kind_of l.covered) more h (parts_of l more e).0) (λ next k. behind_lines allow_defines next (left_open l (unversioned_kind_of l.covered)) more k (parts_of l more e).1)
+    where
+      go : (r : Result Found Fault) → Undefined r → ((next : Found) → next.defines name ≡ None → Undefined (found_in allow_defines next (left_open l (unversioned_kind_of l.covered)) more)) → Undefined (going_on r (λ next. found_in allow_defines next (left_open l (unversioned_kind_of l.covered)) more))
+      go (Ok next) k rest = rest next k
+      go (Err f) k rest = tt
+  behind_lines allow_defines found (suc n) (l ∷ more) h e = behind_lines allow_defines found (braces_after (suc n) l.covered) more h (parts_of l more e).1
+
+  -- metadata defines what lines of its cleaned text define
+  abbrev DefinesOwn : Result Metadata Fault → Type 0
+  DefinesOwn (Ok m) = is_among (flat_map line_names (source_lines m.cleaned)) name ≡ false → m.defines name ≡ None
+  DefinesOwn (Err f) = Unit {0}
+
+  found-defines : (cleaned : List ℕ) (directives : Directives) (r : Result Found Fault) → (is_among (flat_map line_names (source_lines cleaned)) name ≡ false → Undefined r) → DefinesOwn (metadata_with cleaned directives r)
+  found-defines cleaned directives (Ok found) h = h
+  found-defines cleaned directives (Err f) h = tt
+
+  behind-defines : (allow_defines : Bool) (r : Result (List ℕ × Directives) Fault) → DefinesOwn (metadata_behind allow_defines r)
+  behind-defines allow_defines (Ok r) = found-defines r.0 r.1 (found_in allow_defines nothing_found 0 (source_lines r.0)) (behind_lines allow_defines nothing_found 0 (source_lines r.0) refl)
+  behind-defines allow_defines (Err f) = tt
+
+  undefined-cleaned : (allow_defines : Bool) (text : List ℕ) (m : Metadata) → metadata allow_defines text ≡ Ok m → is_among (flat_map line_names (source_lines m.cleaned)) name ≡ false → m.defines name ≡ None
+  unfolding metadata
+  undefined-cleaned allow_defines text m e = subst DefinesOwn e (behind-defines allow_defines (extracted text))
 
 -- ---- what a text says
 
-names_named : (es : List (String Global × ShaderDefValue)) → texts (keys_of es) ≡ map (λ e. e.0) (named es)
+names_named : (es : List (String Global × ShaderDefValue)) → texts (keys_of es) ≡ names_in (named es)
 names_named [] = refl
 names_named (e ∷ es) = ap (λ ns. string_bytes e.0 ∷ ns) (names_named es)
 
--- the names of a map's definitions are in order
-pub names_ordered : (es : List (String Global × ShaderDefValue)) → IsStrictlySortedBy string_cmp (keys_of es) → IsStrictlySortedBy (slice_cmp nat_cmp) (map (λ e. e.0) (named es))
-names_ordered es h = subst (λ (ns : List (List ℕ)). IsStrictlySortedBy (slice_cmp nat_cmp) ns) (names_named es) (sorted_texts (keys_of es) h)
+-- a map of what a text defines, as a list
+pub defines_listed : (text : List ℕ) (found : Metadata) (es : List (String Global × ShaderDefValue)) → metadata true text ≡ Ok found → found.defines ≡ defined (named es) → IsStrictlySortedBy string_cmp (keys_of es) → named es ≡ defs_among found.defines (names_defined found.cleaned)
+defines_listed text found es says is order =
+    let names = flat_map (λ l. name_defined (unversioned_kind_of l.covered)) (source_lines found.cleaned) in
+    let covers : Covers (in_order names) (named es) = λ m e. ap (λ (f : Definitions). f m) (sym is) ∙ undefined-cleaned m true text found says (sym (among-in_order names m) ∙ e) in
+    sym (from_names (in_order names) (named es) (names_rise names) (subst (λ (ns : List (List ℕ)). IsStrictlySortedBy (slice_cmp nat_cmp) ns) (names_named es) (sorted_texts (keys_of es) order)) covers)
+    ∙ ap (λ (f : Definitions). defs_among f (in_order names)) (sym is)
 
-pub is_shader : (m : ShaderSource) (text : List ℕ) (found : Metadata) (own : Defs) (recorded : List (List ℕ)) (d : Definition) → metadata true text ≡ Ok found → found.defines ≡ defined own
-    → IsStrictlySortedBy (slice_cmp nat_cmp) (map (λ e. e.0) own) → recorded ≡ in_order (recorded_names found.cleaned) → d ≡ shader_definition m found own recorded → IsShader m text d
-is_shader m text found own recorded d says defines order names is =
-    subst (λ (x : Definition). IsShader m text x) (sym is)
-    (record { found = found; says = says; defines = defines; order = order; rest = ap (λ ns. shader_definition m found own ns) names })
+pub shader_read : (m : ShaderSource) (text : List ℕ) (found : Metadata) (defs : Defs) (recorded : List (List ℕ)) (d : Definition) → metadata true text ≡ Ok found
+    → defs ≡ defs_among found.defines (names_defined found.cleaned) → recorded ≡ in_order (recorded_names found.cleaned) → d ≡ shader_definition m found defs recorded → read_shader m text ≡ Ok d
+unfolding read_shader
+shader_read m text found defs recorded d says own names is =
+    ap (λ (r : Result Metadata Fault). r >>= λ found. Ok (shader_found m found)) says
+    ∙ ap (λ (x : Definition). Ok x) (sym (is ∙ (λ i. shader_definition m found (own i) (names i))))
 
--- ---- the two readings
-
-module _ (s : Setting) (ds : List Definition) (d : Definition) (bs : Builds) (out : Output) (becomes : preprocessed_of (defined s.defs) d ≡ Ok out) (us : List Use) (same : us ≡ out.uses) where
-  joins_same : defs_union_over ds s.defs out.uses ≡ defs_union_over ds s.defs us
-  joins_same = ap (λ ws. defs_union_over ds s.defs ws) (sym same)
-
-  -- definitions differ
-  pub not_joined : (f : Fault) → defs_union_over ds s.defs us ≡ Err f → NotFirstRead s ds d bs (here f)
-  not_joined f h = NotJoined out becomes (joins_same ∙ h)
-
-  module _ (more : Defs) (joins : defs_union_over ds s.defs us ≡ Ok more) (vs : List Use) (again : vs ≡ out.uses) where
-    -- what it imports is built
-    pub first_read : (defs : Defs) (cs : Builds) → defs ≡ more → EachReached any_use (Unless (Reached by_steps (record s { defs = more }) ds)) vs bs cs → FirstRead s ds d bs defs cs
-    first_read defs cs e h =
-        subst (λ (q : Defs). FirstRead s ds d bs q cs) (sym e)
-        (record { out = out; becomes = becomes; joins = joins_same ∙ joins; reaches = subst (λ (ws : List Use). EachReached any_use (Unless (Reached by_steps (record s { defs = more }) ds)) ws bs cs) again h })
-
-    -- or isn't
-    pub not_first : (w : Unread) → OneUnread any_use (Unless (Reached by_steps (record s { defs = more }) ds)) (UnlessBuilt (Unreached by_steps (record s { defs = more }) ds)) vs bs w → NotFirstRead s ds d bs w
-    not_first w h = NotReached out more becomes (joins_same ∙ joins) (subst (λ (ws : List Use). OneUnread any_use (Unless (Reached by_steps (record s { defs = more }) ds)) (UnlessBuilt (Unreached by_steps (record s { defs = more }) ds)) ws bs w) again h)
-
-  -- the second time, what it imports is built
-  pub second_read : (cs : Builds) → EachReached (may_use ds s.defs) (Unless (Reached by_steps s ds)) us bs cs → SecondRead s ds d bs out cs
-  second_read cs h = record { becomes = becomes; reaches = subst (λ (ws : List Use). EachReached (may_use ds s.defs) (Unless (Reached by_steps s ds)) ws bs cs) same h }
-
-  -- or isn't
-  pub not_second : (w : Unread) → OneUnread (may_use ds s.defs) (Unless (Reached by_steps s ds)) (UnlessBuilt (Unreached by_steps s ds)) us bs w → NotSecondRead s ds d bs w
-  not_second w h = NotReachedAgain out becomes (subst (λ (ws : List Use). OneUnread (may_use ds s.defs) (Unless (Reached by_steps s ds)) (UnlessBuilt (Unreached by_steps s ds)) ws bs w) same h)
-
--- ---- why a shader isn't read
-
-module _ (s t : Setting) (ds : List Definition) (m : ShaderSource) (text : List ℕ) (bs : Builds) (d : Definition) (shader : IsShader m text d) (own : t ≡ with_own s d) where
-  pub unread_first : (w : Unread) → NotFirstRead t ds d bs w → IsUnread s ds m text bs w
-  unread_first w h = NotFirst d shader (subst (λ (z : Setting). NotFirstRead z ds d bs w) own h)
-
-  pub unread_second : (defs : Defs) (mid : Builds) (u : Setting) → FirstRead t ds d bs defs mid → u ≡ record s { defs = defs } → (w : Unread) → NotSecondRead u ds d mid w → IsUnread s ds m text bs w
-  unread_second defs mid u first alike w h =
-      NotSecond d defs mid shader (subst (λ (z : Setting). FirstRead z ds d bs defs mid) own first) (subst (λ (z : Setting). NotSecondRead z ds d mid w) alike h)
-
--- ---- what is answered
-
--- a shader that is built, of which the text is seen otherwise
-pub is_finished : (s : Setting) (d : Definition) (out : Output) (bs : Builds) (shader_type : ShaderType) (b : BuiltModule) (text : List ℕ) → text ≡ out.text → IsBuilt s d out bs b → (answer : Result ModuleValue Refused)
-    → ShaderAnswers s.front s.capabilities s.validate bs s.defs b shader_type (build_place d text b.offset s.defs) answer → FinishAnswers s d out bs shader_type answer
-is_finished s d out bs shader_type b text same made answer h =
-    Finished b made (subst (λ (t : List ℕ). ShaderAnswers s.front s.capabilities s.validate bs s.defs b shader_type (build_place d t b.offset s.defs) answer) same h)
+pub shader_unread : (m : ShaderSource) (text : List ℕ) (f : Fault) → metadata true text ≡ Err f → read_shader m text ≡ Err f
+unfolding read_shader
+shader_unread m text f says = ap (λ (r : Result Metadata Fault). r >>= λ found. Ok (shader_found m found)) says

@@ -1,10 +1,16 @@
 -- What the test of form asks of all but special types, whichever these are.
-use Rattle.std.proofs.Common.{◌≡◌, ℕ, ◌<◌, List, [], ◌∷◌, ◌++◌, option_to_list, length, map, slice_get, Option, Some, None, refl, subst, All, IfSome, arith}
+use Rattle.std.proofs.Common.{◌≡◌, ℕ, ◌<◌, nat_lt, Bool, true, false, ◌&&◌, Decides, List, [], ◌∷◌, ◌++◌, option_to_list, length, map, Option, Some, None, refl, sym, ap, ◌∙◌, subst, All, IfSome, arith}
+use Rattle.std.proofs.lemmas.Bool.Decides.{Decides-ltb, same_from_decides}
+use Rattle.std.proofs.lemmas.List.{length-map, map-append}
 use Rattle.std.proofs.lemmas.List.Elements.{All-nil, All-cons, All-head, All-tail, All-append, All-weaker}
+use Rattle.std.proofs.lemmas.List.Folds.{list_all-map}
+use Rattle.std.specs.List.{list_all}
+use Rattle.naga_oil_ir.proofs.FormLemmas.{and_decides, decides_same}
+use Rattle.naga_oil_ir.specs.ModuleValue.{SpecialValue, special_value, module_value}
 use Rattle.naga_oil_ir.specs.Rows.{Row, type_row, constant_row, override_row, global_row, expression_row}
 use Rattle.naga_oil_ir.specs.BodyForm.{named_of}
-use Rattle.naga_oil_ir.specs.ItemForm.{IsThere, NamesThere, NamesWell, NamesForm, ExpressionForm, StandAfter, initialiser, is_sized, types_of, special_types}
-use Rattle.naga_oil_ir.specs.WellFormed.{NamedThere, FunctionForm, MeshForm, EntryForm, IsExpressionThere, WellFormed}
+use Rattle.naga_oil_ir.specs.ItemForm.{IsThere, NamesThere, NamesWell, NamesForm, ExpressionForm, StandAfter, initialiser, is_sized, special_types}
+use Rattle.naga_oil_ir.specs.WellFormed.{NamedThere, FunctionForm, MeshForm, EntryForm, WellFormed}
 use Rattle.naga_oil_ir.specs.declared.expression.Expression.{Expression}
 use Rattle.naga_oil_ir.specs.declared.module.EntryPoint.{EntryPoint}
 use Rattle.naga_oil_ir.specs.declared.module.Function.{Function}
@@ -16,7 +22,12 @@ use Rattle.naga_oil_ir.specs.declared.names.ItemPlace.TheVariants.{TypeItem, Con
 use Rattle.naga_oil_ir.specs.declared.parts.Named.{Named}
 use Rattle.naga_oil_ir.specs.declared.parts.Named.TheVariants.{Nothing, TypeOf, ConstantAt, OverrideAt, GlobalAt, LocalAt, ArgumentAt, FunctionAt}
 use Rattle.naga_oil_ir.specs.declared.span.Span.{Span}
-use Rattle.naga_oil_derive.specs.Copyable.{CopyableItems}
+use Rattle.naga_oil_ir.specs.declared.types.Type.{«Type» as TypeOfShader}
+use Rattle.naga_oil_derive.specs.World.{special_entry, special_entries}
+use Rattle.naga_oil_derive.specs.declared.special.SpecialKey.{SpecialKey}
+use Rattle.naga_oil_derive.specs.declared.special.SpecialKey.TheVariants.{RayDesc, RayIntersection, RayVertexReturn, Predeclared}
+use Rattle.naga_oil_link.specs.Form.{is_formed}
+use Rattle.naga_oil.specs.Chain.{nothing_special, is_formed_apart}
 use Rattle.naga_oil_redirect.specs.Redirectable.{Redirectable}
 use Rattle.naga_oil_redirect.proofs.RedirectForm.{redirectable_formed}
 
@@ -114,10 +125,6 @@ module _ (m : Module) (s : SpecialTypes) where
 pub redirectable_special : (m : Module) (s : SpecialTypes) → WellFormed (record m { special_types = s }) [] 4294967295 → All (λ k. k < length m.types) (special_types m.special_types) → Redirectable m
 redirectable_special m s w there = redirected m s (redirectable_formed (record m { special_types = s }) 4294967295 (omega arith) w) there
 
--- no special types
-pub no_special : (s : SpecialTypes) → s.ray_desc ≡ None → s.ray_intersection ≡ None → s.ray_vertex_return ≡ None → s.predeclared_types.entries ≡ [] → special_types s ≡ []
-no_special s a b c d = λ i. option_to_list (a i) ++ option_to_list (b i) ++ option_to_list (c i) ++ map (λ e. e.1) (d i)
-
 -- what holds of each of two lists holds of each of one list
 parted : (P : ℕ → Type 0) (xs ys : List ℕ) → All P (xs ++ ys) → All P xs × All P ys
 parted P [] ys h = (All-nil P, h)
@@ -133,3 +140,61 @@ four_of_all P a b c d h =
     let third = parted P (a ++ b) c last.0 in
     let first = parted P a b third.0 in
     (first.0, first.1, third.1, last.1)
+
+-- ---- special types as a value
+
+pub nothing_special_of : (s : SpecialTypes) → s.ray_desc ≡ None → s.ray_intersection ≡ None → s.ray_vertex_return ≡ None → s.predeclared_types.entries ≡ [] → special_value s ≡ nothing_special
+nothing_special_of s a b c d = λ i. record { ray_desc = a i; ray_intersection = b i; ray_vertex_return = c i; predeclared_types = d i }
+
+entry_handles : (key : SpecialKey) (o : Option ℕ) → map (λ (e : SpecialKey × ℕ). e.1) (special_entry key o) ≡ option_to_list o
+entry_handles key None = refl
+entry_handles key (Some h) = refl
+
+code_handles : (es : List (ℕ × ℕ)) → map (λ (e : SpecialKey × ℕ). e.1) (map (λ (e : ℕ × ℕ). (Predeclared e.0, e.1)) es) ≡ map (λ (e : ℕ × ℕ). e.1) es
+code_handles [] = refl
+code_handles (e ∷ es) = ap (λ (l : List ℕ). e.1 ∷ l) (code_handles es)
+
+-- the types of special entries are the special types
+pub entries_handles : (s : SpecialTypes) → map (λ (e : SpecialKey × ℕ). e.1) (special_entries (special_value s)) ≡ special_types s
+entries_handles s =
+    let h : SpecialKey × ℕ → ℕ = λ e. e.1 in
+    let a = special_entry RayDesc s.ray_desc in
+    let b = special_entry RayIntersection s.ray_intersection in
+    let c = special_entry RayVertexReturn s.ray_vertex_return in
+    let es = s.predeclared_types.entries in
+    let d : List (SpecialKey × ℕ) = map (λ (e : ℕ × ℕ). (Predeclared e.0, e.1)) es in
+    map-append h (a ++ b ++ c) d ∙ (λ i. (map-append h (a ++ b) c ∙ ap (λ (l : List ℕ). l ++ map h c) (map-append h a b)) i ++ code_handles es i)
+    ∙ (λ i. entry_handles RayDesc s.ray_desc i ++ entry_handles RayIntersection s.ray_intersection i ++ entry_handles RayVertexReturn s.ray_vertex_return i ++ map (λ e. e.1) es)
+
+all_there : (n : ℕ) (ks : List ℕ) → Decides (list_all (λ k. nat_lt k n) ks) (All (λ k. k < n) ks)
+all_there n [] = (λ _. All-nil (λ k. k < n), λ _. refl)
+all_there n (k ∷ ks) = decides_same {P = (k < n) × All (λ k. k < n) ks} {Q = All (λ k. k < n) (k ∷ ks)} (nat_lt k n && list_all (λ k. nat_lt k n) ks) (λ h. All-cons (λ k. k < n) k ks h.0 h.1) (λ h. (All-head (λ k. k < n) k ks h, All-tail (λ k. k < n) k ks h)) (and_decides (nat_lt k n) (list_all (λ k. nat_lt k n) ks) (Decides-ltb k n) (all_there n ks))
+
+-- a test of whether special types are there is that of their entries
+pub entries_there : (s : SpecialTypes) (n : ℕ) (there : Bool) → Decides there (All (λ k. k < n) (special_types s)) → there ≡ list_all (λ (e : SpecialKey × ℕ). nat_lt e.1 n) (special_entries (special_value s))
+entries_there s n there d =
+    same_from_decides there (list_all (λ k. nat_lt k n) (special_types s)) d (all_there n (special_types s)) ∙ ap (list_all (λ (k : ℕ). nat_lt k n)) (sym (entries_handles s))
+    ∙ list_all-map (λ (k : ℕ). nat_lt k n) (λ (e : SpecialKey × ℕ). e.1) (special_entries (special_value s))
+
+-- the test of form apart is that of the module without special types, and of these
+formed_apart : (m : Module) (s : SpecialTypes) (there : Bool) → special_value s ≡ nothing_special → Decides there (All (λ k. k < length m.types) (special_types m.special_types))
+    → is_formed_apart (module_value m) ≡ (is_formed (module_value (record m { special_types = s })) [] 4294967295 && there)
+unfolding is_formed_apart
+formed_apart m s there none d =
+    ap (λ (v : SpecialValue). is_formed (record (module_value m) { special_types = v }) [] 4294967295 && list_all (λ (e : SpecialKey × ℕ). nat_lt e.1 (length (module_value m).types)) (special_entries (module_value m).special_types)) (sym none)
+    ∙ ap (λ (n : ℕ). is_formed (module_value (record m { special_types = s })) [] 4294967295 && list_all (λ (e : SpecialKey × ℕ). nat_lt e.1 n) (special_entries (special_value m.special_types))) (length-map m.types (λ (e : TypeOfShader × Span). (type_row e.0, e.1)))
+    ∙ ap (λ (b : Bool). is_formed (module_value (record m { special_types = s })) [] 4294967295 && b) (sym (entries_there m.special_types (length m.types) there d))
+
+-- a test of the special types that were taken out
+pub taken_there : (m : Module) (taken : SpecialTypes) (count : ℕ) (there : Bool) → taken ≡ m.special_types → count ≡ length m.types → Decides there (All (λ k. k < count) (special_types taken)) → Decides there (All (λ k. k < length m.types) (special_types m.special_types))
+taken_there m taken count there e n d = subst (λ (s : SpecialTypes). Decides there (All (λ k. k < length m.types) (special_types s))) e (subst (λ (l : ℕ). Decides there (All (λ k. k < l) (special_types taken))) n d)
+
+-- where the module passes without special types, these decide; where it doesn't, it doesn't pass apart
+pub passes_if_there : (m : Module) (s : SpecialTypes) (there : Bool) → special_value s ≡ nothing_special → Decides there (All (λ k. k < length m.types) (special_types m.special_types))
+    → is_formed (module_value (record m { special_types = s })) [] 4294967295 ≡ true → is_formed_apart (module_value m) ≡ there
+passes_if_there m s there none d e = formed_apart m s there none d ∙ ap (λ (b : Bool). b && there) e
+
+pub not_apart : (m : Module) (s : SpecialTypes) → special_value s ≡ nothing_special → is_formed (module_value (record m { special_types = s })) [] 4294967295 ≡ false → is_formed_apart (module_value m) ≡ false
+not_apart m s none e =
+    let there = list_all (λ (k : ℕ). nat_lt k (length m.types)) (special_types m.special_types) in
+    formed_apart m s there none (all_there (length m.types) (special_types m.special_types)) ∙ ap (λ (b : Bool). b && there) e

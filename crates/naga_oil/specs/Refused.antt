@@ -1,13 +1,12 @@
 -- Where a fault lies, and what a refused call tells.
-use Rattle.std.specs.Prelude.{◌≡◌, ℕ, List, [], Option, None, option_map, Result, Ok, Err, MatchOption, string_bytes}
+use Rattle.std.specs.Prelude.{◌≡◌, ℕ, List, [], Option, Some, option_map, Result, Ok, Err, MatchOption, string_bytes}
 use Rattle.naga_oil_pre.specs.Fault.{Fault}
 use Rattle.naga_oil_pre.specs.View.{fault_of}
+use Rattle.naga_oil_pre.specs.declared.fault.ComposerErrorInner.{ComposerErrorInner}
 use Rattle.naga_oil_registry.specs.Definition.{Defs, defs_of}
 use Rattle.naga_oil.specs.declared.compose.error.ErrSource.{ErrSource}
 use Rattle.naga_oil.specs.declared.compose.error.ErrSource.TheVariants as code
 use Rattle.naga_oil.specs.declared.compose.error.ComposerError.{ComposerError}
-use Rattle.naga_oil.specs.declared.compose.error.EnsureImportsError.{EnsureImportsError}
-use Rattle.naga_oil.specs.declared.compose.error.EnsureImportsError.TheVariants as missing
 
 -- what offsets count in: a registered module's text, or one that was given
 pub data Place : Type 0 where
@@ -35,6 +34,10 @@ refused_of e = option_map (λ f. record { fault = f; place = place_of e.source }
 abbrev pub Tells : {Y : Type 0} → ComposerError → Result Y Refused → Type 0
 Tells e value = MatchOption (refused_of e) (place_of e.source ≡ nowhere) (λ r. value ≡ Err r)
 
+-- an error tells a fault that lies at a place, or want of memory, which is nowhere
+abbrev pub TellsAt : Place → ComposerErrorInner → ComposerError → Type 0
+TellsAt place inner e = MatchOption (refused_of e) (place_of e.source ≡ nowhere) (λ r. (fault_of inner ≡ Some r.fault) × (r.place ≡ place))
+
 -- a result, seen by view, is the value, or want of memory
 abbrev pub Answers : {X Y : Type 0} → (X → Y) → Result X ComposerError → Result Y Refused → Type 0
 Answers view (Ok x) value = value ≡ Ok (view x)
@@ -49,8 +52,3 @@ UnlessMemory told (Err e) P = MatchOption (told e) (Unit {0}) (λ f. P)
 abbrev pub placed : {Y : Type 0} → Place → Result Y Fault → Result Y Refused
 placed place (Ok y) = Ok y
 placed place (Err f) = Err (record { fault = f; place = place })
-
--- a module of this name may not be imported there, or there is no memory to tell it
-abbrev pub TellsMissing : EnsureImportsError → List ℕ → Type 0
-TellsMissing (missing.MissingImport told) name = string_bytes told ≡ name
-TellsMissing (missing.ComposerError e) name = (refused_of e ≡ None) × (place_of e.source ≡ nowhere)

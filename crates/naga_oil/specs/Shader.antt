@@ -1,57 +1,107 @@
--- The module that is made of a shader's build.
-use Rattle.std.specs.Prelude.{◌≡◌, Bool, [], ◌∷◌, Result, Ok, Err}
-use Rattle.naga_oil_ir.specs.Backend.{FrontEnd}
-use Rattle.naga_oil_ir.specs.ModuleValue.{ModuleValue}
-use Rattle.naga_oil_ir.specs.declared.backend.Capabilities.{Capabilities}
-use Rattle.naga_oil_redirect.specs.Ordered.{ordered}
-use Rattle.naga_oil_redirect.specs.PutInOrder.{IsInOrder}
-use Rattle.naga_oil_ir.specs.RedirectFault.{RedirectFault}
-use Rattle.naga_oil_pre.specs.Fault.{Fault, redirection}
-use Rattle.naga_oil.specs.BuiltModule.{BuiltModule, Builds, Overriding}
-use Rattle.naga_oil.specs.Chains.{all_sent_down, with_stages}
-use Rattle.naga_oil_registry.specs.Definition.{Defs}
-use Rattle.naga_oil.specs.Formed.{IsFormedApart, IsUnformedApart}
-use Rattle.naga_oil.specs.Linked.{WholeLinked}
-use Rattle.naga_oil.specs.Refused.{Place, Refused}
-use Rattle.naga_oil.specs.Validated.{validated}
-use Rattle.naga_oil_registry.specs.declared.descriptor.ShaderType.{ShaderType}
+-- What a make reads of a shader, and the definitions that it merges.
+use Rattle.std.specs.Prelude.{ℕ, Bool, true, false, nat_eq, List, [], ◌∷◌, Option, Some, None, option_map, Result, Ok, Err, if◌then◌else◌, bytes_eq}
+use Rattle.std.specs.List.{list_all, filter_map, flat_map}
+use mathlib.Core.Bool.{beq}
+use Rattle.std.specs.Map.{lookup}
+use Rattle.std.specs.Ordering.{int_eq}
+use Rattle.naga_oil_lines.specs.DirectivesText.{in_order}
+use Rattle.naga_oil_lines.specs.Uses.{Use}
+use Rattle.naga_oil_pre.specs.Fault.{Fault, Definitions, import_not_found, inconsistent_def}
+use Rattle.naga_oil_pre.specs.Kind.{LineKind, define, unversioned_kind_of}
+use Rattle.naga_oil_pre.specs.Line.{source_lines}
+use Rattle.naga_oil_pre.specs.Metadata.{Metadata, metadata}
+use Rattle.naga_oil_pre.specs.declared.shader_def.ShaderDefValue.{ShaderDefValue}
+use Rattle.naga_oil_pre.specs.declared.shader_def.ShaderDefValue.TheVariants as def
+use Rattle.naga_oil_registry.specs.Added.{◌>>=◌}
+use Rattle.naga_oil_registry.specs.Definition.{Defs, Definition}
+use Rattle.naga_oil_registry.specs.Descriptor.{ShaderSource, language_of}
+use Rattle.naga_oil_registry.specs.Merged.{with_def, recorded_names}
+use Rattle.naga_oil_registry.specs.Registry.{module_named}
 
--- made is a module that passes the test of form, with calls sent down the functions that override others, and its functions in order
-pub record IsChained (all : Overriding) (m made : ModuleValue) : Type 0 where
-  pub formed : IsFormedApart m
-  pub sent : ModuleValue
-  pub down : all_sent_down m all ≡ Ok sent
-  pub order : IsInOrder sent made
+-- the name that a define line defines
+abbrev pub name_defined : LineKind → List (List ℕ)
+name_defined (define name value) = name ∷ []
+name_defined _ = []
 
--- why there is none: the module doesn't pass the test, calls can't be sent down, or functions call each other in a circle
-pub data IsUnchained (all : Overriding) (m : ModuleValue) : Fault → Type 0 where
-  Unformed : {f : Fault} → IsUnformedApart m f → IsUnchained all m f
-  NotSent : {f : Fault} → IsFormedApart m → all_sent_down m all ≡ Err f → IsUnchained all m f
-  Circular : {sent : ModuleValue} {f : RedirectFault} → IsFormedApart m → all_sent_down m all ≡ Ok sent → ordered sent.functions ≡ Err f → IsUnchained all m (redirection f)
+-- the names that define lines of a text define, each once, in byte order
+abbrev pub names_defined : (text : List ℕ) → List (List ℕ)
+names_defined text = in_order (flat_map (λ l. name_defined (unversioned_kind_of l.covered)) (source_lines text))
 
--- the same where a function is overridden; else the module stays
-abbrev pub Chains : Overriding → ModuleValue → ModuleValue → Type 0
-Chains [] m made = made ≡ m
-Chains (o ∷ more) m made = IsChained (o ∷ more) m made
+-- definitions of some names, as a list
+abbrev pub defs_among : Definitions → List (List ℕ) → Defs
+defs_among defs names = filter_map (λ n. option_map (λ v. (n, v)) (defs n)) names
 
-abbrev pub ChainsRefused : Overriding → ModuleValue → Fault → Type 0
-ChainsRefused [] m f = ⊥
-ChainsRefused (o ∷ more) m f = IsUnchained (o ∷ more) m f
+-- a shader as a module of no name and no index, by what is read of its text, with its definitions and the names that it records
+abbrev pub shader_definition : ShaderSource → Metadata → (defs : Defs) → (recorded : List (List ℕ)) → Definition
+shader_definition s found defs recorded = record {
+  name = [];
+  source = found.cleaned;
+  language = language_of s.shader_type;
+  file_path = s.file_path;
+  defs = defs;
+  effective = recorded;
+  imports = found.uses;
+  additional = s.additional;
+  directives = found.directives;
+  index = 0;
+}
 
--- the module of a shader's build: the whole of it with the stages of the shader's type, and with calls sent down
-pub record ShaderLinked (builds : Builds) (b : BuiltModule) (shader_type : ShaderType) (made : ModuleValue) : Type 0 where
-  pub whole : ModuleValue
-  pub linked : WholeLinked builds b whole
-  pub chains : Chains b.overriding (with_stages shader_type whole) made
+abbrev pub shader_found : ShaderSource → Metadata → Definition
+shader_found m found = shader_definition m found (defs_among found.defines (names_defined found.cleaned)) (in_order (recorded_names found.cleaned))
 
--- why there is none
-pub record ShaderRefused (builds : Builds) (b : BuiltModule) (shader_type : ShaderType) (f : Fault) : Type 0 where
-  pub whole : ModuleValue
-  pub linked : WholeLinked builds b whole
-  pub refused : ChainsRefused b.overriding (with_stages shader_type whole) f
+-- what a shader's text says of it
+unfoldable pub read_shader : ShaderSource → (text : List ℕ) → Result Definition Fault
+read_shader m text = metadata true text >>= λ found. Ok (shader_found m found)
 
--- what is answered of a shader's build: its module, if it is valid where that is asked for; or why it has none, told at its place
-pub data ShaderAnswers (front : FrontEnd) (capabilities : Capabilities) (validate : Bool) (builds : Builds) (defs : Defs) (b : BuiltModule) (shader_type : ShaderType) (place : Place) : Result ModuleValue Refused → Type 0 where
-  Judged : {made : ModuleValue} {answer : Result ModuleValue Refused} → ShaderLinked builds b shader_type made → validated front capabilities validate builds defs place made ≡ answer
-      → ShaderAnswers front capabilities validate builds defs b shader_type place answer
-  NotLinked : {f : Fault} → ShaderRefused builds b shader_type f → ShaderAnswers front capabilities validate builds defs b shader_type place (Err (record { fault = f; place = place }))
+-- ---- definitions
+
+abbrev pub module_for : Use → Option Definition → Result Definition Fault
+module_for u (Some d) = Ok d
+module_for u None = Err (import_not_found u.import.import u.offset)
+
+-- the module that is imported
+abbrev pub imported : List Definition → Use → Result Definition Fault
+imported ds u = module_for u (module_named u.import.import ds)
+
+-- what a name is defined as
+abbrev pub value_of : Defs → Definitions
+value_of defs name = lookup (λ n. bytes_eq name n) defs
+
+-- whether two values are of one kind and the same
+abbrev pub same_value : ShaderDefValue → ShaderDefValue → Bool
+same_value (def.Bool a) (def.Bool b) = beq a b
+same_value (def.Int a) (def.Int b) = int_eq a b
+same_value (def.UInt a) (def.UInt b) = nat_eq a b
+same_value a b = false
+
+-- whether a name that is defined so has the value
+abbrev pub has_value : ShaderDefValue → Option ShaderDefValue → Bool
+has_value value None = false
+has_value value (Some known) = same_value known value
+
+-- whether a name that is defined so may be defined as the value: it has no other
+abbrev pub agrees : ShaderDefValue → Option ShaderDefValue → Bool
+agrees value None = true
+agrees value (Some known) = same_value known value
+
+-- definitions with others in turn, or the first name of two values
+abbrev pub defs_union : Defs → Defs → Result Defs Fault
+defs_union defs [] = Ok defs
+defs_union defs (d ∷ more) = if agrees d.1 (value_of defs d.0) then defs_union (with_def defs d) more else Err (inconsistent_def d.0)
+
+-- the same of the definitions of each module that is imported
+abbrev pub defs_union_over : List Definition → Defs → List Use → Result Defs Fault
+defs_union_over ds defs [] = Ok defs
+defs_union_over ds defs (u ∷ more) = imported ds u >>= λ d. defs_union defs d.defs >>= λ defs. defs_union_over ds defs more
+
+-- whether definitions are among others
+abbrev pub are_among : Defs → Defs → Bool
+are_among defs others = list_all (λ d. has_value d.1 (value_of others d.0)) defs
+
+abbrev pub among_those : Defs → Result Definition Fault → Bool
+among_those defs (Ok d) = are_among d.defs defs
+among_those defs (Err f) = false
+
+-- the second reading may use what is registered with definitions among those of the make
+abbrev pub may_use : List Definition → Defs → Use → Bool
+may_use ds defs u = among_those defs (imported ds u)

@@ -1,5 +1,5 @@
 -- What callers see of a composer, and how calls change it.
-use Rattle.std.specs.Prelude.{◌≡◌, ℕ, List, Bool, false, Option, Result, Ok, OnOk, OnErr, ◌⊎◌}
+use Rattle.std.specs.Prelude.{◌≡◌, ℕ, List, [], Bool, false, Option, Result, Ok, OnOk, OnErr, ◌⊎◌}
 use Rattle.std.specs.declared.alloc.AllocError.{AllocError}
 use Rattle.naga_oil_ir.specs.declared.backend.Capabilities.{Capabilities}
 use Rattle.naga_oil.specs.declared.compose.error.ComposerError.{ComposerError}
@@ -18,6 +18,10 @@ pub record State (B : Type 0) : Type 0 where
   pub capabilities : Capabilities
   pub registry : List Definition
   pub counter : ℕ
+
+-- nothing is registered yet
+abbrev pub nothing_registered : {B : Type 0} → (front : B) → (validate : Bool) → Capabilities → State B
+nothing_registered front validate capabilities = record { front = front; validate = validate; capabilities = capabilities; registry = []; counter = 0 }
 
 -- The counter is the one behind the source; after want of memory it may be the old one.
 pub record Counts {X E F : Type 0} (told : E → Option F) (result : Result X E) (source : List ℕ) (old new : ℕ) : Type 0 where

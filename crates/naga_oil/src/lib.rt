@@ -2,6 +2,7 @@
 #![tactic(auto)]
 
 pub mod compose;
+pub mod laws;
 
 pub use naga_oil_ir as ir;
 

@@ -1,5 +1,5 @@
 -- Arguments that are compared one by one.
-use Rattle.std.proofs.Common.{◌≡◌, ℕ, ◌&&◌, List, [], ◌∷◌, map, length, nat_eq, refl, ap, arith}
+use Rattle.std.proofs.Common.{◌≡◌, ◌&&◌, List, [], ◌∷◌, map, length, nat_eq, refl, ap, arith}
 use Rattle.std.specs.List.{list_all, zip}
 use Rattle.std.specs.Cmp.Lexicographic.{pointwise}
 use Rattle.naga_oil_ir.specs.declared.module.FunctionArgument.{FunctionArgument}

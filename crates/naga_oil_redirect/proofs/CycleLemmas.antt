@@ -1,6 +1,6 @@
 -- Functions without a level, and cycles of calls.
-use Rattle.std.proofs.Common.{◌≡◌, ◌∙◌, ⊎_elim, ℕ, zero, suc, ◌+◌, ◌<◌, ◌≤◌, ◌↔◌, Bool, true, false, cond, List, [], ◌∷◌, map, length, slice_get, unwrap_or, Option, Some, None, option_map, is_none, IfSome, IsErr, All, refl, ap, sym, subst, arith}
-use Rattle.std.specs.List.{filter, enumerate_from, range_with_len}
+use Rattle.std.proofs.Common.{◌≡◌, ◌∙◌, ⊎_elim, ℕ, zero, suc, ◌+◌, ◌<◌, ◌≤◌, ◌↔◌, Bool, true, false, cond, List, [], ◌∷◌, length, slice_get, unwrap_or, Option, Some, None, option_map, is_none, IfSome, IsErr, All, refl, ap, sym, subst, arith}
+use Rattle.std.specs.List.{range_with_len}
 use Rattle.std.specs.Option.{option_flatten}
 use Rattle.std.proofs.lemmas.Bool.{cases_lt, false≢true}
 use Rattle.std.proofs.lemmas.List.{length-map}
@@ -10,7 +10,7 @@ use Rattle.std.proofs.lemmas.Option.{slice_get-map, slice_get_past, slice_get_wi
 use Rattle.naga_oil_ir.specs.Links.{Links, linked, has}
 use Rattle.naga_oil_ir.specs.ModuleValue.{FunctionValue}
 use Rattle.naga_oil_ir.specs.declared.span.Span.{Span}
-use Rattle.naga_oil_redirect.specs.Level.{StayWithin, HasCycle, Leads, Calls, Through, level, level_below, levels, known, without_level}
+use Rattle.naga_oil_redirect.specs.Level.{StayWithin, HasCycle, Leads, Calls, Through, level, levels, known, without_level}
 use Rattle.naga_oil_redirect.specs.Ordered.{callees_of, calls_of, ordering, ordered}
 use Rattle.naga_oil_redirect.proofs.LevelLemmas.{cycle_from, level_lies_below, on_cycle}
 use Rattle.naga_oil_redirect.proofs.OrderLemmas.{passing_from, passing-cons}

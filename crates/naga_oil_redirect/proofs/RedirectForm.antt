@@ -1,11 +1,10 @@
 -- What modules have whose calls can be sent to other functions.
-use Rattle.std.proofs.Common.{◌≡◌, ◌∙◌, ℕ, zero, suc, ◌<◌, ◌≤◌, List, [], ◌∷◌, map, length, get_or, Option, Some, None, All, slice_get, refl, ap, sym, subst, arith}
-use Rattle.std.specs.List.{filter_map}
+use Rattle.std.proofs.Common.{◌≡◌, ◌∙◌, ℕ, zero, suc, ◌<◌, ◌≤◌, [], ◌∷◌, length, get_or, All, sym, subst, arith}
 use Rattle.std.proofs.lemmas.List.{length-map}
 use Rattle.std.proofs.lemmas.List.Elements.{All-map, All-nil, All-cons, All-head, All-tail, All-weaker}
 use Rattle.std.proofs.lemmas.Option.{slice_get-get_or}
 use Rattle.naga_oil_ir.specs.Body.{Tokens, block_tokens}
-use Rattle.naga_oil_ir.specs.BodyForm.{IsSpanFine, IsTokenFine}
+use Rattle.naga_oil_ir.specs.BodyForm.{IsTokenFine}
 use Rattle.naga_oil_ir.specs.Links.{Links, linked}
 use Rattle.naga_oil_ir.specs.ModuleValue.{FunctionValue, function_value}
 use Rattle.naga_oil_ir.specs.WellFormed.{FunctionForm, FunctionsForm, EntryForm, WellFormed}
@@ -16,7 +15,7 @@ use Rattle.naga_oil_ir.specs.declared.span.Span.{Span}
 use Rattle.naga_oil_ir.specs.declared.tokens.Token.{Token}
 use Rattle.naga_oil_ir.specs.declared.tokens.Token.TheVariants.{At, Callee}
 use Rattle.naga_oil_redirect.specs.Level.{StayWithin}
-use Rattle.naga_oil_redirect.specs.Ordered.{callee_of, callees_of, calls_of}
+use Rattle.naga_oil_redirect.specs.Ordered.{callees_of, calls_of}
 use Rattle.naga_oil_redirect.specs.Redirectable.{Redirectable}
 use Rattle.naga_oil_redirect.specs.Redirected.{function_values}
 use Rattle.naga_oil_derive.proofs.RankLemmas.{form_copyable}

@@ -1,9 +1,9 @@
 -- Functions that are found by their names, and functions whose calls are sent one after another.
-use Rattle.std.proofs.Common.{◌≡◌, ◌≢◌, ◌∙◌, ◌==◌, ◌||◌, ℕ, zero, suc, ◌+◌, ◌<◌, ◌≤◌, Bool, true, false, not, if◌then◌else◌, List, [], ◌∷◌, ◌++◌, map, take, drop, set, length, get_or, nat_eq, Result, Ok, Err, refl, ap, sym, arith}
+use Rattle.std.proofs.Common.{◌≡◌, ◌≢◌, ◌∙◌, ◌==◌, ◌||◌, ℕ, zero, suc, ◌+◌, ◌<◌, ◌≤◌, Bool, true, false, not, if◌then◌else◌, List, [], ◌∷◌, ◌++◌, map, take, drop, length, get_or, nat_eq, Result, Ok, Err, refl, ap, sym, arith}
 use Rattle.std.specs.List.{enumerate_from}
 use Rattle.std.proofs.lemmas.Simd.{map-map}
 use Rattle.std.specs.Cmp.Lexicographic.{pointwise}
-use Rattle.std.proofs.lemmas.List.{map-append, length-map, take_more, take_more_set, length-take-le, drop_more, drop_all, get_or-map}
+use Rattle.std.proofs.lemmas.List.{map-append, length-map, take_more, length-take-le, drop_more, drop_all, get_or-map}
 use Rattle.naga_oil_ir.specs.NameForm.{Name}
 use Rattle.naga_oil_ir.specs.ModuleValue.{ArgumentValue, argument_value, FunctionValue, function_value}
 use Rattle.naga_oil_ir.specs.declared.module.Function.{Function}

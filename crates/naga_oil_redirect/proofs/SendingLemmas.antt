@@ -1,15 +1,14 @@
 -- Calls sent to another function, by the kinds of statements.
-use Rattle.std.proofs.Common.{◌≡◌, ◌∙◌, ℕ, ◌+◌, ◌<◌, List, [], ◌∷◌, ◌++◌, map, take, length, get_or, option_map, set, Option, Some, None, Vec, Global, refl, ap, sym, subst, arith}
+use Rattle.std.proofs.Common.{◌≡◌, ◌∙◌, ℕ, ◌+◌, ◌<◌, List, [], ◌∷◌, ◌++◌, map, take, length, get_or, option_map, set, Option, Some, None, Vec, Global, refl, ap, sym, arith}
 use Rattle.std.specs.List.{flat_map}
 use Rattle.std.proofs.lemmas.List.{map-append, map-id, take_more, take_more_set}
 use Rattle.std.proofs.lemmas.List.Concat.{flat_map-append}
 use Rattle.naga_oil_ir.specs.Parts.{Parts, parts}
-use Rattle.naga_oil_ir.specs.Body.{Tokens, inside, used, given_by, block_tokens, statement_tokens, case_tokens, spanned_tokens}
-use Rattle.naga_oil_ir.specs.declared.tokens.Token.{Token}
+use Rattle.naga_oil_ir.specs.Body.{Tokens, inside, used, given_by, block_tokens, statement_tokens, case_tokens}
 use Rattle.naga_oil_ir.specs.declared.tokens.Token.TheVariants.{Head, Use, Callee, Open, Close}
 use Rattle.naga_oil_ir.specs.declared.statement.Block.{Block}
 use Rattle.naga_oil_ir.specs.declared.statement.SwitchCase.{SwitchCase}
-use Rattle.naga_oil_ir.specs.declared.statement.Statement.{Statement, Loop, Call, If, Switch, Block as Inner}
+use Rattle.naga_oil_ir.specs.declared.statement.Statement.{Loop, Call, If, Switch, Block as Inner}
 use Rattle.naga_oil_ir.specs.declared.expression.Expression.{Expression}
 use Rattle.naga_oil_ir.specs.declared.expression.Expression.TheVariants.{CallResult}
 use Rattle.naga_oil_ir.proofs.BodyLemmas.{switch_tokens}

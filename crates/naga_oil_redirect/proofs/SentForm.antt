@@ -1,5 +1,5 @@
 -- A module whose calls are sent passes the test of form as before.
-use Rattle.std.proofs.Common.{◌≡◌, ◌∙◌, ℕ, ◌+◌, ◌<◌, ◌++◌, ◌||◌, ◌==◌, Bool, true, false, if◌then◌else◌, unwrap_or, List, [], ◌∷◌, map, length, get_or, Option, Some, None, option_map, option_to_list, IsSome, IfSome, string_bytes, codes, nat_eq, String, All, slice_get, Vec, Global, refl, ap, sym, subst, arith}
+use Rattle.std.proofs.Common.{◌≡◌, ◌∙◌, ℕ, ◌+◌, ◌<◌, ◌++◌, ◌||◌, ◌==◌, Bool, true, false, if◌then◌else◌, unwrap_or, List, [], ◌∷◌, map, length, Option, Some, None, option_map, option_to_list, IsSome, IfSome, string_bytes, codes, nat_eq, String, All, slice_get, Vec, Global, refl, ap, sym, subst, arith}
 use Rattle.std.specs.List.{flat_map, enumerate_from, IsDistinct}
 use Rattle.std.specs.Cmp.Lexicographic.{pointwise}
 use Rattle.std.proofs.lemmas.List.{length-map, get_or-map}
@@ -12,15 +12,14 @@ use Rattle.naga_oil_ir.specs.Parts.{Parts, parts}
 use Rattle.naga_oil_ir.specs.Links.{Links}
 use Rattle.naga_oil_ir.specs.Rows.{Text}
 use Rattle.naga_oil_ir.specs.Body.{Tokens, block_tokens}
-use Rattle.naga_oil_ir.specs.BodyForm.{kinds, callee, named_of, callees, operand_links, made, IsFine, AreFine, MayStand, IsSpanFine, IsTokenFine}
-use Rattle.naga_oil_ir.specs.NameForm.{Name, entry_name, function_name}
+use Rattle.naga_oil_ir.specs.BodyForm.{kinds, callee, named_of, operand_links, made, IsFine, AreFine, MayStand, IsSpanFine, IsTokenFine}
+use Rattle.naga_oil_ir.specs.NameForm.{Name}
 use Rattle.naga_oil_marks.specs.Marks.{with_decoration}
 use Rattle.naga_oil_ir.specs.WellFormed.{NamedThere, initialisers, FunctionForm, MeshForm, IsExpressionThere, EntryForm}
 use Rattle.naga_oil_ir.specs.ModuleValue.{ArgumentValue, argument_value, LocalValue, local_value, FunctionValue, function_value, EntryValue, entry_value}
 use Rattle.naga_oil_ir.specs.declared.expression.Expression.{Expression}
 use Rattle.naga_oil_ir.specs.declared.module.EntryPoint.{EntryPoint}
 use Rattle.naga_oil_ir.specs.declared.module.Function.{Function}
-use Rattle.naga_oil_ir.specs.declared.module.FunctionArgument.{FunctionArgument}
 use Rattle.naga_oil_ir.specs.declared.module.MeshInfo.{MeshInfo}
 use Rattle.naga_oil_ir.specs.declared.module.Module.{Module}
 use Rattle.naga_oil_ir.specs.declared.parts.Named.{Named}
@@ -30,7 +29,7 @@ use Rattle.naga_oil_ir.specs.declared.tokens.Token.{Token}
 use Rattle.naga_oil_ir.specs.declared.tokens.Token.TheVariants.{At, Head, Plain, Flag, Absent, Use, Give, GiveCall, Emitted, Callee, Open, Close}
 use Rattle.naga_oil_ir.specs.declared.types.LocalVariable.{LocalVariable}
 use Rattle.naga_oil_derive.specs.Copies.{value_links}
-use Rattle.naga_oil_derive.specs.Renames.{Renames, rename, rename_named, rename_token, rename_tokens}
+use Rattle.naga_oil_derive.specs.Renames.{rename, rename_named, rename_token, rename_tokens}
 use Rattle.naga_oil_redirect.specs.Redirectable.{Redirectable}
 use Rattle.naga_oil_redirect.specs.Redirected.{function_values, is_named, sent, send, send_at, send_entry}
 use Rattle.naga_oil_redirect.proofs.SendingLemmas.{options-sent}

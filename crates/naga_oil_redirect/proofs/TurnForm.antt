@@ -2,6 +2,7 @@
 use Rattle.std.proofs.Common.{◌≡◌, ◌∙◌, ⊎_elim, inl, ℕ, zero, suc, ◌+◌, ◌<◌, ◌||◌, ◌==◌, true, List, [], ◌∷◌, length, take, get_or, slice_get, Option, Some, None, IsSome, is_some, IfSome, option_map, Ok, All, refl, ap, sym, subst, arith}
 use Rattle.std.proofs.lemmas.Bool.{or_cases, false≢true}
 use Rattle.std.proofs.lemmas.List.{take_more}
+use Rattle.std.proofs.lemmas.List.Sums.{fold_more}
 use Rattle.std.proofs.lemmas.List.Elements.{All-nil, All-cons, All-head, All-tail}
 use Rattle.std.proofs.lemmas.Option.{slice_get_within, slice_get-get_or, slice_get-map, same_Some}
 use Rattle.naga_oil_ir.specs.Body.{Tokens, block_tokens}
@@ -15,20 +16,24 @@ use Rattle.naga_oil_ir.specs.declared.span.Span.{Span}
 use Rattle.naga_oil_ir.specs.declared.tokens.Token.TheVariants.{Callee}
 use Rattle.naga_oil_ir.proofs.LinkLemmas.{or_left, or_right, eq_eqb, has-append, only, linked-map}
 use Rattle.naga_oil_derive.specs.World.{value_of}
-use Rattle.naga_oil_derive.specs.Derived.{Source, Derived, KeepsSource, Sets, IsSet}
-use Rattle.naga_oil_derive.specs.DerivedFunctions.{Meanings, meant, meant_at, MayCopy, MayCall, CanImport, KeepsFunctions, FunctionStands, IsFunctionImported}
+use Rattle.naga_oil_derive.specs.Answered.{import_copy}
+use Rattle.naga_oil_derive.specs.CopiedEntry.{make_module}
+use Rattle.naga_oil_derive.specs.Derived.{Source, Derived, nothing, KeepsSource}
+use Rattle.naga_oil_derive.specs.DerivedFunctions.{Meanings, meant, meant_at, MayCopy, MayCall, CanImport, KeepsFunctions}
 use Rattle.naga_oil_derive.specs.DerivedEntries.{CanCopyEntries}
+use Rattle.naga_oil_derive.specs.DerivedValue.{by_source, importing_of, after_importing, import_function, set_source}
 use Rattle.naga_oil_redirect.specs.Level.{StayWithin}
 use Rattle.naga_oil_redirect.specs.Ordered.{callees_of, calls_of, ordered}
-use Rattle.naga_oil_redirect.specs.PutInOrder.{IsImportedInTurn}
+use Rattle.naga_oil_redirect.specs.PutInOrder.{import_one, import_in_turn, in_turn, in_turn_if, put_in_order}
 use Rattle.naga_oil_redirect.specs.Redirectable.{Redirectable}
 use Rattle.naga_oil_redirect.specs.Redirected.{function_values}
 use Rattle.naga_oil_derive.proofs.EntrySteps.{meant_later}
 use Rattle.naga_oil_derive.proofs.FormEntries.{HasSource, source_copy, entries_can}
 use Rattle.naga_oil_derive.proofs.FormFunctions.{CallsIn, form_copy, function_named}
 use Rattle.naga_oil_derive.proofs.FunctionValues.{seen, functions_length, functions_at}
+use Rattle.naga_oil_derive.proofs.MeaningLemmas.{meaning_same}
 use Rattle.naga_oil_redirect.proofs.RedirectForm.{stay_within}
-use Rattle.naga_oil_redirect.proofs.TurnLemmas.{callees_before, each_in_order, InTurn-more}
+use Rattle.naga_oil_redirect.proofs.TurnLemmas.{callees_before, each_in_order}
 
 -- ---- the source stays
 
@@ -49,16 +54,17 @@ AreKnown v ks d = (k : ℕ) → has ks k ≡ true → IsSome (meant_at d.functio
 pub none_known : (v : ModuleValue) (d : Derived) → AreKnown v [] d
 none_known v d k h = absurd (false≢true h)
 
-name_means : (o : Option Source) (d e : Derived) (f : FunctionValue) (span : Span) (h : ℕ) → IsSome o → IfSome o (FunctionStands d e f span h) → IsSome (meant e.function_names f.name)
-name_means None d e f span h s i = absurd (false≢true s)
-name_means (Some x) d e f span h s i = ap is_some i.last.means
+import_means : (d : Derived) (g : FunctionValue) (span : Span) (o : Option Source) → IsSome o → IsSome g.name → IsSome (meant (by_source d (λ s. after_importing s (import_copy (length s.value.functions) s.value s.offset (importing_of d s) g span)) o).function_names g.name)
+import_means d g span None h n = absurd (false≢true h)
+import_means d g span (Some s) h n = ap is_some (meaning_same _ g.name _ n)
 
 -- one function more
-pub known_more : (v : ModuleValue) (d e : Derived) (ks : List ℕ) (i h : ℕ) (g : FunctionValue × Span) → i < length ks → AreKnown v (take i ks) d → slice_get v.functions (get_or ks i 0) ≡ Some g → KeepsFunctions d e → IsSome e.source → IsFunctionImported d e g.0 g.1 h → AreKnown v (take (i + 1) ks) e
-known_more v d e ks i h g l so_far at keeps there imported k among =
+pub known_more : (v : ModuleValue) (d e : Derived) (ks : List ℕ) (i : ℕ) (g : FunctionValue × Span) → i < length ks → AreKnown v (take i ks) d → slice_get v.functions (get_or ks i 0) ≡ Some g → KeepsFunctions d e → HasSource v d → IsSome g.0.name → e ≡ import_function d g.0 g.1 → AreKnown v (take (i + 1) ks) e
+known_more v d e ks i g l so_far at keeps own named imported k among =
     let split : (has (take i ks) k || has (get_or ks i 0 ∷ []) k) ≡ true = sym (has-append (take i ks) (get_or ks i 0 ∷ []) k) ∙ ap (λ xs. has xs k) (sym (take_more ks i 0 l)) ∙ among in
-    let own = λ (same : get_or ks i 0 ≡ k). subst (λ (o : Option (FunctionValue × Span)). IsSome (meant_at e.function_names o)) (sym at ∙ ap (slice_get v.functions) same) (name_means e.source d e g.0 g.1 h there imported) in
-    ⊎_elim (λ a. meant_later d.function_names e.function_names (slice_get v.functions k) keeps.names (so_far k a)) (λ a. own (only (get_or ks i 0) k a)) (or_cases (has (take i ks) k) (has (get_or ks i 0 ∷ []) k) split)
+    let means = subst (λ (x : Derived). IsSome (meant x.function_names g.0.name)) (sym imported) (import_means d g.0 g.1 d.source own.0 named) in
+    let there = λ (same : get_or ks i 0 ≡ k). subst (λ (o : Option (FunctionValue × Span)). IsSome (meant_at e.function_names o)) (sym at ∙ ap (slice_get v.functions) same) means in
+    ⊎_elim (λ a. meant_later d.function_names e.function_names (slice_get v.functions k) keeps.names (so_far k a)) (λ a. there (only (get_or ks i 0) k a)) (or_cases (has (take i ks) k) (has (get_or ks i 0 ∷ []) k) split)
 
 -- ---- a function whose callees are known
 
@@ -113,12 +119,8 @@ turn_entries m d os h own order known =
 
 -- ---- one function after another
 
-set_in : (v : ModuleValue) (shift : ℕ) (d e : Derived) (o : Option Source) → IsSome o → IfSome o (Sets v shift d e) → IsSome o × IfSome o (λ s. s.value ≡ v)
-set_in v shift d e None h i = (h, tt)
-set_in v shift d e (Some s) h i = (h, i.value)
-
-pub set_source : (v : ModuleValue) (shift : ℕ) (d e : Derived) → IsSet v shift d e → HasSource v e
-set_source v shift d e h = set_in v shift d e e.source h.0 h.1
+pub source_set : (v : ModuleValue) (shift : ℕ) (d e : Derived) → e ≡ set_source d v shift → HasSource v e
+source_set v shift d e h = subst (HasSource v) (sym h) (refl, refl)
 
 -- what stands at a place of the order
 pub entry_of : (fs : List (Function × Span)) (k : ℕ) (e : Function × Span) → k < length fs → e ≡ get_or fs k e → slice_get fs k ≡ Some e
@@ -127,12 +129,19 @@ entry_of fs k e l is = slice_get-get_or fs k e l ∙ ap Some (sym is)
 pub value_entry : (m : Module) (k : ℕ) (e : Function × Span) → slice_get m.functions k ≡ Some e → slice_get (value_of m).functions k ≡ Some (seen e)
 value_entry m k e at = functions_at m k ∙ ap (option_map seen) at
 
-pub in_turn_more : (v : ModuleValue) (d e f : Derived) (ks : List ℕ) (i h : ℕ) (g : FunctionValue × Span) → i < length ks → IsImportedInTurn v (take i ks) d e → slice_get v.functions (get_or ks i 0) ≡ Some g → KeepsFunctions e f → IsFunctionImported e f g.0 g.1 h → IsImportedInTurn v (take (i + 1) ks) d f
-in_turn_more v d e f ks i h g l so_far at keeps imported = record { start = so_far.start; special = so_far.special; functions = InTurn-more ks i h g l so_far.functions at keeps imported }
+pub in_turn_more : (v : ModuleValue) (d e f : Derived) (ks : List ℕ) (i : ℕ) (g : FunctionValue × Span) → i < length ks → e ≡ import_in_turn v d (take i ks) → slice_get v.functions (get_or ks i 0) ≡ Some g → f ≡ import_function e g.0 g.1 → f ≡ import_in_turn v d (take (i + 1) ks)
+in_turn_more v d e f ks i g l so_far at imported =
+    imported ∙ ap (λ x. import_function x g.0 g.1) so_far ∙ ap (import_one (import_in_turn v d (take i ks))) (sym at) ∙ sym (fold_more (λ x k. import_one x (slice_get v.functions k)) d ks i 0 l)
+
+pub in_turn_made : (v w : ModuleValue) (d e : Derived) (ks : List ℕ) → d ≡ nothing → e ≡ import_in_turn v (set_source d v 0) ks → w ≡ make_module e → w ≡ in_turn v ks
+unfolding in_turn
+in_turn_made v w d e ks first turned made = made ∙ ap make_module (turned ∙ ap (λ x. import_in_turn v (set_source x v 0) ks) first)
 
 pub order_value : (m : Module) (os : List ℕ) → ordered (function_values m.functions) ≡ Ok os → ordered (value_of m).functions ≡ Ok os
 order_value m os e = ap ordered (values_at m) ∙ e
 
-pub value_seen : (m : Module) (v : ModuleValue) → module_value m ≡ v → value_of m ≡ v
+pub put_in_order_ok : (m n : Module) (v : ModuleValue) (fs : List (Function × Span)) (os ks : List ℕ) → module_value m ≡ v → fs ≡ m.functions → ordered (function_values fs) ≡ Ok os → ks ≡ os → value_of n ≡ in_turn (value_of m) ks → put_in_order v ≡ Ok (module_value n)
 unfolding value_of
-value_seen m v e = e
+put_in_order_ok m n v fs os ks seen own order same turned =
+    let places : ordered v.functions ≡ Ok ks = ap (λ (x : ModuleValue). ordered x.functions) (sym seen) ∙ ap (λ xs. ordered (function_values xs)) (sym own) ∙ order ∙ ap Ok (sym same) in
+    ap (in_turn_if v) places ∙ ap (λ x. Ok (in_turn x ks)) (sym seen) ∙ ap Ok (sym turned)

@@ -1,19 +1,16 @@
--- The order of functions, and functions that are imported in it.
-use Rattle.std.proofs.Common.{◌≡◌, ◌∙◌, ⊎_elim, ◌⊎◌, inl, inr, ℕ, zero, suc, ◌+◌, ◌<◌, ◌≤◌, ◌||◌, ◌==◌, Bool, true, false, cond, List, [], ◌∷◌, ◌++◌, length, take, get_or, slice_get, Option, Some, None, is_none, Ok, All, IsSome, refl, ap, sym, subst, arith}
+-- The order of functions: each stands behind what it calls.
+use Rattle.std.proofs.Common.{◌≡◌, ◌∙◌, ⊎_elim, ◌⊎◌, inl, inr, ℕ, zero, suc, ◌+◌, ◌<◌, ◌≤◌, ◌||◌, ◌==◌, Bool, true, false, cond, List, [], ◌∷◌, ◌++◌, length, take, get_or, slice_get, Option, Some, None, is_none, Ok, All, refl, ap, sym, subst, arith}
 use Rattle.std.specs.List.{flat_map, range_with_len}
 use Rattle.std.proofs.lemmas.Bool.{cases_lt, or_cases, false≢true}
-use Rattle.std.proofs.lemmas.List.{length-map, take_more}
+use Rattle.std.proofs.lemmas.List.{length-map}
 use Rattle.std.proofs.lemmas.List.Elements.{All-nil, All-append}
 use Rattle.std.proofs.lemmas.Option.{slice_get_within, same_Some}
 use Rattle.naga_oil_ir.specs.Links.{Links, linked, has}
-use Rattle.naga_oil_ir.specs.ModuleValue.{ModuleValue, FunctionValue}
+use Rattle.naga_oil_ir.specs.ModuleValue.{FunctionValue}
 use Rattle.naga_oil_ir.specs.declared.span.Span.{Span}
 use Rattle.naga_oil_ir.proofs.LinkLemmas.{or_left, or_right, eqb_eq, eq_eqb, has-append, in_all, All-has}
-use Rattle.naga_oil_derive.specs.Derived.{Source, Derived, KeepsSource}
-use Rattle.naga_oil_derive.specs.DerivedFunctions.{KeepsFunctions, IsFunctionImported}
 use Rattle.naga_oil_redirect.specs.Level.{StayWithin, level, levels, passing, is_level, without_level, by_level}
 use Rattle.naga_oil_redirect.specs.Ordered.{callees_of, calls_of, ordering, ordered}
-use Rattle.naga_oil_redirect.specs.PutInOrder.{InTurn, NoneLeft, OneMore}
 use Rattle.naga_oil_redirect.proofs.CycleLemmas.{passing_within, passing_none, levels_at, long_levels}
 use Rattle.naga_oil_redirect.proofs.LevelLemmas.{lower, level_lies_below}
 use Rattle.naga_oil_redirect.proofs.OrderLemmas.{passing_from, passing-cons}
@@ -170,19 +167,3 @@ each_in_order fs os e k h =
     let low = level_lies_below calls (length calls) k l.0 l.1 in
     let in_range = range_has 0 (length (levels calls)) l.0 (omega arith) (omega (arith, low, long_levels calls)) in
     subst (λ ks. has ks k ≡ true) (sym all.0) (in_all (of_level calls) (range_with_len 0 (length (levels calls))) l.0 k in_range (level_has calls l.0 k i l.1))
-
--- ---- one function more
-
-pub InTurn-push : {v : ModuleValue} {d e f : Derived} (ks : List ℕ) (k h : ℕ) (g : FunctionValue × Span) → InTurn v d ks e → slice_get v.functions k ≡ Some g → KeepsFunctions e f → IsFunctionImported e f g.0 g.1 h → InTurn v d (ks ++ k ∷ []) f
-InTurn-push [] k h g NoneLeft at keeps imported = OneMore h at keeps imported NoneLeft
-InTurn-push (j ∷ ks) k h g (OneMore {g = x} i here begins went rest) at keeps imported = OneMore {g = x} i here begins went (InTurn-push ks k h g rest at keeps imported)
-
-pub InTurn-more : {v : ModuleValue} {d e f : Derived} (ks : List ℕ) (i h : ℕ) (g : FunctionValue × Span) → i < length ks → InTurn v d (take i ks) e → slice_get v.functions (get_or ks i 0) ≡ Some g → KeepsFunctions e f → IsFunctionImported e f g.0 g.1 h → InTurn v d (take (i + 1) ks) f
-InTurn-more {v} {d} {f = f} ks i h g l so_far at keeps imported =
-    subst (λ xs. InTurn v d xs f) (sym (take_more ks i 0 l)) (InTurn-push (take i ks) (get_or ks i 0) h g so_far at keeps imported)
-
-pub source_stays : (a b : Option Source) → KeepsSource a b → IsSome a → IsSome b
-source_stays None None k h = h
-source_stays None (Some t) k h = absurd k
-source_stays (Some s) None k h = absurd k
-source_stays (Some s) (Some t) k h = h

@@ -6,3 +6,4 @@ pub mod LevelRows
 pub mod Ordered
 pub mod Redirectable
 pub mod PutInOrder
+pub mod PutInOrderRows

@@ -1,36 +1,36 @@
--- A module whose functions were put in order.
-use Rattle.std.specs.Prelude.{◌≡◌, ℕ, List, [], ◌∷◌, slice_get, Some, Result, Ok, Err, IfOk, IfErr, MatchOption}
-use Rattle.naga_oil_ir.specs.ModuleValue.{ModuleValue, FunctionValue}
+-- A module with its functions in order, as a value.
+use Rattle.std.specs.Prelude.{ℕ, List, fold, slice_get, Option, Some, None, Result, Ok, Err}
+use Rattle.naga_oil_ir.specs.ModuleValue.{ModuleValue, FunctionValue, module_value}
+use Rattle.naga_oil_ir.specs.RedirectFault.{RedirectFault, Gives}
 use Rattle.naga_oil_ir.specs.declared.module.Module.{Module}
-use Rattle.naga_oil_ir.specs.declared.span.Span.{Span}
-use Rattle.naga_oil_derive.specs.World.{value_of}
-use Rattle.naga_oil_derive.specs.Derived.{Derived, nothing, IsSet}
-use Rattle.naga_oil_derive.specs.DerivedFunctions.{KeepsFunctions, IsFunctionImported}
-use Rattle.naga_oil_derive.specs.DerivedEntries.{IsMadeWith}
-use Rattle.naga_oil_redirect.specs.Ordered.{ordered}
-use Rattle.naga_oil_ir.specs.RedirectFault.{redirect_fault}
 use Rattle.naga_oil_ir.specs.declared.redirect_error.RedirectError.{RedirectError}
+use Rattle.naga_oil_ir.specs.declared.span.Span.{Span}
+use Rattle.naga_oil_derive.specs.CopiedEntry.{make_module}
+use Rattle.naga_oil_derive.specs.Derived.{Derived, nothing}
+use Rattle.naga_oil_derive.specs.DerivedValue.{import_function, set_source}
+use Rattle.naga_oil_redirect.specs.Ordered.{ordered}
 
--- the functions of v at some places were imported one after another
-pub data InTurn (v : ModuleValue) : Derived → List ℕ → Derived → Type 0 where
-  NoneLeft : {d : Derived} → InTurn v d [] d
-  OneMore : {d e f : Derived} {k : ℕ} {ks : List ℕ} {g : FunctionValue × Span} (h : ℕ) → slice_get v.functions k ≡ Some g → KeepsFunctions d e → IsFunctionImported d e g.0 g.1 h → InTurn v e ks f → InTurn v d (k ∷ ks) f
+-- a function is imported, if there is one
+abbrev pub import_one : Derived → Option (FunctionValue × Span) → Derived
+import_one d None = d
+import_one d (Some f) = import_function d f.0 f.1
 
--- v was set as the source, and its functions at some places were imported one after another
-pub record IsImportedInTurn (v : ModuleValue) (ks : List ℕ) (d e : Derived) : Type 0 where
-  pub start : Derived
-  pub special : IsSet v 0 d start
-  pub functions : InTurn v start ks e
+-- the functions of a module at some places are imported one after another
+abbrev pub import_in_turn : ModuleValue → Derived → (places : List ℕ) → Derived
+import_in_turn m d places = fold (λ d k. import_one d (slice_get m.functions k)) d places
 
--- w is made of what v's special types, its functions in order, and then its entry points reach
-pub record IsInOrder (v w : ModuleValue) : Type 0 where
-  pub places : List ℕ
-  pub order : ordered v.functions ≡ Ok places
-  pub last : Derived
-  pub functions : IsImportedInTurn v places nothing last
-  pub made : IsMadeWith last w
+-- a module that is made of what another's special types, its functions at some places, and then its entry points reach
+unfoldable pub in_turn : ModuleValue → (places : List ℕ) → ModuleValue
+in_turn m places = make_module (import_in_turn m (set_source nothing m 0) places)
 
--- a module in order; refused, want of memory, or what has no order
+abbrev pub in_turn_if : ModuleValue → Result (List ℕ) RedirectFault → Result ModuleValue RedirectFault
+in_turn_if m (Ok places) = Ok (in_turn m places)
+in_turn_if m (Err f) = Err f
+
+-- a module with its functions by level, then by place; or the names of those without a level
+abbrev pub put_in_order : ModuleValue → Result ModuleValue RedirectFault
+put_in_order m = in_turn_if m (ordered m.functions)
+
+-- a result is a module with its functions in order
 abbrev pub PutsInOrder : ModuleValue → Result Module RedirectError → Type 0
-PutsInOrder v r =
-    IfOk r (λ m. IsInOrder v (value_of m)) × IfErr r (λ e. MatchOption (redirect_fault e) (Unit {0}) (λ f. ordered v.functions ≡ Err f))
+PutsInOrder m r = Gives module_value r (put_in_order m)

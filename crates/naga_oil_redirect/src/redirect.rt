@@ -10,7 +10,8 @@ ghost use Rattle.naga_oil_redirect.specs.Level.{HasCycle};
 ghost use Rattle.naga_oil_redirect.specs.Ordered.{calls_of, ordered};
 ghost use Rattle.naga_oil_derive.specs.World.{value_of};
 ghost use Rattle.naga_oil_derive.specs.DerivedEntries.{CanCopyEntries};
-ghost use Rattle.naga_oil_redirect.specs.PutInOrder.{IsImportedInTurn, IsInOrder, PutsInOrder};
+ghost use Rattle.naga_oil_derive.specs.DerivedValue.{set_source};
+ghost use Rattle.naga_oil_redirect.specs.PutInOrder.{import_in_turn, in_turn, put_in_order};
 ghost use Rattle.naga_oil_redirect.specs.Redirected.{function_values, is_named, same_results, found, matched, send_at, send_entry, redirected};
 
 use super::*;
@@ -71,7 +72,7 @@ fn send_entries(entries: &mut Vec<EntryPoint>, pair: Pair, alloc: Global)
 fn import_in_turn<'a>(derived: &mut DerivedModule<'a>, source: &'a Module, order: &[usize]) -> Tried
     requires source { Redirectable source.now }
     requires order { ordered (function_values source.now.functions) ≡ Ok order.now }
-    ensures imported { OnOk result (IsImportedInTurn (value_of source.now) order.now derived.old derived.new) }
+    ensures value { OnOk result (derived.new ≡ import_in_turn (value_of source.now) (set_source derived.old (value_of source.now) 0) order.now) }
     ensures set { OnOk result (IsSome derived.new.source) }
     ensures entries { OnOk result (CanCopyEntries derived.new) }
 {
@@ -88,7 +89,7 @@ fn import_in_turn<'a>(derived: &mut DerivedModule<'a>, source: &'a Module, order
 fn in_order(source: &Module, order: &[usize], alloc: Global) -> Tried<Module>
     requires source { Redirectable source.now }
     requires order { ordered (function_values source.now.functions) ≡ Ok order.now }
-    ensures { IfOk result (λ m. IsInOrder (value_of source.now) (value_of m)) }
+    ensures { IfOk result (λ m. value_of m ≡ in_turn (value_of source.now) order.now) }
 {
     let mut derived = DerivedModule::new(alloc);
     import_in_turn(&mut derived, source, order)?;
@@ -186,7 +187,7 @@ impl Redirector {
     /// # Errors
     /// Where functions call each other in a circle, or there is no memory. The module is dropped then.
     pub fn into_module(self) -> Result<Module, RedirectError>
-        ensures order { PutsInOrder self result }
+        ensures order { Gives module_value result (put_in_order self) }
         ensures cycle { IsErr (ordered self.functions) ↔ HasCycle (calls_of self.functions) }
     {
         let order = ordered(self.module.functions.as_slice(), self.alloc)?;

@@ -1,6 +1,6 @@
 //! What is asked of a composer, one command after another.
 ghost use Rattle.std.specs.Prelude.{◌≡◌, IfOk, OnErr};
-ghost use Rattle.naga_oil.specs.Ran.{Answered, Ran};
+ghost use Rattle.naga_oil.specs.Run.{Step, Run};
 
 use super::*;
 
@@ -22,11 +22,11 @@ pub enum Reply {
     Made(Told<Module>),
 }
 
-fn answered<B: Backend>(composer: &mut Composer<B>, command: Command<'_>) -> Reply
-    ensures { Answered B.front composer.old command.entry result composer.new }
+fn step<B: Backend>(composer: &mut Composer<B>, command: Command<'_>) -> Reply
+    ensures { Step B.front composer.old command.entry result composer.new }
 {
     match command {
-        Command::Add(desc) => Reply::Added(composer.added(desc)),
+        Command::Add(desc) => Reply::Added(composer.add_module(desc)),
         Command::Remove(name) => Reply::Removed(composer.remove_composable_module(name)),
         Command::Make(desc) => Reply::Made(composer.make_naga_module(desc)),
     }
@@ -35,12 +35,13 @@ fn answered<B: Backend>(composer: &mut Composer<B>, command: Command<'_>) -> Rep
 /// Does what commands ask for, one after another, and gives a reply to each. It makes room for the replies first: where there
 /// is none, nothing is done.
 pub fn run<B: Backend>(composer: &mut Composer<B>, commands: Vec<Command<'_>>) -> Tried<Vec<Reply>>
-    ensures ran { IfOk result (λ replies. Ran B.front composer.old commands.entry.items replies.items composer.new) }
+    ensures ran { let run = Run B.front composer.old commands.entry.items in
+        IfOk result (λ replies. run replies.items composer.new) }
     ensures refused { OnErr result (composer.new ≡ composer.old) }
 {
     let mut replies = Vec::with_capacity(composer.alloc(), commands.len())?;
     for command in commands {
-        replies.push(answered(composer, command)).unwrap();
+        replies.push(step(composer, command)).unwrap();
     }
     Ok(replies)
 }

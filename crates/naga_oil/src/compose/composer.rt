@@ -5,6 +5,7 @@ ghost use Rattle.std.specs.Io.BufRead.{Rests};
 ghost use Rattle.naga_oil_registry.specs.Definition.{definition_of};
 
 use super::error::refused;
+use super::reach::Maker;
 use super::*;
 use naga_oil_registry::adding::{describe, register};
 use naga_oil_registry::registry::remove;
@@ -39,18 +40,17 @@ impl<B: Backend> Model for Composer<B> {
 
 impl<B: Backend> Composer<B> {
     ghost use Rattle.naga_oil.specs.contracts.compose.composer.Composer.{the_row};
-    ghost use Rattle.naga_oil_ir.specs.declared.backend.Capabilities.{Capabilities};
     ghost use Rattle.naga_oil_lines.specs.Decorate.{decorated_name};
     ghost use Rattle.naga_oil.specs.Addition.{addition};
     ghost use Rattle.naga_oil_registry.specs.Descriptor.{module_source, shader_source};
     ghost use Rattle.naga_oil.specs.Makes.{Makes};
     ghost use Rattle.naga_oil.specs.Refused.{Answers};
     ghost use Rattle.naga_oil_registry.specs.Registry.{registered, module_named, module_indexed, IsRegistry, AreReachedNames};
-    ghost use Rattle.naga_oil.specs.State.{Adds, Removes};
+    ghost use Rattle.naga_oil.specs.State.{nothing_registered, Adds, Removes};
 
     // A composer with nothing registered and the counter at 0.
     fn empty(alloc: Global, front: B, validate: bool, capabilities: Capabilities) -> Self
-        ensures { result ≡ record { front = front; validate = validate; capabilities = capabilities; registry = []; counter = 0 } }
+        ensures { result ≡ nothing_registered front validate capabilities }
     {
         Composer {
             alloc,
@@ -64,28 +64,29 @@ impl<B: Backend> Composer<B> {
 
     /// A composer with nothing registered, no capabilities and the counter at 0. It validates what it makes.
     pub fn new(alloc: Global, front: B) -> Self
-        ensures { result ≡ record { front = front; validate = true; capabilities = record { 0 = 0 }; registry = []; counter = 0 } }
+        ensures { result ≡ nothing_registered front true (record { 0 = 0 }) }
     {
         Composer::empty(alloc, front, true, Capabilities(0))
     }
 
     /// The same, but it doesn't validate.
     pub fn non_validating(alloc: Global, front: B) -> Self
-        ensures { result ≡ record { front = front; validate = false; capabilities = record { 0 = 0 }; registry = []; counter = 0 } }
+        ensures { result ≡ nothing_registered front false (record { 0 = 0 }) }
     {
         Composer::empty(alloc, front, false, Capabilities(0))
     }
 
     /// The same front end, and it validates as before, with these capabilities, nothing registered and the counter at 0.
     pub fn with_capabilities(self, capabilities: Capabilities) -> Self
-        ensures { result ≡ record { front = self.front; validate = self.validate; capabilities = capabilities; registry = []; counter = 0 } }
+        ensures { result ≡ nothing_registered self.front self.validate capabilities }
     {
         Composer::empty(self.alloc, self.front, self.validate, capabilities)
     }
 
     /// The name of an item of a module, as it stands in what is made. With no module it is the item.
     pub fn decorated_name(alloc: Global, module_name: Option<&str>, item: &str) -> Tried<String>
-        ensures { IfOk result (λ t. string_bytes t ≡ decorated_name (option_map (λ m. m.now) module_name.entry) item.now) }
+        ensures { let named = decorated_name (option_map (λ m. m.now) module_name.entry) in
+            IfOk result (λ t. string_bytes t ≡ named item.now) }
     {
         decorated_name(alloc, module_name, item)
     }
@@ -126,7 +127,8 @@ impl<B: Backend> Composer<B> {
     pub fn module(&self, module_name: &str) -> Option<&ComposableModuleDefinition>
         ensures registry { IsRegistry self.now.registry }
         ensures effective { AreReachedNames self.now.registry }
-        ensures value { option_map (λ d. definition_of d.now) result ≡ module_named module_name.now self.now.registry }
+        ensures value { let named = module_named module_name.now self.now.registry in
+            option_map (λ d. definition_of d.now) result ≡ named }
     {
         self.modules
             .iter()
@@ -153,8 +155,12 @@ impl<B: Backend> Composer<B> {
         remove(self.alloc, &mut self.modules, module_name)
     }
 
-    // Adds a module, and answers its index.
-    pub(crate) fn added(&mut self, desc: ComposableModuleDescriptor<'_>) -> Told<usize>
+    /// Adds a module as `add_composable_module` does, and answers its index, which is from 1 to 2047. What stands after it is
+    /// said of the composer itself, which isn't lent on.
+    ///
+    /// # Errors
+    /// Those of `add_composable_module`.
+    pub fn add_module(&mut self, desc: ComposableModuleDescriptor<'_>) -> Told<usize>
         ensures { Adds (λ i. i) (λ d. d.index) self.old (module_source desc.entry) result self.new }
     {
         let (alloc, path, source) = (self.alloc, desc.file_path, desc.source);
@@ -181,10 +187,12 @@ impl<B: Backend> Composer<B> {
         &mut self,
         desc: ComposableModuleDescriptor<'_>,
     ) -> Result<&ComposableModuleDefinition, ComposerError>
-        ensures* state { sem 𝓛 (Rests (the_row B.row B.Backend) self.entry (Adds (λ d. definition_of d.now) (λ d. d) self.old (module_source desc.entry) result)) }
-        ensures reply { Answers (λ d. definition_of d.now) result (addition self.old.registry self.old.counter (module_source desc.entry)) }
+        ensures* state { let adds = Adds (λ d. definition_of d.now) (λ d. d) self.old (module_source desc.entry) in
+            sem 𝓛 (Rests (the_row B.row B.Backend) self.entry (adds result)) }
+        ensures reply { let told = addition self.old.registry self.old.counter (module_source desc.entry) in
+            Answers (λ d. definition_of d.now) result told }
     {
-        let added = self.added(desc);
+        let added = self.add_module(desc);
         self.newest(added)
     }
 
@@ -205,21 +213,26 @@ impl<B: Backend> Composer<B> {
             Err(inner) => return Err(refused(alloc, inner, desc.file_path, desc.source, 0)),
         };
         self.counter = next;
-        let mut maker = Maker {
+        let builder = Builder {
             alloc,
             front: &self.front,
             validate: self.validate,
             capabilities: self.capabilities,
-            defs: Defs::new(alloc),
             builds: Builds::new(alloc),
         };
-        maker.made(desc, text.as_str(), &self.modules)
+        let defs = Defs::new(alloc);
+        let mut maker = Maker { builder, defs };
+        maker.make(desc, text.as_str(), &self.modules)
     }
 
     // The module that was added last, or why none was.
     fn newest(&self, added: Told<usize>) -> Told<&Definition>
         requires { OnOk added (0 < length self.now.registry) }
-        ensures { MatchResult result (λ d. IsOk added × (slice_get self.now.registry 0 ≡ Some (definition_of d.now))) (λ e. added ≡ Err e) }
+        ensures { let newest = slice_get self.now.registry 0 in
+            MatchResult
+            result
+            (λ d. IsOk added × (newest ≡ Some (definition_of d.now)))
+            (λ e. added ≡ Err e) }
     {
         match added {
             Ok(_) => Ok(&self.modules[0]),

@@ -3,7 +3,7 @@ ghost use Rattle.std.specs.Prelude.{◌≡◌, MatchOption, Some, None, IfOk, st
 ghost use Rattle.std.specs.Cow.{cow_str_bytes};
 ghost use Rattle.naga_oil_pre.specs.View.{fault_of};
 ghost use Rattle.naga_oil_registry.specs.Definition.{defs_of};
-ghost use Rattle.naga_oil.specs.Refused.{refused_of, place_of, nowhere, in_text, in_module, TellsMissing};
+ghost use Rattle.naga_oil.specs.Refused.{refused_of, place_of, nowhere, in_text, in_module, TellsAt};
 ghost use Rattle.naga_oil_registry.specs.Report.{report};
 ghost use Rattle.naga_oil.specs.Sources.{path_of, text_of, offset_of};
 
@@ -87,7 +87,10 @@ pub struct ComposerError {
 impl ComposerError {
     /// What the error is told as, with its places in the text.
     pub fn emit_to_string<B: Backend>(&self, composer: &Composer<B>) -> Tried<String>
-        ensures { IfOk result (λ t. string_bytes t ≡ report (path_of composer.now.registry self.now.source) (text_of composer.now.registry self.now.source) (offset_of self.now.source) (fault_of self.now.inner)) }
+        ensures { let registry = composer.now.registry in
+            let at = self.now.source in
+            let told = report (path_of registry at) (text_of registry at) (offset_of at) in
+            IfOk result (λ t. string_bytes t ≡ told (fault_of self.now.inner)) }
     {
         let text = self.source.source(composer)?;
         let path = self.source.path(composer);
@@ -126,8 +129,8 @@ fn constructing(alloc: Global, path: &str, source: &str, offset: usize) -> Tried
     })
 }
 
-// Want of memory, which is nowhere.
-fn memory(alloc: Global) -> ComposerError
+/// Want of memory, which is nowhere.
+pub(crate) fn memory(alloc: Global) -> ComposerError
     ensures told { refused_of result ≡ None }
     ensures place { place_of result.source ≡ nowhere }
 {
@@ -149,7 +152,7 @@ pub(crate) fn refused(
     source: &str,
     offset: usize,
 ) -> ComposerError
-    ensures { MatchOption (refused_of result) (place_of result.source ≡ nowhere) (λ r. (fault_of inner ≡ Some r.fault) × (r.place ≡ in_text path.now source.now offset)) }
+    ensures { TellsAt (in_text path.now source.now offset) inner result }
 {
     if let Inner::Memory = inner {
         return memory(alloc);
@@ -168,7 +171,7 @@ pub(crate) fn refused_in(
     offset: usize,
     defs: &Defs,
 ) -> ComposerError
-    ensures { MatchOption (refused_of result) (place_of result.source ≡ nowhere) (λ r. (fault_of inner ≡ Some r.fault) × (r.place ≡ in_module name.now offset (defs_of defs.now))) }
+    ensures { TellsAt (in_module name.now offset (defs_of defs.now)) inner result }
 {
     if let Inner::Memory = inner {
         return memory(alloc);
@@ -188,16 +191,4 @@ fn in_module(alloc: Global, name: &str, offset: usize, defs: &Defs) -> Tried<Err
         offset,
         defs: defs.clone()?,
     })
-}
-
-impl EnsureImportsError {
-    /// A module may not be imported there.
-    pub(crate) fn missing(alloc: Global, name: &str) -> EnsureImportsError
-        ensures { TellsMissing result name.now }
-    {
-        match String::from_str(alloc, name) {
-            Ok(name) => EnsureImportsError::MissingImport(name),
-            Err(_) => EnsureImportsError::ComposerError(memory(alloc)),
-        }
-    }
 }

@@ -1,187 +1,34 @@
-// One shader out of a text and the registered modules that it imports.
-ghost use Rattle.std.specs.Prelude.{◌≡◌, ◌≤◌, ◌==◌, All, IfOk, map, find, option_map, Ok, Err, [], true, false, string_bytes};
+//! One shader out of a text and the registered modules that it imports.
+ghost use Rattle.std.specs.Prelude.{◌≡◌, ◌≤◌, ◌==◌, All, find, map, option_map, string_bytes, Ok, Err};
 ghost use Rattle.naga_oil_ir.specs.Backend.{labels, valid_fault};
-ghost use Rattle.naga_oil_ir.specs.ModuleValue.{ModuleValue, EntryValue, entry_value, module_value};
+ghost use Rattle.naga_oil_ir.specs.ModuleValue.{ModuleValue, module_value};
 ghost use Rattle.naga_oil_lines.specs.Uses.{use_of};
-ghost use Rattle.naga_oil_pre.specs.Fault.{import_not_found};
 ghost use Rattle.naga_oil_pre.specs.KnownView.{output_of};
-ghost use Rattle.naga_oil_pre.specs.Metadata.{metadata};
-ghost use Rattle.naga_oil_pre.specs.MetadataView.{metadata_of};
-ghost use Rattle.naga_oil_pre.specs.View.{Gives, Fails};
-ghost use Rattle.naga_oil.specs.Afresh.{setting_of, Unless, UnlessBuilt, EachReached, Reached, Unreached};
-ghost use Rattle.naga_oil.specs.Built.{build_place};
-ghost use Rattle.naga_oil.specs.Building.{by_steps};
-ghost use Rattle.naga_oil.specs.BuiltModule.{built_of, builds_of, overriding_of};
-ghost use Rattle.naga_oil.specs.Chains.{with_stages, sent_down, all_sent_down};
+ghost use Rattle.naga_oil_pre.specs.View.{Gives};
 ghost use Rattle.naga_oil_registry.specs.Definition.{definition_of, defs_of};
-ghost use Rattle.naga_oil_lines.specs.Text.{texts};
 ghost use Rattle.naga_oil_registry.specs.Descriptor.{shader_source};
-ghost use Rattle.naga_oil.specs.Linked.{WholeLinked};
-ghost use Rattle.naga_oil.specs.Made.{Reading, OneUnread, any_use, may_use};
-ghost use Rattle.naga_oil.specs.Merging.{shader_definition, imported, agrees, defs_union, defs_union_over, are_among};
-ghost use Rattle.naga_oil.specs.Read.{IsShader, FirstRead, NotFirstRead, SecondRead, NotSecondRead, IsRead, IsUnread};
-ghost use Rattle.naga_oil.specs.Refused.{Answers, Tells};
-ghost use Rattle.naga_oil.specs.Relations.{GivesBy, AnswersBy};
-ghost use Rattle.naga_oil.specs.Shader.{IsChained, IsUnchained, ShaderLinked, ShaderRefused, ShaderAnswers};
-ghost use Rattle.naga_oil.specs.Validated.{last_index, invalid_shader, validated};
-ghost use Rattle.naga_oil.specs.Whole.{IsToldFor, FinishAnswers, MakeAnswers};
+ghost use Rattle.naga_oil_registry.specs.Merged.{overwritten};
+ghost use Rattle.naga_oil_link.specs.BuiltModule.{built_of, builds_of};
+ghost use Rattle.naga_oil_link.specs.Linked.{link_whole};
+ghost use Rattle.naga_oil_build.specs.Build.{build};
+ghost use Rattle.naga_oil_build.specs.Built.{preprocessed_of};
+ghost use Rattle.naga_oil.specs.Answer.{of_shader, refusal, read_first, read_second, make, reach_uses};
+ghost use Rattle.naga_oil.specs.Chain.{chain, with_stages};
+ghost use Rattle.naga_oil.specs.Finish.{built_in_text, compose, finish};
+ghost use Rattle.naga_oil.specs.MakeView.{settings_by, defs_in, builds_in, rule_of, BuildsMore, PlacesAs, Replies, TellsUnreached};
+ghost use Rattle.naga_oil.specs.Reach.{defined};
+ghost use Rattle.naga_oil.specs.Refused.{Answers, Tells, in_text, placed, refused_of};
+ghost use Rattle.naga_oil.specs.Validate.{last_index, invalid_shader, validate};
 
-use super::build::answered;
-use super::error::{refused, refused_in};
-use super::formed::redirectable;
+use super::chain::{chain, set_stages};
+use super::error::{memory, refused, refused_in};
+use super::reach::{Maker, Rule, Unreached};
+use super::shader::{merge, read_shader};
 use super::*;
-use naga_oil_redirect::Redirector;
-use naga_oil_registry::merge::{clone_imports, overwrite};
-
-// Why a shader isn't read: a fault of its text as it was given to be read, or of what it imports.
-#[derive(Drop)]
-enum ReadFault {
-    Here(Inner),
-    There(ComposerError),
-}
-
-impl From<Inner> for ReadFault {
-    ghost use Rattle.std.specs.Prelude.{◌≡◌};
-    ghost use Rattle.naga_oil.specs.declared.compose.make.ReadFault.TheVariants as reading;
-
-    ghost from_gives = { λ inner result. result ≡ reading.Here inner };
-
-    fn from(inner: Inner) -> ReadFault {
-        ReadFault::Here(inner)
-    }
-}
-
-impl From<AllocError> for ReadFault {
-    ghost use Rattle.std.specs.Prelude.{◌≡◌};
-    ghost use Rattle.naga_oil_pre.specs.declared.fault.ComposerErrorInner.TheVariants as code;
-    ghost use Rattle.naga_oil.specs.declared.compose.make.ReadFault.TheVariants as reading;
-
-    ghost from_gives = { λ error result. result ≡ reading.Here code.Memory };
-
-    fn from(error: AllocError) -> ReadFault {
-        ReadFault::Here(Inner::from(error))
-    }
-}
-
-impl From<EnsureImportsError> for ReadFault {
-    ghost use Rattle.std.specs.Prelude.{◌≡◌};
-    ghost use Rattle.naga_oil.specs.Made.{read_fault};
-
-    ghost from_gives = { λ error result. result ≡ read_fault error };
-
-    fn from(error: EnsureImportsError) -> ReadFault {
-        match error {
-            EnsureImportsError::MissingImport(name) => ReadFault::Here(Inner::ImportNotFound(
-                name, 0,
-            )),
-            EnsureImportsError::ComposerError(error) => ReadFault::There(error),
-        }
-    }
-}
-
-// The shader as a module of no index and no name.
-fn shader_of(
-    alloc: Global,
-    desc: &NagaModuleDescriptor<'_>,
-    of: PreprocessorMetaData,
-) -> Tried<Definition>
-    ensures { IfOk result (λ d. definition_of d ≡ shader_definition (shader_source desc.now) (metadata_of of) (defs_of of.defines) (texts of.effective_defs.keys)) }
-{
-    Ok(Definition {
-        name: String::new(alloc),
-        sanitized_source: of.cleaned_source,
-        language: ShaderLanguage::from(desc.shader_type),
-        file_path: String::from_str(alloc, desc.file_path)?,
-        shader_defs: of.defines,
-        effective_defs: of.effective_defs,
-        all_imports: of.imports,
-        additional_imports: clone_imports(alloc, desc.additional_imports)?,
-        module_index: 0,
-        wgsl_directives: of.wgsl_directives,
-    })
-}
-
-// What a shader's text says, as a module of no index and no name.
-fn described(alloc: Global, desc: &NagaModuleDescriptor<'_>, text: &str) -> Checked<Definition>
-    ensures { GivesBy (λ d. IsShader (shader_source desc.now) text.now (definition_of d)) (λ f. metadata true text.now ≡ Err f) result }
-{
-    let metadata = Preprocessor.get_preprocessor_metadata(alloc, text, true)?;
-    // A map's and a set's length tell that their names are in order.
-    let _lengths = (metadata.defines.len(), metadata.effective_defs.len());
-    Ok(shader_of(alloc, desc, metadata)?)
-}
-
-// The module that is imported.
-fn imported<'c>(import: &Use, modules: &'c [Definition]) -> Checked<&'c Definition>
-    ensures { Gives (λ d. definition_of d.now) result (imported (map definition_of modules.now) (use_of import.now)) }
-{
-    let name = &import.definition().import;
-    match modules.iter().find(|of| of.name == *name) {
-        Some(definition) => Ok(definition),
-        None => Err(Inner::ImportNotFound(name.clone()?, import.offset())),
-    }
-}
-
-// Whether a name that is defined so may be defined as a value: it has no other.
-fn agrees(known: Option<ShaderDefValue>, value: ShaderDefValue) -> bool
-    ensures { result ≡ agrees value known }
-{
-    match known {
-        None => true,
-        Some(known) => known == value,
-    }
-}
-
-// Adds definitions, which may not say another value of a name.
-fn add_consistent(defs: &mut Defs, others: &Defs) -> Checked
-    ensures { GivesBy (λ done. defs_union (defs_of defs.old) (defs_of others.now) ≡ Ok (defs_of defs.new)) (λ f. defs_union (defs_of defs.old) (defs_of others.now) ≡ Err f) result }
-{
-    for (name, value) in others {
-        let known = defs.insert(name.clone()?, *value)?;
-        if !agrees(known, *value) {
-            return Err(Inner::InconsistentShaderDefValue { def: name.clone()? });
-        }
-    }
-    Ok(())
-}
-
-// Adds the definitions of what is imported, which all has to be registered.
-fn merge(defs: &mut Defs, imports: &[Use], modules: &[Definition]) -> Checked
-    ensures { let value = defs_union_over (map definition_of modules.now) (defs_of defs.old) (map use_of imports.now) in GivesBy (λ done. value ≡ Ok (defs_of defs.new)) (λ f. value ≡ Err f) result }
-{
-    for import in imports {
-        let of = imported(import, modules)?;
-        add_consistent(defs, &of.shader_defs)?;
-    }
-    Ok(())
-}
-
-// Whether definitions are among others.
-fn are_among(defs: &Defs, others: &Defs) -> bool
-    ensures { result ≡ are_among (defs_of defs.now) (defs_of others.now) }
-{
-    for (name, value) in defs {
-        if others.get(name.as_str()) != Some(value) {
-            return false;
-        }
-    }
-    true
-}
-
-// Whether the second reading may import a module: one that is registered, with its definitions among these.
-fn may_use(import: &Use, modules: &[Definition], defs: &Defs) -> Checked
-    ensures { GivesBy
-        (λ _. may_use (map definition_of modules.now) (defs_of defs.now) (use_of import.now) ≡ true)
-        (λ f. (may_use (map definition_of modules.now) (defs_of defs.now) (use_of import.now) ≡ false) × (f ≡ import_not_found (use_of import.now).import.import (use_of import.now).offset))
-        result }
-{
-    let of = imported(import, modules)?;
-    if are_among(&of.shader_defs, defs) {
-        return Ok(());
-    }
-    let name = import.definition().import.clone()?;
-    Err(Inner::ImportNotFound(name, import.offset()))
-}
+use naga_oil_build::builder::answered;
+use naga_oil_link::link::link_whole;
+use naga_oil_link::reads::{index_of, offset_of};
+use naga_oil_registry::merge::overwrite;
 
 // The index of the module that a fault's last span is in; 0 is the shader's.
 fn last_index(fault: &ValidFault) -> usize
@@ -193,186 +40,133 @@ fn last_index(fault: &ValidFault) -> usize
 
 // The build of an index, with its name.
 fn build_at(builds: &Builds, index: usize) -> Option<(&str, &Build)>
-    ensures { option_map (λ b. (b.0.now, built_of b.1.now)) result ≡ find (λ b. b.1.index == index) (builds_of builds.now) }
+    ensures { let found = find (λ b. b.1.index == index) (builds_of builds.now) in
+        option_map (λ b. (b.0.now, built_of b.1.now)) result ≡ found }
 {
     for (name, build) in builds.iter() {
-        if build.index == index {
+        if index_of(build) == index {
             return Some((name.as_str(), build));
         }
     }
     None
 }
 
-// Sends the calls of a function down those that override it: of each in turn, but for those in its own and earlier ones.
-fn send_down(
-    alloc: Global,
-    redirector: &mut Redirector,
-    base: &String,
-    others: &[String],
-) -> Checked
-    ensures { let value = sent_down redirector.old (string_bytes base.now) (texts others.now) [] in GivesBy (λ done. value ≡ Ok redirector.new) (λ f. value ≡ Err f) result }
+// An answer, or a fault of a text that was given, which counts from an offset.
+fn in_text<T>(alloc: Global, path: &str, text: &str, offset: usize, answer: Checked<T>) -> Told<T>
+    ensures { PlacesAs (in_text path.now text.now offset) answer result }
 {
-    let mut omit = Names::new(alloc);
-    let mut original = base;
-    for other in others {
-        redirector.redirect_function(original.as_str(), other.as_str(), &omit)?;
-        omit.insert(other.clone()?)?;
-        original = other;
-    }
-    Ok(())
-}
-
-// Sends the calls of each function that is overridden down those that override it.
-fn send_all_down(alloc: Global, redirector: &mut Redirector, all: &Overrides) -> Checked
-    ensures { let value = all_sent_down redirector.old (overriding_of all.now) in GivesBy (λ done. value ≡ Ok redirector.new) (λ f. value ≡ Err f) result }
-{
-    for (base, others) in all.iter() {
-        send_down(alloc, redirector, base, others)?;
-    }
-    Ok(())
-}
-
-// A module with its calls sent down what overrides functions, and its functions in order.
-fn chained(alloc: Global, whole: Module, all: &Overrides) -> Checked<Module>
-    ensures { GivesBy (λ made. IsChained (overriding_of all.now) (module_value whole) (module_value made)) (IsUnchained (overriding_of all.now) (module_value whole)) result }
-{
-    let whole = redirectable(alloc, whole)?;
-    let mut redirector = Redirector::new(alloc, whole);
-    send_all_down(alloc, &mut redirector, all)?;
-    Ok(redirector.into_module()?)
-}
-
-// Sets the stage of entry points.
-fn set_stage(entry_points: &mut Vec<EntryPoint>, stage: u64)
-    ensures { map entry_value entry_points.new.items ≡ map (λ (e : EntryValue). record e { stage = stage }) (map entry_value entry_points.old.items) }
-{
-    for entry_point in entry_points.iter_mut() {
-        entry_point.stage = stage;
+    match answer {
+        Ok(value) => Ok(value),
+        Err(inner) => Err(refused(alloc, inner, path, text, offset)),
     }
 }
 
-// Sets the stages of entry points as a shader's type says.
-fn set_stages(whole: &mut Module, shader_type: ShaderType)
-    ensures { module_value whole.new ≡ with_stages shader_type (module_value whole.old) }
+// The definitions of a shader: those that are given, overwritten by its own.
+fn own_defs(alloc: Global, given: Defs, shader: &Definition) -> Told<Defs>
+    ensures { let own = (definition_of shader.now).defs in
+        Answers defs_of result (Ok (overwritten (defs_of given) own)) }
 {
-    match shader_type {
-        ShaderType::Wgsl => {}
-        ShaderType::GlslVertex => set_stage(&mut whole.entry_points, 0),
-        ShaderType::GlslFragment => set_stage(&mut whole.entry_points, 1),
+    let mut defs = given;
+    match overwrite(&mut defs, &shader.shader_defs) {
+        Ok(()) => Ok(defs),
+        Err(_) => Err(memory(alloc)),
     }
 }
 
 impl<B: Backend> Maker<'_, B> {
-    // Builds what the first reading imports.
-    fn ensure_first(&mut self, imports: &[Use], modules: &[Definition]) -> Result<(), ReadFault>
-        requires { All (λ d. d.module_index ≤ 2047) modules.now }
-        ensures reached { Reading
-            (λ _. EachReached any_use (Unless (Reached by_steps (setting_of (B.front self.old.front.now) self.old.validate self.old.capabilities self.old.defs) (map definition_of modules.now))) (map use_of imports.now) (builds_of self.old.builds) (builds_of self.new.builds))
-            (OneUnread any_use (Unless (Reached by_steps (setting_of (B.front self.old.front.now) self.old.validate self.old.capabilities self.old.defs) (map definition_of modules.now))) (UnlessBuilt (Unreached by_steps (setting_of (B.front self.old.front.now) self.old.validate self.old.capabilities self.old.defs) (map definition_of modules.now))) (map use_of imports.now) (builds_of self.old.builds))
-            result }
-        ensures rest { self.new ≡ record self.old { builds = self.new.builds } }
+    // Why a module isn't reached, told of a shader.
+    fn refusal(&self, why: Unreached, shader: &Definition, text: &str) -> ComposerError
+        ensures { let path = (definition_of shader.now).file_path in
+            TellsUnreached (refusal path text.now (defs_in self.now)) why result }
     {
-        for import in imports {
-            let name = import.definition().import.as_str();
-            self.ensure(name, modules)?;
+        let (alloc, path) = (self.builder.alloc, shader.file_path.as_str());
+        match why {
+            Unreached::Missing(name, offset) => {
+                refused(alloc, Inner::ImportNotFound(name, offset), path, text, 0)
+            }
+            Unreached::Unbuilt(name, unbuilt) => {
+                let Unbuilt { inner, offset } = unbuilt;
+                refused_in(alloc, inner, name.as_str(), offset, &self.defs)
+            }
+            Unreached::Memory => memory(alloc),
         }
-        Ok(())
     }
 
-    // Builds what the second reading imports, of which the definitions have to be among those of the make.
-    fn ensure_second(&mut self, imports: &[Use], modules: &[Definition]) -> Result<(), ReadFault>
+    // Builds what a shader uses, each module once, as far as a rule allows.
+    fn reach_uses(
+        &mut self,
+        rule: Rule<'_>,
+        uses: &[Use],
+        shader: &Definition,
+        text: &str,
+        modules: &[Definition],
+    ) -> Told
         requires { All (λ d. d.module_index ≤ 2047) modules.now }
-        ensures reached { Reading
-            (λ _. EachReached (may_use (map definition_of modules.now) (defs_of self.old.defs)) (Unless (Reached by_steps (setting_of (B.front self.old.front.now) self.old.validate self.old.capabilities self.old.defs) (map definition_of modules.now))) (map use_of imports.now) (builds_of self.old.builds) (builds_of self.new.builds))
-            (OneUnread (may_use (map definition_of modules.now) (defs_of self.old.defs)) (Unless (Reached by_steps (setting_of (B.front self.old.front.now) self.old.validate self.old.capabilities self.old.defs) (map definition_of modules.now))) (UnlessBuilt (Unreached by_steps (setting_of (B.front self.old.front.now) self.old.validate self.old.capabilities self.old.defs) (map definition_of modules.now))) (map use_of imports.now) (builds_of self.old.builds))
-            result }
-        ensures rest { self.new ≡ record self.old { builds = self.new.builds } }
+        ensures reached { let s = settings_by B.front self.old in
+            let ds = map definition_of modules.now in
+            let defs = defs_in self.old in
+            let reaching = reach_uses s ds defs (rule_of ds defs rule.entry) (map use_of uses.now) in
+            let told = of_shader (definition_of shader.now).file_path text.now defs reaching in
+            Replies (λ done. done) result self.new (told (builds_in self.old)) }
+        ensures rest { BuildsMore self.old self.new }
     {
-        for import in imports {
-            let name = import.definition().import.as_str();
-            may_use(import, modules, &self.defs)?;
-            self.ensure(name, modules)?;
+        match self.ensure_each(rule, uses, modules) {
+            Ok(()) => Ok(()),
+            Err(why) => Err(self.refusal(why, shader, text)),
         }
-        Ok(())
+    }
+
+    // What a shader's text becomes, with what it imports.
+    fn preprocess_shader(&self, shader: &Definition, text: &str) -> Told<PreprocessOutput>
+        ensures { let d = definition_of shader.now in
+            let told = preprocessed_of (defined (defs_in self.now)) d in
+            Answers output_of result (placed (in_text d.file_path text.now 0) told) }
+    {
+        let output = self.builder.preprocessed(shader, &self.defs);
+        in_text(
+            self.builder.alloc,
+            shader.file_path.as_str(),
+            text,
+            0,
+            output,
+        )
     }
 
     // Reads a shader a first time: adds the definitions of what it imports, and builds that.
-    fn read_first(&mut self, of: &Definition, modules: &[Definition]) -> Result<(), ReadFault>
+    fn read_first(&mut self, shader: &Definition, text: &str, modules: &[Definition]) -> Told
         requires { All (λ d. d.module_index ≤ 2047) modules.now }
-        ensures read { Reading
-            (λ _. FirstRead (setting_of (B.front self.old.front.now) self.old.validate self.old.capabilities self.old.defs) (map definition_of modules.now) (definition_of of.now) (builds_of self.old.builds) (defs_of self.new.defs) (builds_of self.new.builds))
-            (NotFirstRead (setting_of (B.front self.old.front.now) self.old.validate self.old.capabilities self.old.defs) (map definition_of modules.now) (definition_of of.now) (builds_of self.old.builds))
-            result }
-        ensures rest { self.new ≡ record self.old { defs = self.new.defs; builds = self.new.builds } }
+        ensures read { let s = settings_by B.front self.old in
+            let ds = map definition_of modules.now in
+            let d = definition_of shader.now in
+            let read = read_first s ds text.now d (defs_in self.old) in
+            Replies (λ done. defs_in self.new) result self.new (read (builds_in self.old)) }
+        ensures rest { BuildsMore (record self.old { defs = self.new.defs }) self.new }
     {
-        let output = self.preprocessed(of)?;
-        merge(&mut self.defs, &output.imports, modules)?;
-        self.ensure_first(&output.imports, modules)
+        let output = self.preprocess_shader(shader, text)?;
+        let (alloc, path) = (self.builder.alloc, shader.file_path.as_str());
+        let merged = merge(&mut self.defs, &output.imports, modules);
+        in_text(alloc, path, text, 0, merged)?;
+        self.reach_uses(Rule::Any, &output.imports, shader, text, modules)
     }
 
     // Reads a shader a second time, under the definitions of all that it imports, and builds what it imports then.
     fn read_second(
         &mut self,
-        of: &Definition,
-        modules: &[Definition],
-    ) -> Result<PreprocessOutput, ReadFault>
-        requires { All (λ d. d.module_index ≤ 2047) modules.now }
-        ensures read { Reading
-            (λ output. SecondRead (setting_of (B.front self.old.front.now) self.old.validate self.old.capabilities self.old.defs) (map definition_of modules.now) (definition_of of.now) (builds_of self.old.builds) (output_of output) (builds_of self.new.builds))
-            (NotSecondRead (setting_of (B.front self.old.front.now) self.old.validate self.old.capabilities self.old.defs) (map definition_of modules.now) (definition_of of.now) (builds_of self.old.builds))
-            result }
-        ensures rest { self.new ≡ record self.old { builds = self.new.builds } }
-    {
-        let output = self.preprocessed(of)?;
-        self.ensure_second(&output.imports, modules)?;
-        Ok(output)
-    }
-
-    // Reads a shader's text under its definitions, and again under those of what it imports, which is built.
-    fn read(
-        &mut self,
-        desc: NagaModuleDescriptor<'_>,
+        shader: &Definition,
         text: &str,
         modules: &[Definition],
-    ) -> Result<(Definition, PreprocessOutput), ReadFault>
+    ) -> Told<PreprocessOutput>
         requires { All (λ d. d.module_index ≤ 2047) modules.now }
-        ensures read { Reading
-            (λ read. IsRead (setting_of (B.front self.old.front.now) self.old.validate self.old.capabilities desc.entry.shader_defs) (map definition_of modules.now) (shader_source desc.entry) text.now (builds_of self.old.builds) (definition_of read.0) (output_of read.1) (defs_of self.new.defs) (builds_of self.new.builds))
-            (IsUnread (setting_of (B.front self.old.front.now) self.old.validate self.old.capabilities desc.entry.shader_defs) (map definition_of modules.now) (shader_source desc.entry) text.now (builds_of self.old.builds))
-            result }
-        ensures rest { self.new ≡ record self.old { defs = self.new.defs; builds = self.new.builds } }
+        ensures read { let s = settings_by B.front self.old in
+            let ds = map definition_of modules.now in
+            let d = definition_of shader.now in
+            let read = read_second s ds text.now d (defs_in self.old) in
+            Replies output_of result self.new (read (builds_in self.old)) }
+        ensures rest { BuildsMore self.old self.new }
     {
-        let shader = described(self.alloc, &desc, text)?;
-        let NagaModuleDescriptor { shader_defs, .. } = desc;
-        self.defs = shader_defs;
-        overwrite(&mut self.defs, &shader.shader_defs)?;
-        self.read_first(&shader, modules)?;
-        let output = self.read_second(&shader, modules)?;
-        Ok((shader, output))
-    }
-
-    // Everything that a shader owns, behind what it imports, with its entry points.
-    fn whole<'b>(&'b self, of: &'b Build) -> Tried<Module>
-        ensures { IfOk result (λ whole. WholeLinked (builds_of self.now.builds) (built_of of.now) (module_value whole)) }
-    {
-        let mut linker = Linker::new(self.alloc, &self.builds, false);
-        linker.link_imports(&of.imports, self.builds.len())?;
-        linker.link_items(of, None)?;
-        let Linker { mut derived, .. } = linker;
-        derived.set_shader_source(of.module_ir.get(), 0)?;
-        derived.into_module_with_entrypoints()
-    }
-
-    // The whole shader, its calls sent down what overrides functions.
-    fn linked(&self, of: &Build, shader_type: ShaderType) -> Checked<Module>
-        ensures { GivesBy (λ made. ShaderLinked (builds_of self.now.builds) (built_of of.now) shader_type (module_value made)) (ShaderRefused (builds_of self.now.builds) (built_of of.now) shader_type) result }
-    {
-        let mut whole = self.whole(of)?;
-        set_stages(&mut whole, shader_type);
-        if of.override_functions.is_empty() {
-            return Ok(whole);
-        }
-        chained(self.alloc, whole, &of.override_functions)
+        let output = self.preprocess_shader(shader, text)?;
+        self.reach_uses(Rule::Merged, &output.imports, shader, text, modules)?;
+        Ok(output)
     }
 
     // A fault of the made module, in the module that its last span is in.
@@ -383,93 +177,134 @@ impl<B: Backend> Maker<'_, B> {
         text: &str,
         offset: usize,
     ) -> ComposerError
-        ensures { Tells {Y = ModuleValue} result (Err (invalid_shader (builds_of self.now.builds) (defs_of self.now.defs) (build_place (definition_of of.now) text.now offset (defs_of self.now.defs)) (valid_fault fault))) }
+        ensures { let place = in_text (definition_of of.now).file_path text.now offset in
+            let told = invalid_shader (builds_in self.now) (defs_in self.now) place in
+            Tells {Y = ModuleValue} result (Err (told (valid_fault fault))) }
     {
-        let built = build_at(&self.builds, last_index(&fault));
+        let alloc = self.builder.alloc;
+        let built = build_at(&self.builder.builds, last_index(&fault));
         let inner = Inner::ShaderValidationError(fault);
         match built {
-            Some((name, at)) => { refused_in(self.alloc, inner, name, at.start_offset, &self.defs) }
-            None => self.refused(of, text, inner, offset),
+            Some((name, at)) => refused_in(alloc, inner, name, offset_of(at), &self.defs),
+            None => refused(alloc, inner, of.file_path.as_str(), text, offset),
         }
     }
 
     // The made module, if it is valid where that is asked for.
     fn validated(&self, made: Module, of: &Definition, text: &str, offset: usize) -> Told<Module>
-        ensures { Answers module_value result (validated (B.front self.now.front.now) self.now.capabilities self.now.validate (builds_of self.now.builds) (defs_of self.now.defs) (build_place (definition_of of.now) text.now offset (defs_of self.now.defs)) (module_value made)) }
+        ensures { let s = settings_by B.front self.now in
+            let place = in_text (definition_of of.now).file_path text.now offset in
+            let told = validate s (builds_in self.now) (defs_in self.now) place in
+            Answers module_value result (told (module_value made)) }
     {
-        if !self.validate {
+        let builder = &self.builder;
+        if !builder.validate {
             return Ok(made);
         }
-        let valid = self.front.validate(self.alloc, &made, self.capabilities);
-        match self.told(of, text, offset, answered(valid))? {
+        let valid = builder
+            .front
+            .validate(builder.alloc, &made, builder.capabilities);
+        let path = of.file_path.as_str();
+        match in_text(builder.alloc, path, text, offset, answered(valid))? {
             Ok(()) => Ok(made),
             Err(fault) => Err(self.invalid(fault, of, text, offset)),
         }
     }
 
+    // The whole of a shader's build, with the stages of its type and its calls sent down what overrides functions.
+    fn chained(&self, built: &Build, shader_type: ShaderType) -> Checked<Module>
+        ensures { let b = built_of built.now in
+            let whole = with_stages shader_type (link_whole (builds_in self.now) b) in
+            Gives module_value result (chain b.overriding whole) }
+    {
+        let mut whole = link_whole(self.builder.alloc, &self.builder.builds, built)?;
+        set_stages(&mut whole, shader_type);
+        chain(self.builder.alloc, whole, &built.override_functions)
+    }
+
     // Links a shader that was built, and validates it.
-    fn composed(
+    fn compose(
         &self,
         built: &Build,
         of: &Definition,
         text: &str,
         shader_type: ShaderType,
     ) -> Told<Module>
-        ensures { let place = build_place (definition_of of.now) text.now built.now.start_offset (defs_of self.now.defs) in AnswersBy
-            (λ made. ShaderAnswers (B.front self.now.front.now) self.now.capabilities self.now.validate (builds_of self.now.builds) (defs_of self.now.defs) (built_of built.now) shader_type place (Ok (module_value made)))
-            (λ refused. ShaderAnswers (B.front self.now.front.now) self.now.capabilities self.now.validate (builds_of self.now.builds) (defs_of self.now.defs) (built_of built.now) shader_type place (Err refused))
-            result }
+        ensures { let s = settings_by B.front self.now in
+            let b = built_of built.now in
+            let place = in_text (definition_of of.now).file_path text.now b.offset in
+            let told = compose s (defs_in self.now) (builds_in self.now) b shader_type place in
+            Answers module_value result told }
     {
-        let linked = self.linked(built, shader_type);
-        let made = self.told(of, text, built.start_offset, linked)?;
-        self.validated(made, of, text, built.start_offset)
+        let (alloc, path, offset) = (self.builder.alloc, of.file_path.as_str(), offset_of(built));
+        let made = in_text(alloc, path, text, offset, self.chained(built, shader_type))?;
+        self.validated(made, of, text, offset)
+    }
+
+    // The build of a shader that was preprocessed.
+    fn build_shader(&self, of: &Definition, output: &PreprocessOutput) -> Told<Build>
+        requires { of.now.module_index ≤ 2047 }
+        ensures { let d = definition_of of.now in
+            let out = output_of output.now in
+            let built = build (settings_by B.front self.now) d out (builds_in self.now) in
+            Answers built_of result (built_in_text d.file_path out.text built) }
+    {
+        match self.builder.build(of, output) {
+            Ok(built) => Ok(built),
+            Err(Unbuilt { inner, offset }) => {
+                let text = output.preprocessed_source.as_str();
+                Err(refused(
+                    self.builder.alloc,
+                    inner,
+                    of.file_path.as_str(),
+                    text,
+                    offset,
+                ))
+            }
+        }
     }
 
     // Makes a shader that was preprocessed.
-    fn finished(
+    fn finish(
         &self,
         of: &Definition,
         output: &PreprocessOutput,
         shader_type: ShaderType,
     ) -> Told<Module>
         requires { of.now.module_index ≤ 2047 }
-        ensures { AnswersBy
-            (λ made. FinishAnswers (setting_of (B.front self.now.front.now) self.now.validate self.now.capabilities self.now.defs) (definition_of of.now) (output_of output.now) (builds_of self.now.builds) shader_type (Ok (module_value made)))
-            (λ r. FinishAnswers (setting_of (B.front self.now.front.now) self.now.validate self.now.capabilities self.now.defs) (definition_of of.now) (output_of output.now) (builds_of self.now.builds) shader_type (Err r))
-            result }
+        ensures { let d = definition_of of.now in
+            let out = output_of output.now in
+            let made = finish (settings_by B.front self.now) (defs_in self.now) in
+            Answers module_value result (made (builds_in self.now) d out shader_type) }
     {
-        let built = self.built(of, output)?;
-        let text = output.preprocessed_source.as_str();
-        self.composed(&built, of, text, shader_type)
-    }
-
-    // Why a shader isn't read.
-    fn unread(&self, fault: ReadFault, path: &str, text: &str) -> ComposerError
-        ensures { IsToldFor path.now text.now fault result }
-    {
-        match fault {
-            ReadFault::Here(inner) => refused(self.alloc, inner, path, text, 0),
-            ReadFault::There(error) => error,
-        }
+        let built = self.build_shader(of, output)?;
+        self.compose(&built, of, output.preprocessed_source.as_str(), shader_type)
     }
 
     /// Makes a shader of a text that was read.
-    pub(crate) fn made(
+    pub(crate) fn make(
         &mut self,
         desc: NagaModuleDescriptor<'_>,
         text: &str,
         modules: &[Definition],
     ) -> Told<Module>
         requires { All (λ d. d.module_index ≤ 2047) modules.now }
-        ensures { AnswersBy
-            (λ made. MakeAnswers (setting_of (B.front self.old.front.now) self.old.validate self.old.capabilities desc.entry.shader_defs) (map definition_of modules.now) (shader_source desc.entry) text.now (builds_of self.old.builds) (Ok (module_value made)))
-            (λ r. MakeAnswers (setting_of (B.front self.old.front.now) self.old.validate self.old.capabilities desc.entry.shader_defs) (map definition_of modules.now) (shader_source desc.entry) text.now (builds_of self.old.builds) (Err r))
-            result }
+        ensures { let s = settings_by B.front self.old in
+            let ds = map definition_of modules.now in
+            let made = make s ds (shader_source desc.entry) text.now in
+            Replies module_value result self.new (made (builds_in self.old)) }
     {
-        let (path, shader_type) = (desc.file_path, desc.shader_type);
-        match self.read(desc, text, modules) {
-            Ok((shader, output)) => self.finished(&shader, &output, shader_type),
-            Err(fault) => Err(self.unread(fault, path, text)),
-        }
+        let (alloc, shader_type) = (self.builder.alloc, desc.shader_type);
+        let shader = in_text(
+            alloc,
+            desc.file_path,
+            text,
+            0,
+            read_shader(alloc, &desc, text),
+        )?;
+        self.defs = own_defs(alloc, desc.shader_defs, &shader)?;
+        self.read_first(&shader, text, modules)?;
+        let output = self.read_second(&shader, text, modules)?;
+        self.finish(&shader, &output, shader_type)
     }
 }

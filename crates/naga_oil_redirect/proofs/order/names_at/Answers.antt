@@ -1,4 +1,4 @@
-use Rattle.std.proofs.Common.{◌≡◌, ◌∙◌, ℕ, List, [], map, codes, get_or, unwrap_or, option_map, string_bytes, ap, sym, arith}
+use Rattle.std.proofs.Common.{◌∙◌, ℕ, List, [], map, codes, get_or, unwrap_or, option_map, string_bytes, ap, sym, arith}
 use Rattle.std.specs.Borrow.{Bor}
 use Rattle.std.proofs.lemmas.List.{take_all}
 use Rattle.std.proofs.lemmas.Result.{IfOk-weaker}

@@ -2,21 +2,23 @@ use Rattle.std.proofs.Common.{◌≡◌, ◌<◌, ℕ, List, length, get_or, tak
 use Rattle.naga_oil_ir.specs.declared.module.Function.{Function}
 use Rattle.naga_oil_ir.specs.declared.span.Span.{Span}
 use Rattle.naga_oil_derive.specs.World.{value_of}
-use Rattle.naga_oil_redirect.specs.PutInOrder.{NoneLeft}
+use Rattle.naga_oil_derive.specs.DerivedValue.{set_source}
 use Rattle.std.proofs.lemmas.List.{length-map}
 use Rattle.naga_oil_redirect.specs.Redirected.{function_values}
+use Rattle.naga_oil_derive.proofs.FormFunctions.{function_named}
 use Rattle.naga_oil_derive.proofs.FunctionValues.{seen}
 use Rattle.naga_oil_redirect.proofs.TurnLemmas.{order_within}
-use Rattle.naga_oil_redirect.proofs.TurnForm.{AreKnown, source_kept, none_known, known_more, turn_import, turn_entries, set_source, entry_of, value_entry, in_turn_more, order_value}
+use Rattle.naga_oil_redirect.proofs.TurnForm.{AreKnown, source_kept, none_known, known_more, turn_import, turn_entries, source_set, entry_of, value_entry, in_turn_more, order_value}
 use Rattle.naga_oil_redirect.proofs.redirect.import_in_turn.Goals as goal
 
 pub loop-place-init : goal.loop-place-init
 loop-place-init c =
     let v = value_of c.args.source.now in
     let e = c.set_shader_source.new.self in
+    let set = c.in_ok-set_shader_source.ensures.value in
     record {
-      source = set_source v 0 c.args.derived.now e c.in_ok-set_shader_source.ensures.set;
-      functions = record { start = e; special = c.in_ok-set_shader_source.ensures.set; functions = NoneLeft };
+      source = source_set v 0 c.args.derived.now e set;
+      value = set;
       known = none_known v e;
     }
 
@@ -53,15 +55,16 @@ loop-place-preserved c =
     let d = c.loop-place.derived in
     let e = c.import_function.new.self in
     let keeps = c.import_function.ensures.keeps in
-    let imported = c.in_ok-import_function.ensures.imported in
-    let h = c.in_ok-import_function.field-0 in
+    let imported = c.in_ok-import_function.ensures.value in
+    let own = c.loop-place.invariant.source in
     let l = order_within (function_values m.functions) os (length m.functions) c.requires.order (sym (length-map m.functions seen)) i 0 (omega (arith, c.loop-place-test.true)) in
-    let at = value_entry m (get_or os i 0) x (entry_of m.functions (get_or os i 0) x l (subst (λ (fs : List (Function × Span)). x ≡ get_or fs (get_or os i 0) x) c.as_slice-functions.ensures c.index-functions-place.is)) in
-    let source = source_kept v d e keeps c.loop-place.invariant.source in
+    let stands = entry_of m.functions (get_or os i 0) x l (subst (λ (fs : List (Function × Span)). x ≡ get_or fs (get_or os i 0) x) c.as_slice-functions.ensures c.index-functions-place.is) in
+    let at = value_entry m (get_or os i 0) x stands in
+    let named = function_named m (get_or os i 0) x stands c.requires.source.names.named in
     record {
-      source = source;
-      functions = in_turn_more v c.args.derived.now d e os i h (seen x) c.loop-place-test.true c.loop-place.invariant.functions at keeps imported;
-      known = known_more v d e os i h (seen x) c.loop-place-test.true c.loop-place.invariant.known at keeps source.0 imported;
+      source = source_kept v d e keeps own;
+      value = in_turn_more v (set_source c.args.derived.now v 0) d e os i (seen x) c.loop-place-test.true c.loop-place.invariant.value at imported;
+      known = known_more v d e os i (seen x) c.loop-place-test.true c.loop-place.invariant.known at keeps own named imported;
     }
 
 pub returns-clause-entries : goal.returns-clause-entries

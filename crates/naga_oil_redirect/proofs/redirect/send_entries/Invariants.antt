@@ -1,4 +1,4 @@
-use Rattle.std.proofs.Common.{◌≡◌, ◌≤◌, ℕ, map, take, length, get_or}
+use Rattle.std.proofs.Common.{◌≡◌, ◌≤◌, ℕ, map, take, get_or}
 use Rattle.naga_oil_ir.specs.ModuleValue.{entry_value}
 use Rattle.naga_oil_ir.specs.declared.module.EntryPoint.{EntryPoint}
 use Rattle.naga_oil_redirect.specs.Redirected.{send_entry}

@@ -1,4 +1,4 @@
-use Rattle.std.proofs.Common.{◌≡◌, ◌≢◌, ◌∙◌, ◌+◌, ◌<◌, Vec, Global, map, take, set, get_or, length, length-set, ap, sym, arith, true, false}
+use Rattle.std.proofs.Common.{◌≡◌, ◌≢◌, ◌∙◌, ◌+◌, ◌<◌, Vec, Global, map, take, set, get_or, length, length-set, ap, sym, arith, false}
 use Rattle.std.specs.BTreeSet.{contains_text}
 use Rattle.std.proofs.lemmas.List.{take_more_set, get_or-set_other}
 use Rattle.naga_oil_ir.specs.ModuleValue.{FunctionValue, function_value}

@@ -1,8 +1,7 @@
-use Rattle.std.proofs.Common.{◌≡◌, ◌∙◌, ap, sym, arith}
+use Rattle.std.proofs.Common.{◌∙◌, ap, sym, arith}
 use Rattle.std.specs.List.{flat_map}
 use Rattle.std.proofs.lemmas.List.{take_all}
 use Rattle.naga_oil_ir.specs.Body.{spanned_tokens, statement_tokens}
-use Rattle.naga_oil_ir.specs.declared.statement.Block.{out-Block}
 use Rattle.naga_oil_ir.proofs.BodyLemmas.{block_tokens-out}
 use Rattle.naga_oil_derive.specs.Renames.{rename_tokens}
 use Rattle.naga_oil_redirect.specs.Redirected.{sent}

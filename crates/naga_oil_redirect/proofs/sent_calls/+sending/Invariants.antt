@@ -1,4 +1,4 @@
-use Rattle.std.proofs.Common.{◌≡◌, take, length}
+use Rattle.std.proofs.Common.{◌≡◌, take}
 use Rattle.std.specs.List.{flat_map}
 use Rattle.naga_oil_ir.specs.Body.{spanned_tokens, case_tokens}
 use Rattle.naga_oil_ir.specs.declared.statement.Block.{out-Block}

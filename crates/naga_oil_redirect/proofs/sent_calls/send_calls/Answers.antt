@@ -1,4 +1,4 @@
-use Rattle.std.proofs.Common.{◌≡◌, ◌∙◌, ℕ, map, length, ap, sym, get_or, refl, arith}
+use Rattle.std.proofs.Common.{◌≡◌, ◌∙◌, map, length, ap, sym, get_or, refl, arith}
 use Rattle.naga_oil_ir.specs.Body.{block_tokens}
 use Rattle.naga_oil_ir.specs.ModuleValue.{expression_values, function_value}
 use Rattle.std.proofs.lemmas.List.{get_or-set_other, take_at, take_all}

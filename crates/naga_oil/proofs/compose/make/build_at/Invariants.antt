@@ -1,6 +1,6 @@
 use Rattle.std.proofs.Common.{◌≡◌, find}
 use Rattle.std.specs.Prelude.{◌==◌}
-use Rattle.naga_oil.specs.BuiltModule.{builds_of}
+use Rattle.naga_oil_link.specs.BuiltModule.{builds_of}
 use Rattle.naga_oil.proofs.ValidatedLemmas.{builds_in}
 use Rattle.naga_oil.proofs.compose.make.build_at.Given as goal
 

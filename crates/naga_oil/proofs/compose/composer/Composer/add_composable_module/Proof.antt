@@ -1,4 +1,4 @@
--- `self` is lent to `added`, and then shared for good. Assumes `Logic`.
+-- `self` is lent to `add_module`, and then shared for good. Assumes `Logic`.
 use Rattle.std.proofs.Common.{◌≡◌, ◌<◌, ℕ, List, [], ◌∷◌, refl, sym, subst, length, MutBor, Err, OnOk, IsOk, MatchResult, Some, slice_get}
 use Rattle.std.proofs.raw_atomic.Walks.{proved_at}
 use Rattle.std.proofs.result.Result.TheLaws as outcome
@@ -49,7 +49,7 @@ use Rattle.naga_oil.proofs.HandedLemmas.{ends, shared, goes}
 use Rattle.naga_oil.proofs.compose.composer.Composer.TheLaws as composer-laws
 use Rattle.naga_oil.proofs.compose.composer.Composer.add_composable_module.Code as code
 use Rattle.naga_oil.proofs.compose.composer.Composer.add_composable_module.Statement.{statement}
-use Rattle.naga_oil.proofs.compose.composer.Composer.added.Met as g'
+use Rattle.naga_oil.proofs.compose.composer.Composer.add_module.Met as g'
 use Rattle.naga_oil.proofs.compose.composer.Composer.newest.Met as h'
 use Rattle.naga_oil_registry.proofs.definition.ComposableModuleDefinition.TheLaws as definition-laws
 use Rattle.naga_oil_registry.proofs.descriptor.ComposableModuleDescriptor.TheLaws as descriptor-laws
@@ -61,7 +61,7 @@ use Rattle.naga_oil.specs.Refused.{Answers}
 use Rattle.naga_oil.specs.State.{Adds}
 use Rattle.naga_oil.specs.contracts.compose.composer.Composer as composer
 use Rattle.naga_oil.specs.contracts.compose.composer.Composer.add_composable_module as f
-use Rattle.naga_oil.specs.contracts.compose.composer.Composer.added as g
+use Rattle.naga_oil.specs.contracts.compose.composer.Composer.add_module as g
 use Rattle.naga_oil.specs.contracts.compose.composer.Composer.newest as h
 use Rattle.naga_oil_registry.specs.contracts.definition.ComposableModuleDefinition as definition
 use Rattle.naga_oil_registry.specs.contracts.descriptor.ComposableModuleDescriptor as descriptor
@@ -119,7 +119,7 @@ add_composable_module_spec 𝓤 𝓛 𝓜 𝓡 wired B LB gs d met =
     nothing ! $ move ! (6 ∷ 0 ∷ []) $ join ! $ move ! (1 ∷ 0 ∷ []) $ join ! $
     nothing ! $ move ! (5 ∷ 0 ∷ []) $ join ! $ move ! (5 ∷ 0 ∷ []) $ join ! $ move ! (3 ∷ 0 ∷ []) $ join ! $ join ! $
     nothing ! $ use0 𝓛 (raw (fact 𝓤 (κ₂ ⊑ B.lives))) (fact_i 𝓤 _ (emp 𝓤) lives) $ join ! $ move ! (1 ∷ 0 ∷ []) $ use2 𝓛 (raw (G.pre z)) (id⊢ 𝓤 _) $
-    calls_at ! (framed 𝓤 𝓛.H 𝓜 𝓣) G (g'.met 𝓤 𝓛 𝓜 𝓡 (code.calls-naga_oil::compose::composer::Composer::added 𝓡.env wired) B LB gs d met) z
+    calls_at ! (framed 𝓤 𝓛.H 𝓜 𝓣) G (g'.met 𝓤 𝓛 𝓜 𝓡 (code.calls-naga_oil::compose::composer::Composer::add_module 𝓡.env wired) B LB gs d met) z
     (and_then ! (get ! refl) (and_then ! (get ! refl) (no_more !))) (λ v.
     use1 𝓛 (later (some (λ (u : Gv.Denot). ((‵ (flft β s) ⊛ ‵ (flft κ₁ q₁) ⊛ ‵ (flft κ₂ (Share.left q₂)) ⊛ ‵ ftrue) ⊛ ‵ (Gv.own_val u (v ∷ []))) ⊛
     some (λ (ws : Lasts (g.ended B gs d) z.0.0 z.0.3). ‵ (lasts (g.ended B gs d) z.0.0 z.0.3 ws) ⊛ raw (fact 𝓤 (Adds (λ i. i) (λ d. d.index) r.now m u ws.0)))))) (id⊢ 𝓤 _) $

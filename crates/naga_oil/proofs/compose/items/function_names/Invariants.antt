@@ -1,8 +1,0 @@
-use Rattle.std.proofs.Common.{◌≡◌, drop, fold}
-use Rattle.naga_oil_lines.specs.DirectivesText.{in_order, with_name}
-use Rattle.naga_oil_lines.specs.Text.{texts}
-use Rattle.naga_oil.specs.Owned.{function_names, function_values}
-use Rattle.naga_oil.proofs.compose.items.function_names.Given as goal
-
-abbrev pub invariant-loop-item : goal.invariant-loop-item
-invariant-loop-item l = fold with_name (texts l.names.keys) (function_names (function_values (drop l.item-index l.item-items))) ≡ in_order (function_names (function_values l.functions))

@@ -1,8 +1,0 @@
-use Rattle.std.proofs.Common.{◌≡◌}
-use Rattle.naga_oil_registry.specs.Definition.{defs_of}
-use Rattle.naga_oil.specs.Merging.{are_among}
-use Rattle.naga_oil_registry.proofs.MergedLemmas.{named}
-use Rattle.naga_oil.proofs.compose.make.are_among.Given as goal
-
-abbrev pub invariant-loop-name : goal.invariant-loop-name
-invariant-loop-name l = are_among (named l.name-iterator) (defs_of l.others) ≡ are_among (defs_of l.defs) (defs_of l.others)

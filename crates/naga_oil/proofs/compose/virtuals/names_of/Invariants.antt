@@ -1,9 +1,0 @@
-use Rattle.std.proofs.Common.{◌≡◌, map, drop, fold}
-use Rattle.naga_oil_lines.specs.DirectivesText.{with_name}
-use Rattle.naga_oil_lines.specs.Text.{texts}
-use Rattle.naga_oil_registry.specs.KeywordsView.{marked_of}
-use Rattle.naga_oil.specs.Virtuals.{names_of}
-use Rattle.naga_oil.proofs.compose.virtuals.names_of.Given as goal
-
-abbrev pub invariant-loop-function : goal.invariant-loop-function
-invariant-loop-function l = fold with_name (texts l.names.keys) (map (λ f. f.name) (map marked_of (drop l.function-index l.functions))) ≡ names_of (map marked_of l.functions)

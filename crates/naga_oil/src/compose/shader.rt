@@ -1,0 +1,120 @@
+//! What a make reads of a shader, and the definitions that it merges.
+ghost use Rattle.std.specs.Prelude.{◌≡◌, IfOk, map, Ok, Err, true, string_bytes};
+ghost use Rattle.naga_oil_lines.specs.Text.{texts};
+ghost use Rattle.naga_oil_lines.specs.Uses.{use_of};
+ghost use Rattle.naga_oil_pre.specs.MetadataView.{metadata_of};
+ghost use Rattle.naga_oil_pre.specs.View.{Gives};
+ghost use Rattle.naga_oil_registry.specs.Definition.{definition_of, defs_of};
+ghost use Rattle.naga_oil_registry.specs.Descriptor.{shader_source};
+ghost use Rattle.naga_oil.specs.Shader.{shader_definition, read_shader, imported, agrees, defs_union, defs_union_over, are_among, may_use};
+
+use super::*;
+use naga_oil_registry::merge::clone_imports;
+
+// The shader as a module of no index and no name.
+fn shader_of(
+    alloc: Global,
+    desc: &NagaModuleDescriptor<'_>,
+    of: PreprocessorMetaData,
+) -> Tried<Definition>
+    ensures { let read = shader_definition (shader_source desc.now) (metadata_of of) in
+        let told = read (defs_of of.defines) (texts of.effective_defs.keys) in
+        IfOk result (λ d. definition_of d ≡ told) }
+{
+    Ok(Definition {
+        name: String::new(alloc),
+        sanitized_source: of.cleaned_source,
+        language: ShaderLanguage::from(desc.shader_type),
+        file_path: String::from_str(alloc, desc.file_path)?,
+        shader_defs: of.defines,
+        effective_defs: of.effective_defs,
+        all_imports: of.imports,
+        additional_imports: clone_imports(alloc, desc.additional_imports)?,
+        module_index: 0,
+        wgsl_directives: of.wgsl_directives,
+    })
+}
+
+/// What a shader's text says, as a module of no index and no name.
+pub(crate) fn read_shader(
+    alloc: Global,
+    desc: &NagaModuleDescriptor<'_>,
+    text: &str,
+) -> Checked<Definition>
+    ensures { Gives definition_of result (read_shader (shader_source desc.now) text.now) }
+{
+    let metadata = Preprocessor.get_preprocessor_metadata(alloc, text, true)?;
+    // A map's and a set's length tell that their names are in order.
+    let _lengths = (metadata.defines.len(), metadata.effective_defs.len());
+    Ok(shader_of(alloc, desc, metadata)?)
+}
+
+// The module that is imported.
+fn imported<'c>(import: &Use, modules: &'c [Definition]) -> Checked<&'c Definition>
+    ensures { let told = imported (map definition_of modules.now) (use_of import.now) in
+        Gives (λ d. definition_of d.now) result told }
+{
+    let name = &import.definition().import;
+    match modules.iter().find(|of| of.name == *name) {
+        Some(definition) => Ok(definition),
+        None => Err(Inner::ImportNotFound(name.clone()?, import.offset())),
+    }
+}
+
+// Whether a name that is defined so may be defined as a value: it has no other.
+fn agrees(known: Option<ShaderDefValue>, value: ShaderDefValue) -> bool
+    ensures { result ≡ agrees value known }
+{
+    match known {
+        None => true,
+        Some(known) => known == value,
+    }
+}
+
+// Adds definitions, which may not say another value of a name.
+fn add_consistent(defs: &mut Defs, others: &Defs) -> Checked
+    ensures { Gives (λ done. defs_of defs.new) result (defs_union (defs_of defs.old) (defs_of others.now)) }
+{
+    for (name, value) in others {
+        let known = defs.insert(name.clone()?, *value)?;
+        if !agrees(known, *value) {
+            return Err(Inner::InconsistentShaderDefValue { def: name.clone()? });
+        }
+    }
+    Ok(())
+}
+
+/// Adds the definitions of what is imported, which all has to be registered.
+pub(crate) fn merge(defs: &mut Defs, imports: &[Use], modules: &[Definition]) -> Checked
+    ensures { let merged = defs_union_over (map definition_of modules.now) (defs_of defs.old) in
+        Gives (λ done. defs_of defs.new) result (merged (map use_of imports.now)) }
+{
+    for import in imports {
+        let of = imported(import, modules)?;
+        add_consistent(defs, &of.shader_defs)?;
+    }
+    Ok(())
+}
+
+// Whether definitions are among others.
+fn are_among(defs: &Defs, others: &Defs) -> bool
+    ensures { result ≡ are_among (defs_of defs.now) (defs_of others.now) }
+{
+    for (name, value) in defs {
+        if others.get(name.as_str()) != Some(value) {
+            return false;
+        }
+    }
+    true
+}
+
+/// Whether the second reading may import a module: one that is registered, with its definitions among these.
+pub(crate) fn may_use(import: &Use, modules: &[Definition], defs: &Defs) -> bool
+    ensures { result ≡ may_use (map definition_of modules.now) (defs_of defs.now) (use_of import.now) }
+{
+    let name = &import.definition().import;
+    match modules.iter().find(|of| of.name == *name) {
+        Some(of) => are_among(&of.shader_defs, defs),
+        None => false,
+    }
+}

@@ -1,0 +1,72 @@
+-- What a build holds of the module that its whole text says.
+use Rattle.std.specs.Prelude.{ℕ, Bool, not, ◌&&◌, nat_lt, if◌then◌else◌, List, length, Option, Some, None, Result, Ok, Err}
+use Rattle.naga_oil_ir.specs.Backend.{FrontEnd}
+use Rattle.naga_oil_ir.specs.ModuleValue.{ModuleValue}
+use Rattle.naga_oil_ir.specs.declared.backend.Capabilities.{Capabilities}
+use Rattle.naga_oil_ir.specs.declared.language.ShaderLanguage.{ShaderLanguage}
+use Rattle.naga_oil_pre.specs.Fault.{Fault, text_too_large, wrong_form}
+use Rattle.naga_oil_registry.specs.Added.{◌>>=◌}
+use Rattle.naga_oil_link.specs.BuiltModule.{BuiltModule}
+use Rattle.naga_oil_link.specs.CopiedBuild.{copy_build, copies_special}
+use Rattle.naga_oil_link.specs.Form.{is_formed, if_formed}
+use Rattle.naga_oil_link.specs.OwnPlaces.{OwnPlaces}
+use Rattle.naga_oil_link.specs.Owned.{own_places, owned_module, owned_build}
+use Rattle.naga_oil_build.specs.Built.{parsed_text}
+use Rattle.naga_oil_build.specs.Writeback.{came_back}
+
+-- the settings of a make
+pub record Settings : Type 0 where
+  pub front : FrontEnd
+  pub capabilities : Capabilities
+  pub validate : Bool
+
+abbrev pub settings : FrontEnd → Capabilities → (validate : Bool) → Settings
+settings front capabilities validate = record { front = front; capabilities = capabilities; validate = validate }
+
+-- ---- what a whole text says
+
+-- a text of 2,097,152 bytes or more is too large
+abbrev pub unless_too_large : (text : List ℕ) → Result (Unit {0}) Fault
+unless_too_large text = if nat_lt (length text) 2097152 then Ok tt else Err text_too_large
+
+-- a value, or the fault of a wrong form
+abbrev pub or_wrong_form : {X : Type 0} → Option X → Result X Fault
+or_wrong_form (Some x) = Ok x
+or_wrong_form None = Err wrong_form
+
+-- the module that a whole text says, which has to be of good form under a decoration
+unfoldable pub parse_whole : FrontEnd → ShaderLanguage → (text decoration : List ℕ) → Result ModuleValue Fault
+parse_whole front in_language text decoration = do
+  fits ← unless_too_large text
+  m ← parsed_text front in_language text
+  if is_formed m decoration (length text) then Ok m else Err wrong_form
+
+-- ---- what is held of it
+
+-- whether names have to come back: those of a module, when validating, without special types
+abbrev pub is_tested : (index : ℕ) → (validate special : Bool) → Bool
+is_tested index validate special = nat_lt 0 index && validate && not special
+
+-- what the test answers, where it is asked for
+abbrev pub if_tested : Bool → Result (Unit {0}) Fault → Result (Unit {0}) Fault
+if_tested asked answer = if asked then answer else Ok tt
+
+-- whether the names of a build come back, of which so many functions are compared
+abbrev pub names_back : Settings → (special : Bool) → ModuleValue → OwnPlaces → BuiltModule → (functions : ℕ) → Result (Unit {0}) Fault
+names_back s special m own b functions = if_tested (is_tested b.index s.validate special) (came_back s.front s.capabilities m own b functions)
+
+-- a module is copied into a build, and the names of what the build owns come back
+abbrev pub copy_tested : Settings → ModuleValue → OwnPlaces → BuiltModule → (functions : ℕ) → Result BuiltModule Fault
+copy_tested s m own b functions = do
+  c ← or_wrong_form (copy_build m own b)
+  done ← names_back s (copies_special m own b.decoration) m own c functions
+  Ok c
+
+-- ---- all of it
+
+-- a whole text is parsed, what it owns is decorated, and the build gets copies of it
+unfoldable pub hold : Settings → ShaderLanguage → (text : List ℕ) → BuiltModule → Result BuiltModule Fault
+hold s in_language text b = do
+  parse ← parse_whole s.front in_language text b.decoration
+  own ← or_wrong_form (if_formed (owned_module b.index b.decoration parse))
+  copy_tested s own (own_places parse) (owned_build b.index parse b) (length parse.functions)

@@ -1,0 +1,12 @@
+-- The definitions that the contracts of this crate cite.
+pub mod Build
+pub mod BuildView
+pub mod Built
+pub mod Held
+pub mod HeldRows
+pub mod HeldView
+pub mod Overriding
+pub mod Virtuals
+pub mod VirtualsView
+pub mod Writeback
+pub mod WritebackView

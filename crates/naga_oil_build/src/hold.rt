@@ -1,0 +1,70 @@
+//! What a build holds of the module that its whole text says.
+ghost use Rattle.std.specs.Prelude.{◌≡◌, string_bytes};
+ghost use Rattle.naga_oil_ir.specs.ModuleValue.{module_value};
+ghost use Rattle.naga_oil_pre.specs.View.{Gives};
+ghost use Rattle.naga_oil_link.specs.BuiltModule.{built_of};
+ghost use Rattle.naga_oil_link.specs.OwnPlaces.{own_of};
+ghost use Rattle.naga_oil_build.specs.Held.{parse_whole, copy_tested, hold};
+ghost use Rattle.naga_oil_build.specs.BuildView.{settings_in};
+ghost use Rattle.naga_oil_build.specs.HeldView.{FormedAs};
+
+use super::*;
+use naga_oil_link::copied::copy_build;
+use naga_oil_link::formed::check_form;
+use naga_oil_link::items::own;
+
+// An answer, or the fault of a wrong form.
+fn or_wrong_form<T>(answer: Formed<T>) -> Checked<T>
+    ensures { FormedAs answer result }
+{
+    match answer {
+        Ok(value) => Ok(value),
+        Err(FormFault::WrongForm) => Err(Inner::WrongForm),
+        Err(FormFault::Memory) => Err(Inner::Memory),
+    }
+}
+
+impl<B: Backend> Builder<'_, B> {
+    // The module that a whole text says, which has to be of good form under a decoration.
+    fn parse_whole(&self, language: ShaderLanguage, text: &str, decoration: &str) -> Checked<Module>
+        ensures { Gives module_value result (parse_whole (B.front self.now.front.now) language text.now decoration.now) }
+    {
+        if text.len() >= 2_097_152 {
+            return Err(Inner::TextTooLarge);
+        }
+        let source = self.parsed(text, language)?;
+        or_wrong_form(check_form(self.alloc, &source, decoration, text.len()))?;
+        Ok(source)
+    }
+
+    // Copies a module into a build, whose names have to come back: those of a module, when validating, without special types.
+    fn copy_tested(
+        &self,
+        source: &FormedModule,
+        own: &OwnItems,
+        built: &mut Build,
+        functions: usize,
+    ) -> Checked
+        ensures { let s = settings_in B.front self.now in
+            let copied = copy_tested s source.now (own_of own.now) (built_of built.old) in
+            Gives (λ done. built_of built.new) result (copied functions) }
+    {
+        let source = source.get();
+        let special = or_wrong_form(copy_build(self.alloc, source, own, built))?;
+        if (index_of(built) > 0) & self.validate & !special {
+            return self.came_back(source, own, built, functions);
+        }
+        Ok(())
+    }
+
+    // What a build holds: of the module that its whole text says, which has to be of good form.
+    pub(crate) fn hold(&self, language: ShaderLanguage, text: &str, built: &mut Build) -> Checked
+        ensures { let s = settings_in B.front self.now in
+            Gives (λ done. built_of built.new) result (hold s language text.now (built_of built.old)) }
+    {
+        let mut source = self.parse_whole(language, text, built.decorated_name.as_str())?;
+        let (own, functions) = own(self.alloc, &mut source, built)?;
+        let source = or_wrong_form(FormedModule::new(self.alloc, source))?;
+        self.copy_tested(&source, &own, built, functions)
+    }
+}

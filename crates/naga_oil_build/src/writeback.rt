@@ -1,0 +1,307 @@
+//! Whether the names of what a module owns come back when its header is written and read again.
+ghost use Rattle.std.specs.Prelude.{◌≡◌, ◌++◌, [], map, take, option_map, string_bytes, IfOk, OnOk};
+ghost use Rattle.naga_oil_ir.specs.ModuleValue.{module_value, function_value};
+ghost use Rattle.naga_oil_ir.specs.Rows.{type_row, constant_row, global_row, member_label};
+ghost use Rattle.naga_oil_pre.specs.View.{Gives};
+ghost use Rattle.naga_oil_link.specs.BuiltModule.{built_of};
+ghost use Rattle.naga_oil_link.specs.OwnPlaces.{own_of};
+ghost use Rattle.naga_oil_lines.specs.Text.{texts};
+ghost use Rattle.naga_oil_build.specs.Writeback.{named_item, named_items, named_functions, struct_members, last_named, lost_member, lost_of, lost_at, lost_among, lost, unless_lost, came_back};
+ghost use Rattle.naga_oil_build.specs.WritebackView.{labels_of, named_of, held, seen_lost, is_asked, items_asked};
+
+use super::*;
+use naga_oil_ir::Index;
+use naga_oil_link::items::named;
+
+// An item of a name, with its span; of a struct its members.
+#[derive(Clone, Copy)]
+struct NamedItem<'m> {
+    name: &'m str,
+    members: Option<&'m [StructMember]>,
+    span: Span,
+}
+
+// The name of what doesn't come back, and the span of its item.
+type Lost<'m> = Option<(&'m str, Span)>;
+
+// What came back, by names.
+type Back<'b> = BTreeMap<&'b str, NamedItem<'b>>;
+
+// The members of a struct.
+fn members(of: &Type) -> Option<&[StructMember]>
+    ensures { labels_of result ≡ struct_members (type_row of.now) }
+{
+    match &of.inner {
+        TypeInner::Struct { members, .. } => Some(members.as_slice()),
+        _ => None,
+    }
+}
+
+// One item more, if it has a name.
+fn push_named<'m>(
+    items: &mut Vec<NamedItem<'m>>,
+    name: &'m Option<String>,
+    members: Option<&'m [StructMember]>,
+    span: Span,
+) -> Tried
+    ensures { let more = named_item (option_map string_bytes name.now) (labels_of members.entry) span in
+        OnOk result (map named_of items.new.items ≡ map named_of items.old.items ++ more) }
+{
+    if let Some(name) = named(name) {
+        items.push(NamedItem {
+            name,
+            members,
+            span,
+        })?;
+    }
+    Ok(())
+}
+
+// Whether a place is asked for: it is among some places, or all are.
+fn is_asked(at: Option<&Places>, place: usize) -> bool
+    ensures { result ≡ is_asked at.entry place }
+{
+    at.is_none_or(|places| places.contains(&place))
+}
+
+// The types that have names, of all or of those at some places.
+fn named_types<'m>(
+    alloc: Global,
+    of: &'m UniqueArena<Type>,
+    at: Option<&Places>,
+) -> Tried<Vec<NamedItem<'m>>>
+    ensures { let rows = map (λ e. (type_row e.0, e.1)) of.now in
+        let told = named_items (items_asked at.entry rows) in
+        IfOk result (λ items. map named_of items.items ≡ told) }
+{
+    let mut items = Vec::new(alloc);
+    for (place, ty) in of.items().iter().enumerate() {
+        if is_asked(at, place) {
+            let span = of.get_span(Index::new(place));
+            push_named(&mut items, &ty.name, members(ty), span)?;
+        }
+    }
+    Ok(items)
+}
+
+// The constants that have names, of all or of those at some places.
+fn named_constants<'m>(
+    alloc: Global,
+    of: &'m Arena<Constant>,
+    at: Option<&Places>,
+) -> Tried<Vec<NamedItem<'m>>>
+    ensures { let rows = map (λ e. (constant_row e.0, e.1)) of.now in
+        let told = named_items (items_asked at.entry rows) in
+        IfOk result (λ items. map named_of items.items ≡ told) }
+{
+    let mut items = Vec::new(alloc);
+    for (place, item) in of.as_slice().iter().enumerate() {
+        if is_asked(at, place) {
+            push_named(&mut items, &item.0.name, None, item.1)?;
+        }
+    }
+    Ok(items)
+}
+
+// The globals that have names, of all or of those at some places.
+fn named_globals<'m>(
+    alloc: Global,
+    of: &'m Arena<GlobalVariable>,
+    at: Option<&Places>,
+) -> Tried<Vec<NamedItem<'m>>>
+    ensures { let rows = map (λ e. (global_row e.0, e.1)) of.now in
+        let told = named_items (items_asked at.entry rows) in
+        IfOk result (λ items. map named_of items.items ≡ told) }
+{
+    let mut items = Vec::new(alloc);
+    for (place, item) in of.as_slice().iter().enumerate() {
+        if is_asked(at, place) {
+            push_named(&mut items, &item.0.name, None, item.1)?;
+        }
+    }
+    Ok(items)
+}
+
+// The functions that have names, of the first so many.
+fn named_functions<'m>(
+    alloc: Global,
+    of: &'m Arena<Function>,
+    count: usize,
+) -> Tried<Vec<NamedItem<'m>>>
+    ensures { let functions = map (λ e. (function_value e.0, e.1)) of.now in
+        let told = named_functions (take count functions) in
+        IfOk result (λ items. map named_of items.items ≡ told) }
+{
+    let mut items = Vec::new(alloc);
+    let functions = of.as_slice();
+    for (function, span) in &functions[..count.min(functions.len())] {
+        push_named(&mut items, &function.name, None, *span)?;
+    }
+    Ok(items)
+}
+
+// Items by their names, of one name the last.
+fn by_name<'b>(alloc: Global, items: &[NamedItem<'b>]) -> Tried<Back<'b>>
+    ensures { IfOk result (λ back. held back ≡ last_named (map named_of items.now)) }
+{
+    let mut back = BTreeMap::new(alloc);
+    for item in items {
+        back.insert(item.name, *item)?;
+    }
+    Ok(back)
+}
+
+// The name of the first member that has another name there; without one it is empty.
+fn lost_member<'m>(ours: &'m [StructMember], theirs: &[StructMember]) -> Option<&'m str>
+    ensures { option_map (λ r. r.now) result ≡ lost_member (map member_label ours.now) (map member_label theirs.now) }
+{
+    let mut pairs = ours.iter().zip(theirs);
+    let (our, _) = pairs.find(|(our, their)| our.name != their.name)?;
+    Some(named(&our.name).unwrap_or(""))
+}
+
+// What is lost of an item: its name unless it comes back, of a struct as one, and else a member.
+fn lost_of<'m>(ours: &NamedItem<'m>, theirs: Option<&NamedItem<'_>>) -> Option<&'m str>
+    ensures { option_map (λ r. r.now) result ≡ lost_of (named_of ours.now) (option_map (λ i. named_of i.now) theirs.entry) }
+{
+    let Some(theirs) = theirs else {
+        return Some(ours.name);
+    };
+    match (ours.members, theirs.members) {
+        (None, _) => None,
+        (Some(_), None) => Some(ours.name),
+        (Some(ours), Some(theirs)) => lost_member(ours, theirs),
+    }
+}
+
+// The same with the item's span, if its decorated name is among the owned ones.
+fn lost_at<'m>(
+    alloc: Global,
+    item: &NamedItem<'m>,
+    back: &Back<'_>,
+    owned: &Names,
+    decoration: &str,
+) -> Tried<Lost<'m>>
+    ensures { let names = texts owned.now.keys in
+        let told = lost_at names decoration.now (held back.now) (named_of item.now) in
+        IfOk result (λ lost. seen_lost lost ≡ told) }
+{
+    let name = item.name;
+    let decorated = format!(in alloc; "{name}{decoration}")?;
+    if !owned.contains(decorated.as_str()) {
+        return Ok(None);
+    }
+    match lost_of(item, back.get(decorated.as_str())) {
+        Some(name) => Ok(Some((name, item.span))),
+        None => Ok(None),
+    }
+}
+
+// The first of these items that is lost.
+fn lost_among<'m>(
+    alloc: Global,
+    items: &[NamedItem<'m>],
+    back: &[NamedItem<'_>],
+    owned: &Names,
+    decoration: &str,
+) -> Tried<Lost<'m>>
+    ensures { let names = texts owned.now.keys in
+        let back = last_named (map named_of back.now) in
+        let told = lost_among names decoration.now back (map named_of items.now) in
+        IfOk result (λ lost. seen_lost lost ≡ told) }
+{
+    let back = by_name(alloc, back)?;
+    for item in items {
+        let lost = lost_at(alloc, item, &back, owned, decoration)?;
+        if lost.is_some() {
+            return Ok(lost);
+        }
+    }
+    Ok(None)
+}
+
+// The first of what a module owns that is lost: types, which get the decoration as they are copied, then constants, globals,
+// and so many functions.
+fn lost<'m>(
+    alloc: Global,
+    source: &'m Module,
+    own: &OwnItems,
+    back: &Module,
+    built: &Build,
+    functions: usize,
+) -> Tried<Lost<'m>>
+    ensures { let ours = module_value source.now in
+        let theirs = module_value back.now in
+        let told = lost ours (own_of own.now) theirs (built_of built.now) functions in
+        IfOk result (λ first. seen_lost first ≡ told) }
+{
+    let ours = named_types(alloc, &source.types, Some(&own.types))?;
+    let theirs = named_types(alloc, &back.types, None)?;
+    let decoration = built.decorated_name.as_str();
+    let lost = lost_among(alloc, &ours, &theirs, &built.owned_types, decoration)?;
+    if lost.is_some() {
+        return Ok(lost);
+    }
+    let ours = named_constants(alloc, &source.constants, Some(&own.constants))?;
+    let theirs = named_constants(alloc, &back.constants, None)?;
+    let lost = lost_among(alloc, &ours, &theirs, &built.owned_constants, "")?;
+    if lost.is_some() {
+        return Ok(lost);
+    }
+    let ours = named_globals(alloc, &source.global_variables, Some(&own.globals))?;
+    let theirs = named_globals(alloc, &back.global_variables, None)?;
+    let lost = lost_among(alloc, &ours, &theirs, &built.owned_vars, "")?;
+    if lost.is_some() {
+        return Ok(lost);
+    }
+    let ours = named_functions(alloc, &source.functions, functions)?;
+    let theirs = named_functions(alloc, &back.functions, back.functions.len())?;
+    lost_among(alloc, &ours, &theirs, &built.owned_functions, "")
+}
+
+// Refuses the first that is lost.
+fn check_back(
+    alloc: Global,
+    source: &Module,
+    own: &OwnItems,
+    back: &Module,
+    built: &Build,
+    functions: usize,
+) -> Checked
+    ensures { let ours = module_value source.now in
+        let theirs = module_value back.now in
+        let told = lost ours (own_of own.now) theirs (built_of built.now) functions in
+        Gives (λ done. done) result (unless_lost told) }
+{
+    let Some((name, at)) = lost(alloc, source, own, back, built, functions)? else {
+        return Ok(());
+    };
+    let original = String::from_str(alloc, name)?;
+    Err(Inner::InvalidIdentifier { original, at })
+}
+
+impl<B: Backend> Builder<'_, B> {
+    /// Whether what a module owns comes back by name when its header is written in WGSL and read again: its types, of structs the
+    /// names of the members too, its constants and globals, then its functions, of which the first so many are compared. The header
+    /// has to be written in GLSL as well.
+    #[tactic(auto, unfolding(crate::specs::Writeback::came_back))]
+    pub(crate) fn came_back(
+        &self,
+        source: &Module,
+        own: &OwnItems,
+        built: &Build,
+        functions: usize,
+    ) -> Checked
+        ensures { let front = B.front self.now.front.now in
+            let ours = module_value source.now in
+            let told = came_back front self.now.capabilities ours (own_of own.now) in
+            Gives (λ done. done) result (told (built_of built.now) functions) }
+    {
+        let header = header_of(built);
+        let text = self.written(header, ShaderLanguage::Wgsl)?;
+        let back = self.parsed(&text, ShaderLanguage::Wgsl)?;
+        check_back(self.alloc, source, own, &back, built, functions)?;
+        self.written(header, ShaderLanguage::Glsl)?;
+        Ok(())
+    }
+}
