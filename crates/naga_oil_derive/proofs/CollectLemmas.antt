@@ -7,7 +7,7 @@ use Rattle.naga_oil_ir.specs.declared.span.Span.{Span}
 use Rattle.naga_oil_ir.specs.declared.names.ItemPlace.{ItemPlace}
 use Rattle.naga_oil_derive.specs.Tree.{World, Kept, Tree, Then, Absent, Item, tree, trees, row_tree, kept_tree, reading}
 use Rattle.naga_oil_derive.specs.World.{world}
-use Rattle.naga_oil_derive.specs.Collected.{names_trail, row_trail, kept_trail, reached, depth, Stands, Collects, Done, Known, Fresh, Comes}
+use Rattle.naga_oil_derive.specs.Collected.{names_trail, row_trail, kept_trail, reached, Stands, Collects, Done, Known, Fresh, Comes}
 use Rattle.naga_oil_derive.specs.Copying.{IsWhole, Goes, NameGoesTo, AreCopied, IsSound, Fetches, rank}
 use Rattle.naga_oil_derive.proofs.TreeLemmas.{reads, same_place, tree-later, trees_same}
 use Rattle.naga_oil_ir.proofs.LinkLemmas.{eqb_eq, eq_eqb}

@@ -5,12 +5,9 @@ use Rattle.naga_oil_ir.specs.Rows.{Row, Text}
 use Rattle.naga_oil_ir.specs.ModuleValue.{special_value}
 use Rattle.naga_oil_ir.specs.declared.module.Module.{Module}
 use Rattle.naga_oil_ir.specs.declared.names.ItemPlace.{ItemPlace}
-use Rattle.naga_oil_ir.specs.declared.names.ItemPlace.TheVariants.{TypeItem, ConstantItem, OverrideItem, GlobalItem, ExpressionItem}
-use Rattle.naga_oil_derive.specs.declared.maps.Maps.{Maps}
 use Rattle.naga_oil_derive.specs.Tree.{World}
-use Rattle.naga_oil_derive.specs.World.{goes, named_world, under_name, name_at, kept_of}
-use Rattle.naga_oil_derive.specs.Copying.{Goes, goes_under, kept_between}
-use Rattle.naga_oil_derive.proofs.TreeLemmas.{reads}
+use Rattle.naga_oil_derive.specs.World.{named_world, under_name, name_at, kept_of}
+use Rattle.naga_oil_derive.specs.Copying.{Goes, kept_between}
 use Rattle.naga_oil_derive.proofs.WorldLemmas.{named_some, named_same}
 
 -- ---- maps
@@ -23,18 +20,6 @@ pub flat_none : (n k : ℕ) → ◌≡◌ {A = Option ℕ} (option_flatten (slic
 flat_none zero k = refl
 flat_none (suc n) zero = refl
 flat_none (suc n) (suc k) = flat_none n k
-
-gone_nowhere : (C : ℕ → ItemPlace) (xs : List (Option ℕ)) (n k : ℕ) → xs ≡ replicate n None → option_map C (option_flatten (slice_get xs k)) ≡ None
-gone_nowhere C xs n k e = ap (λ v. option_map C (option_flatten (slice_get v k))) e ∙ ap (option_map C) (flat_none n k)
-
--- what new maps hold went nowhere
-pub goes-new : (m : Maps) (a b c d f : ℕ) → m.types.items ≡ replicate a None → m.constants.items ≡ replicate b None → m.overrides.items ≡ replicate c None → m.global_variables.items ≡ replicate d None → m.global_expressions.items ≡ replicate f None → (p : ItemPlace) → goes_under m p ≡ None
-unfolding goes_under goes
-goes-new m a b c d f ea eb ec ed ef (TypeItem k) = gone_nowhere TypeItem m.types.items a k ea
-goes-new m a b c d f ea eb ec ed ef (ConstantItem k) = gone_nowhere ConstantItem m.constants.items b k eb
-goes-new m a b c d f ea eb ec ed ef (OverrideItem k) = gone_nowhere OverrideItem m.overrides.items c k ec
-goes-new m a b c d f ea eb ec ed ef (GlobalItem k) = gone_nowhere GlobalItem m.global_variables.items d k ed
-goes-new m a b c d f ea eb ec ed ef (ExpressionItem k) = gone_nowhere ExpressionItem m.global_expressions.items f k ef
 
 -- ---- what an option holds
 

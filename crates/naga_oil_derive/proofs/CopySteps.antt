@@ -1,18 +1,18 @@
 -- One copy more.
-use Rattle.std.proofs.Common.{◌≡◌, ◌≢◌, ⊎_elim, ◌⊎◌, inl, inr, ℕ, zero, suc, ◌+◌, ◌-◌, ◌<◌, ◌≤◌, Bool, true, false, cond, ◌||◌, ◌==◌, List, [], ◌∷◌, ◌++◌, length, map, take, slice_get, slice_set, option_map, option_to_list, unwrap_or, Option, Some, None, is_some, replicate, refl, ap, sym, ◌∙◌, subst, arith}
+use Rattle.std.proofs.Common.{◌≡◌, ◌≢◌, ⊎_elim, ◌⊎◌, inl, inr, ℕ, zero, suc, ◌+◌, ◌<◌, ◌≤◌, Bool, true, false, cond, ◌||◌, ◌==◌, List, [], ◌∷◌, ◌++◌, length, map, take, slice_get, slice_set, option_map, option_to_list, unwrap_or, Option, Some, None, is_some, replicate, refl, ap, sym, ◌∙◌, subst, arith}
 use Rattle.std.specs.List.{flat_map}
 use Rattle.std.specs.Option.{option_flatten}
-use Rattle.std.proofs.lemmas.Bool.{cases_Bool, cases_eq, cases_lt, or_cases, or_left, or_right, or_parts, or_from, false≢true, true≢false, false_from_ne_true, eqb-true, ne_eqb}
-use Rattle.std.proofs.lemmas.List.{append-nil, append_assoc, map-append, length_push, length-set}
-use Rattle.std.proofs.lemmas.Option.{slice_get_within, slice_get_past, none-some, same_Some}
+use Rattle.std.proofs.lemmas.Bool.{cases_eq, cases_lt, or_cases, or_left, or_right, or_parts, or_from, false≢true, false_from_ne_true, ne_eqb}
+use Rattle.std.proofs.lemmas.List.{map-append, length_push}
+use Rattle.std.proofs.lemmas.Option.{slice_get_within, none-some, same_Some}
 use Rattle.naga_oil_ir.specs.Parts.{Parts}
-use Rattle.naga_oil_ir.specs.Links.{Links, linked, has, added}
+use Rattle.naga_oil_ir.specs.Links.{linked, has, added}
 use Rattle.naga_oil_ir.specs.BodyForm.{run}
 use Rattle.naga_oil_ir.specs.declared.span.Span.{Span}
-use Rattle.naga_oil_ir.proofs.LinkLemmas.{has-append, has-added, only, itself, linked-map, slice_get-set_same, slice_get-set_other, slice_get-append_within, slice_get-append_at, eqb_eq, eq_eqb}
-use Rattle.naga_oil_derive.specs.Renames.{Renames, rename}
+use Rattle.naga_oil_ir.proofs.LinkLemmas.{has-append, has-added, itself, linked-map, slice_get-set_same, slice_get-set_other, slice_get-append_within, slice_get-append_at, eqb_eq, eq_eqb}
+use Rattle.naga_oil_derive.specs.Renames.{Renames}
 use Rattle.naga_oil_derive.specs.Walk.{Holds}
-use Rattle.naga_oil_derive.specs.Copies.{Values, Table, place_under, under_table, copied, AreCopies, LacksBefore, IsPut, AreApart, value_links}
+use Rattle.naga_oil_derive.specs.Copies.{Values, Table, place_under, copied, AreCopies, LacksBefore, IsPut, AreApart, value_links}
 use Rattle.naga_oil_derive.proofs.WalkLemmas.{added-append, push_each, run-last, has_take, has_at}
 use Rattle.naga_oil_derive.proofs.WalkForm.{has_last}
 

@@ -1,5 +1,5 @@
 -- The laws of derivations, for the fields of a derived module.
-use Rattle.std.proofs.Common.{◌≡◌, ℕ, List, [], Option, Some, None, refl, ap, sym, ◌∙◌, subst, All, IfSome, Vec, Global, Result, Ok, Err, OnOk}
+use Rattle.std.proofs.Common.{◌≡◌, ℕ, List, [], Option, Some, None, refl, ap, sym, subst, All, IfSome, Vec, Global}
 use Rattle.std.specs.Borrow.{Bor}
 use Rattle.naga_oil_ir.specs.Rows.{Text}
 use Rattle.naga_oil_ir.specs.ModuleValue.{ModuleValue, special_value, no_items}
@@ -15,17 +15,17 @@ use Rattle.naga_oil_derive.specs.Copying.{IsSound, AreRanked, IsCopying, WentSom
 use Rattle.naga_oil_derive.specs.Copied.{copy_state, copy_all}
 use Rattle.naga_oil_derive.specs.CopiedLaw.{HasAt, IsMidway}
 use Rattle.naga_oil_derive.specs.Putting.{Putting, TypePutting}
-use Rattle.naga_oil_derive.specs.Derived.{Source, Derived, cleared, HasItem, IsImported, ReadsAsBefore, Keeps, IsSet, Sets, KeepsItems}
+use Rattle.naga_oil_derive.specs.Derived.{Derived, cleared, Keeps, KeepsItems}
 use Rattle.naga_oil_derive.specs.DerivedView.{source_of, derived_of, IsSpecialThere, IsDerived}
-use Rattle.naga_oil_derive.specs.DerivedValue.{no_places, import_item, rename_type, set_source}
-use Rattle.naga_oil_derive.specs.DerivedLaw.{IsSourceOf, AreThere, IsDerivation, RenamesOnly, type_place}
+use Rattle.naga_oil_derive.specs.DerivedValue.{no_places, set_source}
+use Rattle.naga_oil_derive.specs.DerivedLaw.{IsSourceOf, AreThere, IsDerivation}
 use Rattle.naga_oil_derive.proofs.SpecialLemmas.{Entry}
-use Rattle.naga_oil_derive.proofs.DeriveCalls.{Shader, FunctionNames, source_in, special_later, derived_later, reads_one, keeps_one, left_source, derived_none}
+use Rattle.naga_oil_derive.proofs.DeriveCalls.{Shader, FunctionNames, source_in, special_later, derived_later, keeps_one, left_source, derived_none}
 use Rattle.naga_oil_derive.proofs.KindLaws.{value_kinds, ranked_copyable, value_copyable, value_special}
-use Rattle.naga_oil_derive.proofs.DerivedLaws.{nothing_derived, midway_now, import_law, rename_law}
+use Rattle.naga_oil_derive.proofs.DerivedLaws.{nothing_derived, midway_now}
 use Rattle.naga_oil_derive.proofs.SetLaws.{as_names, from_names, midway_first, start, having, world_having, there_set, keeps_part, set_law}
 use Rattle.naga_oil_derive.proofs.SourceValues.{copying_starts}
-use Rattle.naga_oil_derive.proofs.PuttingLemmas.{midway_of, copying_of, putting_copying, putting_grows, putting_reads, type_putting_copying, type_putting_grows, names_went}
+use Rattle.naga_oil_derive.proofs.PuttingLemmas.{midway_of, copying_of, putting_copying, putting_grows, type_putting_copying, type_putting_grows, names_went}
 
 -- ---- what holds of the fields says that the value is a derivation
 
@@ -79,9 +79,6 @@ putting_derived o s t u m n ns d e v i offset p =
     let g = putting_grows s.now t u m n begun offset p in
     record { derived = derived_later o s t u m n e i (putting_copying s.now t u m n begun p) g; keeps = keeps_one o t u m n ns d v g }
 
-pub reads_before : (o : Shader) (s : Bor Module) (t u : Module) (m n : Maps) (ns : FunctionNames) (d : Derived) → o ≡ Some s → derived_of o m t ns ≡ d → IsDerived o m t → Putting (value_of s.now) m.offset (copy_state m t) (copy_state n u) → ReadsAsBefore d (derived_of o n u ns)
-reads_before o s t u m n ns d e v i p = reads_one o s t u m n ns d e v (putting_reads s.now t u m n (source_in o s m t e i).0 p)
-
 pub type_putting_derived : (o : Shader) (s : Bor Module) (t u : Module) (m n : Maps) (ns : FunctionNames) (d : Derived) (k : ℕ) (name : Option Text) → o ≡ Some s → derived_of o m t ns ≡ d → IsDerived o m t → n.offset ≡ m.offset → TypePutting (value_of s.now) m.offset name k (copy_state m t) (copy_state n u) → HasPut o n u ns d
 type_putting_derived o s t u m n ns d k name e v i offset p =
     let begun = (source_in o s m t e i).0 in
@@ -90,18 +87,7 @@ type_putting_derived o s t u m n ns d k name e v i offset p =
 
 -- ---- items that are imported
 
-pub imports_law : {A B : Type 0} (a : Result A B) (o : Shader) (m : Maps) (t : Module) (ns : FunctionNames) (d e : Derived) (p : ItemPlace) → derived_of o m t ns ≡ d → IsDerived o m t → HasItem d p → OnOk a (e ≡ import_item d p) → OnOk a ((q : ItemPlace) × IsImported d e p q)
-imports_law (Ok x) o m t ns d e p v i h is = subst (λ y. (q : ItemPlace) × IsImported d y p q) (sym is) (import_law (kept_for o t) d p (derivation_seen o m t ns d v i) h).imported
-imports_law (Err x) o m t ns d e p v i h is = tt
-
 -- ---- types under a name
-
-pub renames_law : (o : Shader) (m : Maps) (t : Module) (ns : FunctionNames) (d e : Derived) (k : ℕ) (name : Option Text) → derived_of o m t ns ≡ d → IsDerived o m t → HasItem d (TypeItem k) → e ≡ rename_type d k name → RenamesOnly (kept_for o t) d e k name (type_place e k)
-renames_law o m t ns d e k name v i h is =
-    subst (λ y. RenamesOnly (kept_for o t) d y k name (type_place y k)) (sym is) (rename_law (kept_for o t) d k name (derivation_seen o m t ns d v i) h)
-
-pub type_at : (o : Shader) (s : Bor Module) (n : Maps) (u : Module) (ns : FunctionNames) (k h : ℕ) → o ≡ Some s → h ≡ handle_under n.types.items k → type_place (derived_of o n u ns) k ≡ h
-type_at o s n u ns k h e is = subst (λ (x : Shader). type_place (derived_of x n u ns) k ≡ handle_under n.types.items k) (sym e) refl ∙ sym is
 
 -- ---- a source
 
@@ -109,24 +95,16 @@ distinct_in : (m : Module) → HaveDistinctKeys (special_entries (special_value 
 unfolding value_of
 distinct_in m d = d
 
--- what a source is set over doesn't matter
-sets_over : (m : ModuleValue) (shift : ℕ) (d e : Derived) (o : Option Source) → IfSome o (Sets m shift (cleared d) e) → IfSome o (Sets m shift d e)
-sets_over m shift d e None w = tt
-sets_over m shift d e (Some s) w = record { value = w.value; offset = w.offset; stands = w.stands; reads = w.reads; special = w.special; collects = w.collects }
-
 -- the source that is set, as callers see it
 pub record HasSet (m : ModuleValue) (shift : ℕ) (d e : Derived) : Type 0 where
   pub derivation : IsDerivation (kept_of m.special_types d.target.special_types) e
-  pub set : IsSet m shift d e
   pub keeps : KeepsItems d e
 
 pub sets_law : (o : Shader) (k : Maps) (t : Module) (ns : FunctionNames) (d e : Derived) (m : Module) (es : List Entry) (shift : ℕ) → derived_of o k t ns ≡ cleared d → IsDerived o k t → CopyableItems m → HaveDistinctKeys es → es ≡ special_entries (special_value m.special_types) → e ≡ set_source d (value_of m) shift → HasSet (value_of m) shift d e
 sets_law o k t ns d e m es shift v i c distinct entries is =
     let law = set_law (kept_for o t) (cleared d) (value_of m) shift (derivation_seen o k t ns (cleared d) v i) (value_copyable m c) (value_special m c (distinct_in m (subst HaveDistinctKeys entries distinct))) in
-    let made = set_source d (value_of m) shift in
     subst (HasSet (value_of m) shift d) (sym is) (record {
       derivation = law.derivation;
-      set = (refl, sets_over (value_of m) shift d made made.source law.set.1);
       keeps = record { items = law.keeps.items; special = law.keeps.special; names = law.keeps.names };
     })
 

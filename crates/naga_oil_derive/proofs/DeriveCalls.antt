@@ -8,17 +8,15 @@ use Rattle.naga_oil_ir.specs.declared.module.Module.{Module}
 use Rattle.naga_oil_ir.specs.declared.names.ItemPlace.{ItemPlace}
 use Rattle.naga_oil_ir.specs.declared.names.ItemPlace.TheVariants.{TypeItem}
 use Rattle.naga_oil_derive.specs.declared.maps.Maps.{Maps}
-use Rattle.naga_oil_derive.specs.Renames.{rename_place}
-use Rattle.naga_oil_derive.specs.World.{goes, value_of, world, Extends, special_at, special_entries}
-use Rattle.naga_oil_derive.specs.Copying.{IsSound, IsThere, AreRanked, AreLong, IsCopying, Grows, places_of, goes_under, renames_under, source_world, kept_over}
+use Rattle.naga_oil_derive.specs.World.{value_of, world, Extends, special_at, special_entries}
+use Rattle.naga_oil_derive.specs.Copying.{IsSound, IsThere, AreRanked, AreLong, IsCopying, Grows, kept_over}
 use Rattle.naga_oil_derive.specs.Copyable.{CopyableItems}
-use Rattle.naga_oil_derive.specs.Derived.{Source, Derived, nothing, as_read, HasItem, Imports, IsImported, KeepsSource, Keeps, ReadsAsBefore}
+use Rattle.naga_oil_derive.specs.Derived.{Derived, nothing, HasItem, KeepsSource, Keeps}
 use Rattle.naga_oil_derive.specs.DerivedView.{source_of, derived_of, IsSpecialThere, IsDerived}
 use Rattle.naga_oil_derive.proofs.WorldLemmas.{Extends-stays}
-use Rattle.naga_oil_derive.proofs.PutLaws.{goes_renamed}
 use Rattle.naga_oil_derive.proofs.SpecialLemmas.{Entry}
 use Rattle.naga_oil_derive.proofs.RankLemmas.{place_there}
-use Rattle.naga_oil_derive.proofs.DeriveLemmas.{source_at, later_source, entries_there, special_of}
+use Rattle.naga_oil_derive.proofs.DeriveLemmas.{later_source, entries_there, special_of}
 
 abbrev pub Shader : Type 0
 Shader = Option (Bor Module)
@@ -51,14 +49,6 @@ derived_later o s t u m n e d i g = record {
 
 -- ---- items that are copied
 
-pub reads_same : (s t u : Module) (m n : Maps) → source_world s u n ≡ source_world s t m → as_read (source_at s n) (value_of u) ≡ as_read (source_at s m) (value_of t)
-unfolding source_world goes_under
-reads_same s t u m n e = e
-
-pub reads_one : (o : Shader) (s : Bor Module) (t u : Module) (m n : Maps) (ns : FunctionNames) (d : Derived) → o ≡ Some s → derived_of o m t ns ≡ d → source_world s.now u n ≡ source_world s.now t m → ReadsAsBefore d (derived_of o n u ns)
-reads_one o s t u m n ns d e v r =
-    subst (λ (x : Derived). ReadsAsBefore x (derived_of o n u ns)) v (subst (λ (x : Shader). ReadsAsBefore (derived_of x m t ns) (derived_of x n u ns)) (sym e) (reads_same s.now t u m n r))
-
 keeps_source : (o : Shader) (t u : Module) (m n : Maps) → Grows m n t u → KeepsSource (option_map (source_of m) o) (option_map (source_of n) o)
 keeps_source None t u m n g = tt
 keeps_source (Some s) t u m n g = later_source s.now t u m n g
@@ -71,24 +61,6 @@ pub has_item : (o : Shader) (s : Bor Module) (m : Maps) (t : Module) (ns : Funct
 has_item o s m t ns d p e v h = subst (λ (x : Derived). HasItem x p) v (subst (λ (x : Shader). HasItem (derived_of x m t ns) p) (sym e) (refl, place_there s.now p h))
 
 -- ---- where they went
-
-same_place : (o : Option ItemPlace) (p q : ItemPlace) → o ≡ Some p → o ≡ Some q → p ≡ q
-same_place o p q e f = let g : Some p ≡ Some q = sym e ∙ f in cc
-
-gone : (m : Maps) (p q : ItemPlace) → goes (places_of m) p ≡ Some q → q ≡ rename_place (renames_under m) p
-unfolding goes_under
-gone m p q e = same_place (goes_under m p) q (rename_place (renames_under m) p) e (goes_renamed m.offset (places_of m) p q e)
-
-imported_in : (a : Option Source) (d e : Derived) (o : Shader) (m : Maps) (t : Module) (ns : FunctionNames) (p : ItemPlace) → derived_of o m t ns ≡ e → KeepsSource a e.source → (q : ItemPlace) × IfSome a (λ s. Imports s (as_read s d.target) d e p q) → IfSome a (λ s. Imports s (as_read s d.target) d e p (rename_place (renames_under m) p))
-imported_in None d e o m t ns p v k w = tt
-imported_in (Some s) d e None m t ns p v k w = absurd (subst (λ (x : Derived). KeepsSource (Some s) x.source) (sym v) k)
-imported_in (Some s) d e (Some b) m t ns p v k w =
-    let g = subst (λ (x : Derived). IfSome x.source (λ y. goes y.places p ≡ Some w.0)) (sym v) w.1.goes in
-    subst (Imports s (as_read s d.target) d e p) (gone m p w.0 g) w.1
-
--- what was imported stands where the maps say
-pub imported_at : (d e : Derived) (o : Shader) (m : Maps) (t : Module) (ns : FunctionNames) (p : ItemPlace) → derived_of o m t ns ≡ e → Keeps d e → (q : ItemPlace) × IsImported d e p q → IsImported d e p (rename_place (renames_under m) p)
-imported_at d e o m t ns p v k w = imported_in d.source d e o m t ns p v k.source w
 
 -- ---- a source that is set
 

@@ -1,8 +1,8 @@
 -- Copies of entry points, one after another.
-use Rattle.std.proofs.Common.{◌≡◌, ⊎_elim, ◌⊎◌, inl, inr, ℕ, zero, suc, ◌+◌, ◌<◌, ◌++◌, List, [], ◌∷◌, length, map, take, get_or, slice_get, Option, Some, None, IsSome, option_map, IfSome, refl, ap, sym, ◌∙◌, subst, All, arith, Vec, Global}
+use Rattle.std.proofs.Common.{◌≡◌, ⊎_elim, inl, inr, ℕ, zero, suc, List, [], ◌∷◌, length, map, slice_get, Option, Some, None, IsSome, option_map, IfSome, refl, ap, sym, ◌∙◌, subst, All}
 use Rattle.std.specs.Borrow.{Bor}
 use Rattle.std.proofs.lemmas.Bool.{false≢true}
-use Rattle.std.proofs.lemmas.List.{append-nil, map-append, take_more}
+use Rattle.std.proofs.lemmas.List.{append-nil}
 use Rattle.std.proofs.lemmas.List.Elements.{All-nil, All-cons, All-head, All-tail, All-weaker}
 use Rattle.naga_oil_ir.specs.Rows.{Row, Text}
 use Rattle.naga_oil_ir.specs.ModuleValue.{ModuleValue, FunctionValue, EntryValue, entry_value}
@@ -12,11 +12,10 @@ use Rattle.naga_oil_ir.specs.declared.module.Module.{Module}
 use Rattle.naga_oil_ir.specs.declared.names.ItemPlace.{ItemPlace}
 use Rattle.naga_oil_ir.specs.declared.names.ItemPlace.TheVariants.{TypeItem, GlobalItem, ExpressionItem}
 use Rattle.naga_oil_ir.specs.declared.span.Span.{Span}
-use Rattle.naga_oil_derive.specs.World.{goes, value_of, world, Extends}
-use Rattle.naga_oil_derive.specs.Copying.{NameGoesTo}
-use Rattle.naga_oil_derive.specs.Derived.{Source, Derived, HasItem, IsImported, KeepsSource, Keeps}
+use Rattle.naga_oil_derive.specs.World.{value_of, world, Extends}
+use Rattle.naga_oil_derive.specs.Derived.{Source, Derived, HasItem, KeepsSource, Keeps}
 use Rattle.naga_oil_derive.specs.DerivedFunctions.{Meanings, meant, meant_at, MayAsk, MayCopy, MayCall, MayReach, CanCopy, requests_of, with_functions, KeepsFunctions}
-use Rattle.naga_oil_derive.specs.DerivedEntries.{HasNamed, HasSizes, HasMesh, CanCopyEntry, CanCopyEntries, Went, SizesWent, MeshWent, EntryCopied, EntriesCopied, NoEntries, OneEntry, MadeWith, IsMadeWith}
+use Rattle.naga_oil_derive.specs.DerivedEntries.{HasNamed, HasSizes, HasMesh, CanCopyEntry, CanCopyEntries}
 use Rattle.naga_oil_derive.specs.DerivedView.{source_of, derived_of}
 use Rattle.naga_oil_derive.specs.declared.maps.Maps.{Maps}
 use Rattle.naga_oil_derive.proofs.DeriveCalls.{Shader, FunctionNames}
@@ -146,89 +145,6 @@ entry_later d e v k h = record {
   task_payload = named_later d e (option_map GlobalItem v.task_payload) k.source h.task_payload;
 }
 
--- ---- what went somewhere stays there
-
-name_later : (s t : Source) (p q : Option ItemPlace) → ((x y : ItemPlace) → goes s.places x ≡ Some y → goes t.places x ≡ Some y) → NameGoesTo (goes s.places) p q → NameGoesTo (goes t.places) p q
-name_later s t None None g h = h
-name_later s t None (Some q) g h = h
-name_later s t (Some p) None g h = h
-name_later s t (Some p) (Some q) g h = g p q h
-
-went_in : (a b : Option Source) (p q : Option ItemPlace) → KeepsSource a b → IfSome a (λ s. NameGoesTo (goes s.places) p q) → IfSome b (λ s. NameGoesTo (goes s.places) p q)
-went_in None None p q k h = h
-went_in None (Some t) p q k h = absurd k
-went_in (Some s) None p q k h = absurd k
-went_in (Some s) (Some t) p q k h = name_later s t p q k.went h
-
-pub went_on : (d e : Derived) (p q : Option ItemPlace) → KeepsSource d.source e.source → Went d p q → Went e p q
-went_on d e p q k h = went_in d.source e.source p q k h
-
-imported_in : (a b : Option Source) (P : Source → Type 0) (p q : ItemPlace) → KeepsSource a b → IfSome a P → ((s : Source) → P s → IfSome b (λ t. goes t.places p ≡ Some q)) → IfSome b (λ t. goes t.places p ≡ Some q)
-imported_in None None P p q k h f = tt
-imported_in None (Some t) P p q k h f = absurd k
-imported_in (Some s) b P p q k h f = f s h
-
--- an item that was imported went where its copy stands
-pub imported_went : (d e : Derived) (p q : ItemPlace) → Keeps d e → IsImported d e p q → Went e (Some p) (Some q)
-imported_went d e p q k i = imported_in d.source e.source _ p q k.source i (λ s h. h.goes)
-
-pub none_went : (e : Derived) → Went e None None
-none_went e = if_always e.source
-  where
-    if_always : (a : Option Source) → IfSome a (λ s. NameGoesTo (goes s.places) None None)
-    if_always None = tt
-    if_always (Some s) = tt
-
-pub sizes_on : (d e : Derived) (x y : Option (List (Option ℕ))) → KeepsSource d.source e.source → SizesWent d x y → SizesWent e x y
-sizes_on d e None None k h = h
-sizes_on d e None (Some y) k h = h
-sizes_on d e (Some x) None k h = h
-sizes_on d e (Some x) (Some y) k h = all_on x y h
-  where
-    all_on : (xs ys : List (Option ℕ)) → SizesWent d (Some xs) (Some ys) → SizesWent e (Some xs) (Some ys)
-    all_on [] [] i = i
-    all_on [] (b ∷ ys) i = i
-    all_on (a ∷ xs) [] i = i
-    all_on (a ∷ xs) (b ∷ ys) i = (went_on d e (option_map ExpressionItem a) (option_map ExpressionItem b) k i.0, all_on xs ys i.1)
-
--- three sizes, by their places
-pub three_went : (e : Derived) (xs : List (Option ℕ)) (x y z a b c : Option ℕ) → length xs ≡ 3 → x ≡ get_or xs 0 x → y ≡ get_or xs 1 y → z ≡ get_or xs 2 z → Went e (option_map ExpressionItem x) (option_map ExpressionItem a) → Went e (option_map ExpressionItem y) (option_map ExpressionItem b) → Went e (option_map ExpressionItem z) (option_map ExpressionItem c) → SizesWent e (Some xs) (Some (a ∷ b ∷ c ∷ []))
-three_went e [] x y z a b c l ix iy iz p q r = absurd (omega (arith, l))
-three_went e (u ∷ []) x y z a b c l ix iy iz p q r = absurd (omega (arith, l))
-three_went e (u ∷ v ∷ []) x y z a b c l ix iy iz p q r = absurd (omega (arith, l))
-three_went e (u ∷ v ∷ w ∷ []) x y z a b c l ix iy iz p q r =
-    let P = λ (m n : Option ℕ). Went e (option_map ExpressionItem m) (option_map ExpressionItem n) in
-    (subst (λ m. P m a) ix p, (subst (λ m. P m b) iy q, (subst (λ m. P m c) iz r, tt)))
-three_went e (u ∷ v ∷ w ∷ k ∷ xs) x y z a b c l ix iy iz p q r = absurd (omega (arith, l))
-
-pub mesh_on : (d e : Derived) (x y : Option MeshInfo) → KeepsSource d.source e.source → MeshWent d x y → MeshWent e x y
-mesh_on d e None None k h = h
-mesh_on d e None (Some y) k h = h
-mesh_on d e (Some x) None k h = h
-mesh_on d e (Some x) (Some y) k h = record {
-  vertex = went_on d e (Some (TypeItem x.vertex_output_type)) (Some (TypeItem y.vertex_output_type)) k h.vertex;
-  primitive = went_on d e (Some (TypeItem x.primitive_output_type)) (Some (TypeItem y.primitive_output_type)) k h.primitive;
-  output = went_on d e (Some (GlobalItem x.output)) (Some (GlobalItem y.output)) k h.output;
-  max_vertices = went_on d e (option_map ExpressionItem x.max_vertices) (option_map ExpressionItem y.max_vertices) k h.max_vertices;
-  max_primitives = went_on d e (option_map ExpressionItem x.max_primitives) (option_map ExpressionItem y.max_primitives) k h.max_primitives;
-  topology = h.topology;
-}
-
--- ---- one entry point more
-
-pub entries_more : {d e f : Derived} {vs ws : List EntryValue} (v w : EntryValue) → EntriesCopied d vs ws e → EntryCopied e f v w → EntriesCopied d (vs ++ v ∷ []) (ws ++ w ∷ []) f
-entries_more v w NoEntries c = OneEntry c NoEntries
-entries_more v w (OneEntry a b) c = OneEntry a (entries_more v w b c)
-
-pub entries_step : (d e f : Derived) (es : List EntryPoint) (i : ℕ) (x : EntryPoint) (ws : List EntryPoint) (w : EntryPoint) (new : List EntryPoint) → i < length es → x ≡ get_or es i x → EntriesCopied d (map entry_value (take i es)) (map entry_value ws) e → EntryCopied e f (entry_value x) (entry_value w) → new ≡ ws ++ w ∷ [] → EntriesCopied d (map entry_value (take (i + 1) es)) (map entry_value new) f
-entries_step d e f es i x ws w new l is c one n =
-    let from = ap (map entry_value) (take_more es i x l ∙ ap (λ (y : EntryPoint). take i es ++ y ∷ []) (sym is)) ∙ map-append entry_value (take i es) (x ∷ []) in
-    let to = ap (map entry_value) n ∙ map-append entry_value ws (w ∷ []) in
-    subst (λ (vs : List EntryValue). EntriesCopied d vs (map entry_value new) f) (sym from) (subst (λ (vs : List EntryValue). EntriesCopied d (map entry_value (take i es) ++ entry_value x ∷ []) vs f) (sym to) (entries_more (entry_value x) (entry_value w) c one))
-
-pub made_of : (d e : Derived) (vs : List EntryValue) (m : Module) (n : ModuleValue) → KeepsFunctions d e → EntriesCopied d vs n.entry_points e → value_of m ≡ e.target → n ≡ record (value_of m) { entry_points = n.entry_points } → MadeWith d vs n
-made_of d e vs m n k c t is = record { made = e; keeps = k; copied = c; target = is ∙ ap (λ (v : ModuleValue). record v { entry_points = n.entry_points }) t }
-
 -- ---- as a caller of a derived module sees it
 
 values_of_entries : (m : Module) → (value_of m).entry_points ≡ map entry_value m.entry_points.items
@@ -247,14 +163,3 @@ entries_in o s m t ns d xs e v is h =
     let P = λ (q : Option Source). IfSome q (λ y. All (CanCopyEntry d) y.value.entry_points) in
     let own = subst (λ (x : Shader). P (option_map (source_of m) x)) e (subst P (sym (ap (λ (x : Derived). x.source) v)) h) in
     all_below (CanCopyEntry d) xs (subst (λ (vs : List EntryValue). All (CanCopyEntry d) vs) (entries_seen s.now xs is) own)
-
-made_value : (d e : Derived) (vs : List EntryValue) (m : Module) (w : Vec EntryPoint Global) → KeepsFunctions d e → EntriesCopied d vs (map entry_value w.items) e → value_of m ≡ e.target → MadeWith d vs (value_of (record m { entry_points = w }))
-unfolding value_of
-made_value d e vs m w k c t = record { made = e; keeps = k; copied = c; target = ap (λ (v : ModuleValue). record v { entry_points = map entry_value w.items }) t }
-
-pub made_in : (o : Shader) (s : Bor Module) (m : Maps) (t : Module) (ns : FunctionNames) (d e : Derived) (xs : List EntryPoint) (n : Module) (w : Vec EntryPoint Global) → o ≡ Some s → derived_of o m t ns ≡ d → xs ≡ s.now.entry_points.items → KeepsFunctions d e → EntriesCopied d (map entry_value xs) (map entry_value w.items) e → value_of n ≡ e.target → IsMadeWith d (value_of (record n { entry_points = w }))
-made_in o s m t ns d e xs n w is v at k c f =
-    let value = value_of (record n { entry_points = w }) in
-    let P = λ (q : Option Source). IfSome q (λ y. MadeWith d y.value.entry_points value) in
-    let own : MadeWith d (value_of s.now).entry_points value = subst (λ (vs : List EntryValue). MadeWith d vs value) (sym (entries_seen s.now xs at)) (made_value d e (map entry_value xs) n w k c f) in
-    subst P (ap (λ (x : Derived). x.source) v) (subst (λ (x : Shader). P (option_map (source_of m) x)) (sym is) own)

@@ -1,8 +1,6 @@
 -- Calls that copy functions, as their callers see them.
-use Rattle.std.proofs.Common.{◌≡◌, ℕ, [], ◌∷◌, length, slice_get, Option, Some, None, IsSome, option_map, refl, ap, sym, ◌∙◌, subst, IfSome, All, Result, Ok, Err, OnOk, IfOk, String, string_bytes, Global}
+use Rattle.std.proofs.Common.{◌≡◌, ℕ, [], length, slice_get, Option, Some, None, option_map, refl, ap, sym, ◌∙◌, subst, IfSome, Result, Ok, Err, OnOk, IfOk, String, string_bytes, Global}
 use Rattle.std.specs.Borrow.{Bor}
-use Rattle.std.proofs.lemmas.Bool.{false≢true}
-use Rattle.std.proofs.lemmas.Option.{none-some, same_Some}
 use Rattle.indexmap.specs.IndexMap.{IndexMap}
 use Rattle.naga_oil_ir.specs.ModuleValue.{FunctionValue, function_value}
 use Rattle.naga_oil_ir.specs.declared.module.Module.{Module}
@@ -20,11 +18,11 @@ use Rattle.naga_oil_derive.specs.CopiedFunction.{copy_function}
 use Rattle.naga_oil_derive.specs.Imported.{meanings, IsAnswerable, IsImportable}
 use Rattle.naga_oil_derive.specs.Derived.{Source, Derived}
 use Rattle.naga_oil_derive.specs.DerivedView.{source_of, derived_of, IsDerived}
-use Rattle.naga_oil_derive.specs.DerivedFunctions.{Meanings, meant, meant_at, going, having, requests_of, MayAsk, MayCopy, MayCall, MayReach, CanCopy, CanImport, CanCall, KeepsFunctions, IsLocalized, FunctionStands, IsFunctionImported, MeansAt}
-use Rattle.naga_oil_derive.specs.DerivedValue.{by_source, importing_of, after_importing, localize_function, import_function, call_function, answer_requests}
-use Rattle.naga_oil_derive.specs.DerivedLaw.{IsDerivation, kept_by}
+use Rattle.naga_oil_derive.specs.DerivedFunctions.{Meanings, meant, meant_at, going, having, MayAsk, MayCopy, MayCall, MayReach, KeepsFunctions, MeansAt}
+use Rattle.naga_oil_derive.specs.DerivedValue.{by_source, importing_of, after_importing, localize_function}
+use Rattle.naga_oil_derive.specs.DerivedLaw.{kept_by}
 use Rattle.naga_oil_derive.specs.Answered.{ImportState, import_state}
-use Rattle.naga_oil_derive.specs.AnsweredLaw.{HasForm, HasCopies, HaveCopies, AnswersOnly, AddsOnly, ImportsFunction}
+use Rattle.naga_oil_derive.specs.AnsweredLaw.{HasCopies, HaveCopies, AddsOnly}
 use Rattle.naga_oil_derive.specs.Putting.{Adding}
 use Rattle.naga_oil_derive.proofs.DeriveLemmas.{source_at}
 use Rattle.naga_oil_derive.proofs.DeriveCalls.{Shader, FunctionNames, source_in}
@@ -32,7 +30,6 @@ use Rattle.naga_oil_derive.proofs.Derivations.{derived_by}
 use Rattle.naga_oil_derive.proofs.DerivedValues.{before, after, imported_value}
 use Rattle.naga_oil_derive.proofs.ViewLaws.{view_derived}
 use Rattle.naga_oil_derive.proofs.AddingLaws.{adding_law}
-use Rattle.naga_oil_derive.proofs.AnsweredLaws.{answer_law, call_law, function_law, localized_law}
 use Rattle.naga_oil_derive.proofs.FunctionLaws.{alone, copies}
 use Rattle.naga_oil_derive.proofs.FunctionValues.{known_same, callee_means, may_copy_all, may_call, function_at}
 use Rattle.naga_oil_derive.proofs.HavingLemmas.{copying_having, going_same}
@@ -93,61 +90,17 @@ call_keeps o s t x y u m n f g ns qs d c =
 pub call_value : {A B : Type 0} (r : Result A B) (o : Shader) (s : Bor Module) (t x y u : Module) (m n : Maps) (f g : Functions) (ns qs : FunctionNames) (d : Derived) (F : Source → ImportState → ImportState) → IsCall o s t x y u m n f g ns qs d → OnOk r (import_state n y g ≡ F (source_of m s) (import_state m x f)) → OnOk r (derived_of o n u qs ≡ by_source d (λ z. after_importing z (F z (importing_of d z))) d.source)
 call_value r o s t x y u m n f g ns qs d F c h = imported_value r o s t x y u m n f g ns qs d F c.is c.view c.left c.taken c.names c.offset c.put c.seen h
 
--- ---- what the laws say of it
+-- ---- what the laws ask of it
 
 -- what is made of a function copies it, wherever its items and functions go
 function_copies : (f : Function) → HasCopies (function_value f)
 function_copies f = λ r h. copies r (function_value f) (record { form = h; alone = alone f })
 
-have_copies : (o : Shader) (m : Maps) (t : Module) (ns : FunctionNames) → HaveCopies (derived_of o m t ns)
+pub have_copies : (o : Shader) (m : Maps) (t : Module) (ns : FunctionNames) → HaveCopies (derived_of o m t ns)
 have_copies None m t ns = tt
 have_copies (Some s) m t ns = λ k x e. (let y = function_at s.now k x e in subst HasCopies (ap (λ (z : FunctionValue × Span). z.0) y.2) (function_copies y.0.0))
 
--- a derivation, each function of whose source has copies
-pub record IsFair (d : Derived) : Type 0 where
-  pub derivation : IsDerivation (kept_by d) d
-  pub copies : HaveCopies d
-
-pub fair : (o : Shader) (m : Maps) (t : Module) (ns : FunctionNames) (d : Derived) → derived_of o m t ns ≡ d → IsDerived o m t → IsFair d
-fair o m t ns d v i = subst IsFair v (record { derivation = view_derived o m t ns i; copies = have_copies o m t ns })
-
-requests_there : (o : Option Source) (ns : Meanings) (v : FunctionValue) → IfSome o (λ s. MayCopy s.value (MayReach ns s) v) → IfSome o (λ s. All (MayAsk s.value (MayReach ns s)) (requests_of v))
-requests_there None ns v h = tt
-requests_there (Some s) ns v h = h.requests
-
-pub copy_answers : (d : Derived) (v : FunctionValue) → IsFair d → CanCopy d v → AnswersOnly (kept_by d) d (answer_requests d (requests_of v)) (requests_of v)
-copy_answers d v i c = answer_law (kept_by d) d (requests_of v) i.derivation i.copies (c.0, requests_there d.source d.function_names v c.1)
-
-pub call_answers : (d : Derived) (k : ℕ) → IsFair d → CanCall d k → AnswersOnly (kept_by d) d (call_function d k) (Call k ∷ [])
-call_answers d k i c = (call_law (kept_by d) d k i.derivation i.copies c).0
-
-pub imports : (d : Derived) (f : Function) (span : Span) → IsFair d → CanImport d (function_value f) → ImportsFunction (kept_by d) d (import_function d (function_value f) span) (function_value f) span
-imports d f span i c = function_law (kept_by d) d (function_value f) span i.derivation i.copies (function_copies f) c
-
--- what holds of a value holds of what is equal to it
-pub on_ok_by : {A B X : Type 0} (r : Result A B) (P : X → Type 0) (x y : X) → OnOk r (x ≡ y) → P y → OnOk r (P x)
-on_ok_by (Ok a) P x y e p = subst P (sym e) p
-on_ok_by (Err b) P x y e p = tt
-
-imported_at : (o : Option Source) (d e : Derived) (v : FunctionValue) (span : Span) (h k : ℕ) → IfSome o (FunctionStands d e v span h) → meant e.function_names v.name ≡ Some k → IfSome o (FunctionStands d e v span k)
-imported_at None d e v span h k i m = tt
-imported_at (Some s) d e v span h k i m = subst (λ j. FunctionStands d e v span j s) (same_Some h k (sym i.last.means ∙ m)) i
-
--- it stands where its name means
-pub imported_ok : {B : Type 0} (r : Result ℕ B) (d e y : Derived) (v : FunctionValue) (span : Span) → OnOk r (e ≡ y) → ImportsFunction (kept_by d) d y v span → IfOk r (λ h. meant e.function_names v.name ≡ Some h) → IfOk r (IsFunctionImported d e v span)
-imported_ok (Ok h) d e y v span is i m = imported_at e.source d e v span i.place h (subst (λ (z : Derived). IsFunctionImported d z v span i.place) (sym is) i.imported) m
-imported_ok (Err b) d e y v span is i m = tt
-
 -- ---- copies
-
-form_in : (o : Option Source) (ns : Meanings) (v : FunctionValue) → IsSome o → IfSome o (λ s. MayCopy s.value (MayReach ns s) v) → HasForm v
-form_in None ns v is h = absurd (false≢true is)
-form_in (Some s) ns v is h = h.form
-
--- what is made of a function that can be copied copies it
-pub localized_ok : {B : Type 0} (r : Result Function B) (d e : Derived) (f : Function) → CanCopy d (function_value f) → IfOk r (λ w. function_value w ≡ localize_function e.source e.function_names (function_value f)) → IfOk r (λ w. IsLocalized e (function_value f) (function_value w))
-localized_ok (Ok w) d e f can is = subst (IsLocalized e (function_value f)) (sym is) (localized_law e (function_value f) (function_copies f) (form_in d.source d.function_names (function_value f) can.0 can.1))
-localized_ok (Err x) d e f can is = tt
 
 -- the same as a value
 pub copied_value : {B : Type 0} (r : Result Function B) (o : Shader) (s : Bor Module) (n : Maps) (u : Module) (g : Functions) (qs : FunctionNames) (f : Function) → o ≡ Some s → qs ≡ g.names.entries → IfOk r (λ w. function_value w ≡ copy_function (went_by n s.now g.names) (function_value f)) → IfOk r (λ w. function_value w ≡ localize_function (derived_of o n u qs).source (derived_of o n u qs).function_names (function_value f))
@@ -168,12 +121,3 @@ means_ok (Err y) o s n u g qs k e q i = tt
 
 pub meant_in : {S : Type 0} (o : Shader) (m : Maps) (t : Module) (names : IndexMap (String Global) ℕ S) (d : Derived) (p : Option (String Global)) → derived_of o m t names.entries ≡ d → known_as names p ≡ meant d.function_names (option_map string_bytes p)
 meant_in o m t names d p v = known_same names p ∙ ap (λ (x : Derived). meant x.function_names (option_map string_bytes p)) v
-
-pub one_meant : (x y : Option ℕ) (k h : ℕ) → Some k ≡ x → x ≡ y → y ≡ Some h → k ≡ h
-one_meant x y k h e f g = same_Some k h (e ∙ f ∙ g)
-
-pub none_meant : (x y : Option ℕ) (k : ℕ) → Some k ≡ x → x ≡ y → y ≡ None → ⊥
-none_meant x y k e f g = none-some k (sym (e ∙ f ∙ g))
-
-pub meant_none : (x y : Option ℕ) (h : ℕ) → None ≡ x → x ≡ y → y ≡ Some h → ⊥
-meant_none x y h e f g = none-some h (e ∙ f ∙ g)

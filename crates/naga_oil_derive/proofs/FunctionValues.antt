@@ -1,5 +1,5 @@
 -- Functions as plain data.
-use Rattle.std.proofs.Common.{◌≡◌, ⊎_elim, ◌⊎◌, inl, inr, ℕ, zero, suc, ◌<◌, ◌++◌, List, [], ◌∷◌, length, map, slice_get, Option, Some, None, IsSome, IfSome, is_some, option_map, option_to_list, refl, ap, sym, ◌∙◌, subst, All, cond, String, string_bytes, bytes_eq, Global}
+use Rattle.std.proofs.Common.{◌≡◌, ⊎_elim, inl, inr, ℕ, zero, suc, ◌<◌, ◌++◌, List, [], ◌∷◌, length, map, slice_get, Option, Some, None, IsSome, IfSome, is_some, option_map, option_to_list, refl, ap, sym, ◌∙◌, subst, All, cond, String, string_bytes, bytes_eq, Global}
 use Rattle.std.specs.List.{flat_map}
 use Rattle.std.specs.Map.{lookup}
 use Rattle.std.proofs.lemmas.List.{length-map}

@@ -1,5 +1,5 @@
 -- What a walk over a function lists.
-use Rattle.std.proofs.Common.{◌≡◌, Bool, ℕ, zero, suc, ◌+◌, ◌<◌, ◌≤◌, ◌&&◌, true, false, List, [], ◌∷◌, ◌++◌, length, map, take, get_or, slice_get, option_to_list, option_map, unwrap_or, Option, Some, None, nat_lt, replicate, All, refl, ap, sym, ◌∙◌, subst, arith}
+use Rattle.std.proofs.Common.{◌≡◌, Bool, ℕ, zero, suc, ◌+◌, ◌<◌, true, List, [], ◌∷◌, ◌++◌, length, take, get_or, slice_get, option_to_list, option_map, unwrap_or, Option, Some, None, nat_lt, replicate, All, refl, ap, sym, ◌∙◌, subst, arith}
 use Rattle.std.specs.List.{flat_map}
 use Rattle.std.proofs.lemmas.Bool.{false≢true, and_parts, or_left, or_right}
 use Rattle.std.proofs.lemmas.Option.{slice_get-map}
@@ -8,8 +8,8 @@ use Rattle.std.proofs.lemmas.List.Concat.{flat_map-append}
 use Rattle.std.proofs.lemmas.List.Elements.{All-nil, All-cons}
 use Rattle.naga_oil_ir.specs.Parts.{parts}
 use Rattle.naga_oil_ir.specs.Body.{Tokens}
-use Rattle.naga_oil_ir.specs.BodyForm.{callees, IsReading, made, kinds, operand_links, external_kind, result_kind, is_external, is_result, IsFine, AreFine, MayStand}
-use Rattle.naga_oil_ir.specs.Links.{lists, Links, linked, AreEarlier, trail, started, has, added, AreMarks}
+use Rattle.naga_oil_ir.specs.BodyForm.{callees, IsReading, made, kinds, operand_links, external_kind, result_kind, IsFine, AreFine, MayStand}
+use Rattle.naga_oil_ir.specs.Links.{lists, Links, started, has, added, AreMarks}
 use Rattle.naga_oil_ir.specs.WellFormed.{initialisers_of, init_of}
 use Rattle.naga_oil_ir.specs.declared.expression.Expression.{Expression}
 use Rattle.naga_oil_ir.specs.declared.expression.Expression.TheVariants.{Literal, ZeroValue, Constant, Override, GlobalVariable, LocalVariable, FunctionArgument, CallResult, AtomicResult, WorkGroupUniformLoadResult, RayQueryProceedResult, SubgroupBallotResult, SubgroupOperationResult}
@@ -19,7 +19,7 @@ use Rattle.naga_oil_ir.specs.declared.span.Span.{Span}
 use Rattle.naga_oil_ir.specs.declared.tokens.Token.{Token}
 use Rattle.naga_oil_ir.specs.declared.tokens.Token.TheVariants.{Use, Give, GiveCall, Emitted}
 use Rattle.naga_oil_ir.proofs.LinkLemmas.{All-from_has, All-has, has-append, marked_within}
-use Rattle.naga_oil_derive.specs.Walk.{IsReachOrder, IsWithin, brief, walked, Notes, notes_after, AreWithin, AreNoted}
+use Rattle.naga_oil_derive.specs.Walk.{IsReachOrder, IsWithin, brief, Notes, notes_after, AreWithin, AreNoted}
 use Rattle.naga_oil_derive.specs.Walks.{IsWalkOf}
 use Rattle.naga_oil_derive.proofs.WalkLemmas.{added-append}
 use Rattle.naga_oil_derive.proofs.WalkForm.{IsPlain, IsUnder, Follows, follows, under_start}

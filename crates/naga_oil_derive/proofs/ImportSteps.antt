@@ -1,5 +1,5 @@
 -- One function more.
-use Rattle.std.proofs.Common.{◌≡◌, ⊎_elim, ◌⊎◌, inl, inr, ℕ, zero, suc, ◌<◌, List, [], ◌∷◌, ◌++◌, length, map, get_or, slice_get, Option, Some, None, IsSome, IfSome, is_some, option_map, unwrap_or, refl, ap, sym, ◌∙◌, subst, All, String, string_bytes, Global, Result, Ok, Err, OnOk, IfOk}
+use Rattle.std.proofs.Common.{◌≡◌, ⊎_elim, inl, inr, ℕ, zero, suc, ◌<◌, List, [], ◌∷◌, ◌++◌, length, map, get_or, slice_get, Option, Some, None, IsSome, IfSome, is_some, option_map, unwrap_or, refl, ap, sym, ◌∙◌, subst, All, String, string_bytes, Global, Result, Ok, Err, OnOk, IfOk}
 use Rattle.std.specs.String.{string_eq}
 use Rattle.std.proofs.lemmas.Bool.{false≢true}
 use Rattle.std.proofs.lemmas.List.{map-append, length-map}

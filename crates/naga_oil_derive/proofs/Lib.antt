@@ -50,7 +50,6 @@ pub mod FunctionCalls
 pub mod SpecialLoops
 pub mod DeriveCalls
 pub mod EntrySteps
-pub mod EntryAnswers
 pub mod EntryValues
 pub mod FormFunctions
 pub mod FormEntries

@@ -10,7 +10,7 @@ use Rattle.std.proofs.lemmas.Option.{none-some}
 use Rattle.naga_oil_ir.specs.Parts.{parts}
 use Rattle.naga_oil_ir.specs.Body.{block_tokens}
 use Rattle.naga_oil_ir.specs.BodyForm.{kinds, operand_links}
-use Rattle.naga_oil_ir.specs.Links.{Links, started, has}
+use Rattle.naga_oil_ir.specs.Links.{Links, started}
 use Rattle.naga_oil_ir.specs.ModuleValue.{expression_values, function_value}
 use Rattle.naga_oil_ir.specs.WellFormed.{initialisers}
 use Rattle.naga_oil_ir.specs.declared.expression.Expression.{Expression}

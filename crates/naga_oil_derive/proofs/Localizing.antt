@@ -1,14 +1,14 @@
 -- The copy of a function.
-use Rattle.std.proofs.Common.{◌≡◌, ⊎_elim, ℕ, zero, suc, ◌+◌, ◌-◌, ◌<◌, ◌≤◌, Bool, true, false, not, if◌then◌else◌, nat_lt, List, [], ◌∷◌, ◌++◌, length, map, take, drop, slice_get, option_to_list, option_map, Option, Some, None, cond, nat_eq, String, string_bytes, Global, refl, ap, sym, ◌∙◌, subst, arith}
+use Rattle.std.proofs.Common.{◌≡◌, ⊎_elim, ℕ, zero, suc, ◌+◌, ◌-◌, ◌<◌, ◌≤◌, if◌then◌else◌, List, [], ◌∷◌, ◌++◌, length, map, take, drop, slice_get, option_to_list, Option, Some, None, refl, ap, sym, ◌∙◌, arith}
 use Rattle.std.specs.List.{flat_map}
 use Rattle.std.specs.Option.{option_flatten}
 use Rattle.std.proofs.lemmas.Bool.{cases_lt, lt-ltb, le-ltb}
-use Rattle.std.proofs.lemmas.List.{append-nil, append_assoc, map-append, length-append, length-map, take_at, drop_at}
+use Rattle.std.proofs.lemmas.List.{append_assoc, map-append, length-append, length-map, take_at, drop_at}
 use Rattle.std.proofs.lemmas.Option.{none-some, same_Some}
 use Rattle.naga_oil_ir.specs.Parts.{parts}
 use Rattle.naga_oil_ir.specs.Body.{Tokens}
-use Rattle.naga_oil_ir.specs.BodyForm.{run, places, kinds, operand_links}
-use Rattle.naga_oil_ir.specs.Links.{Links, started, added}
+use Rattle.naga_oil_ir.specs.BodyForm.{run, places, kinds}
+use Rattle.naga_oil_ir.specs.Links.{Links, started}
 use Rattle.naga_oil_ir.specs.ModuleValue.{expression_values}
 use Rattle.naga_oil_ir.specs.WellFormed.{initialisers_of}
 use Rattle.naga_oil_ir.specs.declared.expression.Expression.{Expression}
@@ -18,8 +18,7 @@ use Rattle.naga_oil_ir.specs.declared.tokens.Token.TheVariants.{Emitted}
 use Rattle.naga_oil_ir.specs.declared.types.LocalVariable.{LocalVariable}
 use Rattle.naga_oil_derive.specs.Walk.{Notes, StandsFrom, IsNoted, AreNoted, AreWithin, others, listed, walked}
 use Rattle.naga_oil_derive.specs.Copies.{Table, place_under, brought, brought_range, range_under, FitIn}
-use Rattle.naga_oil_derive.specs.Functions.{IsCovered, AreCovered, local_values, named_values, names_under, name_put}
-use Rattle.indexmap.specs.IndexMap.{insert_entry}
+use Rattle.naga_oil_derive.specs.Functions.{IsCovered, AreCovered, local_values, names_under, name_put}
 use Rattle.naga_oil_derive.proofs.WalkNotes.{added-grows}
 
 -- ---- the values of a function
@@ -104,16 +103,6 @@ pub notes_fit : (es : Notes) (o : List ℕ) (n m c : ℕ) → AreWithin n o es �
 notes_fit es o n m c w l e = λ k b f h. let v = w k b f (flat_some (slice_get es k) (b, f) h) in let v2 = v.2 in let v1 = v.1 in let v0 = v.0 in (v0, v1, omega arith)
 
 -- ---- names
-
-named_cond : (b : Bool) (e : ℕ × String Global) (v : String Global) (es rest : List (ℕ × String Global)) → named_values (cond b ((e.0, v) ∷ es) (e ∷ rest)) ≡ cond b ((e.0, string_bytes v) ∷ named_values es) ((e.0, string_bytes e.1) ∷ named_values rest)
-named_cond true e v es rest = refl
-named_cond false e v es rest = refl
-
--- to insert a name is to insert its bytes
-pub named_put : (E : ℕ → ℕ → Bool) → ((a b : ℕ) → E a b ≡ nat_eq a b) → (es : List (ℕ × String Global)) (k : ℕ) (v : String Global) → named_values (insert_entry E es k v) ≡ insert_entry nat_eq (named_values es) k (string_bytes v)
-named_put E f [] k v = refl
-named_put E f (e ∷ es) k v =
-    named_cond (E k e.0) e v es (insert_entry E es k v) ∙ ap (λ (xs : List (ℕ × List ℕ)). cond (E k e.0) ((e.0, string_bytes v) ∷ named_values es) ((e.0, string_bytes e.1) ∷ xs)) (named_put E f es k v) ∙ ap (λ b. cond b ((e.0, string_bytes v) ∷ named_values es) ((e.0, string_bytes e.1) ∷ insert_entry nat_eq (named_values es) k (string_bytes v))) (f k e.0)
 
 pub names-push : (t : Table) (es : List (ℕ × List ℕ)) (e : ℕ × List ℕ) (done : List (ℕ × List ℕ)) → names_under t done (es ++ e ∷ []) ≡ name_put (option_flatten (slice_get t e.0)) e.1 (names_under t done es)
 names-push t [] e done = refl

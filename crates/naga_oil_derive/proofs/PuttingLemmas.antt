@@ -19,7 +19,7 @@ use Rattle.naga_oil_derive.proofs.CopyLemmas.{kept_same}
 use Rattle.naga_oil_derive.proofs.WorldLemmas.{Extends-refl, Extends-trans}
 use Rattle.naga_oil_derive.proofs.PutLaws.{put_named, put_item}
 use Rattle.naga_oil_derive.proofs.KindLaws.{value_kinds, ranked_copyable}
-use Rattle.naga_oil_derive.proofs.CopiedLaws.{midway_step, reads_step, lowers, lower_names, not_among, still_nowhere, copied_item, copied_all}
+use Rattle.naga_oil_derive.proofs.CopiedLaws.{midway_step, lowers, lower_names, not_among, still_nowhere, copied_item, copied_all}
 
 -- ---- over values alone
 
@@ -63,13 +63,6 @@ putting_later m shift kept s u k i NothingPut = later_refl m kept s i
 putting_later m shift kept s u k i (ItemPut p c more) =
     let one = put_later m shift kept s p k i c in
     later_trans m kept s (put m shift s p) u one (putting_later m shift kept (put m shift s p) u k one.midway more)
-
-pub putting_reads_now : (m : ModuleValue) (shift : ℕ) (kept : Kept) (s u : CopyState) → IsKinded m → IsMidway m kept s → Putting m shift s u → reads_now m u ≡ reads_now m s
-putting_reads_now m shift kept s u k i NothingPut = refl
-putting_reads_now m shift kept s u k i (ItemPut p c more) =
-    let one = put_item m shift s p c.row (ready m kept s p k i c) in
-    let next = put_later m shift kept s p k i c in
-    putting_reads_now m shift kept (put m shift s p) u k next.midway more ∙ reads_step m kept s (put m shift s p) p c.row (spans_by m shift p) i c.nowhere one c.there
 
 pub type_putting_later : (m : ModuleValue) (shift : ℕ) (kept : Kept) (name : Option Text) (k : ℕ) (s u : CopyState) → IsKinded m → IsMidway m kept s → TypePutting m shift name k s u → IsLater m kept s u
 type_putting_later m shift kept name k s u kinds i (NoType a) = putting_later m shift kept s u kinds i a
@@ -139,10 +132,6 @@ putting_copying source t u m n i p = later_copying source t u m n (later source 
 
 pub putting_grows : (source t u : Module) (m n : Maps) → IsCopying source t m → n.offset ≡ m.offset → Putting (value_of source) m.offset (copy_state m t) (copy_state n u) → Grows m n t u
 putting_grows source t u m n i e p = later_grows source t u m n e (later source t u m n i p)
-
-pub putting_reads : (source t u : Module) (m n : Maps) → IsCopying source t m → Putting (value_of source) m.offset (copy_state m t) (copy_state n u) → source_world source u n ≡ source_world source t m
-unfolding source_world goes_under
-putting_reads source t u m n i p = putting_reads_now (value_of source) m.offset (kept_between source t) (copy_state m t) (copy_state n u) (value_kinds source) (midway_of source t m i) p
 
 type_later_of : (source t u : Module) (m n : Maps) (name : Option Text) (k : ℕ) → IsCopying source t m → TypePutting (value_of source) m.offset name k (copy_state m t) (copy_state n u) → IsLater (value_of source) (kept_between source t) (copy_state m t) (copy_state n u)
 type_later_of source t u m n name k i p = type_putting_later (value_of source) m.offset (kept_between source t) name k (copy_state m t) (copy_state n u) (value_kinds source) (midway_of source t m i) p

@@ -4,21 +4,20 @@ use Rattle.std.specs.List.{flat_map}
 use Rattle.std.proofs.lemmas.List.{append-nil, take_more}
 use Rattle.std.proofs.lemmas.List.Elements.{filter-append}
 use Rattle.naga_oil_ir.specs.Links.{Links, linked, lists, has, added, AreEarlier}
-use Rattle.naga_oil_ir.specs.BodyForm.{run, places, is_external, kinds, named_of, operand_links, IsReading}
+use Rattle.naga_oil_ir.specs.BodyForm.{run, is_external, kinds, named_of, operand_links, IsReading}
 use Rattle.naga_oil_ir.specs.Body.{Tokens, block_tokens}
 use Rattle.naga_oil_ir.specs.declared.expression.Expression.{Expression}
 use Rattle.naga_oil_ir.specs.declared.module.Function.{Function}
 use Rattle.naga_oil_ir.specs.declared.types.LocalVariable.{LocalVariable}
 use Rattle.naga_oil_ir.specs.declared.form.Reading.{Reading}
 use Rattle.naga_oil_ir.specs.declared.names.ItemPlace.{ItemPlace}
-use Rattle.naga_oil_ir.specs.Rows.{named_place}
 use Rattle.naga_oil_ir.specs.declared.parts.Named.{Named}
 use Rattle.naga_oil_ir.specs.declared.span.Span.{Span}
 use Rattle.naga_oil_ir.specs.declared.tokens.Token.{Token}
 use Rattle.naga_oil_ir.specs.declared.tokens.Token.TheVariants.{At, Head, Plain, Flag, Absent, Open, Close, Use, Give, GiveCall, Emitted, Callee}
 use Rattle.naga_oil_derive.specs.Walk.{Notes, externals, brief, notes_of}
 use Rattle.naga_oil_derive.specs.Walks.{IsOver}
-use Rattle.naga_oil_derive.specs.Naming.{item_of, asked, requested, requests_at, names_from, local_names, token_names, signature_names, function_names, IsAmong, Thins, Adds}
+use Rattle.naga_oil_derive.specs.Naming.{item_of, requested, requests_at, names_from, local_names, token_names, signature_names, function_names, IsAmong, Thins, Adds}
 use Rattle.naga_oil_derive.specs.declared.walk.Request.{Request}
 use Rattle.naga_oil_derive.specs.declared.walk.Request.TheVariants.{Item}
 use Rattle.naga_oil_derive.specs.declared.walk.Walk.{Walk}
@@ -129,9 +128,6 @@ walk_requests f rd xs ls ts ex i el et s t u w es et1 a b =
     subst (λ (q : List Request). Thins [] (function_names f) q) (sym all.1) all.2
 
 -- ---- what is asked for a name
-
-pub item_at : (ns : List Named) (k : ℕ) (n : Named) → Some n ≡ slice_get ns k → requests_at ns k ≡ requested (named_place n)
-item_at ns k n e = ap (λ (o : Option Named). requested (item_of o)) (sym e)
 
 -- nothing is asked where no item is named
 pub none_asked : (s : List Request) (ns : List Named) (k : ℕ) → item_of (slice_get ns k) ≡ None → s ≡ s ++ requests_at ns k

@@ -1,6 +1,6 @@
 -- The loops over special types.
-use Rattle.std.proofs.Common.{◌≡◌, ◌↔◌, IsTrue, Bool, true, false, not, ◌||◌, nat_eq, ℕ, zero, suc, ◌<◌, ◌+◌, List, [], ◌∷◌, ◌++◌, length, take, get_or, slice_set, Option, Some, None, refl, ap, sym, ◌∙◌, subst, arith, All, is_some, if◌then◌else◌}
-use Rattle.std.proofs.lemmas.List.{length-map, length-append, get_or-map, append_assoc, append-nil}
+use Rattle.std.proofs.Common.{◌≡◌, ◌↔◌, IsTrue, Bool, true, false, not, ◌||◌, nat_eq, ℕ, zero, suc, ◌<◌, ◌+◌, List, [], ◌++◌, length, take, get_or, slice_set, Option, Some, None, refl, ap, sym, ◌∙◌, subst, arith, All, is_some, if◌then◌else◌}
+use Rattle.std.proofs.lemmas.List.{length-map, length-append, get_or-map, append-nil}
 use Rattle.std.proofs.lemmas.List.Elements.{All-get_or}
 use Rattle.std.proofs.lemmas.Bool.{false≢true}
 use Rattle.indexmap.specs.IndexMap.{insert_entry}
@@ -13,9 +13,6 @@ use Rattle.naga_oil_derive.specs.Copying.{put_kept, kept_over, special_names}
 use Rattle.naga_oil_derive.proofs.SpecialLemmas.{Entry, coded, insert_absent, more, kept_over_more, with_specials_more}
 
 -- ---- the entries one after another
-
-pub entries_next : (es : List Entry) (c h : ℕ) (left rest : List (ℕ × ℕ)) (all : List Entry) → es ++ coded left ≡ all → left ≡ (c, h) ∷ rest → (es ++ (Predeclared c, h) ∷ []) ++ coded rest ≡ all
-entries_next es c h left rest all e f = append_assoc es ((Predeclared c, h) ∷ []) (coded rest) ∙ ap (λ (v : List (ℕ × ℕ)). es ++ coded v) (sym f) ∙ e
 
 pub entries_last : (es : List Entry) (left : List (ℕ × ℕ)) (all : List Entry) → es ++ coded left ≡ all → left ≡ [] → es ≡ all
 entries_last es left all e f = sym (append-nil es) ∙ ap (λ (v : List (ℕ × ℕ)). es ++ coded v) (sym f) ∙ e

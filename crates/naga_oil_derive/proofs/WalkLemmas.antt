@@ -1,5 +1,5 @@
 -- Orders of places: adding, and what stands ready.
-use Rattle.std.proofs.Common.{is_none, is_some, nat_lt, Option, ◌≡◌, ⊎_elim, ◌⊎◌, ℕ, zero, suc, ◌+◌, ◌-◌, ◌<◌, ◌≤◌, Bool, true, false, cond, ◌||◌, ◌==◌, not, List, [], ◌∷◌, ◌++◌, length, take, get_or, slice_get, slice_set, Some, None, refl, ap, sym, ◌∙◌, subst, arith}
+use Rattle.std.proofs.Common.{is_none, is_some, nat_lt, Option, ◌≡◌, ⊎_elim, ℕ, zero, suc, ◌+◌, ◌-◌, ◌<◌, ◌≤◌, Bool, true, false, cond, ◌||◌, ◌==◌, not, List, [], ◌∷◌, ◌++◌, length, take, get_or, slice_get, slice_set, Some, None, refl, ap, sym, ◌∙◌, subst, arith}
 use Rattle.std.specs.List.{flat_map}
 use Rattle.std.specs.Option.{option_flatten}
 use Rattle.std.proofs.lemmas.Bool.{cases_order, cases_Bool, cond_both, le-ltb, or_cases, or_left, or_right, false≢true}
@@ -9,7 +9,7 @@ use Rattle.std.proofs.lemmas.Option.{slice_get_within, none-some, same_Some}
 use Rattle.std.proofs.lemmas.List.Elements.{filter-append}
 use Rattle.naga_oil_ir.specs.Body.{Tokens}
 use Rattle.naga_oil_ir.specs.declared.tokens.Token.{Token}
-use Rattle.naga_oil_ir.specs.BodyForm.{run, places, is_external}
+use Rattle.naga_oil_ir.specs.BodyForm.{run, is_external}
 use Rattle.naga_oil_ir.specs.Links.{Links, linked, AreEarlier, reach, trail, has, added, AreMarks}
 use Rattle.naga_oil_ir.proofs.LinkLemmas.{has-append, has-added, marked-set, or_false, only, itself, in_one, in_all, slice_get-append_within, slice_get-append_at, trail-step, eq_eqb}
 use Rattle.naga_oil_derive.specs.Walk.{IsReachOrder, Holds, externals, Notes, noted, notes_of, notes_after, brief}

@@ -1,8 +1,8 @@
 -- The notes tell where emitted ranges stand.
-use Rattle.std.proofs.Common.{◌≡◌, ◌≢◌, ⊎_elim, ◌⊎◌, inl, inr, ℕ, zero, suc, ◌+◌, ◌-◌, ◌<◌, ◌≤◌, Bool, true, false, cond, ◌||◌, List, [], ◌∷◌, ◌++◌, length, slice_get, slice_set, Option, Some, None, is_none, nat_lt, refl, ap, sym, ◌∙◌, subst, arith, replicate}
+use Rattle.std.proofs.Common.{◌≡◌, ◌≢◌, ⊎_elim, ◌⊎◌, inl, inr, ℕ, zero, suc, ◌+◌, ◌-◌, ◌<◌, ◌≤◌, true, false, cond, ◌||◌, List, [], ◌∷◌, ◌++◌, length, slice_get, slice_set, Option, Some, None, is_none, nat_lt, refl, ap, sym, ◌∙◌, subst, arith, replicate}
 use Rattle.std.specs.List.{flat_map}
 use Rattle.std.specs.Option.{option_flatten}
-use Rattle.std.proofs.lemmas.Bool.{cases_Bool, cases_eq, cases_lt, cond_both, or_left, or_right, false≢true, lt-ltb, le-ltb, true≢false}
+use Rattle.std.proofs.lemmas.Bool.{cases_Bool, cases_eq, cases_lt, cond_both, or_left, or_right, false≢true, lt-ltb, le-ltb}
 use Rattle.std.proofs.lemmas.List.{set_past, append-nil, append_assoc, length-append, length-set}
 use Rattle.std.proofs.lemmas.Option.{none-some, same_Some}
 use Rattle.naga_oil_ir.specs.Body.{Tokens}
@@ -13,7 +13,7 @@ use Rattle.naga_oil_ir.specs.Links.{Links, linked, AreEarlier, has, added}
 use Rattle.naga_oil_ir.proofs.LinkLemmas.{has-append, slice_get-set_same, slice_get-set_other, eq_eqb}
 use Rattle.naga_oil_derive.specs.Walk.{externals, others, brief, Notes, noted, notes_of, notes_after, StandsFrom, IsNoted, AreNoted, AreWithin}
 use Rattle.naga_oil_derive.proofs.WalkLemmas.{added-append}
-use Rattle.naga_oil_derive.proofs.WalkForm.{IsPlain, IsUnder, step, Steps, stand_range, under_externals, has_externals}
+use Rattle.naga_oil_derive.proofs.WalkForm.{IsPlain, IsUnder, step, stand_range, under_externals, has_externals}
 
 -- ---- orders grow at their ends
 

@@ -1,5 +1,5 @@
 -- Functions by their names.
-use Rattle.std.specs.Prelude.{ℕ, List, Option, Some, None, option_map, slice_get, unwrap_or, String, string_bytes}
+use Rattle.std.specs.Prelude.{ℕ, List, Option, Some, None, slice_get, String, string_bytes}
 use Rattle.std.specs.Global.{Global}
 use Rattle.indexmap.specs.IndexMap.{IndexMap, get_by_text}
 use Rattle.naga_oil_ir.specs.declared.module.Function.{Function}

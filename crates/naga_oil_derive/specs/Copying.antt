@@ -6,15 +6,14 @@ use Rattle.naga_oil_ir.specs.Rows.{Row}
 use Rattle.naga_oil_ir.specs.ItemForm.{is_sized}
 use Rattle.naga_oil_ir.specs.ModuleValue.{special_value}
 use Rattle.naga_oil_ir.specs.declared.module.Module.{Module}
-use Rattle.naga_oil_ir.specs.declared.span.Span.{Span}
 use Rattle.naga_oil_ir.specs.declared.names.ItemPlace.{ItemPlace}
 use Rattle.naga_oil_ir.specs.declared.names.ItemPlace.TheVariants.{TypeItem, ConstantItem, OverrideItem, GlobalItem, ExpressionItem}
 use Rattle.naga_oil_derive.specs.declared.maps.Maps.{Maps}
 use Rattle.naga_oil_derive.specs.declared.special.SpecialKey.{SpecialKey}
 use Rattle.naga_oil_derive.specs.Renames.{Renames}
-use Rattle.naga_oil_derive.specs.Tree.{World, Kept, ReadsAs}
-use Rattle.naga_oil_derive.specs.World.{Places, goes, value_of, world, span_at, shifted, Extends, named_world, kept_of}
-use Rattle.naga_oil_derive.specs.Collected.{Collects, depth, reached}
+use Rattle.naga_oil_derive.specs.Tree.{World, Kept}
+use Rattle.naga_oil_derive.specs.World.{Places, goes, value_of, world, shifted, Extends, named_world, kept_of}
+use Rattle.naga_oil_derive.specs.Collected.{depth}
 
 -- ---- worlds
 

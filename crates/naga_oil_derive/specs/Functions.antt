@@ -15,7 +15,7 @@ use Rattle.naga_oil_ir.specs.declared.tokens.Token.{Token}
 use Rattle.naga_oil_ir.specs.declared.tokens.Token.TheVariants.{Emitted}
 use Rattle.naga_oil_derive.specs.Renames.{Renames, rename_tokens}
 use Rattle.naga_oil_derive.specs.Walk.{walked, others}
-use Rattle.naga_oil_derive.specs.Copies.{Values, Table, place_under, under_table, value_links, AreCopies}
+use Rattle.naga_oil_derive.specs.Copies.{Table, place_under, under_table, value_links, AreCopies}
 
 -- names as plain data
 abbrev pub named_values : List (ℕ × String Global) → List (ℕ × List ℕ)

@@ -5,8 +5,6 @@ use Rattle.naga_oil_ir.specs.Links.{Links, linked}
 use Rattle.naga_oil_ir.specs.Body.{block_tokens}
 use Rattle.naga_oil_ir.specs.BodyForm.{kinds, callee, named_of, operand_links}
 use Rattle.naga_oil_ir.specs.declared.module.Function.{Function}
-use Rattle.naga_oil_ir.specs.declared.module.FunctionArgument.{FunctionArgument}
-use Rattle.naga_oil_ir.specs.declared.module.FunctionResult.{FunctionResult}
 use Rattle.naga_oil_ir.specs.declared.types.LocalVariable.{LocalVariable}
 use Rattle.naga_oil_ir.specs.declared.span.Span.{Span}
 use Rattle.naga_oil_ir.specs.declared.parts.Named.{Named}

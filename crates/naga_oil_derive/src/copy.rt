@@ -56,9 +56,14 @@ impl Copying {
     fn copy_type(&mut self, source: &Module, handle: Handle<Type>, name: Name) -> Tried
         requires there { IsThere source.now (ItemPlace.TypeItem handle) }
         requires long { AreLong self.old.maps source.now }
-        ensures put { OnOk result (copy_state self.new.maps self.new.target ≡ put_type (value_of source.now) self.old.maps.offset (option_map (λ n. Some (string_bytes n)) name) (copy_state self.old.maps self.old.target) handle) }
+        ensures put { let old = copy_state self.old.maps self.old.target in
+            let new = copy_state self.new.maps self.new.target in
+            let text = option_map (λ n. Some (string_bytes n)) name in
+            let m = value_of source.now in
+            OnOk result (new ≡ put_type m self.old.maps.offset text old handle) }
         ensures offset { self.new.maps.offset ≡ self.old.maps.offset }
-        ensures err { OnErr result ((self.new.target ≡ self.old.target) × (self.new.maps ≡ self.old.maps)) }
+        ensures err { OnErr result
+            ((self.new.target ≡ self.old.target) × (self.new.maps ≡ self.old.maps)) }
     {
         let Some(item) = source.types.get_handle(handle) else {
             return Ok(());
@@ -75,9 +80,12 @@ impl Copying {
     fn copy_alone(&mut self, source: &Module, item: ItemPlace) -> Tried
         requires there { IsThere source.now item }
         requires long { AreLong self.old.maps source.now }
-        ensures put { OnOk result (copy_state self.new.maps self.new.target ≡ put (value_of source.now) self.old.maps.offset (copy_state self.old.maps self.old.target) item) }
+        ensures put { let old = copy_state self.old.maps self.old.target in
+            let new = copy_state self.new.maps self.new.target in
+            OnOk result (new ≡ put (value_of source.now) self.old.maps.offset old item) }
         ensures offset { self.new.maps.offset ≡ self.old.maps.offset }
-        ensures err { OnErr result ((self.new.target ≡ self.old.target) × (self.new.maps ≡ self.old.maps)) }
+        ensures err { OnErr result
+            ((self.new.target ≡ self.old.target) × (self.new.maps ≡ self.old.maps)) }
     {
         match item {
             ItemPlace::TypeItem(h) => self.copy_type(source, h, None),
@@ -94,8 +102,12 @@ impl Copying {
         requires ranked { AreRanked source.now }
         requires below { All (IsBelowItem source.now item.now) list.now }
         requires copying { IsCopying source.now self.old.target self.old.maps }
-        ensures copied { OnOk result (copy_state self.new.maps self.new.target ≡ copy_all (value_of source.now) self.old.maps.offset (copy_state self.old.maps self.old.target) list.now) }
-        ensures putting { Putting (value_of source.now) self.old.maps.offset (copy_state self.old.maps self.old.target) (copy_state self.new.maps self.new.target) }
+        ensures copied { let old = copy_state self.old.maps self.old.target in
+            let new = copy_state self.new.maps self.new.target in
+            OnOk result (new ≡ copy_all (value_of source.now) self.old.maps.offset old list.now) }
+        ensures putting { let old = copy_state self.old.maps self.old.target in
+            let new = copy_state self.new.maps self.new.target in
+            Putting (value_of source.now) self.old.maps.offset old new }
         ensures offset { self.new.maps.offset ≡ self.old.maps.offset }
     {
         for name in list {
@@ -111,8 +123,12 @@ impl Copying {
         requires there { IsThere source.now item.now }
         requires ranked { AreRanked source.now }
         requires copying { IsCopying source.now self.old.target self.old.maps }
-        ensures copied { OnOk result (copy_state self.new.maps self.new.target ≡ copy_item (value_of source.now) self.old.maps.offset (copy_state self.old.maps self.old.target) item.now) }
-        ensures putting { Putting (value_of source.now) self.old.maps.offset (copy_state self.old.maps self.old.target) (copy_state self.new.maps self.new.target) }
+        ensures copied { let old = copy_state self.old.maps self.old.target in
+            let new = copy_state self.new.maps self.new.target in
+            OnOk result (new ≡ copy_item (value_of source.now) self.old.maps.offset old item.now) }
+        ensures putting { let old = copy_state self.old.maps self.old.target in
+            let new = copy_state self.new.maps self.new.target in
+            Putting (value_of source.now) self.old.maps.offset old new }
         ensures offset { self.new.maps.offset ≡ self.old.maps.offset }
     {
         if self.maps.has_gone(*item) {
@@ -129,8 +145,15 @@ impl Copying {
         requires there { IsThere source.now (ItemPlace.TypeItem handle) }
         requires ranked { AreRanked source.now }
         requires copying { IsCopying source.now self.old.target self.old.maps }
-        ensures copied { OnOk result (copy_state self.new.maps self.new.target ≡ copy_named_type (value_of source.now) self.old.maps.offset (option_map (λ n. Some (string_bytes n)) name) (copy_state self.old.maps self.old.target) handle) }
-        ensures putting { TypePutting (value_of source.now) self.old.maps.offset (option_map (λ n. Some (string_bytes n)) name) handle (copy_state self.old.maps self.old.target) (copy_state self.new.maps self.new.target) }
+        ensures copied { let old = copy_state self.old.maps self.old.target in
+            let new = copy_state self.new.maps self.new.target in
+            let text = option_map (λ n. Some (string_bytes n)) name in
+            let m = value_of source.now in
+            OnOk result (new ≡ copy_named_type m self.old.maps.offset text old handle) }
+        ensures putting { let old = copy_state self.old.maps self.old.target in
+            let new = copy_state self.new.maps self.new.target in
+            let text = option_map (λ n. Some (string_bytes n)) name in
+            TypePutting (value_of source.now) self.old.maps.offset text handle old new }
         ensures offset { self.new.maps.offset ≡ self.old.maps.offset }
     {
         let item = ItemPlace::TypeItem(handle);
@@ -148,8 +171,13 @@ impl Copying {
         requires ranked { AreRanked source.now }
         requires there { All (λ e. IsThere source.now (ItemPlace.TypeItem e.1)) entries.now }
         requires copying { IsCopying source.now self.old.target self.old.maps }
-        ensures copied { OnOk result (copy_state self.new.maps self.new.target ≡ copy_all (value_of source.now) self.old.maps.offset (copy_state self.old.maps self.old.target) (special_names entries.now)) }
-        ensures putting { Putting (value_of source.now) self.old.maps.offset (copy_state self.old.maps self.old.target) (copy_state self.new.maps self.new.target) }
+        ensures copied { let old = copy_state self.old.maps self.old.target in
+            let new = copy_state self.new.maps self.new.target in
+            let m = value_of source.now in
+            OnOk result (new ≡ copy_all m self.old.maps.offset old (special_names entries.now)) }
+        ensures putting { let old = copy_state self.old.maps self.old.target in
+            let new = copy_state self.new.maps self.new.target in
+            Putting (value_of source.now) self.old.maps.offset old new }
         ensures offset { self.new.maps.offset ≡ self.old.maps.offset }
     {
         for (_, handle) in entries {

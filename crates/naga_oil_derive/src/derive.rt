@@ -4,7 +4,7 @@ ghost use Rattle.naga_oil_ir.specs.declared.names.ItemPlace.{ItemPlace};
 ghost use Rattle.naga_oil_derive.specs.World.{value_of, special_entries};
 ghost use Rattle.naga_oil_derive.specs.Copyable.{CopyableItems};
 ghost use Rattle.naga_oil_derive.specs.DerivedValue.{import_item, rename_type, set_source, place_by};
-ghost use Rattle.naga_oil_derive.specs.Derived.{Derived, nothing, cleared, mapped_span, HasItem, IsImported, IsKnown, IsRenamed, Keeps, KeepsItems, ReadsAsBefore, IsSet};
+ghost use Rattle.naga_oil_derive.specs.Derived.{Derived, nothing, cleared, mapped_span, HasItem, Keeps, KeepsItems};
 
 use super::*;
 
@@ -59,8 +59,8 @@ impl<'a> DerivedModule<'a> {
     /// Where there is no memory; then no source is set.
     pub fn set_shader_source(&mut self, shader: &'a Module, span_offset: usize) -> Tried
         requires { CopyableItems shader.now }
-        ensures set { OnOk result (IsSet (value_of shader.now) span_offset self.old self.new) }
-        ensures value { OnOk result (self.new ≡ set_source self.old (value_of shader.now) span_offset) }
+        ensures value { let made = set_source self.old (value_of shader.now) span_offset in
+            OnOk result (self.new ≡ made) }
         ensures err { OnErr result (self.new.source ≡ (cleared self.old).source) }
         ensures keeps { KeepsItems self.old self.new }
     {
@@ -95,8 +95,6 @@ impl<'a> DerivedModule<'a> {
 
     fn import(&mut self, item: ItemPlace) -> Tried
         requires { HasItem self.old item }
-        ensures imported { OnOk result ((q : ItemPlace) × IsImported self.old self.new item q) }
-        ensures reads { ReadsAsBefore self.old self.new }
         ensures keeps { Keeps self.old self.new }
         ensures value { OnOk result (self.new ≡ import_item self.old item) }
     {
@@ -109,10 +107,9 @@ impl<'a> DerivedModule<'a> {
     /// Copies a type of the source, and what it names first, and gives the copy.
     pub fn import_type(&mut self, h_type: &Handle<Type>) -> Placed<Type>
         requires { HasItem self.old (ItemPlace.TypeItem h_type.now) }
-        ensures imported { IfOk result (λ h. IsImported self.old self.new (ItemPlace.TypeItem h_type.now) (ItemPlace.TypeItem h)) }
-        ensures reads { ReadsAsBefore self.old self.new }
         ensures keeps { Keeps self.old self.new }
-        ensures value { OnOk result (self.new ≡ import_item self.old (ItemPlace.TypeItem h_type.now)) }
+        ensures value { let made = import_item self.old (ItemPlace.TypeItem h_type.now) in
+            OnOk result (self.new ≡ made) }
         ensures place { IfOk result (λ h. h ≡ place_by (λ m. m.types) self.new.source h_type.now) }
     {
         self.import(ItemPlace::TypeItem(*h_type))?;
@@ -123,10 +120,9 @@ impl<'a> DerivedModule<'a> {
     /// gives that copy.
     pub fn rename_type(&mut self, h_type: &Handle<Type>, name: Option<String>) -> Placed<Type>
         requires { HasItem self.old (ItemPlace.TypeItem h_type.now) }
-        ensures known { IfOk result (λ h. IsKnown self.old self.new h_type.now h) }
-        ensures renamed { IfOk result (λ h. IsRenamed self.old self.new h_type.now (option_map (λ n. Some (string_bytes n)) name) h) }
         ensures keeps { Keeps self.old self.new }
-        ensures value { OnOk result (self.new ≡ rename_type self.old h_type.now (option_map (λ n. Some (string_bytes n)) name)) }
+        ensures value { let text = option_map (λ n. Some (string_bytes n)) name in
+            OnOk result (self.new ≡ rename_type self.old h_type.now text) }
         ensures place { IfOk result (λ h. h ≡ place_by (λ m. m.types) self.new.source h_type.now) }
     {
         let Some(shader) = self.shader else {
@@ -139,11 +135,11 @@ impl<'a> DerivedModule<'a> {
     /// Copies a constant of the source, and what it names first, and gives the copy.
     pub fn import_const(&mut self, h_const: &Handle<Constant>) -> Placed<Constant>
         requires { HasItem self.old (ItemPlace.ConstantItem h_const.now) }
-        ensures imported { IfOk result (λ h. IsImported self.old self.new (ItemPlace.ConstantItem h_const.now) (ItemPlace.ConstantItem h)) }
-        ensures reads { ReadsAsBefore self.old self.new }
         ensures keeps { Keeps self.old self.new }
-        ensures value { OnOk result (self.new ≡ import_item self.old (ItemPlace.ConstantItem h_const.now)) }
-        ensures place { IfOk result (λ h. h ≡ place_by (λ m. m.constants) self.new.source h_const.now) }
+        ensures value { let made = import_item self.old (ItemPlace.ConstantItem h_const.now) in
+            OnOk result (self.new ≡ made) }
+        ensures place { let place = place_by (λ m. m.constants) self.new.source h_const.now in
+            IfOk result (λ h. h ≡ place) }
     {
         self.import(ItemPlace::ConstantItem(*h_const))?;
         Ok(self.copying.maps.constant(*h_const))
@@ -152,11 +148,11 @@ impl<'a> DerivedModule<'a> {
     /// Copies a global variable of the source, and what it names first, and gives the copy.
     pub fn import_global(&mut self, h_global: &Handle<GlobalVariable>) -> Placed<GlobalVariable>
         requires { HasItem self.old (ItemPlace.GlobalItem h_global.now) }
-        ensures imported { IfOk result (λ h. IsImported self.old self.new (ItemPlace.GlobalItem h_global.now) (ItemPlace.GlobalItem h)) }
-        ensures reads { ReadsAsBefore self.old self.new }
         ensures keeps { Keeps self.old self.new }
-        ensures value { OnOk result (self.new ≡ import_item self.old (ItemPlace.GlobalItem h_global.now)) }
-        ensures place { IfOk result (λ h. h ≡ place_by (λ m. m.global_variables) self.new.source h_global.now) }
+        ensures value { let made = import_item self.old (ItemPlace.GlobalItem h_global.now) in
+            OnOk result (self.new ≡ made) }
+        ensures place { let source = self.new.source in
+            IfOk result (λ h. h ≡ place_by (λ m. m.global_variables) source h_global.now) }
     {
         self.import(ItemPlace::GlobalItem(*h_global))?;
         Ok(self.copying.maps.global(*h_global))
@@ -165,11 +161,11 @@ impl<'a> DerivedModule<'a> {
     /// Copies a global expression of the source, and what it names first, and gives the copy.
     pub fn import_global_expression(&mut self, h_expr: Handle<Expression>) -> Placed<Expression>
         requires { HasItem self.old (ItemPlace.ExpressionItem h_expr) }
-        ensures imported { IfOk result (λ h. IsImported self.old self.new (ItemPlace.ExpressionItem h_expr) (ItemPlace.ExpressionItem h)) }
-        ensures reads { ReadsAsBefore self.old self.new }
         ensures keeps { Keeps self.old self.new }
-        ensures value { OnOk result (self.new ≡ import_item self.old (ItemPlace.ExpressionItem h_expr)) }
-        ensures place { IfOk result (λ h. h ≡ place_by (λ m. m.global_expressions) self.new.source h_expr) }
+        ensures value { let made = import_item self.old (ItemPlace.ExpressionItem h_expr) in
+            OnOk result (self.new ≡ made) }
+        ensures place { let place = place_by (λ m. m.global_expressions) self.new.source h_expr in
+            IfOk result (λ h. h ≡ place) }
     {
         self.import(ItemPlace::ExpressionItem(h_expr))?;
         Ok(self.copying.maps.expression(h_expr))
@@ -178,11 +174,11 @@ impl<'a> DerivedModule<'a> {
     /// Copies an override of the source, and what it names first, and gives the copy.
     pub fn import_pipeline_override(&mut self, h_override: &Handle<Override>) -> Placed<Override>
         requires { HasItem self.old (ItemPlace.OverrideItem h_override.now) }
-        ensures imported { IfOk result (λ h. IsImported self.old self.new (ItemPlace.OverrideItem h_override.now) (ItemPlace.OverrideItem h)) }
-        ensures reads { ReadsAsBefore self.old self.new }
         ensures keeps { Keeps self.old self.new }
-        ensures value { OnOk result (self.new ≡ import_item self.old (ItemPlace.OverrideItem h_override.now)) }
-        ensures place { IfOk result (λ h. h ≡ place_by (λ m. m.overrides) self.new.source h_override.now) }
+        ensures value { let made = import_item self.old (ItemPlace.OverrideItem h_override.now) in
+            OnOk result (self.new ≡ made) }
+        ensures place { let place = place_by (λ m. m.overrides) self.new.source h_override.now in
+            IfOk result (λ h. h ≡ place) }
     {
         self.import(ItemPlace::OverrideItem(*h_override))?;
         Ok(self.copying.maps.pipeline_override(*h_override))

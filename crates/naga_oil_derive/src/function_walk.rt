@@ -25,7 +25,8 @@ fn ask(named: Named, requests: &mut Vec<Request>) -> Tried
 
 /// Requests the item that the expression at a place names, if it names one.
 fn request(of: &Reading, place: usize, requests: &mut Vec<Request>) -> Tried
-    ensures { OnOk result (requests.new.items ≡ requests.old.items ++ requests_at of.now.named.items place) }
+    ensures { OnOk result
+        (requests.new.items ≡ requests.old.items ++ requests_at of.now.named.items place) }
 {
     match of.named.get(place) {
         Some(named) if named_item(*named).is_some() => ask(*named, requests),
@@ -38,10 +39,15 @@ pub fn reach(of: &Reading, place: usize, walk: &mut Walk) -> Tried
     requires in_range { place < length of.now.links.items }
     requires over { IsOver of.now walk.old }
     requires ready { IsReachOrder (lists of.now.links.items) walk.old.places.items }
-    ensures order { OnOk result (walk.new.places.items ≡ added walk.old.places.items (trail (lists of.now.links.items) place)) }
+    ensures order { let ls = lists of.now.links.items in
+        let more = trail ls place in
+        OnOk result (walk.new.places.items ≡ added walk.old.places.items more) }
     ensures emitted { walk.new.emitted ≡ walk.old.emitted }
     ensures ready { OnOk result (IsReachOrder (lists of.now.links.items) walk.new.places.items) }
-    ensures requests { OnOk result (Adds walk.old.requests.items (names_from of.now.named.items (lists of.now.links.items) place) walk.new.requests.items) }
+    ensures requests { let ls = lists of.now.links.items in
+        let ns = of.now.named.items in
+        let asks = names_from ns ls place in
+        OnOk result (Adds walk.old.requests.items asks walk.new.requests.items) }
     ensures over { OnOk result (IsOver of.now walk.new) }
 {
     if walk.has(place) {
@@ -61,7 +67,9 @@ fn add(of: &Reading, place: usize, walk: &mut Walk) -> Tried
     requires over { IsOver of.now walk.old }
     ensures order { OnOk result (walk.new.places.items ≡ added walk.old.places.items (place ∷ [])) }
     ensures emitted { walk.new.emitted ≡ walk.old.emitted }
-    ensures requests { OnOk result (Adds walk.old.requests.items (requests_at of.now.named.items place) walk.new.requests.items) }
+    ensures requests { let ns = of.now.named.items in
+        let asks = requests_at ns place in
+        OnOk result (Adds walk.old.requests.items asks walk.new.requests.items) }
     ensures over { OnOk result (IsOver of.now walk.new) }
 {
     if walk.has(place) {
@@ -76,9 +84,16 @@ fn add(of: &Reading, place: usize, walk: &mut Walk) -> Tried
 fn add_externals(of: &Reading, place: usize, walk: &mut Walk) -> Tried
     requires in_range { place < length of.now.links.items }
     requires over { IsOver of.now walk.old }
-    ensures order { OnOk result (walk.new.places.items ≡ added walk.old.places.items (externals of.now.kinds.items (linked (lists of.now.links.items) place))) }
+    ensures order { let ls = lists of.now.links.items in
+        let ks = of.now.kinds.items in
+        let more = externals ks (linked ls place) in
+        OnOk result (walk.new.places.items ≡ added walk.old.places.items more) }
     ensures emitted { walk.new.emitted ≡ walk.old.emitted }
-    ensures requests { OnOk result (Adds walk.old.requests.items (flat_map (requests_at of.now.named.items) (externals of.now.kinds.items (linked (lists of.now.links.items) place))) walk.new.requests.items) }
+    ensures requests { let ls = lists of.now.links.items in
+        let ks = of.now.kinds.items in
+        let ns = of.now.named.items in
+        let asks = flat_map (requests_at ns) (externals ks (linked ls place)) in
+        OnOk result (Adds walk.old.requests.items asks walk.new.requests.items) }
     ensures over { OnOk result (IsOver of.now walk.new) }
 {
     for operand in &of.links[place] {
@@ -93,9 +108,16 @@ fn add_externals(of: &Reading, place: usize, walk: &mut Walk) -> Tried
 fn add_all_externals(of: &Reading, range: Range<Expression>, walk: &mut Walk) -> Tried
     requires in_range { (range.0 ≤ range.1) × (range.1 ≤ length of.now.links.items) }
     requires over { IsOver of.now walk.old }
-    ensures order { OnOk result (walk.new.places.items ≡ added walk.old.places.items (externals of.now.kinds.items (flat_map (linked (lists of.now.links.items)) (places range)))) }
+    ensures order { let ls = lists of.now.links.items in
+        let ks = of.now.kinds.items in
+        let more = externals ks (flat_map (linked ls) (places range)) in
+        OnOk result (walk.new.places.items ≡ added walk.old.places.items more) }
     ensures emitted { walk.new.emitted ≡ walk.old.emitted }
-    ensures requests { OnOk result (Adds walk.old.requests.items (flat_map (requests_at of.now.named.items) (externals of.now.kinds.items (flat_map (linked (lists of.now.links.items)) (places range)))) walk.new.requests.items) }
+    ensures requests { let ls = lists of.now.links.items in
+        let ks = of.now.kinds.items in
+        let ns = of.now.named.items in
+        let asks = flat_map (requests_at ns) (externals ks (flat_map (linked ls) (places range))) in
+        OnOk result (Adds walk.old.requests.items asks walk.new.requests.items) }
     ensures over { OnOk result (IsOver of.now walk.new) }
 {
     for place in range.start()..range.end() {
@@ -108,9 +130,19 @@ fn add_all_externals(of: &Reading, range: Range<Expression>, walk: &mut Walk) ->
 fn add_emitted(of: &Reading, range: Range<Expression>, walk: &mut Walk) -> Tried
     requires in_range { (range.0 ≤ range.1) × (range.1 ≤ length of.now.links.items) }
     requires over { IsOver of.now walk.old }
-    ensures order { OnOk result (walk.new.places.items ≡ added walk.old.places.items (brief of.now.kinds.items (lists of.now.links.items) (Token.Emitted range))) }
-    ensures emitted { OnOk result (walk.new.emitted.items ≡ notes_of of.now.kinds.items (lists of.now.links.items) walk.old.places.items walk.old.emitted.items (Token.Emitted range)) }
-    ensures requests { OnOk result (Adds walk.old.requests.items (flat_map (requests_at of.now.named.items) (brief of.now.kinds.items (lists of.now.links.items) (Token.Emitted range))) walk.new.requests.items) }
+    ensures order { let ls = lists of.now.links.items in
+        let ks = of.now.kinds.items in
+        let more = brief ks ls (Token.Emitted range) in
+        OnOk result (walk.new.places.items ≡ added walk.old.places.items more) }
+    ensures emitted { let ls = lists of.now.links.items in
+        let ks = of.now.kinds.items in
+        let notes = notes_of ks ls walk.old.places.items in
+        OnOk result (walk.new.emitted.items ≡ notes walk.old.emitted.items (Token.Emitted range)) }
+    ensures requests { let ls = lists of.now.links.items in
+        let ks = of.now.kinds.items in
+        let ns = of.now.named.items in
+        let asks = flat_map (requests_at ns) (brief ks ls (Token.Emitted range)) in
+        OnOk result (Adds walk.old.requests.items asks walk.new.requests.items) }
     ensures over { OnOk result (IsOver of.now walk.new) }
 {
     add_all_externals(of, range, walk)?;
@@ -127,9 +159,19 @@ fn add_emitted(of: &Reading, range: Range<Expression>, walk: &mut Walk) -> Tried
 fn add_token(of: &Reading, token: Token, walk: &mut Walk) -> Tried
     requires within { IsWithin (length of.now.links.items) token }
     requires over { IsOver of.now walk.old }
-    ensures order { OnOk result (walk.new.places.items ≡ added walk.old.places.items (brief of.now.kinds.items (lists of.now.links.items) token)) }
-    ensures emitted { OnOk result (walk.new.emitted.items ≡ notes_of of.now.kinds.items (lists of.now.links.items) walk.old.places.items walk.old.emitted.items token) }
-    ensures requests { OnOk result (Adds walk.old.requests.items (token_names of.now.kinds.items of.now.named.items (lists of.now.links.items) token) walk.new.requests.items) }
+    ensures order { let ls = lists of.now.links.items in
+        let ks = of.now.kinds.items in
+        let more = brief ks ls token in
+        OnOk result (walk.new.places.items ≡ added walk.old.places.items more) }
+    ensures emitted { let ls = lists of.now.links.items in
+        let ks = of.now.kinds.items in
+        let notes = notes_of ks ls walk.old.places.items in
+        OnOk result (walk.new.emitted.items ≡ notes walk.old.emitted.items token) }
+    ensures requests { let ls = lists of.now.links.items in
+        let ks = of.now.kinds.items in
+        let ns = of.now.named.items in
+        let asks = token_names ks ns ls token in
+        OnOk result (Adds walk.old.requests.items asks walk.new.requests.items) }
     ensures over { OnOk result (IsOver of.now walk.new) }
 {
     match token {
@@ -144,9 +186,19 @@ fn add_token(of: &Reading, token: Token, walk: &mut Walk) -> Tried
 pub fn add_tokens(of: &Reading, tokens: &[Token], walk: &mut Walk) -> Tried
     requires within { All (IsWithin (length of.now.links.items)) tokens.now }
     requires over { IsOver of.now walk.old }
-    ensures order { OnOk result (walk.new.places.items ≡ added walk.old.places.items (flat_map (brief of.now.kinds.items (lists of.now.links.items)) tokens.now)) }
-    ensures emitted { OnOk result (walk.new.emitted.items ≡ notes_after of.now.kinds.items (lists of.now.links.items) walk.old.places.items walk.old.emitted.items tokens.now) }
-    ensures requests { OnOk result (Adds walk.old.requests.items (flat_map (token_names of.now.kinds.items of.now.named.items (lists of.now.links.items)) tokens.now) walk.new.requests.items) }
+    ensures order { let ls = lists of.now.links.items in
+        let ks = of.now.kinds.items in
+        let more = flat_map (brief ks ls) tokens.now in
+        OnOk result (walk.new.places.items ≡ added walk.old.places.items more) }
+    ensures emitted { let ls = lists of.now.links.items in
+        let ks = of.now.kinds.items in
+        let notes = notes_after ks ls walk.old.places.items in
+        OnOk result (walk.new.emitted.items ≡ notes walk.old.emitted.items tokens.now) }
+    ensures requests { let ls = lists of.now.links.items in
+        let ks = of.now.kinds.items in
+        let ns = of.now.named.items in
+        let asks = flat_map (token_names ks ns ls) tokens.now in
+        OnOk result (Adds walk.old.requests.items asks walk.new.requests.items) }
     ensures over { OnOk result (IsOver of.now walk.new) }
 {
     for token in tokens {
@@ -157,7 +209,8 @@ pub fn add_tokens(of: &Reading, tokens: &[Token], walk: &mut Walk) -> Tried
 
 /// Requests the types of arguments and of the result.
 fn request_types(function: &Function, requests: &mut Vec<Request>) -> Tried
-    ensures { OnOk result (requests.new.items ≡ requests.old.items ++ signature_names function.now) }
+    ensures { OnOk result
+        (requests.new.items ≡ requests.old.items ++ signature_names function.now) }
 {
     for argument in &function.arguments {
         requests.push(Request::Item(ItemPlace::TypeItem(argument.ty)))?;
@@ -173,10 +226,15 @@ fn reach_locals(of: &Reading, locals: &[(LocalVariable, Span)], walk: &mut Walk)
     requires there { All (λ h. h < length of.now.links.items) (initialisers_of locals.now) }
     requires over { IsOver of.now walk.old }
     requires ready { IsReachOrder (lists of.now.links.items) walk.old.places.items }
-    ensures order { OnOk result (walk.new.places.items ≡ added walk.old.places.items (flat_map (trail (lists of.now.links.items)) (initialisers_of locals.now))) }
+    ensures order { let ls = lists of.now.links.items in
+        let more = flat_map (trail ls) (initialisers_of locals.now) in
+        OnOk result (walk.new.places.items ≡ added walk.old.places.items more) }
     ensures emitted { walk.new.emitted ≡ walk.old.emitted }
     ensures ready { OnOk result (IsReachOrder (lists of.now.links.items) walk.new.places.items) }
-    ensures requests { OnOk result (Adds walk.old.requests.items (flat_map (local_names of.now.named.items (lists of.now.links.items)) locals.now) walk.new.requests.items) }
+    ensures requests { let ls = lists of.now.links.items in
+        let ns = of.now.named.items in
+        let asks = flat_map (local_names ns ls) locals.now in
+        OnOk result (Adds walk.old.requests.items asks walk.new.requests.items) }
     ensures over { OnOk result (IsOver of.now walk.new) }
 {
     for local in locals {
@@ -192,7 +250,10 @@ fn reach_locals(of: &Reading, locals: &[(LocalVariable, Span)], walk: &mut Walk)
 /// Lists what a function reaches in the order of copying: the types of its arguments and its result, its local variables,
 /// each with its type and its initialiser, then its body.
 pub fn walk_function(function: &Function, alloc: Global) -> Tried<Walk>
-    requires { MayStand (kinds function.now.expressions) (callees function.now.expressions) (operand_links function.now.expressions) (initialisers function.now) (block_tokens function.now.body) }
+    requires { let es = function.now.expressions in
+        let starts = initialisers function.now in
+        let tokens = block_tokens function.now.body in
+        MayStand (kinds es) (callees es) (operand_links es) starts tokens }
     ensures { IfOk result (Walks function.now) }
 {
     let read = read(function.expressions.as_slice(), alloc)?;

@@ -65,8 +65,16 @@ pub fn import(
     requires named { IsSome function.now.name }
     requires form { IsImportable source.now functions.old depth function.now }
     ensures means { IfOk result (λ h. known_as functions.new.names function.now.name ≡ Some h) }
-    ensures value { OnOk result (import_state copying.new.maps copying.new.target functions.new ≡ imported_value depth (value_of source.now) copying.old.maps.offset (import_state copying.old.maps copying.old.target functions.old) (function_value function.now) span) }
-    ensures adding { Adding (value_of source.now) copying.old.maps.offset (import_state copying.old.maps copying.old.target functions.old) (import_state copying.new.maps copying.new.target functions.new) }
+    ensures value { let m = value_of source.now in
+        let shift = copying.old.maps.offset in
+        let old = import_state copying.old.maps copying.old.target functions.old in
+        let new = import_state copying.new.maps copying.new.target functions.new in
+        OnOk result (new ≡ imported_value depth m shift old (function_value function.now) span) }
+    ensures adding { let m = value_of source.now in
+        let shift = copying.old.maps.offset in
+        let old = import_state copying.old.maps copying.old.target functions.old in
+        let new = import_state copying.new.maps copying.new.target functions.new in
+        Adding m shift old new }
     ensures offset { copying.new.maps.offset ≡ copying.old.maps.offset }
 {
     let copy = localize(source, function, depth, copying, functions)?;
@@ -90,9 +98,19 @@ pub fn localize(
     requires ranked { AreRanked source.now }
     requires copying { IsCopying source.now copying.old.target copying.old.maps }
     requires form { IsImportable source.now functions.old depth function.now }
-    ensures copied { IfOk result (λ f. function_value f ≡ copy_function (went_by copying.new.maps source.now functions.new.names) (function_value function.now)) }
-    ensures value { OnOk result (import_state copying.new.maps copying.new.target functions.new ≡ answer_all depth (value_of source.now) copying.old.maps.offset (import_state copying.old.maps copying.old.target functions.old) (requests_of (function_value function.now))) }
-    ensures adding { Adding (value_of source.now) copying.old.maps.offset (import_state copying.old.maps copying.old.target functions.old) (import_state copying.new.maps copying.new.target functions.new) }
+    ensures copied { let names = went_by copying.new.maps source.now functions.new.names in
+        IfOk result (λ f. function_value f ≡ copy_function names (function_value function.now)) }
+    ensures value { let m = value_of source.now in
+        let shift = copying.old.maps.offset in
+        let old = import_state copying.old.maps copying.old.target functions.old in
+        let new = import_state copying.new.maps copying.new.target functions.new in
+        let asked = requests_of (function_value function.now) in
+        OnOk result (new ≡ answer_all depth m shift old asked) }
+    ensures adding { let m = value_of source.now in
+        let shift = copying.old.maps.offset in
+        let old = import_state copying.old.maps copying.old.target functions.old in
+        let new = import_state copying.new.maps copying.new.target functions.new in
+        Adding m shift old new }
     ensures offset { copying.new.maps.offset ≡ copying.old.maps.offset }
 {
     let walk = walk_function(function, copying.alloc)?;
@@ -121,9 +139,18 @@ pub fn import_callee(
     requires ranked { AreRanked source.now }
     requires copying { IsCopying source.now copying.old.target copying.old.maps }
     requires answerable { IsAnswerable source.now functions.old depth (Request.Call handle) }
-    ensures callee { IfOk result (λ h. callee_at functions.new.names source.now.functions handle ≡ Some h) }
-    ensures value { OnOk result (import_state copying.new.maps copying.new.target functions.new ≡ import_callee depth (value_of source.now) copying.old.maps.offset (import_state copying.old.maps copying.old.target functions.old) handle) }
-    ensures adding { Adding (value_of source.now) copying.old.maps.offset (import_state copying.old.maps copying.old.target functions.old) (import_state copying.new.maps copying.new.target functions.new) }
+    ensures callee { IfOk result (λ h.
+        callee_at functions.new.names source.now.functions handle ≡ Some h) }
+    ensures value { let m = value_of source.now in
+        let shift = copying.old.maps.offset in
+        let old = import_state copying.old.maps copying.old.target functions.old in
+        let new = import_state copying.new.maps copying.new.target functions.new in
+        OnOk result (new ≡ import_callee depth m shift old handle) }
+    ensures adding { let m = value_of source.now in
+        let shift = copying.old.maps.offset in
+        let old = import_state copying.old.maps copying.old.target functions.old in
+        let new = import_state copying.new.maps copying.new.target functions.new in
+        Adding m shift old new }
     ensures offset { copying.new.maps.offset ≡ copying.old.maps.offset }
 {
     let Some(callee) = source.functions.try_get(handle) else {

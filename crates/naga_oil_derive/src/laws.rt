@@ -7,7 +7,7 @@ ghost use Rattle.naga_oil_ir.specs.Rows.{Row};
 ghost use Rattle.naga_oil_derive.specs.Equal.{row_eq, parts_eq};
 ghost use Rattle.naga_oil_derive.specs.CopiedLaw.{AreSpecial, CopyableLaw, KindLaw, PutLaw, TypePutLaw, CopiedLaw, AllCopiedLaw, AgainLaw, TypeCopiedLaw, TypeAgainLaw};
 ghost use Rattle.naga_oil_derive.specs.DerivedLaw.{IsDerivation, kept_by, NothingLaw, ClearedLaw, PlacedLaw, ImportLaw, RenameLaw, SetLaw};
-ghost use Rattle.naga_oil_derive.specs.AnsweredLaw.{AnswerLaw, CallLaw, FunctionLaw, AddingLaw, LocalizedLaw};
+ghost use Rattle.naga_oil_derive.specs.AnsweredLaw.{HaveCopies, AnswerLaw, CallLaw, FunctionLaw, AddingLaw, LocalizedLaw};
 
 use super::*;
 
@@ -53,9 +53,11 @@ pub fn copies_under_a_name()
     ensures again { TypeAgainLaw }
 {}
 
-/// Each derived module is a derivation, by the special types that it has now.
+/// Each derived module is a derivation, by the special types that it has now; what is made of a function of its source
+/// copies it.
 pub fn is_derivation(derived: &DerivedModule<'_>)
-    ensures { IsDerivation (kept_by derived.now) derived.now }
+    ensures derivation { IsDerivation (kept_by derived.now) derived.now }
+    ensures copies { HaveCopies derived.now }
 {
     // what holds of a value is known where it is read
     let _source = derived.shader;

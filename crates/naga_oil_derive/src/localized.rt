@@ -59,8 +59,10 @@ impl Renaming for Copied<'_> {
 
 /// Puts a copy last; where copies are unique, one that reads alike serves again.
 fn put(target: &mut Arena<Expression>, copy: Entry, unique: bool) -> Tried<Operand>
-    ensures place { IfOk result (λ h. h ≡ place_of_copy unique (expression_values target.old) (parts copy.0)) }
-    ensures values { OnOk result (expression_values target.new ≡ with_copy unique (expression_values target.old) (parts copy.0) copy.1) }
+    ensures place { let old = expression_values target.old in
+        IfOk result (λ h. h ≡ place_of_copy unique old (parts copy.0)) }
+    ensures values { let made = with_copy unique (expression_values target.old) (parts copy.0) copy.1 in
+        OnOk result (expression_values target.new ≡ made) }
 {
     if unique {
         return target.fetch_or_append(copy.0, copy.1);
@@ -92,7 +94,10 @@ impl Copies {
         requires place { place < length source.now }
         requires room { length self.old.table.items ≡ length source.now }
         ensures room { length self.new.table.items ≡ length self.old.table.items }
-        ensures copied { OnOk result (expression_state self.new.table.items self.new.target ≡ copy_expression (went names.entry) unique (expression_state self.old.table.items self.old.target) place (slice_get (expression_values source.now) place)) }
+        ensures copied { let old = expression_state self.old.table.items self.old.target in
+            let of = slice_get (expression_values source.now) place in
+            let made = copy_expression (went names.entry) unique old place of in
+            OnOk result (expression_state self.new.table.items self.new.target ≡ made) }
     {
         let copy = self.copy_at(names, source, place)?;
         let handle = put(&mut self.target, copy, unique)?;
@@ -105,7 +110,10 @@ impl Copies {
 /// share a copy.
 pub fn copy_expressions(names: Went<'_>, function: &Function, walk: &Walk) -> Tried<Copies>
     requires { Walks function.now walk.now }
-    ensures { IfOk result (λ c. expression_state c.table.items c.target ≡ copy_expressions (went names.entry) (expression_values function.now.expressions) walk.now.places.items walk.now.began) }
+    ensures { let es = expression_values function.now.expressions in
+        let order = walk.now.places.items in
+        let made = copy_expressions (went names.entry) es order walk.now.began in
+        IfOk result (λ c. expression_state c.table.items c.target ≡ made) }
 {
     let source = function.expressions.as_slice();
     let mut copies = Copies {
@@ -134,7 +142,9 @@ type Named = IndexMap<Operand, String>;
 impl Copied<'_> {
     /// Arguments with their types renamed.
     fn arguments(&self, arguments: &[FunctionArgument]) -> Tried<Vec<FunctionArgument>>
-        ensures { IfOk result (λ v. map argument_value v.items ≡ map (argument_under (went self.now.went)) (map argument_value arguments.now)) }
+        ensures { let r = went self.now.went in
+            let made = map (argument_under r) (map argument_value arguments.now) in
+            IfOk result (λ v. map argument_value v.items ≡ made) }
     {
         let mut copies = Vec::new(self.went.alloc);
         for of in arguments {
@@ -146,7 +156,10 @@ impl Copied<'_> {
 
     /// Local variables with their types and initialisers renamed.
     fn locals(&self, locals: &[(LocalVariable, Span)]) -> Tried<Arena<LocalVariable>>
-        ensures { IfOk result (λ v. local_values v ≡ map (local_under (under_table (went self.now.went) self.now.table.now (range_under self.now.emitted.now self.now.began self.now.merged self.now.count))) (local_values locals.now)) }
+        ensures { let c = self.now in
+            let ranges = range_under c.emitted.now c.began c.merged c.count in
+            let r = under_table (went c.went) c.table.now ranges in
+            IfOk result (λ v. local_values v ≡ map (local_under r) (local_values locals.now)) }
     {
         let mut copies = Arena::new(self.went.alloc);
         for local in locals {
@@ -159,7 +172,8 @@ impl Copied<'_> {
 
     /// Names at the copies of what they name; of the names of one copy the last stays, at the first's place.
     fn named(&self, names: &Named) -> Tried<Named>
-        ensures { IfOk result (λ m. named_values m.entries ≡ names_under self.now.table.now [] (named_values names.now.entries)) }
+        ensures { let made = names_under self.now.table.now [] (named_values names.now.entries) in
+            IfOk result (λ m. named_values m.entries ≡ made) }
     {
         let mut copies = IndexMap::new(self.went.alloc);
         for (handle, name) in names.iter() {
@@ -174,7 +188,8 @@ impl Copied<'_> {
 /// The copy of a function whose items and callees were copied.
 pub fn localized(names: Went<'_>, function: &Function, walk: &Walk) -> Tried<Function>
     requires { Walks function.now walk.now }
-    ensures { IfOk result (λ f. function_value f ≡ copy_function (went names.entry) (function_value function.now)) }
+    ensures { let made = copy_function (went names.entry) (function_value function.now) in
+        IfOk result (λ f. function_value f ≡ made) }
 {
     let Copies { target, table } = copy_expressions(names, function, walk)?;
     let copied = Copied {

@@ -1,6 +1,7 @@
 //! Where the items of a source went.
 ghost use Rattle.std.specs.Prelude.{◌≡◌, ℕ, List, replicate, is_some, slice_get, IfOk, None};
 ghost use Rattle.std.specs.Option.{option_flatten};
+ghost use Rattle.naga_oil_ir.specs.ModuleValue.{no_items};
 ghost use Rattle.naga_oil_derive.specs.World.{moved, value_of};
 ghost use Rattle.naga_oil_derive.specs.DerivedValue.{no_places};
 ghost use Rattle.naga_oil_derive.specs.Copying.{goes_under, renames_under, AreLong, places_of};
@@ -48,7 +49,7 @@ impl Maps {
     /// The maps of no source.
     pub fn empty(alloc: Global) -> Maps
         ensures offset { result.offset ≡ 0 }
-        ensures nowhere { (p : ItemPlace) → goes_under result p ≡ None }
+        ensures places { places_of result ≡ no_places no_items }
     {
         Maps {
             types: Vec::new(alloc),
@@ -64,7 +65,6 @@ impl Maps {
     pub fn new(source: &Module, offset: usize, alloc: Global) -> Tried<Maps>
         ensures offset { IfOk result (λ m. m.offset ≡ offset) }
         ensures long { IfOk result (λ m. AreLong m source.now) }
-        ensures nowhere { IfOk result (λ m. (p : ItemPlace) → goes_under m p ≡ None) }
         ensures places { IfOk result (λ m. places_of m ≡ no_places (value_of source.now)) }
     {
         Ok(Maps {

@@ -8,7 +8,8 @@ use super::*;
 
 fn renamed_size<R: Renaming>(names: &R, size: &ArraySize) -> ArraySize
     ensures plain { size_plain result ≡ size_plain size.now }
-    ensures name { size_name result ≡ option_map (rename_place (R.renames names.now)) (size_name size.now) }
+    ensures name { let r = R.renames names.now in
+        size_name result ≡ option_map (rename_place r) (size_name size.now) }
 {
     match size {
         ArraySize::Constant(n) => ArraySize::Constant(*n),
@@ -36,7 +37,8 @@ type Members = Vec<StructMember>;
 /// Members with their types renamed.
 fn renamed_members<R: Renaming>(names: &R, list: &[StructMember], alloc: Global) -> Tried<Members>
     ensures labels { IfOk result (λ ms. map member_label ms.items ≡ map member_label list.now) }
-    ensures types { IfOk result (λ ms. map member_type ms.items ≡ map (option_map (rename_place (R.renames names.now))) (map member_type list.now)) }
+    ensures types { let r = R.renames names.now in
+        IfOk result (λ ms. map member_type ms.items ≡ map (option_map (rename_place r)) (map member_type list.now)) }
 {
     let mut out = Vec::new(alloc);
     for of in list {
@@ -49,7 +51,8 @@ fn renamed_members<R: Renaming>(names: &R, list: &[StructMember], alloc: Global)
 /// What a type is, with its handles renamed.
 #[rattlefmt::skip]
 fn renamed_inner<R: Renaming>(names: &R, inner: &TypeInner, alloc: Global) -> Tried<TypeInner>
-    ensures { IfOk result (λ i. (n : Text) → inner_row n i ≡ rename_row (R.renames names.now) (inner_row n inner.now)) }
+    ensures { let r = R.renames names.now in
+        IfOk result (λ i. (n : Text) → inner_row n i ≡ rename_row r (inner_row n inner.now)) }
 {
     rename_kind! { TypeInner, inner, names;
         TypeInner::Pointer { base, space } => TypeInner::Pointer { base: names.ty(*base), space: *space };
@@ -65,7 +68,9 @@ fn renamed_inner<R: Renaming>(names: &R, inner: &TypeInner, alloc: Global) -> Tr
 
 /// The type with its handles renamed, under a name if one is given.
 pub fn renamed_type<R: Renaming>(names: &R, ty: &Type, name: Name, alloc: Global) -> Tried<Type>
-    ensures { IfOk result (λ t. type_row t ≡ under_name (option_map (λ n. Some (string_bytes n)) name) (rename_row (R.renames names.now) (type_row ty.now))) }
+    ensures { let r = R.renames names.now in
+        let text = option_map (λ n. Some (string_bytes n)) name in
+        IfOk result (λ t. type_row t ≡ under_name text (rename_row r (type_row ty.now))) }
 {
     let inner = renamed_inner(names, &ty.inner, alloc)?;
     let name = match name {
@@ -77,7 +82,8 @@ pub fn renamed_type<R: Renaming>(names: &R, ty: &Type, name: Name, alloc: Global
 
 /// The constant with its handles renamed.
 pub fn renamed_constant<R: Renaming>(names: &R, item: &Constant) -> Tried<Constant>
-    ensures { IfOk result (λ c. constant_row c ≡ rename_row (R.renames names.now) (constant_row item.now)) }
+    ensures { let r = R.renames names.now in
+        IfOk result (λ c. constant_row c ≡ rename_row r (constant_row item.now)) }
 {
     let name = copied_name(&item.name)?;
     let (ty, init) = (names.ty(item.ty), names.expression(item.init));
@@ -86,7 +92,8 @@ pub fn renamed_constant<R: Renaming>(names: &R, item: &Constant) -> Tried<Consta
 
 /// The override with its handles renamed.
 pub fn renamed_override<R: Renaming>(names: &R, item: &Override) -> Tried<Override>
-    ensures { IfOk result (λ c. override_row c ≡ rename_row (R.renames names.now) (override_row item.now)) }
+    ensures { let r = R.renames names.now in
+        IfOk result (λ c. override_row c ≡ rename_row r (override_row item.now)) }
 {
     Ok(Override {
         name: copied_name(&item.name)?,
@@ -98,7 +105,8 @@ pub fn renamed_override<R: Renaming>(names: &R, item: &Override) -> Tried<Overri
 
 /// The global variable with its handles renamed.
 pub fn renamed_global<R: Renaming>(names: &R, item: &GlobalVariable) -> Tried<GlobalVariable>
-    ensures { IfOk result (λ c. global_row c ≡ rename_row (R.renames names.now) (global_row item.now)) }
+    ensures { let r = R.renames names.now in
+        IfOk result (λ c. global_row c ≡ rename_row r (global_row item.now)) }
 {
     Ok(GlobalVariable {
         name: copied_name(&item.name)?,

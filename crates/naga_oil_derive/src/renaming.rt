@@ -40,10 +40,13 @@ pub trait Renaming {
 /// An operand that may be absent, renamed.
 pub fn renamed_option<R: Renaming>(names: &R, handle: Option<Operand>) -> Option<Operand>
     ensures handle { result ≡ option_map (R.renames names.now).expression handle }
-    ensures place { option_map ItemPlace.ExpressionItem result ≡ option_map (rename_place (R.renames names.now)) (option_map ItemPlace.ExpressionItem handle) }
+    ensures place { let r = R.renames names.now in
+        let place = option_map ItemPlace.ExpressionItem in
+        place result ≡ option_map (rename_place r) (place handle) }
     ensures used { used result ≡ rename_token (R.renames names.now) (used handle) }
     ensures given { given result ≡ rename_token (R.renames names.now) (given handle) }
-    ensures given_by { (f : ℕ) → given_by ((R.renames names.now).function f) result ≡ rename_token (R.renames names.now) (given_by f handle) }
+    ensures given_by { let r = R.renames names.now in
+        (f : ℕ) → given_by (r.function f) result ≡ rename_token r (given_by f handle) }
 {
     handle.map(|handle| names.expression(handle))
 }
@@ -75,7 +78,8 @@ fn renamed_level<R: Renaming>(names: &R, level: &SampleLevel) -> SampleLevel
 #[rattlefmt::skip]
 fn renamed_query<R: Renaming>(names: &R, query: &ImageQuery) -> ImageQuery
     ensures code { query_code result ≡ query_code query.now }
-    ensures level { query_level result ≡ option_map (R.renames names.now).expression (query_level query.now) }
+    ensures level { let r = R.renames names.now in
+        query_level result ≡ option_map r.expression (query_level query.now) }
 {
     match query {
         ImageQuery::Size { level } => ImageQuery::Size { level: renamed_option(names, *level) },
@@ -158,7 +162,8 @@ pub fn renamed_expression<R: Renaming>(names: &R, expression: &Expression, alloc
 /// What is done with a ray query, with its handles renamed.
 #[rattlefmt::skip]
 fn renamed_ray_query<R: Renaming>(names: &R, fun: &RayQueryFunction) -> RayQueryFunction
-    ensures { ray_query_tokens result ≡ rename_tokens (R.renames names.now) (ray_query_tokens fun.now) }
+    ensures { let r = R.renames names.now in
+        ray_query_tokens result ≡ rename_tokens r (ray_query_tokens fun.now) }
 {
     match fun {
         RayQueryFunction::Initialize { acceleration_structure, descriptor } => RayQueryFunction::Initialize {
@@ -176,7 +181,8 @@ fn renamed_ray_query<R: Renaming>(names: &R, fun: &RayQueryFunction) -> RayQuery
 /// The block with its handles renamed.
 #[cycle(renaming)]
 pub fn renamed_block<R: Renaming>(names: &R, block: &Block, alloc: Global) -> Tried<Block>
-    ensures { IfOk result (λ b. block_tokens b ≡ rename_tokens (R.renames names.now) (block_tokens block.now)) }
+    ensures { let r = R.renames names.now in
+        IfOk result (λ b. block_tokens b ≡ rename_tokens r (block_tokens block.now)) }
 {
     let mut body = Vec::new(alloc);
     for entry in &block.body {
@@ -192,7 +198,8 @@ type Cases = Vec<SwitchCase>;
 /// The arms of a switch with their handles renamed.
 #[cycle(renaming)]
 fn renamed_cases<R: Renaming>(names: &R, cases: &[SwitchCase], alloc: Global) -> Tried<Cases>
-    ensures { IfOk result (λ v. flat_map case_tokens v.items ≡ rename_tokens (R.renames names.now) (flat_map case_tokens cases.now)) }
+    ensures { let r = R.renames names.now in
+        IfOk result (λ v. flat_map case_tokens v.items ≡ rename_tokens r (flat_map case_tokens cases.now)) }
 {
     let mut copies = Vec::new(alloc);
     for case in cases {
@@ -206,7 +213,8 @@ fn renamed_cases<R: Renaming>(names: &R, cases: &[SwitchCase], alloc: Global) ->
 #[cycle(renaming)]
 #[rattlefmt::skip]
 fn renamed_statement<R: Renaming>(names: &R, statement: &Statement, alloc: Global) -> Tried<Statement>
-    ensures { IfOk result (λ s. statement_tokens s ≡ rename_tokens (R.renames names.now) (statement_tokens statement.now)) }
+    ensures { let r = R.renames names.now in
+        IfOk result (λ s. statement_tokens s ≡ rename_tokens r (statement_tokens statement.now)) }
 {
     rename_kind! { Statement, statement, names;
         Statement::Emit(x) => Statement::Emit(names.range(*x));

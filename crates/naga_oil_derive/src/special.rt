@@ -62,7 +62,8 @@ pub fn special_at(special: &SpecialTypes, key: SpecialKey) -> SpecialType
 /// Sets the special type for something that has none.
 fn set_special(special: &mut SpecialTypes, key: SpecialKey, handle: Handle<Type>) -> Tried
     requires { special_at_key (special_value special.old) key ≡ None }
-    ensures set { OnOk result (special_value special.new ≡ with_special (special_value special.old) key handle) }
+    ensures set { let made = with_special (special_value special.old) key handle in
+        OnOk result (special_value special.new ≡ made) }
     ensures err { OnErr result (special_value special.new ≡ special_value special.old) }
 {
     match key {
@@ -79,7 +80,8 @@ fn set_special(special: &mut SpecialTypes, key: SpecialKey, handle: Handle<Type>
 /// Lets the special types that a target has stand for those of a source: of two for one type the last.
 pub fn keep_special(entries: &[SpecialEntry], target: &SpecialTypes, types: &mut [SpecialType])
     requires { All (λ e. e.1 < length types.old) entries.now }
-    ensures { types.new ≡ kept_over (special_at_key (special_value target.now)) entries.now types.old }
+    ensures { let at = special_at_key (special_value target.now) in
+        types.new ≡ kept_over at entries.now types.old }
 {
     for (key, handle) in entries {
         if let Some(place) = special_at(target, *key) {
@@ -90,8 +92,12 @@ pub fn keep_special(entries: &[SpecialEntry], target: &SpecialTypes, types: &mut
 
 /// Sets the special types that a target lacks to the copies of a source's.
 pub fn set_specials(entries: &[SpecialEntry], maps: &Maps, special: &mut SpecialTypes) -> Tried
-    ensures some { (n : ℕ) × (special_value special.new ≡ with_specials (special_value special.old) (handle_under maps.now.types.items) (take n entries.now)) }
-    ensures all { OnOk result (special_value special.new ≡ with_specials (special_value special.old) (handle_under maps.now.types.items) entries.now) }
+    ensures some { let old = special_value special.old in
+        let made = with_specials old (handle_under maps.now.types.items) in
+        (n : ℕ) × (special_value special.new ≡ made (take n entries.now)) }
+    ensures all { let old = special_value special.old in
+        let made = with_specials old (handle_under maps.now.types.items) in
+        OnOk result (special_value special.new ≡ made entries.now) }
 {
     for (key, handle) in entries {
         if special_at(special, *key).is_none() {

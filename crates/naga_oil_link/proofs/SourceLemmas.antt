@@ -11,7 +11,7 @@ use Rattle.naga_oil_ir.specs.declared.module.Function.{Function}
 use Rattle.naga_oil_ir.specs.declared.module.Module.{Module}
 use Rattle.naga_oil_ir.specs.declared.names.ItemPlace.{ItemPlace}
 use Rattle.naga_oil_ir.specs.declared.span.Span.{Span}
-use Rattle.naga_oil_derive.specs.Derived.{Source, Derived, HasItem, KeepsSource, Keeps, Sets, IsSet}
+use Rattle.naga_oil_derive.specs.Derived.{Source, Derived, HasItem, KeepsSource, Keeps}
 use Rattle.naga_oil_derive.specs.DerivedEntries.{CanCopyEntries}
 use Rattle.naga_oil_derive.specs.DerivedValue.{set_source, copy_special}
 use Rattle.naga_oil_derive.specs.DerivedFunctions.{KeepsFunctions, CanImport, MayAsk, MayCopy, MayCall, requests_of, signature_requests}
@@ -24,16 +24,7 @@ use Rattle.naga_oil_link.specs.CopySources.{CopiesFrom, IsFunctionOf, stub_of}
 
 -- ---- the source stays
 
-set_at : (m : Module) (shift : ℕ) (d e : Derived) (o : Option Source) → WellFormed m [] 4294967295 → e.source ≡ o → IsSome o → IfSome o (Sets (value_of m) shift d e) → CopiesFrom m e
-unfolding CopiesFrom
-set_at m shift d e None w is some h = absurd cc
-set_at m shift d e (Some s) w is some h = record { form = w; source = s; set = is; value = h.value }
-
--- a source that was set
-pub from_set : (m : Module) (shift : ℕ) (d e : Derived) → WellFormed m [] 4294967295 → IsSet (value_of m) shift d e → CopiesFrom m e
-from_set m shift d e w h = set_at m shift d e e.source w refl h.0 h.1
-
--- the same by what is made
+-- a source that was set, by what is made
 pub from_set_source : (m : Module) (shift : ℕ) (d e : Derived) → WellFormed m [] 4294967295 → e ≡ set_source d (value_of m) shift → CopiesFrom m e
 unfolding CopiesFrom
 from_set_source m shift d e w h = record { form = w; source = record { value = value_of m; offset = shift; places = (copy_special d (value_of m) shift).places }; set = ap (λ (x : Derived). x.source) h; value = refl }

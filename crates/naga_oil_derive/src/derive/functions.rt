@@ -1,9 +1,8 @@
 //! Functions that are copied into the module.
-ghost use Rattle.naga_oil_derive.specs.declared.walk.Request.{Request};
-ghost use Rattle.std.specs.Prelude.{◌≡◌, ◌∷◌, ℕ, [], Ok, Some, None, IfOk, OnOk};
+ghost use Rattle.std.specs.Prelude.{◌≡◌, [], Some, IfOk, OnOk};
 ghost use Rattle.naga_oil_ir.specs.ModuleValue.{function_value};
 ghost use Rattle.naga_oil_derive.specs.DerivedValue.{import_function, import_function_if_new, answer_requests, call_function, localize_function};
-ghost use Rattle.naga_oil_derive.specs.DerivedFunctions.{having, meant, CanCopy, CanImport, CanCall, KeepsFunctions, KeepsMeanings, IsLocalized, IsFunctionImported, MeansAt, requests_of, AreAnswered};
+ghost use Rattle.naga_oil_derive.specs.DerivedFunctions.{having, meant, CanCopy, CanImport, CanCall, KeepsFunctions, MeansAt, requests_of};
 
 use super::*;
 
@@ -35,12 +34,13 @@ impl<'a> DerivedModule<'a> {
     /// calls those whose names aren't known.
     pub fn localize_function(&mut self, func: &Function) -> Tried<Function>
         requires { CanCopy self.old (function_value func.now) }
-        ensures meanings { OnOk result (KeepsMeanings self.old self.new) }
-        ensures answered { OnOk result (AreAnswered self.old (requests_of (function_value func.now)) self.new) }
-        ensures copies { IfOk result (λ f. IsLocalized self.new (function_value func.now) (function_value f)) }
         ensures keeps { KeepsFunctions self.old self.new }
-        ensures value { OnOk result (self.new ≡ answer_requests self.old (requests_of (function_value func.now))) }
-        ensures copy { IfOk result (λ f. function_value f ≡ localize_function self.new.source self.new.function_names (function_value func.now)) }
+        ensures value { let asked = requests_of (function_value func.now) in
+            let made = answer_requests self.old asked in
+            OnOk result (self.new ≡ made) }
+        ensures copy { let v = function_value func.now in
+            let copy = localize_function self.new.source self.new.function_names v in
+            IfOk result (λ f. function_value f ≡ copy) }
     {
         let source = self.shader.unwrap();
         let depth = source.functions.len();
@@ -54,10 +54,12 @@ impl<'a> DerivedModule<'a> {
     /// Puts a copy of a function last, also if its name is known, which then means the copy; and first what it names.
     pub fn import_function(&mut self, func: &Function, span: Span) -> Placed<Function>
         requires { CanImport self.old (function_value func.now) }
-        ensures imported { IfOk result (IsFunctionImported self.old self.new (function_value func.now) span) }
         ensures keeps { KeepsFunctions self.old self.new }
-        ensures value { OnOk result (self.new ≡ import_function self.old (function_value func.now) span) }
-        ensures means { IfOk result (λ h. meant self.new.function_names (function_value func.now).name ≡ Some h) }
+        ensures value { let made = import_function self.old (function_value func.now) span in
+            OnOk result (self.new ≡ made) }
+        ensures means { let v = function_value func.now in
+            let meaning = meant self.new.function_names v.name in
+            IfOk result (λ h. meaning ≡ Some h) }
     {
         let source = self.shader.unwrap();
         let depth = source.functions.len();
@@ -71,11 +73,12 @@ impl<'a> DerivedModule<'a> {
     /// The function that the name of one means, copied if the name isn't known.
     pub fn import_function_if_new(&mut self, func: &Function, span: Span) -> Placed<Function>
         requires { CanImport self.old (function_value func.now) }
-        ensures known { (h : ℕ) → meant self.old.function_names (function_value func.now).name ≡ Some h → (result ≡ Ok h) × (self.new ≡ self.old) }
-        ensures imported { meant self.old.function_names (function_value func.now).name ≡ None → IfOk result (IsFunctionImported self.old self.new (function_value func.now) span) }
         ensures keeps { KeepsFunctions self.old self.new }
-        ensures value { OnOk result (self.new ≡ import_function_if_new self.old (function_value func.now) span) }
-        ensures means { IfOk result (λ h. meant self.new.function_names (function_value func.now).name ≡ Some h) }
+        ensures value { let made = import_function_if_new self.old (function_value func.now) span in
+            OnOk result (self.new ≡ made) }
+        ensures means { let v = function_value func.now in
+            let meaning = meant self.new.function_names v.name in
+            IfOk result (λ h. meaning ≡ Some h) }
     {
         match known_as(&self.function_names, &func.name) {
             Some(known) => Ok(known),
@@ -86,8 +89,6 @@ impl<'a> DerivedModule<'a> {
     /// Where a function of the source went, by its name; it is copied if the name isn't known.
     pub fn map_function_handle(&mut self, h_func: &Handle<Function>) -> Placed<Function>
         requires { CanCall self.old h_func.now }
-        ensures meanings { OnOk result (KeepsMeanings self.old self.new) }
-        ensures answered { OnOk result (AreAnswered self.old (Request.Call h_func.now ∷ []) self.new) }
         ensures means { IfOk result (MeansAt self.new h_func.now) }
         ensures keeps { KeepsFunctions self.old self.new }
         ensures value { OnOk result (self.new ≡ call_function self.old h_func.now) }

@@ -1,4 +1,4 @@
-use Rattle.std.proofs.Common.{ℕ, List, All, ◌<◌, rules, ◌≡◌, ◌≤◌, length, take, get_or, ◌∙◌, sym, ap, ◌∷◌, [], refl, subst, arith, Vec, Global}
+use Rattle.std.proofs.Common.{ℕ, List, All, ◌<◌, rules, ◌≡◌, length, take, get_or, ◌∙◌, sym, ap, ◌∷◌, [], refl, subst, arith, Vec, Global}
 use Rattle.std.proofs.lemmas.List.{take_all}
 use Rattle.std.specs.List.{flat_map}
 use Rattle.naga_oil_ir.specs.Links.{lists, linked, added, trail}

@@ -1,4 +1,4 @@
-use Rattle.std.proofs.Common.{◌≡◌, ◌∙◌, sym, ap, Vec, Global}
+use Rattle.std.proofs.Common.{◌∙◌, sym, ap, Vec, Global}
 use Rattle.naga_oil_derive.specs.Naming.{requests_at}
 use Rattle.naga_oil_derive.specs.declared.walk.Request.{Request}
 use Rattle.naga_oil_derive.proofs.NamingLemmas.{name_known}

@@ -1,4 +1,4 @@
-use Rattle.std.proofs.Common.{◌≡◌, ◌≤◌, ◌∙◌, ap, sym, refl, arith, ◌-◌}
+use Rattle.std.proofs.Common.{◌≤◌, ◌∙◌, ap, sym, refl, arith, ◌-◌}
 use Rattle.std.specs.List.{flat_map}
 use Rattle.naga_oil_ir.specs.Links.{lists, linked, added}
 use Rattle.naga_oil_ir.specs.BodyForm.{run}

@@ -1,4 +1,4 @@
-use Rattle.std.proofs.Common.{ℕ, List, All, ◌<◌, ◌≡◌, ◌≤◌, length, take, get_or, ◌∙◌, sym, ap, ◌∷◌, [], arith, subst, refl, ◌+◌}
+use Rattle.std.proofs.Common.{ℕ, List, All, ◌<◌, ◌≡◌, length, take, get_or, ◌∙◌, sym, ap, ◌∷◌, [], arith, subst, refl, ◌+◌}
 use Rattle.std.proofs.lemmas.List.{take_all}
 use Rattle.naga_oil_ir.specs.Links.{lists, linked, added}
 use Rattle.naga_oil_ir.specs.BodyForm.{is_external}

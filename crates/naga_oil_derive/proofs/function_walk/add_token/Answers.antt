@@ -1,4 +1,4 @@
-use Rattle.std.proofs.Common.{◌≡◌, ◌∷◌, ◌++◌, [], List, OnOk, ap, sym, subst, refl}
+use Rattle.std.proofs.Common.{◌≡◌, ◌∷◌, ◌++◌, [], List, ap, sym, subst, refl}
 use Rattle.naga_oil_ir.specs.Links.{lists, added}
 use Rattle.naga_oil_derive.specs.Naming.{token_names, Adds}
 use Rattle.naga_oil_derive.specs.Walks.{IsOver}

@@ -1,7 +1,7 @@
 use Rattle.std.proofs.Common.{◌∙◌, ap, take, refl}
 use Rattle.std.specs.List.{flat_map}
 use Rattle.naga_oil_ir.specs.Links.{lists, added}
-use Rattle.naga_oil_derive.specs.Walk.{brief, notes_of, notes_after, Notes}
+use Rattle.naga_oil_derive.specs.Walk.{brief, notes_of, Notes}
 use Rattle.naga_oil_derive.proofs.WalkLemmas.{added-token, notes-more}
 use Rattle.naga_oil_derive.specs.Naming.{token_names}
 use Rattle.naga_oil_derive.proofs.NamingLemmas.{Adds-none, Adds-more}

@@ -1,10 +1,9 @@
-use Rattle.std.proofs.Common.{◌≡◌, take, length, ◌-◌}
+use Rattle.std.proofs.Common.{◌≡◌, take}
 use Rattle.std.specs.List.{flat_map}
-use Rattle.naga_oil_ir.specs.Links.{lists, linked, added, trail}
-use Rattle.naga_oil_ir.specs.BodyForm.{run}
-use Rattle.naga_oil_derive.specs.Walk.{IsReachOrder, externals, brief, notes_after}
+use Rattle.naga_oil_ir.specs.Links.{lists, added}
+use Rattle.naga_oil_derive.specs.Walk.{brief, notes_after}
 use Rattle.naga_oil_derive.specs.Walks.{IsOver}
-use Rattle.naga_oil_derive.specs.Naming.{names_from, requests_at, token_names, local_names, Adds}
+use Rattle.naga_oil_derive.specs.Naming.{token_names, Adds}
 use Rattle.naga_oil_derive.proofs.function_walk.add_tokens.Given as goal
 
 abbrev pub invariant-loop-token : goal.invariant-loop-token

@@ -4,7 +4,7 @@ use Rattle.naga_oil_ir.specs.Links.{lists, added, trail}
 use Rattle.naga_oil_ir.specs.WellFormed.{initialisers_of}
 use Rattle.naga_oil_derive.specs.Walk.{IsReachOrder}
 use Rattle.naga_oil_derive.specs.Walks.{IsOver}
-use Rattle.naga_oil_derive.specs.Naming.{names_from, requests_at, token_names, local_names, Adds}
+use Rattle.naga_oil_derive.specs.Naming.{local_names, Adds}
 use Rattle.naga_oil_derive.proofs.function_walk.reach_locals.Given as goal
 
 abbrev pub invariant-loop-local : goal.invariant-loop-local

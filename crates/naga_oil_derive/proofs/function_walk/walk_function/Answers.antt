@@ -1,13 +1,13 @@
-use Rattle.std.proofs.Common.{◌≡◌, ◌<◌, ◌∙◌, ap, sym, subst, length, All, List, [], ◌++◌, ℕ, Vec, Global, Option, None, replicate}
+use Rattle.std.proofs.Common.{◌≡◌, ◌∙◌, ap, sym, subst, length, All, List, [], ◌++◌, ℕ, Vec, Global, Option, None, replicate}
 use Rattle.std.specs.List.{flat_map}
 use Rattle.std.proofs.lemmas.List.{length-map}
 use Rattle.naga_oil_ir.specs.Links.{lists, trail, added, started}
 use Rattle.naga_oil_ir.specs.Body.{Tokens, block_tokens}
-use Rattle.naga_oil_ir.specs.BodyForm.{callees, kinds, operand_links}
+use Rattle.naga_oil_ir.specs.BodyForm.{callees, operand_links}
 use Rattle.naga_oil_ir.specs.WellFormed.{initialisers, initialisers_of}
 use Rattle.naga_oil_ir.specs.declared.types.LocalVariable.{LocalVariable}
 use Rattle.naga_oil_ir.specs.declared.span.Span.{Span}
-use Rattle.naga_oil_derive.specs.Walk.{IsWithin, brief, notes_after, Notes}
+use Rattle.naga_oil_derive.specs.Walk.{IsWithin, brief, notes_after}
 use Rattle.naga_oil_derive.proofs.FunctionWalk.{ReadOf, read_of, may_read, plain_read, walk_read, tokens_within, walk_of}
 use Rattle.naga_oil_derive.proofs.ReachSteps.{walk_requests}
 use Rattle.naga_oil_derive.proofs.function_walk.walk_function.Goals as goal

@@ -1,13 +1,12 @@
-use Rattle.std.proofs.Common.{refl, take, ◌+◌, ◌≡◌, ◌∙◌, ◌<◌, ◌-◌, ◌++◌, ◌∷◌, [], ℕ, arith, rules, subst, Some, None, suc, IsSome, is_some, OnOk, option_map, string_bytes, sym, ap, take_all, slice_get, List, length}
+use Rattle.std.proofs.Common.{refl, take, ◌+◌, ◌≡◌, ◌∙◌, ◌<◌, ◌-◌, ◌++◌, ◌∷◌, [], ℕ, arith, rules, subst, Some, None, suc, IsSome, is_some, option_map, string_bytes, sym, ap, take_all, slice_get, List}
 use Rattle.std.proofs.lemmas.Option.{none-some}
 use Rattle.naga_oil_ir.specs.ModuleValue.{function_value}
-use Rattle.naga_oil_ir.specs.declared.module.Function.{Function}
 use Rattle.naga_oil_ir.specs.declared.span.Span.{Span}
 use Rattle.naga_oil_derive.specs.World.{value_of}
 use Rattle.naga_oil_derive.specs.Callees.{known_as, callee_at}
 use Rattle.naga_oil_derive.specs.Copying.{AreRanked, IsCopying, kept_between}
 use Rattle.naga_oil_derive.specs.Copied.{CopyState, copy_state, copy_item}
-use Rattle.naga_oil_derive.specs.DerivedFunctions.{requests_of, meant}
+use Rattle.naga_oil_derive.specs.DerivedFunctions.{requests_of}
 use Rattle.naga_oil_derive.specs.Imported.{IsImportable, IsAnswerable}
 use Rattle.naga_oil_derive.specs.Naming.{function_names}
 use Rattle.naga_oil_derive.specs.Answered.{ImportState, import_state, answer_one, answer_all, import_callee, with_function}
@@ -15,7 +14,7 @@ use Rattle.naga_oil_derive.specs.Putting.{Putting, Adding, NothingAdded}
 use Rattle.naga_oil_derive.specs.declared.copy.Copying.{Copying}
 use Rattle.naga_oil_derive.specs.declared.import.Functions.{Functions}
 use Rattle.naga_oil_derive.specs.declared.walk.Request.{Request}
-use Rattle.naga_oil_derive.specs.declared.walk.Request.TheVariants.{Item, Call}
+use Rattle.naga_oil_derive.specs.declared.walk.Request.TheVariants.{Call}
 use Rattle.naga_oil_derive.proofs.KindLaws.{value_kinds}
 use Rattle.naga_oil_derive.proofs.PuttingLemmas.{midway_of}
 use Rattle.naga_oil_derive.proofs.AddingLemmas.{Added, adding_adds, Adding-append, items_added, copying_added}

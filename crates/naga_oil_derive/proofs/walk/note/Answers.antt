@@ -1,4 +1,4 @@
-use Rattle.std.proofs.Common.{ℕ, ◌≡◌, ◌<◌, ◌≤◌, length, arith, sym, ◌∙◌, refl}
+use Rattle.std.proofs.Common.{ℕ, length, arith, sym, ◌∙◌, refl}
 use Rattle.std.proofs.lemmas.Bool.{false≢true, lt-ltb}
 use Rattle.std.proofs.lemmas.Option.{slice_get_read}
 use Rattle.naga_oil_derive.proofs.WalkLemmas.{noted_kept, noted_past}

@@ -1,4 +1,4 @@
-use Rattle.std.proofs.Common.{◌≡◌, ap, ◌∙◌, Some, subst, sym, option_map, string_bytes}
+use Rattle.std.proofs.Common.{ap, ◌∙◌, Some, subst, sym, option_map, string_bytes}
 use Rattle.naga_oil_derive.specs.World.{value_of}
 use Rattle.naga_oil_derive.specs.Copying.{goes_under}
 use Rattle.naga_oil_derive.specs.Copied.{CopyState, copy_state, put_type}

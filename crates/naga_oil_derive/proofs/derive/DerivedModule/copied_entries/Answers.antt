@@ -1,11 +1,11 @@
-use Rattle.std.proofs.Common.{◌≡◌, [], List, map, take, take_all, ap, sym, subst}
-use Rattle.naga_oil_ir.specs.ModuleValue.{EntryValue, entry_value}
+use Rattle.std.proofs.Common.{[], List, map, take_all, ap, sym, subst}
+use Rattle.naga_oil_ir.specs.ModuleValue.{entry_value}
 use Rattle.naga_oil_ir.specs.declared.module.EntryPoint.{EntryPoint}
-use Rattle.naga_oil_derive.specs.DerivedEntries.{CanCopyEntry, EntriesCopied, NoEntries}
+use Rattle.naga_oil_derive.specs.DerivedEntries.{CanCopyEntry}
 use Rattle.std.proofs.Common.{◌∙◌}
 use Rattle.naga_oil_derive.specs.CopiedEntry.{entries_state, copy_entries}
 use Rattle.naga_oil_derive.proofs.EntryValues.{entries_next}
-use Rattle.naga_oil_derive.proofs.EntrySteps.{functions_same, functions_trans, entry_later, entries_step}
+use Rattle.naga_oil_derive.proofs.EntrySteps.{functions_same, functions_trans, entry_later}
 use Rattle.naga_oil_derive.proofs.derive.DerivedModule.copied_entries.Goals as goal
 
 pub copied_entry-requires : goal.copied_entry-requires
@@ -21,15 +21,9 @@ loop-entry-preserved c =
     let e = c.loop-entry.self in
     let f = c.copied_entry.new.self in
     record {
-      copied = entries_step d e f c.args.entries.now c.loop-entry.entry-index c.entry-item.result c.loop-entry.copies.items c.in_ok-copied_entry.field-0 c.push.new.self.items c.loop-entry-test.true c.entry-item.is c.loop-entry.invariant.copied c.in_ok-copied_entry.ensures.copied c.in_ok-push.ensures.items;
       value = entries_next d e f c.args.entries.now c.loop-entry.entry-index c.entry-item.result c.loop-entry.copies.items c.in_ok-copied_entry.field-0 c.push.new.self.items c.loop-entry-test.true c.entry-item.is c.loop-entry.invariant.value c.in_ok-copied_entry.ensures.value c.in_ok-push.ensures.items;
       keeps = functions_trans d e f c.loop-entry.invariant.keeps c.copied_entry.ensures.keeps;
     }
-
-pub returns-clause-copied : goal.returns-clause-copied
-returns-clause-copied c =
-    let xs = c.args.entries.now in
-    subst (λ (ys : List EntryPoint). EntriesCopied c.args.self.now (map entry_value ys) (map entry_value c.loop-entry.copies.items) c.loop-entry.self) (take_all c.loop-entry.entry-index xs c.loop-entry-test.false) c.loop-entry.invariant.copied
 
 pub returns-clause-value : goal.returns-clause-value
 returns-clause-value c =
@@ -47,7 +41,6 @@ pub loop-entry-init : goal.loop-entry-init
 loop-entry-init c =
     let d = c.args.self.now in
     record {
-      copied = subst (λ (ws : List EntryPoint). EntriesCopied d [] (map entry_value ws) d) (sym c.new-copies.ensures.items) NoEntries;
       value = ap (λ (ws : List EntryPoint). entries_state d (map entry_value ws)) c.new-copies.ensures.items;
       keeps = functions_same d;
     }

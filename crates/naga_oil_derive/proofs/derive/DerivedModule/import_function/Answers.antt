@@ -5,7 +5,7 @@ use Rattle.naga_oil_derive.specs.DerivedValue.{import_function}
 use Rattle.naga_oil_derive.specs.DerivedView.{derived_of}
 use Rattle.naga_oil_derive.specs.Answered.{import_state, import_copy}
 use Rattle.naga_oil_derive.proofs.FunctionValues.{functions_length, named_there}
-use Rattle.naga_oil_derive.proofs.FunctionCalls.{IsCall, call_holds, call_keeps, call_value, one_in, copying_in, fair, imports, imported_ok, name_ok}
+use Rattle.naga_oil_derive.proofs.FunctionCalls.{IsCall, call_holds, call_keeps, call_value, one_in, copying_in, name_ok}
 use Rattle.naga_oil_derive.proofs.derive.DerivedModule.import_function.Goals as goal
 
 -- functions are taken out and put back
@@ -55,8 +55,3 @@ returns-clause-value c = value c
 
 pub returns-clause-means : goal.returns-clause-means
 returns-clause-means c = name_ok c.import-handle.result c.import-handle.new.functions c.put.new.names.entries c.args.func.now (λ i. (c.put.ensures.names i).entries) c.import-handle.ensures.means
-
-pub returns-clause-imported : goal.returns-clause-imported
-returns-clause-imported c =
-    let d = c.args.self.now in
-    imported_ok c.import-handle.result d (derived_of c.self.inside.shader c.import-handle.new.copying.maps c.put.new.target c.put.new.names.entries) (import_function c.args.self.now (function_value c.args.func.now) c.args.span) (function_value c.args.func.now) c.args.span (value c) (imports d c.args.func.now c.args.span (fair c.self.inside.shader c.self.inside.copying.maps c.self.inside.copying.target c.self.inside.function_names.entries c.args.self.now c.self.view_is c.self.invariant) c.requires) (name_ok c.import-handle.result c.import-handle.new.functions c.put.new.names.entries c.args.func.now (λ i. (c.put.ensures.names i).entries) c.import-handle.ensures.means)

@@ -1,12 +1,12 @@
 use Rattle.std.proofs.Common.{◌≡◌, ◌∙◌, length, OnOk, sym, subst}
 use Rattle.naga_oil_ir.specs.ModuleValue.{function_value}
 use Rattle.naga_oil_derive.specs.World.{value_of}
-use Rattle.naga_oil_derive.specs.DerivedFunctions.{requests_of, AreAnswered, KeepsMeanings}
+use Rattle.naga_oil_derive.specs.DerivedFunctions.{requests_of}
 use Rattle.naga_oil_derive.specs.DerivedValue.{answer_requests}
 use Rattle.naga_oil_derive.specs.DerivedView.{derived_of}
 use Rattle.naga_oil_derive.specs.Answered.{import_state, answer_all}
 use Rattle.naga_oil_derive.proofs.FunctionValues.{functions_length}
-use Rattle.naga_oil_derive.proofs.FunctionCalls.{IsCall, call_holds, call_keeps, call_value, one_in, copying_in, fair, copy_answers, on_ok_by, localized_ok, copied_value}
+use Rattle.naga_oil_derive.proofs.FunctionCalls.{IsCall, call_holds, call_keeps, call_value, one_in, copying_in, copied_value}
 use Rattle.naga_oil_derive.proofs.derive.DerivedModule.localize_function.Goals as goal
 
 -- functions are taken out and put back
@@ -51,23 +51,5 @@ value c =
 pub returns-clause-value : goal.returns-clause-value
 returns-clause-value c = value c
 
-pub returns-clause-meanings : goal.returns-clause-meanings
-returns-clause-meanings c =
-    let d = c.args.self.now in
-    let v = function_value c.args.func.now in
-    let a = copy_answers d v (fair c.self.inside.shader c.self.inside.copying.maps c.self.inside.copying.target c.self.inside.function_names.entries c.args.self.now c.self.view_is c.self.invariant) c.requires in
-    on_ok_by c.localize-copy.result (KeepsMeanings d) (derived_of c.self.inside.shader c.localize-copy.new.copying.maps c.put.new.target c.put.new.names.entries) (answer_requests c.args.self.now (requests_of (function_value c.args.func.now))) (value c) a.meanings
-
-pub returns-clause-answered : goal.returns-clause-answered
-returns-clause-answered c =
-    let d = c.args.self.now in
-    let v = function_value c.args.func.now in
-    let a = copy_answers d v (fair c.self.inside.shader c.self.inside.copying.maps c.self.inside.copying.target c.self.inside.function_names.entries c.args.self.now c.self.view_is c.self.invariant) c.requires in
-    on_ok_by c.localize-copy.result (AreAnswered d (requests_of v)) (derived_of c.self.inside.shader c.localize-copy.new.copying.maps c.put.new.target c.put.new.names.entries) (answer_requests c.args.self.now (requests_of (function_value c.args.func.now))) (value c) a.answered
-
 pub returns-clause-copy : goal.returns-clause-copy
 returns-clause-copy c = copied_value c.localize-copy.result c.self.inside.shader c.unwrap-source.result c.localize-copy.new.copying.maps c.put.new.target c.localize-copy.new.functions c.put.new.names.entries c.args.func.now c.unwrap-source.ensures (λ i. (c.put.ensures.names i).entries) c.localize-copy.ensures.copied
-
-pub returns-clause-copies : goal.returns-clause-copies
-returns-clause-copies c =
-    localized_ok c.localize-copy.result c.args.self.now (derived_of c.self.inside.shader c.localize-copy.new.copying.maps c.put.new.target c.put.new.names.entries) c.args.func.now c.requires (copied_value c.localize-copy.result c.self.inside.shader c.unwrap-source.result c.localize-copy.new.copying.maps c.put.new.target c.localize-copy.new.functions c.put.new.names.entries c.args.func.now c.unwrap-source.ensures (λ i. (c.put.ensures.names i).entries) c.localize-copy.ensures.copied)

@@ -1,13 +1,10 @@
-use Rattle.std.proofs.Common.{◌≡◌, ◌∷◌, [], ◌∙◌, length, OnOk, sym, subst}
-use Rattle.naga_oil_ir.specs.ModuleValue.{function_value}
+use Rattle.std.proofs.Common.{◌≡◌, ◌∙◌, length, OnOk, sym, subst}
 use Rattle.naga_oil_derive.specs.World.{value_of}
-use Rattle.naga_oil_derive.specs.DerivedFunctions.{AreAnswered, KeepsMeanings}
 use Rattle.naga_oil_derive.specs.DerivedValue.{call_function}
 use Rattle.naga_oil_derive.specs.DerivedView.{derived_of}
-use Rattle.naga_oil_derive.specs.declared.walk.Request.TheVariants.{Call}
 use Rattle.naga_oil_derive.specs.Answered.{import_state, import_callee}
 use Rattle.naga_oil_derive.proofs.FunctionValues.{functions_length}
-use Rattle.naga_oil_derive.proofs.FunctionCalls.{IsCall, call_holds, call_keeps, call_value, call_in, copying_in, fair, call_answers, on_ok_by, means_ok}
+use Rattle.naga_oil_derive.proofs.FunctionCalls.{IsCall, call_holds, call_keeps, call_value, call_in, copying_in, means_ok}
 use Rattle.naga_oil_derive.proofs.derive.DerivedModule.map_function_handle.Goals as goal
 
 -- functions are taken out and put back
@@ -54,15 +51,3 @@ returns-clause-value c = value c
 
 pub returns-clause-means : goal.returns-clause-means
 returns-clause-means c = means_ok c.import_callee-handle.result c.self.inside.shader c.unwrap-source.result c.import_callee-handle.new.copying.maps c.put.new.target c.import_callee-handle.new.functions c.put.new.names.entries c.args.h_func.now c.unwrap-source.ensures (λ i. (c.put.ensures.names i).entries) c.import_callee-handle.ensures.callee
-
-pub returns-clause-meanings : goal.returns-clause-meanings
-returns-clause-meanings c =
-    let d = c.args.self.now in
-    let a = call_answers d c.args.h_func.now (fair c.self.inside.shader c.self.inside.copying.maps c.self.inside.copying.target c.self.inside.function_names.entries c.args.self.now c.self.view_is c.self.invariant) c.requires in
-    on_ok_by c.import_callee-handle.result (KeepsMeanings d) (derived_of c.self.inside.shader c.import_callee-handle.new.copying.maps c.put.new.target c.put.new.names.entries) (call_function c.args.self.now c.args.h_func.now) (value c) a.meanings
-
-pub returns-clause-answered : goal.returns-clause-answered
-returns-clause-answered c =
-    let d = c.args.self.now in
-    let a = call_answers d c.args.h_func.now (fair c.self.inside.shader c.self.inside.copying.maps c.self.inside.copying.target c.self.inside.function_names.entries c.args.self.now c.self.view_is c.self.invariant) c.requires in
-    on_ok_by c.import_callee-handle.result (AreAnswered d (Call c.args.h_func.now ∷ [])) (derived_of c.self.inside.shader c.import_callee-handle.new.copying.maps c.put.new.target c.put.new.names.entries) (call_function c.args.self.now c.args.h_func.now) (value c) a.answered

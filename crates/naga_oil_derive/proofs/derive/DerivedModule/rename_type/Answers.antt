@@ -1,9 +1,7 @@
-use Rattle.std.proofs.Common.{Some, option_map, string_bytes, subst}
+use Rattle.std.proofs.Common.{Some, option_map, string_bytes}
 use Rattle.naga_oil_derive.specs.Copied.{copy_named_type}
-use Rattle.naga_oil_derive.specs.Derived.{IsKnown, IsRenamed}
-use Rattle.naga_oil_derive.specs.DerivedView.{derived_of}
 use Rattle.naga_oil_derive.proofs.DerivedValues.{copied_now}
-use Rattle.naga_oil_derive.proofs.Derivations.{type_putting_derived, renames_law, type_at}
+use Rattle.naga_oil_derive.proofs.Derivations.{type_putting_derived}
 use Rattle.naga_oil_derive.proofs.derive.DerivedModule.rename_type.Goals as goal
 
 pub invariant_of-self : goal.invariant_of-self
@@ -39,20 +37,3 @@ returns-clause-value c =
     let s = c.self.inside in
     let n = c.copy_named_type.new.self in
     copied_now s.shader c.in-Some.shader s.copying.target n.target s.copying.maps n.maps s.function_names.entries c.args.self.now (λ x y. copy_named_type x.value x.offset (option_map (λ z. Some (string_bytes z)) c.args.name) y c.args.h_type.now) c.in-Some.is c.self.view_is c.copy_named_type.ensures.offset c.in_ok-copy_named_type.ensures.copied
-
-pub returns-clause-known : goal.returns-clause-known
-returns-clause-known c =
-    let s = c.self.inside in
-    let n = c.copy_named_type.new.self in
-    let k = c.args.h_type.now in
-    let e = derived_of s.shader n.maps n.target s.function_names.entries in
-    subst (IsKnown c.args.self.now e k) (type_at s.shader c.in-Some.shader n.maps n.target s.function_names.entries k c.ty.result c.in-Some.is c.ty.ensures) (renames_law s.shader s.copying.maps s.copying.target s.function_names.entries c.args.self.now e k (option_map (λ x. Some (string_bytes x)) c.args.name) c.self.view_is c.self.invariant c.requires (returns-clause-value c)).known
-
-pub returns-clause-renamed : goal.returns-clause-renamed
-returns-clause-renamed c =
-    let s = c.self.inside in
-    let n = c.copy_named_type.new.self in
-    let k = c.args.h_type.now in
-    let name = option_map (λ x. Some (string_bytes x)) c.args.name in
-    let e = derived_of s.shader n.maps n.target s.function_names.entries in
-    subst (IsRenamed c.args.self.now e k name) (type_at s.shader c.in-Some.shader n.maps n.target s.function_names.entries k c.ty.result c.in-Some.is c.ty.ensures) (renames_law s.shader s.copying.maps s.copying.target s.function_names.entries c.args.self.now e k name c.self.view_is c.self.invariant c.requires (returns-clause-value c)).renamed

@@ -123,14 +123,6 @@ returns-clause-value c =
     let kept = with_items_is c.in_ok-copying.field-0.types c.keep_special.new.types long ∙ c.keep_special.ensures ∙ ap (places_kept s.copying.target c.deref.result.now) c.deref_mut.ensures.value in
     set_value c.args.shader s.copying.target u m n v c.set_specials.new.special c.deref.result.now c.deref-2.result.now c.deref-3.result.now c.args.span_offset s.function_names.entries s.shader s.copying.maps c.args.self.now seen c.in_ok-copying.ensures.places c.in_ok-copying.ensures.offset first second third kept c.copy_special.ensures.offset c.in_ok-copy_special.ensures.copied c.in_ok-set_specials.ensures.all
 
-pub returns-clause-set : goal.returns-clause-set
-returns-clause-set c =
-    let s = c.self.inside in
-    let seen = c.self.view_is ∙ c.clear_shader_source.ensures in
-    let distinct = subst HaveDistinctKeys (sym c.deref.ensures.value) c.in_ok-entries.ensures.distinct in
-    let law = sets_law s.shader s.copying.maps s.copying.target s.function_names.entries c.args.self.now _ c.args.shader.now c.deref.result.now c.args.span_offset seen c.self.invariant c.requires distinct (c.deref.ensures.value ∙ c.in_ok-entries.ensures.entries) (returns-clause-value c) in
-    law.set
-
 pub returns-clause-keeps : goal.returns-clause-keeps
 returns-clause-keeps c =
     let s = c.self.inside in

@@ -1,4 +1,4 @@
-use Rattle.std.proofs.Common.{Option, nat_eq, string_bytes, ◌≡◌, ap, sym, ◌∙◌, [], List, ℕ, String, Global}
+use Rattle.std.proofs.Common.{Option, nat_eq, string_bytes, ap, sym, ◌∙◌, [], List, ℕ, String, Global}
 use Rattle.std.proofs.lemmas.Iterator.Consumers.{YieldsList-at, YieldsList-end, YieldsList-from_rest}
 use Rattle.naga_oil_derive.specs.Functions.{named_values, names_under, name_put}
 use Rattle.naga_oil_derive.proofs.LocalSteps.{named_put, names_more}
