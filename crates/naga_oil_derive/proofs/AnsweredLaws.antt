@@ -8,8 +8,8 @@ use Rattle.naga_oil_ir.specs.ModuleValue.{ModuleValue, FunctionValue}
 use Rattle.naga_oil_ir.specs.declared.names.ItemPlace.{ItemPlace}
 use Rattle.naga_oil_ir.specs.declared.names.ItemPlace.TheVariants.{TypeItem, ConstantItem, OverrideItem, GlobalItem, ExpressionItem}
 use Rattle.naga_oil_ir.specs.declared.span.Span.{Span}
-use Rattle.naga_oil_derive.specs.declared.walk.Request.{Request}
-use Rattle.naga_oil_derive.specs.declared.walk.Request.TheVariants.{Item, Call}
+use Rattle.naga_oil_walk.specs.declared.walk.Request.{Request}
+use Rattle.naga_oil_walk.specs.declared.walk.Request.TheVariants.{Item, Call}
 use Rattle.naga_oil_derive.specs.Tree.{Kept}
 use Rattle.naga_oil_derive.specs.World.{goes, world, shifted, named_world}
 use Rattle.naga_oil_derive.specs.Copying.{IsSound, AreCopied}
@@ -23,7 +23,7 @@ use Rattle.naga_oil_derive.specs.DerivedValue.{import_item, importing_of, after_
 use Rattle.naga_oil_derive.specs.DerivedLaw.{IsDerivation}
 use Rattle.naga_oil_derive.specs.Answered.{ImportState, Caller, goes_by, answer_one, answer_by, with_function, import_copy_by, import_callee_by, import_callee}
 use Rattle.naga_oil_derive.specs.AnsweredLaw.{HasForm, HasCopies, HaveCopies, CanAnswer, AnswersOnly, ImportsFunction}
-use Rattle.naga_oil_derive.specs.Renames.{rename, rename_row}
+use Rattle.naga_oil_rename.specs.Renames.{rename, rename_row}
 use Rattle.naga_oil_derive.proofs.WorldLemmas.{Extends-refl}
 use Rattle.naga_oil_derive.proofs.HavingLemmas.{given, world_given_at, world_given}
 use Rattle.naga_oil_derive.proofs.EntrySteps.{KnowsMore, call_later, ask_weaker, kept_functions, functions_trans, functions_same}

@@ -13,7 +13,8 @@ use Rattle.naga_oil_derive.proofs.TreeLemmas.{reads, same_place, tree-later, tre
 use Rattle.naga_oil_ir.proofs.LinkLemmas.{eqb_eq, eq_eqb}
 use Rattle.naga_oil_ir.specs.declared.names.ItemPlace.TheVariants.{TypeItem, ConstantItem, OverrideItem, GlobalItem, ExpressionItem}
 use Rattle.naga_oil_ir.specs.Rows.{Text}
-use Rattle.naga_oil_derive.specs.World.{renamed_at, under_name}
+use Rattle.naga_oil_rename.specs.Renames.{under_name}
+use Rattle.naga_oil_derive.specs.World.{renamed_at}
 
 pub Collects-append : {w : World} {kept : Kept} {spans : ItemPlace → Option Span} {v t u : ModuleValue} {xs : List ItemPlace} (ys : List ItemPlace) → Collects w kept spans v xs t → Collects w kept spans t ys u → Collects w kept spans v (xs ++ ys) u
 Collects-append ys Done c = c

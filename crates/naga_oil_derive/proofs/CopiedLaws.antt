@@ -7,7 +7,8 @@ use Rattle.naga_oil_ir.specs.declared.names.ItemPlace.{ItemPlace}
 use Rattle.naga_oil_ir.specs.declared.names.ItemPlace.TheVariants.{TypeItem}
 use Rattle.naga_oil_ir.specs.declared.span.Span.{Span}
 use Rattle.naga_oil_derive.specs.Tree.{World, Kept, ReadsAs}
-use Rattle.naga_oil_derive.specs.World.{goes, world, renamed_at, under_name}
+use Rattle.naga_oil_rename.specs.Renames.{under_name}
+use Rattle.naga_oil_derive.specs.World.{goes, world, renamed_at}
 use Rattle.naga_oil_derive.specs.Collected.{Collects, Done, Known, Fresh, depth, names_trail}
 use Rattle.naga_oil_derive.specs.Copying.{Goes, IsSound, AreCopied, WentSomewhere}
 use Rattle.naga_oil_derive.specs.Copied.{CopyState, Copier, put, put_type, copy_each, copy_row_names, copy_item_by, copy_within, copy_item, copy_all, copy_named_type}

@@ -6,7 +6,8 @@ use Rattle.naga_oil_ir.specs.ModuleValue.{special_value}
 use Rattle.naga_oil_ir.specs.declared.module.Module.{Module}
 use Rattle.naga_oil_ir.specs.declared.names.ItemPlace.{ItemPlace}
 use Rattle.naga_oil_derive.specs.Tree.{World}
-use Rattle.naga_oil_derive.specs.World.{named_world, under_name, name_at, kept_of}
+use Rattle.naga_oil_rename.specs.Renames.{under_name}
+use Rattle.naga_oil_derive.specs.World.{named_world, name_at, kept_of}
 use Rattle.naga_oil_derive.specs.Copying.{Goes, kept_between}
 use Rattle.naga_oil_derive.proofs.WorldLemmas.{named_some, named_same}
 
@@ -22,13 +23,6 @@ flat_none (suc n) zero = refl
 flat_none (suc n) (suc k) = flat_none n k
 
 -- ---- what an option holds
-
-is_none : (o : Option ItemPlace) → is_some o ≡ false → o ≡ None
-is_none None e = refl
-is_none (Some p) e = absurd (false≢true (sym e))
-
-pub none_of : (o : Option ItemPlace) (b : Bool) → b ≡ is_some o → b ≡ false → o ≡ None
-none_of o b e f = is_none o (sym e ∙ f)
 
 pub not_some : (o : Option ItemPlace) → ((p : ItemPlace) → o ≡ Some p → ⊥) → o ≡ None
 not_some None h = refl

@@ -10,10 +10,10 @@ use Rattle.naga_oil_ir.specs.BodyForm.{run, operand_links}
 use Rattle.naga_oil_ir.specs.ModuleValue.{expression_values}
 use Rattle.naga_oil_ir.specs.declared.expression.Expression.{Expression}
 use Rattle.naga_oil_ir.specs.declared.span.Span.{Span}
-use Rattle.naga_oil_derive.specs.Renames.{Renames}
-use Rattle.naga_oil_derive.specs.Walk.{IsReachOrder, Holds}
+use Rattle.naga_oil_rename.specs.Renames.{Renames}
+use Rattle.naga_oil_walk.specs.Walk.{IsReachOrder, Holds}
 use Rattle.naga_oil_derive.specs.Copies.{Values, Table, place_under, copied, AreCopies, IsPut, IsStep, AreApart, Placed, value_links}
-use Rattle.naga_oil_derive.proofs.WalkLemmas.{closed, has_take, run-last}
+use Rattle.naga_oil_walk.proofs.WalkLemmas.{closed, has_take, run-last}
 use Rattle.naga_oil_derive.proofs.CopySteps.{Meets, merge_one, append_one, apart_one, under_same, map_other}
 
 -- ---- an order's beginning

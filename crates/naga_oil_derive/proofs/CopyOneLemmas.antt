@@ -15,7 +15,7 @@ use Rattle.naga_oil_ir.specs.declared.expression.Expression.{Expression}
 use Rattle.naga_oil_ir.specs.declared.parts.Named.{Named}
 use Rattle.naga_oil_ir.specs.declared.parts.Named.TheVariants.{Nothing, TypeOf, ConstantAt, OverrideAt, GlobalAt, LocalAt, ArgumentAt, FunctionAt}
 use Rattle.naga_oil_ir.specs.declared.names.ItemPlace.TheVariants.{TypeItem, ConstantItem, OverrideItem, GlobalItem, ExpressionItem}
-use Rattle.naga_oil_derive.specs.Renames.{Renames, rename, rename_named, rename_place, rename_row}
+use Rattle.naga_oil_rename.specs.Renames.{Renames, rename, rename_named, rename_place, rename_row}
 use Rattle.naga_oil_derive.specs.Copying.{IsThere}
 use Rattle.naga_oil_derive.proofs.WorldLemmas.{world_type, world_constant, world_override, world_global, world_expression}
 

@@ -10,11 +10,11 @@ use Rattle.naga_oil_ir.specs.Links.{linked, has, added}
 use Rattle.naga_oil_ir.specs.BodyForm.{run}
 use Rattle.naga_oil_ir.specs.declared.span.Span.{Span}
 use Rattle.naga_oil_ir.proofs.LinkLemmas.{has-append, has-added, itself, linked-map, slice_get-set_same, slice_get-set_other, slice_get-append_within, slice_get-append_at, eqb_eq, eq_eqb}
-use Rattle.naga_oil_derive.specs.Renames.{Renames}
-use Rattle.naga_oil_derive.specs.Walk.{Holds}
+use Rattle.naga_oil_rename.specs.Renames.{Renames}
+use Rattle.naga_oil_walk.specs.Walk.{Holds}
 use Rattle.naga_oil_derive.specs.Copies.{Values, Table, place_under, copied, AreCopies, LacksBefore, IsPut, AreApart, value_links}
-use Rattle.naga_oil_derive.proofs.WalkLemmas.{added-append, push_each, run-last, has_take, has_at}
-use Rattle.naga_oil_derive.proofs.WalkForm.{has_last}
+use Rattle.naga_oil_walk.proofs.WalkLemmas.{added-append, push_each, run-last, has_take, has_at}
+use Rattle.naga_oil_walk.proofs.WalkForm.{has_last}
 
 -- ---- renaming under tables that agree
 

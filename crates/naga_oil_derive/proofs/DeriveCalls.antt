@@ -2,16 +2,15 @@
 use Rattle.std.proofs.Common.{◌≡◌, ◌<◌, ℕ, List, [], length, map, Option, Some, None, option_map, refl, ap, sym, ◌∙◌, subst, All, IfSome, Global, String, string_bytes}
 use Rattle.std.specs.Borrow.{Bor}
 use Rattle.std.proofs.lemmas.List.Elements.{All-weaker}
-use Rattle.naga_oil_ir.specs.ItemForm.{IsThere as IsPlaceThere, special_types}
+use Rattle.naga_oil_ir.specs.ItemForm.{special_types}
 use Rattle.naga_oil_ir.specs.ModuleValue.{SpecialValue, special_value, no_items}
 use Rattle.naga_oil_ir.specs.declared.module.Module.{Module}
-use Rattle.naga_oil_ir.specs.declared.names.ItemPlace.{ItemPlace}
 use Rattle.naga_oil_ir.specs.declared.names.ItemPlace.TheVariants.{TypeItem}
 use Rattle.naga_oil_derive.specs.declared.maps.Maps.{Maps}
 use Rattle.naga_oil_derive.specs.World.{value_of, world, Extends, special_at, special_entries}
 use Rattle.naga_oil_derive.specs.Copying.{IsSound, IsThere, AreRanked, AreLong, IsCopying, Grows, kept_over}
 use Rattle.naga_oil_derive.specs.Copyable.{CopyableItems}
-use Rattle.naga_oil_derive.specs.Derived.{Derived, nothing, HasItem, KeepsSource, Keeps}
+use Rattle.naga_oil_derive.specs.Derived.{Derived, nothing, KeepsSource, Keeps}
 use Rattle.naga_oil_derive.specs.DerivedView.{source_of, derived_of, IsSpecialThere, IsDerived}
 use Rattle.naga_oil_derive.proofs.WorldLemmas.{Extends-stays}
 use Rattle.naga_oil_derive.proofs.SpecialLemmas.{Entry}
@@ -55,10 +54,6 @@ keeps_source (Some s) t u m n g = later_source s.now t u m n g
 
 pub keeps_one : (o : Shader) (t u : Module) (m n : Maps) (ns : FunctionNames) (d : Derived) → derived_of o m t ns ≡ d → Grows m n t u → Keeps d (derived_of o n u ns)
 keeps_one o t u m n ns d v g = subst (λ (x : Derived). Keeps x (derived_of o n u ns)) v (record { items = g.extends; names = refl; source = keeps_source o t u m n g })
-
--- what is there can be asked for
-pub has_item : (o : Shader) (s : Bor Module) (m : Maps) (t : Module) (ns : FunctionNames) (d : Derived) (p : ItemPlace) → o ≡ Some s → derived_of o m t ns ≡ d → IsPlaceThere s.now p → HasItem d p
-has_item o s m t ns d p e v h = subst (λ (x : Derived). HasItem x p) v (subst (λ (x : Shader). HasItem (derived_of x m t ns) p) (sym e) (refl, place_there s.now p h))
 
 -- ---- where they went
 

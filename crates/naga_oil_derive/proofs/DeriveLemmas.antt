@@ -20,7 +20,8 @@ use Rattle.naga_oil_derive.specs.declared.maps.Maps.{Maps}
 use Rattle.naga_oil_derive.specs.declared.special.SpecialKey.{SpecialKey}
 use Rattle.naga_oil_derive.specs.declared.special.SpecialKey.TheVariants.{RayDesc, RayIntersection, RayVertexReturn, Predeclared}
 use Rattle.naga_oil_derive.specs.Tree.{World}
-use Rattle.naga_oil_derive.specs.World.{value_of, world, named_world, under_name, name_at, special_entry, special_entries, special_at, or_option, kept_in, with_special, with_specials}
+use Rattle.naga_oil_rename.specs.Renames.{under_name}
+use Rattle.naga_oil_derive.specs.World.{value_of, world, named_world, name_at, special_entry, special_entries, special_at, or_option, kept_in, with_special, with_specials}
 use Rattle.naga_oil_derive.specs.Copying.{Goes, Grows, places_of, goes_under}
 use Rattle.naga_oil_derive.specs.Derived.{Source, IsLaterSource}
 use Rattle.naga_oil_derive.proofs.TreeLemmas.{same_number}

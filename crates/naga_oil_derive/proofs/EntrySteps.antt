@@ -19,8 +19,8 @@ use Rattle.naga_oil_derive.specs.DerivedEntries.{HasNamed, HasSizes, HasMesh, Ca
 use Rattle.naga_oil_derive.specs.DerivedView.{source_of, derived_of}
 use Rattle.naga_oil_derive.specs.declared.maps.Maps.{Maps}
 use Rattle.naga_oil_derive.proofs.DeriveCalls.{Shader, FunctionNames}
-use Rattle.naga_oil_derive.specs.declared.walk.Request.{Request}
-use Rattle.naga_oil_derive.specs.declared.walk.Request.TheVariants.{Item, Call}
+use Rattle.naga_oil_walk.specs.declared.walk.Request.{Request}
+use Rattle.naga_oil_walk.specs.declared.walk.Request.TheVariants.{Item, Call}
 use Rattle.naga_oil_derive.proofs.WorldLemmas.{Begins-refl, Begins-trans, Extends-refl, Extends-trans}
 
 -- ---- all that is kept

@@ -1,11 +1,9 @@
 -- Entry points that pass the test of form can be copied.
 use Rattle.std.proofs.Common.{◌≡◌, ℕ, ◌<◌, List, length, map, Option, Some, None, IsSome, option_map, IfSome, refl, sym, subst, All, arith}
-use Rattle.std.specs.Borrow.{Bor}
 use Rattle.std.proofs.lemmas.List.Elements.{All-weaker, All-map}
 use Rattle.naga_oil_ir.specs.ModuleValue.{ModuleValue, FunctionValue, EntryValue, entry_value, function_value}
-use Rattle.naga_oil_ir.specs.NameForm.{Name}
 use Rattle.naga_oil_ir.specs.Rows.{Row}
-use Rattle.naga_oil_ir.specs.WellFormed.{IsExpressionThere, MeshForm, FunctionForm, EntryForm, WellFormed}
+use Rattle.naga_oil_ir.specs.WellFormed.{IsExpressionThere, MeshForm, FunctionForm, EntryForm}
 use Rattle.naga_oil_ir.specs.declared.module.EntryPoint.{EntryPoint}
 use Rattle.naga_oil_ir.specs.declared.module.Function.{Function}
 use Rattle.naga_oil_ir.specs.declared.module.MeshInfo.{MeshInfo}
@@ -15,13 +13,9 @@ use Rattle.naga_oil_ir.specs.declared.names.ItemPlace.TheVariants.{TypeItem, Glo
 use Rattle.naga_oil_derive.specs.World.{value_of, world}
 use Rattle.naga_oil_derive.specs.Copying.{IsThere}
 use Rattle.naga_oil_derive.specs.Derived.{Source, Derived, HasItem}
-use Rattle.naga_oil_derive.specs.DerivedView.{derived_of}
 use Rattle.naga_oil_derive.specs.DerivedFunctions.{Meanings, MayCopy, MayCall, MayReach, CanCopy}
 use Rattle.naga_oil_derive.specs.DerivedEntries.{HasNamed, HasSizes, HasMesh, CanCopyEntry, CanCopyEntries}
-use Rattle.naga_oil_derive.specs.declared.maps.Maps.{Maps}
 use Rattle.naga_oil_derive.proofs.RankLemmas.{place_there}
-use Rattle.naga_oil_derive.proofs.DeriveCalls.{Shader, FunctionNames}
-use Rattle.naga_oil_derive.proofs.FormFunctions.{form_body}
 
 -- ---- a source that is a module
 
@@ -31,7 +25,8 @@ IsOf v o = IsSome o × IfSome o (λ s. s.value ≡ v)
 abbrev pub HasSource : ModuleValue → Derived → Type 0
 HasSource v d = IsOf v d.source
 
-item_in : (m : Module) (o : Option Source) (p : ItemPlace) → IsOf (value_of m) o → IsThere m p → IsSome o × IfSome o (λ s. (r : Row) × (world s.value p ≡ Some r))
+-- an item of the module is there for callers
+pub item_in : (m : Module) (o : Option Source) (p : ItemPlace) → IsOf (value_of m) o → IsThere m p → IsSome o × IfSome o (λ s. (r : Row) × (world s.value p ≡ Some r))
 item_in m None p h i = (h.0, tt)
 item_in m (Some s) p h i = (h.0, subst (λ (v : ModuleValue). (r : Row) × (world v p ≡ Some r)) (sym h.1) i)
 
@@ -92,9 +87,3 @@ pub entries_can : (m : Module) (d : Derived) (n : ℕ) → HasSource (value_of m
 entries_can m d n own can h =
     let each : All (CanCopyEntry d) (map entry_value m.entry_points.items) = All-map (CanCopyEntry d) entry_value m.entry_points.items (All-weaker (EntryForm m n) (λ x. CanCopyEntry d (entry_value x)) (λ e i. entry_can m d own n e i (can e.function i.function)) m.entry_points.items h) in
     entries_at m d d.source own each
-
--- of a source that passes the test of form all entry points can be copied
-pub form_entries : (o : Shader) (s : Bor Module) (m : Maps) (t : Module) (ns : FunctionNames) (d : Derived) (dn : Name) (n : ℕ) → o ≡ Some s → derived_of o m t ns ≡ d → WellFormed s.now dn n → CanCopyEntries d
-form_entries o s m t ns d dn n e v w =
-    let own : HasSource (value_of s.now) d = subst (HasSource (value_of s.now)) v (subst (λ (x : Shader). HasSource (value_of s.now) (derived_of x m t ns)) (sym e) (refl, refl)) in
-    entries_can s.now d n own (λ f h. source_copy s.now d (function_value f) own (form_body s.now dn n d.function_names (length s.now.functions) f (omega arith) w h)) w.entry_points

@@ -1,6 +1,5 @@
 -- What passes the test of form can be copied.
 use Rattle.std.proofs.Common.{◌≡◌, inr, ℕ, zero, suc, ◌<◌, ◌≤◌, ◌++◌, List, [], ◌∷◌, length, map, get_or, slice_get, Option, Some, None, IsSome, option_map, option_to_list, IfSome, refl, sym, ◌∙◌, subst, All, string_bytes, String, Global, arith}
-use Rattle.std.specs.Borrow.{Bor}
 use Rattle.std.specs.List.{flat_map}
 use Rattle.std.proofs.lemmas.List.Elements.{All-nil, All-cons, All-weaker, All-append, All-head, All-tail, All-map}
 use Rattle.std.proofs.lemmas.Option.{slice_get_within, slice_get-get_or, none-some, same_Some}
@@ -22,19 +21,15 @@ use Rattle.naga_oil_ir.specs.declared.span.Span.{Span}
 use Rattle.naga_oil_ir.specs.declared.tokens.Token.{Token}
 use Rattle.naga_oil_ir.specs.declared.tokens.Token.TheVariants.{At, Head, Plain, Flag, Absent, Open, Close, Use, Give, GiveCall, Emitted, Callee}
 use Rattle.naga_oil_ir.specs.declared.types.LocalVariable.{LocalVariable}
-use Rattle.naga_oil_derive.specs.declared.walk.Request.{Request}
-use Rattle.naga_oil_derive.specs.declared.walk.Request.TheVariants.{Item, Call}
+use Rattle.naga_oil_walk.specs.declared.walk.Request.{Request}
+use Rattle.naga_oil_walk.specs.declared.walk.Request.TheVariants.{Item, Call}
 use Rattle.naga_oil_derive.specs.World.{value_of}
-use Rattle.naga_oil_derive.specs.Derived.{Derived}
-use Rattle.naga_oil_derive.specs.DerivedView.{derived_of}
-use Rattle.naga_oil_derive.specs.Imported.{meanings, Asks}
-use Rattle.naga_oil_derive.specs.declared.maps.Maps.{Maps}
-use Rattle.naga_oil_derive.specs.Walk.{brief}
-use Rattle.naga_oil_derive.specs.Naming.{item_of, requested, requests_at, naming, names_from, local_names, token_names, signature_names, function_names}
-use Rattle.naga_oil_derive.specs.DerivedFunctions.{Meanings, CanImport, CanCall, MayAsk, MayCopy, MayCall}
+use Rattle.naga_oil_derive.specs.Imported.{Asks}
+use Rattle.naga_oil_walk.specs.Walk.{brief}
+use Rattle.naga_oil_walk.specs.Naming.{item_of, requested, requests_at, naming, names_from, local_names, token_names, signature_names, function_names}
+use Rattle.naga_oil_derive.specs.DerivedFunctions.{Meanings, MayAsk, MayCopy, MayCall}
 use Rattle.naga_oil_derive.proofs.FunctionValues.{seen, requests_same, stands_value, functions_length, functions_at}
 use Rattle.naga_oil_derive.proofs.RankLemmas.{place_there}
-use Rattle.naga_oil_derive.proofs.DeriveCalls.{Shader, FunctionNames}
 
 -- a part of a body calls a function that is there and passes a test, if it calls one
 abbrev pub CallsIn : Module → (ℕ → Type 0) → Token → Type 0
@@ -188,23 +183,11 @@ entry_there : (fs : List (Function × Span)) (k : ℕ) (f : Function) (o : Optio
 entry_there fs k f None h e = absurd (none-some f (sym e))
 entry_there fs k f (Some x) h e = (x, h, sym (same_Some f x.0 e))
 
-one_form : (m : Module) (d : Name) (n : ℕ) (ns : Meanings) (k : ℕ) (f : Function) → WellFormed m d n → Some f ≡ option_map (λ (x : Function × Span). x.0) (slice_get m.functions k) → MayCopy (value_of m) (MayCall (value_of m) ns (length (value_of m).functions)) (function_value f) × IsSome (function_value f).name
+-- a function that a caller found passes what copying asks, and has a name
+pub one_form : (m : Module) (d : Name) (n : ℕ) (ns : Meanings) (k : ℕ) (f : Function) → WellFormed m d n → Some f ≡ option_map (λ (x : Function × Span). x.0) (slice_get m.functions k) → MayCopy (value_of m) (MayCall (value_of m) ns (length (value_of m).functions)) (function_value f) × IsSome (function_value f).name
 one_form m d n ns k f w e =
     let P = MayCall (value_of m) ns (length (value_of m).functions) in
     let at = entry_there m.functions k f (slice_get m.functions k) refl e in
     let l = slice_get_within m.functions k at.0 at.1 in
     let own = form_body m d n ns k at.0.0 (omega (arith, l)) w (function_form m n k at.0 at.1 w.functions) in
     subst (λ (x : Function). MayCopy (value_of m) P (function_value x) × IsSome (function_value x).name) at.2 (own, function_named m k at.0 at.1 w.names.named)
-
--- of a source that passes the test of form each function can be imported
-pub form_import : (o : Shader) (s : Bor Module) (m : Maps) (t : Module) (ns : FunctionNames) (d : Derived) (dn : Name) (n k : ℕ) (f : Function) → o ≡ Some s → derived_of o m t ns ≡ d → WellFormed s.now dn n → Some f ≡ option_map (λ (x : Function × Span). x.0) (slice_get s.now.functions k) → CanImport d (function_value f)
-form_import o s m t ns d dn n k f e v w at =
-    let one = one_form s.now dn n (meanings ns) k f w at in
-    subst (λ (x : Derived). CanImport x (function_value f)) v (subst (λ (x : Shader). CanImport (derived_of x m t ns) (function_value f)) (sym e) ((refl, one.0), one.1))
-
--- and called
-pub form_call : (o : Shader) (s : Bor Module) (m : Maps) (t : Module) (ns : FunctionNames) (d : Derived) (dn : Name) (n k : ℕ) → o ≡ Some s → derived_of o m t ns ≡ d → WellFormed s.now dn n → k < length s.now.functions → CanCall d k
-form_call o s m t ns d dn n k e v w l =
-    let size = functions_length s.now in
-    let there : k < length (value_of s.now).functions = omega (arith, l, size) in
-    subst (λ (x : Derived). CanCall x k) v (subst (λ (x : Shader). CanCall (derived_of x m t ns) k) (sym e) (refl, (there, form_reach s.now dn n (meanings ns) w k l)))

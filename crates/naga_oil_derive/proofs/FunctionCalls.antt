@@ -8,9 +8,9 @@ use Rattle.naga_oil_ir.specs.declared.module.Function.{Function}
 use Rattle.naga_oil_ir.specs.declared.span.Span.{Span}
 use Rattle.naga_oil_derive.specs.declared.maps.Maps.{Maps}
 use Rattle.naga_oil_derive.specs.declared.import.Functions.{Functions}
-use Rattle.naga_oil_derive.specs.declared.walk.Request.TheVariants.{Call}
+use Rattle.naga_oil_walk.specs.declared.walk.Request.TheVariants.{Call}
 use Rattle.naga_oil_derive.specs.World.{value_of}
-use Rattle.naga_oil_derive.specs.Renames.{Renames}
+use Rattle.naga_oil_rename.specs.Renames.{Renames}
 use Rattle.naga_oil_derive.specs.Copying.{IsCopying}
 use Rattle.naga_oil_derive.specs.Callees.{known_as, callee_at}
 use Rattle.naga_oil_derive.specs.Went.{went_by}

@@ -16,14 +16,14 @@ use Rattle.naga_oil_ir.specs.declared.module.Function.{Function}
 use Rattle.naga_oil_ir.specs.declared.module.FunctionResult.{FunctionResult}
 use Rattle.naga_oil_ir.specs.declared.span.Span.{Span}
 use Rattle.naga_oil_ir.specs.contracts.expression.ExpressionPartialEq.TheImpl.{ghosts}
-use Rattle.naga_oil_derive.specs.declared.walk.Walk.{Walk}
+use Rattle.naga_oil_walk.specs.declared.walk.Walk.{Walk}
 use Rattle.naga_oil_derive.specs.Copies.{Values, Table, copied, under_table, range_under, value_links}
 use Rattle.naga_oil_derive.specs.CopiedFunction.{ExpressionState, expression_state, copy_place, with_copy, copy_expression, expressions_upto, copy_expressions, function_with, body_renames, function_by, notes_in, copy_function}
 use Rattle.naga_oil_derive.specs.Expressions.{IsCopyAt}
 use Rattle.naga_oil_derive.specs.Functions.{argument_under, result_under, local_under, names_under, begun, order_of}
-use Rattle.naga_oil_derive.specs.Renames.{Renames, rename_tokens}
-use Rattle.naga_oil_derive.specs.Walk.{Notes, notes_after}
-use Rattle.naga_oil_derive.specs.Walks.{Walks}
+use Rattle.naga_oil_rename.specs.Renames.{Renames, rename_tokens}
+use Rattle.naga_oil_walk.specs.Walk.{Notes, notes_after}
+use Rattle.naga_oil_walk.specs.Walks.{Walks}
 use Rattle.naga_oil_derive.proofs.CopyLoops.{links_of_values}
 use Rattle.naga_oil_derive.proofs.Localizing.{kinds_of_values}
 use Rattle.naga_oil_derive.proofs.LocalSteps.{begun_same, order_same}

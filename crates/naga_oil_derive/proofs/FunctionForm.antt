@@ -14,17 +14,17 @@ use Rattle.naga_oil_ir.specs.declared.span.Span.{Span}
 use Rattle.naga_oil_ir.specs.declared.tokens.Token.{Token}
 use Rattle.naga_oil_ir.specs.declared.tokens.Token.TheVariants.{Use, Give, GiveCall, Emitted}
 use Rattle.naga_oil_ir.proofs.LinkLemmas.{All-has, All-from_has, eqb_eq, eq_eqb, has-append, has-added, has-started, in_one, named_below, only}
-use Rattle.naga_oil_derive.specs.Walk.{IsReachOrder, IsWithin, externals, brief, listed, Notes, AreNoted, AreWithin}
-use Rattle.naga_oil_derive.specs.Walks.{IsWalkOf}
+use Rattle.naga_oil_walk.specs.Walk.{IsReachOrder, IsWithin, externals, brief, listed, Notes, AreNoted, AreWithin}
+use Rattle.naga_oil_walk.specs.Walks.{IsWalkOf}
 use Rattle.naga_oil_derive.specs.Copies.{Values, value_links}
 use Rattle.naga_oil_derive.specs.CopiedFunction.{notes_in}
 use Rattle.naga_oil_derive.specs.CopiedFunctionLaw.{StandAlone, MayBeCopied}
 use Rattle.naga_oil_derive.specs.DerivedFunctions.{kinds_in, named_in, initialisers_in}
 use Rattle.naga_oil_derive.specs.Functions.{begun, order_of}
-use Rattle.naga_oil_derive.proofs.FunctionWalk.{tokens_within}
-use Rattle.naga_oil_derive.proofs.WalkForm.{IsPlain, IsUnder, Follows, externals_in, follows, under_start}
-use Rattle.naga_oil_derive.proofs.WalkLemmas.{IsReachOrder-nil, IsReachOrder-add, added-append, links_there, trail-added}
-use Rattle.naga_oil_derive.proofs.WalkNotes.{BodyAt, added-grows, body_at, no_notes}
+use Rattle.naga_oil_walk.proofs.FunctionWalk.{tokens_within}
+use Rattle.naga_oil_walk.proofs.WalkForm.{IsPlain, IsUnder, Follows, externals_in, follows, under_start}
+use Rattle.naga_oil_walk.proofs.WalkLemmas.{IsReachOrder-nil, IsReachOrder-add, added-append, links_there, trail-added}
+use Rattle.naga_oil_walk.proofs.WalkNotes.{BodyAt, added-grows, body_at, no_notes}
 
 -- ---- external expressions and results
 

@@ -11,8 +11,8 @@ use Rattle.naga_oil_ir.specs.ModuleValue.{FunctionValue}
 use Rattle.naga_oil_ir.specs.declared.expression.Expression.{Expression}
 use Rattle.naga_oil_ir.specs.declared.span.Span.{Span}
 use Rattle.naga_oil_ir.proofs.PlaceLemmas.{place_of-found, place_of-absent, with_element-found, with_element-absent}
-use Rattle.naga_oil_derive.specs.Renames.{Renames}
-use Rattle.naga_oil_derive.specs.Walk.{IsReachOrder}
+use Rattle.naga_oil_rename.specs.Renames.{Renames}
+use Rattle.naga_oil_walk.specs.Walk.{IsReachOrder}
 use Rattle.naga_oil_derive.specs.Copied.{place_in, with_item_in}
 use Rattle.naga_oil_derive.specs.Copies.{Values, place_under, copied, range_under, value_links, AreCopies, LacksBefore, IsPut, IsStep}
 use Rattle.naga_oil_derive.specs.CopiedFunction.{ExpressionState, copy_place, with_copy, copy_expression, expressions_upto, copy_expressions, notes_in, copy_function}
@@ -25,7 +25,7 @@ use Rattle.naga_oil_derive.proofs.CopySteps.{no_copies, none_apart}
 use Rattle.naga_oil_derive.proofs.EqualLemmas.{parts_eq-decides}
 use Rattle.naga_oil_derive.proofs.FetchLemmas.{fails}
 use Rattle.naga_oil_derive.proofs.FunctionForm.{walk_of_value, begun_first}
-use Rattle.naga_oil_derive.proofs.FunctionWalk.{res_plain}
+use Rattle.naga_oil_walk.proofs.FunctionWalk.{res_plain}
 use Rattle.naga_oil_derive.proofs.Localizing.{first_places, covered}
 
 -- ---- one copy

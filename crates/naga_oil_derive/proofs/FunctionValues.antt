@@ -20,13 +20,13 @@ use Rattle.naga_oil_ir.specs.declared.names.ItemPlace.TheVariants.{TypeItem}
 use Rattle.naga_oil_ir.specs.declared.parts.Named.{Named}
 use Rattle.naga_oil_ir.specs.declared.span.Span.{Span}
 use Rattle.naga_oil_ir.specs.declared.types.LocalVariable.{LocalVariable}
-use Rattle.naga_oil_derive.specs.declared.walk.Request.{Request}
-use Rattle.naga_oil_derive.specs.declared.walk.Request.TheVariants.{Item, Call}
+use Rattle.naga_oil_walk.specs.declared.walk.Request.{Request}
+use Rattle.naga_oil_walk.specs.declared.walk.Request.TheVariants.{Item, Call}
 use Rattle.naga_oil_derive.specs.World.{value_of}
 use Rattle.naga_oil_derive.specs.Callees.{known_as, known_at, callee_at}
 use Rattle.naga_oil_derive.specs.Copies.{value_links}
 use Rattle.naga_oil_derive.specs.Functions.{local_values}
-use Rattle.naga_oil_derive.specs.Naming.{local_names, token_names, function_names}
+use Rattle.naga_oil_walk.specs.Naming.{local_names, token_names, function_names}
 use Rattle.naga_oil_derive.specs.Imported.{meanings, Asks, MayImport, IsCallable, IsAnswerable, IsImportable}
 use Rattle.naga_oil_derive.specs.DerivedFunctions.{meant, meant_at, local_requests, requests_of, kinds_in, named_in, initialisers_in, MayAsk, MayCopy, MayCall}
 use Rattle.naga_oil_derive.specs.declared.import.Functions.{Functions}

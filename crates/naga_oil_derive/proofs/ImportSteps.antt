@@ -17,7 +17,7 @@ use Rattle.naga_oil_derive.specs.Copying.{IsThere, AreRanked, IsCopying, WentSom
 use Rattle.naga_oil_derive.specs.Callees.{known_as, known_at, callee_at}
 use Rattle.naga_oil_derive.specs.Copied.{CopyState, copy_state, copy_item}
 use Rattle.naga_oil_derive.specs.CopiedFunction.{copy_function}
-use Rattle.naga_oil_derive.specs.Naming.{Thins, Ends, Keeps, Drops, function_names}
+use Rattle.naga_oil_walk.specs.Naming.{Thins, Ends, Keeps, Drops, function_names}
 use Rattle.naga_oil_derive.specs.Imported.{meanings, Asks, MayImport, IsCallable, IsAnswerable, IsImportable}
 use Rattle.naga_oil_derive.specs.DerivedFunctions.{Meanings, meant, meaning}
 use Rattle.naga_oil_derive.specs.Answered.{ImportState, import_state, with_function}
@@ -25,8 +25,8 @@ use Rattle.naga_oil_derive.specs.Putting.{Adding, NothingAdded, FunctionAdded, C
 use Rattle.naga_oil_derive.specs.Went.{went_by}
 use Rattle.naga_oil_derive.specs.declared.maps.Maps.{Maps}
 use Rattle.naga_oil_derive.specs.declared.import.Functions.{Functions}
-use Rattle.naga_oil_derive.specs.declared.walk.Request.{Request}
-use Rattle.naga_oil_derive.specs.declared.walk.Request.TheVariants.{Item, Call}
+use Rattle.naga_oil_walk.specs.declared.walk.Request.{Request}
+use Rattle.naga_oil_walk.specs.declared.walk.Request.TheVariants.{Item, Call}
 use Rattle.naga_oil_derive.proofs.PuttingLemmas.{copied_went}
 use Rattle.naga_oil_derive.proofs.AddingLemmas.{KnowsNames, names_added}
 use Rattle.naga_oil_derive.proofs.FunctionValues.{known_same}
@@ -44,7 +44,7 @@ asks_weaker : (source : Module) (P Q : ℕ → Type 0) → ((k : ℕ) → P k �
 asks_weaker source P Q w (Item p) h = h
 asks_weaker source P Q w (Call f) h = (h.0, w f h.1)
 
-import_weaker : (source : Module) (P Q : ℕ → Type 0) → ((k : ℕ) → P k → Q k) → (f : Function) → MayImport source P f → MayImport source Q f
+pub import_weaker : (source : Module) (P Q : ℕ → Type 0) → ((k : ℕ) → P k → Q k) → (f : Function) → MayImport source P f → MayImport source Q f
 import_weaker source P Q w f h = record { form = h.form; requests = All-weaker (Asks source P) (Asks source Q) (asks_weaker source P Q w) (function_names f) h.requests }
 
 entry_weaker : (source : Module) (P Q : ℕ → Type 0) → ((k : ℕ) → P k → Q k) → (o : Option (Function × Span)) → IfSome o (λ e. IsSome e.0.name × MayImport source P e.0) → IfSome o (λ e. IsSome e.0.name × MayImport source Q e.0)
@@ -52,7 +52,7 @@ entry_weaker source P Q w None h = tt
 entry_weaker source P Q w (Some e) h = (h.0, import_weaker source P Q w e.0 h.1)
 
 -- what can be called can be called later
-callable_later : (source : Module) (a b : Functions) → KnowsNames a b → (n k : ℕ) → IsCallable source a n k → IsCallable source b n k
+pub callable_later : (source : Module) (a b : Functions) → KnowsNames a b → (n k : ℕ) → IsCallable source a n k → IsCallable source b n k
 callable_later source a b g zero k h = known_later a b g (slice_get source.functions k) h
 callable_later source a b g (suc n) k h =
     ⊎_elim (λ l. inl (known_later a b g (slice_get source.functions k) l)) (λ l. inr (entry_weaker source (IsCallable source a n) (IsCallable source b n) (callable_later source a b g n) (slice_get source.functions k) l)) h
@@ -63,7 +63,7 @@ answerable_later source a b n g r h = asks_weaker source (IsCallable source a n)
 -- ---- requests
 
 -- what holds of all requests holds of those that are left
-thins_kept : {s xs ys : List Request} (P : Request → Type 0) → Thins s xs ys → All P xs → All P ys
+pub thins_kept : {s xs ys : List Request} (P : Request → Type 0) → Thins s xs ys → All P xs → All P ys
 thins_kept P Ends a = a
 thins_kept P (Keeps {xs = xs} {ys = ys} {x = x} th) a = All-cons P x ys (All-head P x xs a) (thins_kept P th (All-tail P x xs a))
 thins_kept P (Drops {xs = xs} {x = x} i th) a = thins_kept P th (All-tail P x xs a)
@@ -150,10 +150,6 @@ known_at_from m (Some x) f e = ap (λ (g : Function). known_as m g.name) (sym (s
 
 pub callee_from : {S : Type 0} (m : IndexMap (String Global) ℕ S) (fs : List (Function × Span)) (h : ℕ) (f : Function) → Some f ≡ option_map (λ (e : Function × Span). e.0) (slice_get fs h) → callee_at m fs h ≡ known_as m f.name
 callee_from m fs h f e = known_at_from m (slice_get fs h) f e
-
-pub none_if : {A : Type 0} (o : Option A) → ((x : A) → o ≡ Some x → ⊥) → o ≡ None
-none_if None f = refl
-none_if (Some x) f = absurd (f x refl)
 
 -- a function that can be called though its name isn't known can be copied, where calls go less deep
 pub unknown_callee : (source : Module) (fs : Functions) (n h : ℕ) (e : Function × Span) → callee_at fs.names source.functions h ≡ None → slice_get source.functions h ≡ Some e → IsCallable source fs n h → (m : ℕ) × (n ≡ suc m) × IsSome e.0.name × IsImportable source fs m e.0

@@ -1,4 +1,3 @@
-pub mod RenamingLemmas
 pub mod TreeLemmas
 pub mod WorldLemmas
 pub mod FetchLemmas
@@ -27,10 +26,6 @@ pub mod AnsweredLaws
 pub mod PuttingLemmas
 pub mod SourceValues
 pub mod Derivations
-pub mod WalkLemmas
-pub mod WalkForm
-pub mod WalkNotes
-pub mod FunctionWalk
 pub mod RankLemmas
 pub mod SpecialLemmas
 pub mod DeriveLemmas
@@ -38,11 +33,12 @@ pub mod CopySteps
 pub mod CopyLoops
 pub mod Localizing
 pub mod LocalSteps
-pub mod NamingLemmas
-pub mod ReachSteps
 pub mod AddingLemmas
 pub mod AddingLaws
 pub mod ImportSteps
+pub mod PendingLemmas
+pub mod FoundLemmas
+pub mod WaitingLemmas
 pub mod FunctionValues
 pub mod MeaningLemmas
 pub mod HavingLemmas

@@ -16,17 +16,17 @@ use Rattle.naga_oil_ir.specs.WellFormed.{initialisers}
 use Rattle.naga_oil_ir.specs.declared.expression.Expression.{Expression}
 use Rattle.naga_oil_ir.specs.declared.module.Function.{Function}
 use Rattle.naga_oil_ir.specs.declared.span.Span.{Span}
-use Rattle.naga_oil_derive.specs.Renames.{Renames}
-use Rattle.naga_oil_derive.specs.Walk.{listed, walked, AreWithin, IsReachOrder}
-use Rattle.naga_oil_derive.specs.Walks.{Walks}
+use Rattle.naga_oil_rename.specs.Renames.{Renames}
+use Rattle.naga_oil_walk.specs.Walk.{listed, walked, AreWithin, IsReachOrder}
+use Rattle.naga_oil_walk.specs.Walks.{Walks}
 use Rattle.naga_oil_derive.specs.Copies.{Table, value_links, FitIn}
 use Rattle.naga_oil_derive.specs.Functions.{begun, order_of, named_values, names_under, name_put}
 use Rattle.naga_oil_derive.specs.CopiedFunction.{ExpressionState, expression_state, copy_expressions}
-use Rattle.naga_oil_derive.specs.declared.walk.Walk.{Walk}
+use Rattle.naga_oil_walk.specs.declared.walk.Walk.{Walk}
 use Rattle.naga_oil_derive.proofs.CopyLoops.{links_of_values}
 use Rattle.naga_oil_derive.proofs.FunctionLaws.{placed_upto}
 use Rattle.naga_oil_derive.proofs.Localizing.{kinds_of_values, inits_of_values, names-push}
-use Rattle.naga_oil_derive.proofs.WalkNotes.{added-grows}
+use Rattle.naga_oil_walk.proofs.WalkNotes.{added-grows}
 
 -- ---- what a walk lists
 

@@ -16,10 +16,10 @@ use Rattle.naga_oil_ir.specs.declared.span.Span.{Span}
 use Rattle.naga_oil_ir.specs.declared.tokens.Token.{Token}
 use Rattle.naga_oil_ir.specs.declared.tokens.Token.TheVariants.{Emitted}
 use Rattle.naga_oil_ir.specs.declared.types.LocalVariable.{LocalVariable}
-use Rattle.naga_oil_derive.specs.Walk.{Notes, StandsFrom, IsNoted, AreNoted, AreWithin, others, listed, walked}
+use Rattle.naga_oil_walk.specs.Walk.{Notes, StandsFrom, IsNoted, AreNoted, AreWithin, others, listed, walked}
 use Rattle.naga_oil_derive.specs.Copies.{Table, place_under, brought, brought_range, range_under, FitIn}
 use Rattle.naga_oil_derive.specs.Functions.{IsCovered, AreCovered, local_values, names_under, name_put}
-use Rattle.naga_oil_derive.proofs.WalkNotes.{added-grows}
+use Rattle.naga_oil_walk.proofs.WalkNotes.{added-grows}
 
 -- ---- the values of a function
 

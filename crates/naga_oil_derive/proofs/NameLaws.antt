@@ -11,7 +11,7 @@ use Rattle.naga_oil_derive.specs.Copies.{Table}
 use Rattle.naga_oil_derive.specs.CopiedFunction.{copy_function}
 use Rattle.naga_oil_derive.specs.CopiedFunctionLaw.{table_of, is_copied_to, named_copies, NameLaw}
 use Rattle.naga_oil_derive.specs.Functions.{name_put, names_under}
-use Rattle.naga_oil_derive.proofs.WalkLemmas.{added-append}
+use Rattle.naga_oil_walk.proofs.WalkLemmas.{added-append}
 
 abbrev Names : Type 0
 Names = List (ℕ × List ℕ)

@@ -14,7 +14,7 @@ use Rattle.naga_oil_ir.specs.declared.span.Span.{Span}
 use Rattle.naga_oil_ir.specs.declared.tokens.Token.{Token}
 use Rattle.naga_oil_ir.specs.declared.tokens.Token.TheVariants.{Emitted}
 use Rattle.naga_oil_ir.proofs.LinkLemmas.{slice_get-set_same, slice_get-set_other}
-use Rattle.naga_oil_derive.specs.Walk.{externals, others, listed, brief, Notes, noted, notes_of, notes_after, AreWithin}
+use Rattle.naga_oil_walk.specs.Walk.{externals, others, listed, brief, Notes, noted, notes_of, notes_after, AreWithin}
 use Rattle.naga_oil_derive.specs.Copies.{value_links}
 use Rattle.naga_oil_derive.specs.CopiedFunction.{notes_in}
 use Rattle.naga_oil_derive.specs.CopiedFunctionLaw.{MayBeCopied, EmitsAt, Counts, put_before}
@@ -22,9 +22,9 @@ use Rattle.naga_oil_derive.specs.DerivedFunctions.{kinds_in, named_in, initialis
 use Rattle.naga_oil_derive.specs.Functions.{begun}
 use Rattle.naga_oil_derive.proofs.FunctionForm.{plain_values, started_ready}
 use Rattle.naga_oil_derive.proofs.Localizing.{places_empty}
-use Rattle.naga_oil_derive.proofs.WalkForm.{IsPlain, IsUnder, step, stand_range, same_externals, covers_under, under_externals, has_externals, under_start}
-use Rattle.naga_oil_derive.proofs.WalkLemmas.{added-append}
-use Rattle.naga_oil_derive.proofs.WalkNotes.{added-longer, noted_at, noted_long, noted_stays, has_first, token_at, body_at, no_notes}
+use Rattle.naga_oil_walk.proofs.WalkForm.{IsPlain, IsUnder, step, stand_range, same_externals, covers_under, under_externals, has_externals, under_start}
+use Rattle.naga_oil_walk.proofs.WalkLemmas.{added-append}
+use Rattle.naga_oil_walk.proofs.WalkNotes.{added-longer, noted_at, noted_long, noted_stays, has_first, token_at, body_at, no_notes}
 
 -- ---- what is noted of one range
 

@@ -15,8 +15,8 @@ use Rattle.naga_oil_ir.specs.declared.names.ItemPlace.TheVariants.{TypeItem, Con
 use Rattle.naga_oil_ir.specs.declared.span.Span.{Span}
 use Rattle.naga_oil_ir.proofs.LinkLemmas.{slice_get-set_same, slice_get-set_other, slice_get-append_at}
 use Rattle.naga_oil_derive.specs.Equal.{row_eq, parts_eq}
-use Rattle.naga_oil_derive.specs.Renames.{rename, rename_place, rename_row}
-use Rattle.naga_oil_derive.specs.World.{Places, goes, world, span_at, shifted, Extends, under_name}
+use Rattle.naga_oil_rename.specs.Renames.{rename, rename_place, rename_row, under_name}
+use Rattle.naga_oil_derive.specs.World.{Places, goes, world, span_at, shifted, Extends}
 use Rattle.naga_oil_derive.specs.Copying.{NameGoesTo, IsCopyOf, Puts, Fetches, WentSomewhere}
 use Rattle.naga_oil_derive.specs.Copied.{CopyState, renames_by, place_in, with_item_in, of_item, with_type, with_constant, with_override, with_global, with_expression, put_type, put}
 use Rattle.naga_oil_derive.specs.CopiedLaw.{IsKinded, place_number, kind_number, spans_by, AreRoomy, AddsWith, PutsOne, IsReady}

@@ -26,8 +26,8 @@ use Rattle.naga_oil_ir.proofs.ItemEquality.{type_decides, constant_decides, over
 use Rattle.naga_oil_ir.proofs.ExpressionEquality.{same, back}
 use Rattle.naga_oil_derive.specs.declared.maps.Maps.{Maps}
 use Rattle.naga_oil_derive.specs.Equal.{row_eq, parts_eq}
-use Rattle.naga_oil_derive.specs.Renames.{rename, rename_row}
-use Rattle.naga_oil_derive.specs.World.{value_of, shifted, under_name}
+use Rattle.naga_oil_rename.specs.Renames.{rename, rename_row, under_name}
+use Rattle.naga_oil_derive.specs.World.{value_of, shifted}
 use Rattle.naga_oil_derive.specs.Copying.{places_of, renames_under}
 use Rattle.naga_oil_derive.specs.Copied.{CopyState, copy_state, place_in, with_item_in, of_item, put_type, put}
 use Rattle.naga_oil_derive.proofs.EqualLemmas.{row_eq-decides, parts_eq-decides}

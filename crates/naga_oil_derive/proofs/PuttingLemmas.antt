@@ -9,7 +9,8 @@ use Rattle.naga_oil_ir.specs.declared.names.ItemPlace.{ItemPlace}
 use Rattle.naga_oil_ir.specs.declared.names.ItemPlace.TheVariants.{TypeItem}
 use Rattle.naga_oil_derive.specs.declared.maps.Maps.{Maps}
 use Rattle.naga_oil_derive.specs.Tree.{Kept}
-use Rattle.naga_oil_derive.specs.World.{goes, value_of, world, Extends, under_name}
+use Rattle.naga_oil_rename.specs.Renames.{under_name}
+use Rattle.naga_oil_derive.specs.World.{goes, value_of, world, Extends}
 use Rattle.naga_oil_derive.specs.Copying.{IsThere, AreRanked, IsCopying, Grows, WentSomewhere, AreNames, goes_under, source_world, kept_between}
 use Rattle.naga_oil_derive.specs.Copied.{CopyState, copy_state, put, put_type, copy_item, copy_all}
 use Rattle.naga_oil_derive.specs.CopiedLaw.{IsKinded, HasAt, IsBelowIn, IsCopyable, reads_now, spans_by, IsMidway, IsReady}

@@ -13,8 +13,8 @@ use Rattle.naga_oil_ir.specs.ModuleValue.{FunctionValue}
 use Rattle.naga_oil_ir.specs.declared.span.Span.{Span}
 use Rattle.naga_oil_ir.specs.declared.tokens.Token.{Token}
 use Rattle.naga_oil_ir.specs.declared.tokens.Token.TheVariants.{Emitted}
-use Rattle.naga_oil_derive.specs.Renames.{Renames, rename_token}
-use Rattle.naga_oil_derive.specs.Walk.{IsReachOrder, externals, others, listed, Notes}
+use Rattle.naga_oil_rename.specs.Renames.{Renames, rename_token}
+use Rattle.naga_oil_walk.specs.Walk.{IsReachOrder, externals, others, listed, Notes}
 use Rattle.naga_oil_derive.specs.Copies.{Values, Table, place_under, value_links, copied, FitIn, brought, brought_range, range_under}
 use Rattle.naga_oil_derive.specs.CopiedFunction.{ExpressionState, copy_expression, copy_expressions, expressions_upto, body_renames, notes_in, copy_function}
 use Rattle.naga_oil_derive.specs.CopiedFunctionLaw.{MayBeCopied, EmitsAt, LeadsAt, put_before, copies_of, range_from, RangeLaw}
@@ -26,8 +26,8 @@ use Rattle.naga_oil_derive.proofs.FunctionForm.{walk_of_value, begun_first}
 use Rattle.naga_oil_derive.proofs.FunctionLaws.{step_copied, placed_upto, copied_value}
 use Rattle.naga_oil_derive.proofs.Localizing.{covered, notes_fit, places_empty, run_length}
 use Rattle.naga_oil_derive.proofs.NoteLaws.{before, note, emitted_first, notes_count, counted_note}
-use Rattle.naga_oil_derive.proofs.WalkLemmas.{added-append}
-use Rattle.naga_oil_derive.proofs.WalkNotes.{added-grows}
+use Rattle.naga_oil_walk.proofs.WalkLemmas.{added-append}
+use Rattle.naga_oil_walk.proofs.WalkNotes.{added-grows}
 
 -- ---- how many copies there are
 

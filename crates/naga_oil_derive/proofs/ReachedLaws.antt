@@ -14,8 +14,8 @@ use Rattle.naga_oil_ir.specs.declared.span.Span.{Span}
 use Rattle.naga_oil_ir.specs.declared.tokens.Token.{Token}
 use Rattle.naga_oil_ir.specs.declared.tokens.Token.TheVariants.{Use, Give, GiveCall, Emitted}
 use Rattle.naga_oil_ir.proofs.LinkLemmas.{same_bool, eqb_eq, eq_eqb, only, itself, All-has, has-append, has-added, has-started, in_one, in_all}
-use Rattle.naga_oil_derive.specs.Renames.{Renames}
-use Rattle.naga_oil_derive.specs.Walk.{externals, listed}
+use Rattle.naga_oil_rename.specs.Renames.{Renames}
+use Rattle.naga_oil_walk.specs.Walk.{externals, listed}
 use Rattle.naga_oil_derive.specs.Copies.{Values, Table, place_under, copied, value_links, AreCopies}
 use Rattle.naga_oil_derive.specs.CopiedFunction.{copy_expressions, copy_function}
 use Rattle.naga_oil_derive.specs.CopiedFunctionLaw.{MayBeCopied, spoken, reached_in, ReachedLaw}
@@ -25,8 +25,8 @@ use Rattle.naga_oil_derive.proofs.CopyLoops.{there}
 use Rattle.naga_oil_derive.proofs.CopySteps.{has_copy}
 use Rattle.naga_oil_derive.proofs.FunctionForm.{walk_of_value}
 use Rattle.naga_oil_derive.proofs.FunctionLaws.{copied_value}
-use Rattle.naga_oil_derive.proofs.WalkForm.{externals_in}
-use Rattle.naga_oil_derive.proofs.WalkLemmas.{ends_trail, trail_in}
+use Rattle.naga_oil_walk.proofs.WalkForm.{externals_in}
+use Rattle.naga_oil_walk.proofs.WalkLemmas.{ends_trail, trail_in}
 
 -- ---- what is listed is reached
 

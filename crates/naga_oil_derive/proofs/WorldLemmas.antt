@@ -11,7 +11,8 @@ use Rattle.naga_oil_ir.specs.Parts.{Parts, parts}
 use Rattle.naga_oil_ir.specs.ModuleValue.{ModuleValue}
 use Rattle.naga_oil_ir.specs.Rows.{Row, Kind, TypeKind, ConstantKind, OverrideKind, GlobalKind, ExpressionKind, Text, inner_row, type_row, constant_row, override_row, global_row, expression_row, parts_row}
 use Rattle.naga_oil_derive.specs.Tree.{World}
-use Rattle.naga_oil_derive.specs.World.{value_of, world, Begins, Extends, named_world, under_name, name_at}
+use Rattle.naga_oil_rename.specs.Renames.{under_name}
+use Rattle.naga_oil_derive.specs.World.{value_of, world, Begins, Extends, named_world, name_at}
 
 -- ---- what stands at the places of a module, by its arenas
 

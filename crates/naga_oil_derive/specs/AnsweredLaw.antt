@@ -3,8 +3,8 @@ use Rattle.std.specs.Prelude.{ℕ, ◌≡◌, List, [], ◌∷◌, map, slice_ge
 use Rattle.naga_oil_ir.specs.BodyForm.{callee, MayStand}
 use Rattle.naga_oil_ir.specs.ModuleValue.{FunctionValue}
 use Rattle.naga_oil_ir.specs.declared.span.Span.{Span}
-use Rattle.naga_oil_derive.specs.declared.walk.Request.{Request}
-use Rattle.naga_oil_derive.specs.declared.walk.Request.TheVariants.{Call}
+use Rattle.naga_oil_walk.specs.declared.walk.Request.{Request}
+use Rattle.naga_oil_walk.specs.declared.walk.Request.TheVariants.{Call}
 use Rattle.naga_oil_derive.specs.Copies.{value_links}
 use Rattle.naga_oil_derive.specs.CopiedFunction.{copy_function}
 use Rattle.naga_oil_derive.specs.Derived.{Source, Derived}
@@ -14,7 +14,7 @@ use Rattle.naga_oil_derive.specs.DerivedValue.{importing_of, after_importing, an
 use Rattle.naga_oil_derive.specs.Answered.{ImportState}
 use Rattle.naga_oil_derive.specs.Putting.{Adding}
 use Rattle.naga_oil_derive.specs.Functions.{Copies}
-use Rattle.naga_oil_derive.specs.Renames.{Renames}
+use Rattle.naga_oil_rename.specs.Renames.{Renames}
 use Rattle.naga_oil_derive.specs.Tree.{Kept}
 
 -- a function passes the test of form, but for its calls

@@ -10,8 +10,8 @@ use Rattle.naga_oil_ir.specs.declared.names.ItemPlace.{ItemPlace}
 use Rattle.naga_oil_ir.specs.declared.names.ItemPlace.TheVariants.{TypeItem, ConstantItem, OverrideItem, GlobalItem, ExpressionItem}
 use Rattle.naga_oil_derive.specs.declared.maps.Maps.{Maps}
 use Rattle.naga_oil_derive.specs.Equal.{row_eq, parts_eq}
-use Rattle.naga_oil_derive.specs.Renames.{Renames, rename, rename_row}
-use Rattle.naga_oil_derive.specs.World.{Places, goes, value_of, world, shifted, under_name}
+use Rattle.naga_oil_rename.specs.Renames.{Renames, rename, rename_row, under_name}
+use Rattle.naga_oil_derive.specs.World.{Places, goes, value_of, world, shifted}
 use Rattle.naga_oil_derive.specs.Collected.{depth}
 use Rattle.naga_oil_derive.specs.Copying.{handle_under, places_of}
 

@@ -11,12 +11,12 @@ use Rattle.naga_oil_ir.specs.declared.module.Function.{Function}
 use Rattle.naga_oil_ir.specs.declared.span.Span.{Span}
 use Rattle.naga_oil_ir.specs.declared.tokens.Token.{Token}
 use Rattle.naga_oil_ir.specs.declared.tokens.Token.TheVariants.{Use, Give, GiveCall, Emitted}
-use Rattle.naga_oil_derive.specs.Renames.{Renames}
+use Rattle.naga_oil_rename.specs.Renames.{Renames}
 use Rattle.naga_oil_derive.specs.Copies.{Values, Table, place_under, copied, value_links}
 use Rattle.naga_oil_derive.specs.CopiedFunction.{copy_expressions, copy_function}
 use Rattle.naga_oil_derive.specs.DerivedFunctions.{kinds_in, named_in, initialisers_in}
 use Rattle.naga_oil_derive.specs.Functions.{Copies, begun, order_of}
-use Rattle.naga_oil_derive.specs.Walk.{externals, others, walked}
+use Rattle.naga_oil_walk.specs.Walk.{externals, others, walked}
 
 -- external expressions and results have no operands
 abbrev pub StandAlone : Values → Type 0

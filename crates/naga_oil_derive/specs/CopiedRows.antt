@@ -7,7 +7,7 @@ use Rattle.naga_oil_ir.specs.declared.expression.Expression.{Expression}
 use Rattle.naga_oil_ir.specs.declared.expression.Expression.TheVariants.{Literal, FunctionArgument, Splat, Unary, Binary}
 use Rattle.naga_oil_ir.specs.declared.span.Span.{Span}
 use Rattle.naga_oil_ir.specs.declared.tokens.Token.TheVariants.{Head, Use, Emitted}
-use Rattle.naga_oil_derive.specs.Renames.{Renames}
+use Rattle.naga_oil_rename.specs.Renames.{Renames}
 use Rattle.naga_oil_derive.specs.World.{shifted}
 use Rattle.naga_oil_derive.specs.Functions.{order_of}
 use Rattle.naga_oil_derive.specs.CopiedFunction.{copy_function, expressions_upto}

@@ -6,8 +6,8 @@ use Rattle.naga_oil_ir.specs.Parts.{Parts}
 use Rattle.naga_oil_ir.specs.Links.{Links, has, added}
 use Rattle.naga_oil_ir.specs.BodyForm.{run}
 use Rattle.naga_oil_ir.specs.declared.span.Span.{Span}
-use Rattle.naga_oil_derive.specs.Renames.{Renames, rename}
-use Rattle.naga_oil_derive.specs.Walk.{Notes}
+use Rattle.naga_oil_rename.specs.Renames.{Renames, rename}
+use Rattle.naga_oil_walk.specs.Walk.{Notes}
 
 -- expressions with their spans
 abbrev pub Values : Type 0

@@ -10,7 +10,7 @@ use Rattle.naga_oil_ir.specs.declared.names.ItemPlace.{ItemPlace}
 use Rattle.naga_oil_ir.specs.declared.names.ItemPlace.TheVariants.{TypeItem, ConstantItem, OverrideItem, GlobalItem, ExpressionItem}
 use Rattle.naga_oil_derive.specs.declared.maps.Maps.{Maps}
 use Rattle.naga_oil_derive.specs.declared.special.SpecialKey.{SpecialKey}
-use Rattle.naga_oil_derive.specs.Renames.{Renames}
+use Rattle.naga_oil_rename.specs.Renames.{Renames}
 use Rattle.naga_oil_derive.specs.Tree.{World, Kept}
 use Rattle.naga_oil_derive.specs.World.{Places, goes, value_of, world, shifted, Extends, named_world, kept_of}
 use Rattle.naga_oil_derive.specs.Collected.{depth}

@@ -13,14 +13,14 @@ use Rattle.naga_oil_ir.specs.declared.names.ItemPlace.{ItemPlace}
 use Rattle.naga_oil_ir.specs.declared.names.ItemPlace.TheVariants.{TypeItem}
 use Rattle.naga_oil_ir.specs.declared.parts.Named.{Named}
 use Rattle.naga_oil_ir.specs.declared.span.Span.{Span}
-use Rattle.naga_oil_derive.specs.declared.walk.Request.{Request}
-use Rattle.naga_oil_derive.specs.declared.walk.Request.TheVariants.{Item, Call}
-use Rattle.naga_oil_derive.specs.Renames.{Renames}
+use Rattle.naga_oil_walk.specs.declared.walk.Request.{Request}
+use Rattle.naga_oil_walk.specs.declared.walk.Request.TheVariants.{Item, Call}
+use Rattle.naga_oil_rename.specs.Renames.{Renames}
 use Rattle.naga_oil_derive.specs.World.{world, shifted, Begins, Extends}
 use Rattle.naga_oil_derive.specs.Copying.{handle_under}
 use Rattle.naga_oil_derive.specs.Copies.{value_links}
 use Rattle.naga_oil_derive.specs.Functions.{Copies}
-use Rattle.naga_oil_derive.specs.Naming.{names_from, token_names}
+use Rattle.naga_oil_walk.specs.Naming.{names_from, token_names}
 use Rattle.naga_oil_derive.specs.Derived.{Source, Derived, IsImported, ReadsAsBefore, Keeps, KeepsSource}
 
 -- ---- functions by their names

@@ -13,8 +13,8 @@ use Rattle.naga_oil_ir.specs.declared.module.FunctionResult.{FunctionResult}
 use Rattle.naga_oil_ir.specs.declared.span.Span.{Span}
 use Rattle.naga_oil_ir.specs.declared.tokens.Token.{Token}
 use Rattle.naga_oil_ir.specs.declared.tokens.Token.TheVariants.{Emitted}
-use Rattle.naga_oil_derive.specs.Renames.{Renames, rename_tokens}
-use Rattle.naga_oil_derive.specs.Walk.{walked, others}
+use Rattle.naga_oil_rename.specs.Renames.{Renames, rename_tokens}
+use Rattle.naga_oil_walk.specs.Walk.{walked, others}
 use Rattle.naga_oil_derive.specs.Copies.{Table, place_under, under_table, value_links, AreCopies}
 
 -- names as plain data

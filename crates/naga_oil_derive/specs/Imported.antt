@@ -8,10 +8,10 @@ use Rattle.naga_oil_ir.specs.declared.module.Module.{Module}
 use Rattle.naga_oil_ir.specs.declared.module.Function.{Function}
 use Rattle.naga_oil_derive.specs.Copying.{IsThere}
 use Rattle.naga_oil_derive.specs.Callees.{callee_at}
-use Rattle.naga_oil_derive.specs.Naming.{function_names}
+use Rattle.naga_oil_walk.specs.Naming.{function_names}
 use Rattle.naga_oil_derive.specs.declared.import.Functions.{Functions}
-use Rattle.naga_oil_derive.specs.declared.walk.Request.{Request}
-use Rattle.naga_oil_derive.specs.declared.walk.Request.TheVariants.{Item, Call}
+use Rattle.naga_oil_walk.specs.declared.walk.Request.{Request}
+use Rattle.naga_oil_walk.specs.declared.walk.Request.TheVariants.{Item, Call}
 
 -- ---- what can be copied
 

@@ -1,11 +1,8 @@
 -- The definitions that the contracts of this crate cite.
-pub mod Renames
 pub mod Tree
 pub mod World
 pub mod Collected
 pub mod Copying
-pub mod Walk
-pub mod Walks
 pub mod Copyable
 pub mod Derived
 pub mod DerivedView
@@ -14,7 +11,6 @@ pub mod Expressions
 pub mod Callees
 pub mod Went
 pub mod Functions
-pub mod Naming
 pub mod Imported
 pub mod DerivedFunctions
 pub mod DerivedEntries
@@ -30,3 +26,5 @@ pub mod Putting
 pub mod DerivedLaw
 pub mod CopiedFunctionLaw
 pub mod AnsweredLaw
+pub mod Pending
+pub mod Waiting

@@ -3,7 +3,7 @@ use Rattle.std.specs.Prelude.{ℕ, unwrap_or, String}
 use Rattle.std.specs.Global.{Global}
 use Rattle.indexmap.specs.IndexMap.{IndexMap}
 use Rattle.naga_oil_ir.specs.declared.module.Module.{Module}
-use Rattle.naga_oil_derive.specs.Renames.{Renames}
+use Rattle.naga_oil_rename.specs.Renames.{Renames}
 use Rattle.naga_oil_derive.specs.Copying.{renames_under}
 use Rattle.naga_oil_derive.specs.Callees.{callee_at}
 use Rattle.naga_oil_derive.specs.declared.import.Went.{Went}

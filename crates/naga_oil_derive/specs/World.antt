@@ -11,6 +11,7 @@ use Rattle.naga_oil_ir.specs.declared.names.ItemPlace.TheVariants.{TypeItem, Con
 use Rattle.naga_oil_derive.specs.declared.special.SpecialKey.{SpecialKey}
 use Rattle.naga_oil_derive.specs.declared.special.SpecialKey.TheVariants.{RayDesc, RayIntersection, RayVertexReturn, Predeclared}
 use Rattle.naga_oil_derive.specs.Tree.{World, Kept}
+use Rattle.naga_oil_rename.specs.Renames.{under_name}
 
 -- a module as plain data
 unfoldable pub value_of : Module → ModuleValue
@@ -70,11 +71,6 @@ goes m (ConstantItem k) = option_map ConstantItem (option_flatten (slice_get m.c
 goes m (OverrideItem k) = option_map OverrideItem (option_flatten (slice_get m.overrides k))
 goes m (GlobalItem k) = option_map GlobalItem (option_flatten (slice_get m.global_variables k))
 goes m (ExpressionItem k) = option_map ExpressionItem (option_flatten (slice_get m.global_expressions k))
-
--- a row under another name, if one is given
-abbrev pub under_name : Option Text → Row → Row
-under_name None r = r
-under_name (Some n) r = record { label = record { kind = r.label.kind; name = n; plain = r.label.plain; members = r.label.members }; names = r.names }
 
 -- the name of what stands at a place, if one is given and something stands there
 abbrev pub name_at : World → Option ItemPlace → Option Text

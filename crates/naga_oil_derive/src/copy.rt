@@ -1,9 +1,11 @@
 //! Items that are copied with what they name.
-ghost use Rattle.std.specs.Prelude.{◌≡◌, All, Some, IfOk, OnOk, OnErr, option_map, option_copied, string_bytes};
+ghost use Rattle.std.specs.Prelude.{◌≡◌, ◌<◌, ◌+◌, ◌++◌, ◌∷◌, [], All, Some, IfSome, IfOk, OnOk, OnErr, option_map, option_copied, string_bytes};
+ghost use Rattle.std.specs.List.{sum_by};
 ghost use Rattle.naga_oil_derive.specs.World.{value_of, world};
 ghost use Rattle.naga_oil_derive.specs.Copied.{copy_state, put_type, put, copy_item, copy_all, copy_named_type};
-ghost use Rattle.naga_oil_derive.specs.Copying.{IsThere, AreRanked, IsBelowItem, AreLong, IsCopying, AreNames, special_names};
+ghost use Rattle.naga_oil_derive.specs.Copying.{IsThere, AreRanked, IsBelowItem, AreLong, IsCopying, AreNames, goes_under, special_names};
 ghost use Rattle.naga_oil_derive.specs.Putting.{Putting, TypePutting};
+ghost use Rattle.naga_oil_derive.specs.Waiting.{AreWaiting, Awaits, finish, finish_all, steps};
 
 use super::*;
 
@@ -27,6 +29,15 @@ fn names_at(source: &Module, item: ItemPlace, alloc: Global) -> Tried<NameList>
         ItemPlace::GlobalItem(h) => names_of(source.global_variables.try_get(h), alloc),
         ItemPlace::ExpressionItem(h) => names_of(source.global_expressions.try_get(h), alloc),
     }
+}
+
+/// An item that is copied once what it names is.
+#[derive(Drop)]
+pub struct Waiting {
+    pub item: ItemPlace,
+    pub names: NameList,
+    /// How many of the names are copied.
+    pub copied: usize,
 }
 
 /// What is copied: where the items of a source went, and the module that they went into.
@@ -96,8 +107,78 @@ impl Copying {
         }
     }
 
+    /// What a name asks for: what it names waits, unless that went somewhere.
+    fn awaited(&self, source: &Module, name: &Option<ItemPlace>) -> Tried<Option<Waiting>>
+        requires { IfSome name.now (IsThere source.now) }
+        ensures { IfOk result (Awaits source.now (goes_under self.now.maps) name.now) }
+    {
+        let Some(item) = name else { return Ok(None) };
+        if self.maps.has_gone(*item) {
+            return Ok(None);
+        }
+        let names = names_at(source, *item, self.alloc)?;
+        Ok(Some(Waiting {
+            item: *item,
+            names,
+            copied: 0,
+        }))
+    }
+
+    /// Goes on to the next that an item names, or copies the item if none is left.
+    fn copy_next(&mut self, source: &Module, mut top: Waiting, waiting: &mut Vec<Waiting>) -> Tried
+        requires ranked { AreRanked source.now }
+        requires copying { IsCopying source.now self.old.target self.old.maps }
+        requires waiting { let went = goes_under self.old.maps in
+            AreWaiting source.now went (waiting.old.items ++ top ∷ []) }
+        ensures waiting { let went = goes_under self.new.maps in
+            OnOk result (AreWaiting source.now went waiting.new.items) }
+        ensures copied { let m = value_of source.now in
+            let shift = self.old.maps.offset in
+            let old = copy_state self.old.maps self.old.target in
+            let new = copy_state self.new.maps self.new.target in
+            let made = finish_all m shift (finish m shift old top) waiting.old.items in
+            OnOk result (finish_all m shift new waiting.new.items ≡ made) }
+        ensures fewer { let m = value_of source.now in
+            let old = sum_by (steps m) waiting.old.items in
+            OnOk result (sum_by (steps m) waiting.new.items < old + steps m top) }
+        ensures putting { let old = copy_state self.old.maps self.old.target in
+            let new = copy_state self.new.maps self.new.target in
+            Putting (value_of source.now) self.old.maps.offset old new }
+        ensures offset { self.new.maps.offset ≡ self.old.maps.offset }
+    {
+        let Some(name) = top.names.get(top.copied).copied() else {
+            return self.copy_alone(source, top.item);
+        };
+        let behind = self.awaited(source, &name)?;
+        top.copied += 1;
+        waiting.push(top)?;
+        if let Some(behind) = behind {
+            waiting.push(behind)?;
+        }
+        Ok(())
+    }
+
+    /// Copies the items that wait, the last one first, each behind what it names.
+    fn copy_waiting(&mut self, source: &Module, mut waiting: Vec<Waiting>) -> Tried
+        requires ranked { AreRanked source.now }
+        requires copying { IsCopying source.now self.old.target self.old.maps }
+        requires waiting { AreWaiting source.now (goes_under self.old.maps) waiting.items }
+        ensures copied { let m = value_of source.now in
+            let old = copy_state self.old.maps self.old.target in
+            let new = copy_state self.new.maps self.new.target in
+            OnOk result (new ≡ finish_all m self.old.maps.offset old waiting.items) }
+        ensures putting { let old = copy_state self.old.maps self.old.target in
+            let new = copy_state self.new.maps self.new.target in
+            Putting (value_of source.now) self.old.maps.offset old new }
+        ensures offset { self.new.maps.offset ≡ self.old.maps.offset }
+    {
+        while let Some(top) = waiting.pop() {
+            self.copy_next(source, top, &mut waiting)?;
+        }
+        Ok(())
+    }
+
     /// Copies what an item names.
-    #[cycle(copying)]
     fn copy_names(&mut self, source: &Module, item: &ItemPlace, list: &[Option<ItemPlace>]) -> Tried
         requires ranked { AreRanked source.now }
         requires below { All (IsBelowItem source.now item.now) list.now }
@@ -118,7 +199,6 @@ impl Copying {
     }
 
     /// Copies the item at a place into the target, and first what it names; what went somewhere before stays there.
-    #[cycle(copying)]
     pub fn copy_item(&mut self, source: &Module, item: &ItemPlace) -> Tried
         requires there { IsThere source.now item.now }
         requires ranked { AreRanked source.now }
@@ -131,13 +211,12 @@ impl Copying {
             Putting (value_of source.now) self.old.maps.offset old new }
         ensures offset { self.new.maps.offset ≡ self.old.maps.offset }
     {
-        if self.maps.has_gone(*item) {
+        let Some(first) = self.awaited(source, &Some(*item))? else {
             return Ok(());
-        }
-        let names = names_at(source, *item, self.alloc)?;
-        self.copy_names(source, item, &names)?;
-        self.copy_alone(source, *item)?;
-        Ok(())
+        };
+        let mut waiting = Vec::new(self.alloc);
+        waiting.push(first)?;
+        self.copy_waiting(source, waiting)
     }
 
     /// Copies a type, under a name if one is given, and first what it names; what went somewhere before stays there.

@@ -13,8 +13,6 @@ pub type Placed<T> = Tried<Handle<T>>;
 
 mod entries;
 mod functions;
-#[cfg(test)]
-mod tests;
 
 /// A module that is put together from items and functions of others, its sources. Equal items merge, and one that was
 /// there keeps its handle and its span.
@@ -74,6 +72,21 @@ impl<'a> DerivedModule<'a> {
         set_specials(&entries, &copying.maps, &mut copying.target.special_types)?;
         self.shader = Some(shader);
         Ok(())
+    }
+
+    /// The source that is set.
+    pub fn source(&self) -> Option<&'a Module>
+        ensures { let set = option_map (λ s. s.value) self.now.source in
+            option_map (λ m. value_of m.now) result ≡ set }
+    {
+        self.shader
+    }
+
+    /// The module so far.
+    pub fn module(&self) -> &Module
+        ensures { value_of result.now ≡ self.now.target }
+    {
+        &self.copying.target
     }
 
     /// Leaves the source.

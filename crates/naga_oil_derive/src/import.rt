@@ -1,15 +1,18 @@
 //! Functions that are copied with those that they call.
-ghost use Rattle.std.specs.Prelude.{◌≡◌, Some, IsSome, OnOk, IfOk};
+ghost use Rattle.std.specs.Prelude.{◌≡◌, ◌<◌, ◌+◌, Some, IsSome, OnOk, IfOk, All};
+ghost use Rattle.std.specs.List.{sum_by};
 ghost use Rattle.naga_oil_ir.specs.ModuleValue.{function_value};
 ghost use Rattle.naga_oil_derive.specs.Callees.{known_as, callee_at};
 ghost use Rattle.naga_oil_derive.specs.Copying.{AreRanked, IsCopying};
 ghost use Rattle.naga_oil_derive.specs.World.{value_of};
 ghost use Rattle.naga_oil_derive.specs.CopiedFunction.{copy_function};
 ghost use Rattle.naga_oil_derive.specs.DerivedFunctions.{requests_of};
-ghost use Rattle.naga_oil_derive.specs.Answered.{import_state, answer_all, import_callee, import_copy as imported_value};
+ghost use Rattle.naga_oil_derive.specs.Answered.{import_state, answer_all, import_callee, import_copy as imported_value, with_function};
 ghost use Rattle.naga_oil_derive.specs.Putting.{Adding};
 ghost use Rattle.naga_oil_derive.specs.Imported.{IsAnswerable, IsImportable};
 ghost use Rattle.naga_oil_derive.specs.Went.{went_by};
+ghost use Rattle.naga_oil_derive.specs.Pending.{IsNew, IsPending, MayWalk, finish, finish_all, call_steps, steps};
+ghost use Rattle.naga_oil_walk.specs.Walks.{Walks};
 
 use super::*;
 
@@ -49,12 +52,169 @@ pub struct Functions {
     pub names: FunctionNames,
 }
 
+/// A function that is copied once what it names is.
+#[derive(Drop)]
+pub struct Pending<'a> {
+    pub function: &'a Function,
+    pub span: Span,
+    /// Its calls of functions whose names aren't known go so deep at most.
+    pub depth: usize,
+    pub walk: Walk,
+    /// How many requests of the walk are answered.
+    pub answered: usize,
+}
+
+impl<'a> Pending<'a> {
+    /// A function of which nothing is answered yet.
+    fn new(function: &'a Function, span: Span, depth: usize, alloc: Global) -> Tried<Self>
+        requires { MayWalk function.now }
+        ensures { IfOk result (IsNew function.now span depth) }
+    {
+        let walk = walk_function(function, alloc)?;
+        Ok(Pending {
+            function,
+            span,
+            depth,
+            walk,
+            answered: 0,
+        })
+    }
+}
+
+/// Puts a copy of a function last, all of whose requests are answered; its name then means the copy.
+fn put(source: &Module, of: &Pending<'_>, copying: &Copying, functions: &mut Functions) -> Tried
+    requires walks { Walks of.now.function.now of.now.walk }
+    requires named { IsSome of.now.function.now.name }
+    ensures value { let shift = copying.now.maps.offset in
+        let old = import_state copying.now.maps copying.now.target functions.old in
+        let new = import_state copying.now.maps copying.now.target functions.new in
+        let v = function_value of.now.function.now in
+        OnOk result (new ≡ with_function (value_of source.now) shift old v of.now.span) }
+    ensures adding { let shift = copying.now.maps.offset in
+        let old = import_state copying.now.maps copying.now.target functions.old in
+        let new = import_state copying.now.maps copying.now.target functions.new in
+        Adding (value_of source.now) shift old new }
+{
+    #[rattlefmt::skip]
+    let names = Went { maps: &copying.maps, source, functions: &functions.names, alloc: copying.alloc };
+    let copy = localized(names, of.function, &of.walk)?;
+    let name = copied_name(&of.function.name)?;
+    let handle = functions.copies.append(copy, copying.maps.span(of.span))?;
+    if let Some(name) = name {
+        functions.names.insert(name, handle)?;
+    }
+    Ok(())
+}
+
+/// Adds the function that is called to those that are pending, if its name isn't known.
+fn open<'a>(
+    source: &'a Module,
+    handle: Handle<Function>,
+    depth: usize,
+    pending: &mut Vec<Pending<'a>>,
+    copying: &Copying,
+    functions: &Functions,
+) -> Tried
+    requires ranked { AreRanked source.now }
+    requires copying { IsCopying source.now copying.now.target copying.now.maps }
+    requires answerable { IsAnswerable source.now functions.now depth (Request.Call handle) }
+    requires pending { All (IsPending source.now functions.now) pending.old.items }
+    ensures pending { OnOk result (All (IsPending source.now functions.now) pending.new.items) }
+    ensures value { let m = value_of source.now in
+        let shift = copying.now.maps.offset in
+        let now = import_state copying.now.maps copying.now.target functions.now in
+        let made = finish_all m shift (import_callee depth m shift now handle) pending.old.items in
+        OnOk result (finish_all m shift now pending.new.items ≡ made) }
+    ensures fewer { let m = value_of source.now in
+        let old = sum_by (steps m) pending.old.items in
+        OnOk result (sum_by (steps m) pending.new.items < old + call_steps depth m handle) }
+{
+    let Some(callee) = source.functions.try_get(handle) else {
+        return Ok(());
+    };
+    if known_as(&functions.names, &callee.name).is_some() {
+        return Ok(());
+    }
+    let span = source.functions.get_span(handle);
+    let added = Pending::new(callee, span, depth - 1, copying.alloc)?;
+    pending.push(added)?;
+    Ok(())
+}
+
+/// Answers the next request of a function, or puts its copy if none is left.
+fn advance<'a>(
+    source: &'a Module,
+    mut top: Pending<'a>,
+    pending: &mut Vec<Pending<'a>>,
+    copying: &mut Copying,
+    functions: &mut Functions,
+) -> Tried
+    requires ranked { AreRanked source.now }
+    requires copying { IsCopying source.now copying.old.target copying.old.maps }
+    requires top { IsPending source.now functions.old top }
+    requires pending { All (IsPending source.now functions.old) pending.old.items }
+    ensures pending { OnOk result (All (IsPending source.now functions.new) pending.new.items) }
+    ensures value { let m = value_of source.now in
+        let shift = copying.old.maps.offset in
+        let old = import_state copying.old.maps copying.old.target functions.old in
+        let new = import_state copying.new.maps copying.new.target functions.new in
+        let made = finish_all m shift (finish m shift old top.entry) pending.old.items in
+        OnOk result (finish_all m shift new pending.new.items ≡ made) }
+    ensures fewer { let m = value_of source.now in
+        let old = sum_by (steps m) pending.old.items in
+        OnOk result (sum_by (steps m) pending.new.items < old + steps m top.entry) }
+    ensures adding { let m = value_of source.now in
+        let shift = copying.old.maps.offset in
+        let old = import_state copying.old.maps copying.old.target functions.old in
+        let new = import_state copying.new.maps copying.new.target functions.new in
+        Adding m shift old new }
+    ensures offset { copying.new.maps.offset ≡ copying.old.maps.offset }
+{
+    let Some(request) = top.walk.requests.get(top.answered).copied() else {
+        return put(source, &top, copying, functions);
+    };
+    let depth = top.depth;
+    top.answered += 1;
+    pending.push(top)?;
+    match request {
+        Request::Item(item) => copying.copy_item(source, &item),
+        Request::Call(handle) => open(source, handle, depth, pending, copying, functions),
+    }
+}
+
+/// Copies the functions that are pending, the last one first, each behind what it names.
+fn copy_pending<'a>(
+    source: &'a Module,
+    mut pending: Vec<Pending<'a>>,
+    copying: &mut Copying,
+    functions: &mut Functions,
+) -> Tried
+    requires ranked { AreRanked source.now }
+    requires copying { IsCopying source.now copying.old.target copying.old.maps }
+    requires pending { All (IsPending source.now functions.old) pending.items }
+    ensures value { let m = value_of source.now in
+        let shift = copying.old.maps.offset in
+        let old = import_state copying.old.maps copying.old.target functions.old in
+        let new = import_state copying.new.maps copying.new.target functions.new in
+        OnOk result (new ≡ finish_all m shift old pending.entry.items) }
+    ensures adding { let m = value_of source.now in
+        let shift = copying.old.maps.offset in
+        let old = import_state copying.old.maps copying.old.target functions.old in
+        let new = import_state copying.new.maps copying.new.target functions.new in
+        Adding m shift old new }
+    ensures offset { copying.new.maps.offset ≡ copying.old.maps.offset }
+{
+    while let Some(top) = pending.pop() {
+        advance(source, top, &mut pending, copying, functions)?;
+    }
+    Ok(())
+}
+
 /// Puts a copy of a function last; its name then means the copy. Calls of functions whose names aren't known go so deep at
 /// most.
-#[cycle(importing)]
-pub fn import(
-    source: &Module,
-    function: &Function,
+pub fn import<'a>(
+    source: &'a Module,
+    function: &'a Function,
     span: Span,
     depth: usize,
     copying: &mut Copying,
@@ -77,17 +237,14 @@ pub fn import(
         Adding m shift old new }
     ensures offset { copying.new.maps.offset ≡ copying.old.maps.offset }
 {
-    let copy = localize(source, function, depth, copying, functions)?;
-    let name = copied_name(&function.name)?;
-    let handle = functions.copies.append(copy, copying.maps.span(span))?;
-    if let Some(name) = name {
-        functions.names.insert(name, handle)?;
-    }
-    Ok(handle)
+    let mut pending = Vec::new(copying.alloc);
+    let first = Pending::new(function, span, depth, copying.alloc)?;
+    pending.push(first)?;
+    copy_pending(source, pending, copying, functions)?;
+    Ok(known_as(&functions.names, &function.name).unwrap())
 }
 
 /// A copy of a function; what it names is copied first.
-#[cycle(importing)]
 pub fn localize(
     source: &Module,
     function: &Function,
@@ -128,7 +285,6 @@ pub fn localize(
 }
 
 /// The function that a callee's name means, copied if the name isn't known.
-#[cycle(importing)]
 pub fn import_callee(
     source: &Module,
     handle: Handle<Function>,
@@ -153,13 +309,10 @@ pub fn import_callee(
         Adding m shift old new }
     ensures offset { copying.new.maps.offset ≡ copying.old.maps.offset }
 {
-    let Some(callee) = source.functions.try_get(handle) else {
-        return Ok(handle);
-    };
-    if let Some(known) = known_as(&functions.names, &callee.name) {
-        return Ok(known);
-    }
-    let span = source.functions.get_span(handle);
-    let depth = depth - 1;
-    import(source, callee, span, depth, copying, functions)
+    let mut pending = Vec::new(copying.alloc);
+    open(source, handle, depth, &mut pending, copying, functions)?;
+    copy_pending(source, pending, copying, functions)?;
+    #[rattlefmt::skip]
+    let names = Went { maps: &copying.maps, source, functions: &functions.names, alloc: copying.alloc };
+    Ok(names.callee(handle).unwrap())
 }

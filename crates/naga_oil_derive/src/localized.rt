@@ -3,7 +3,7 @@ ghost use Rattle.std.specs.Prelude.{◌≡◌, ◌<◌, length, OnOk, IfOk, slic
 ghost use Rattle.std.specs.Option.{option_flatten};
 ghost use Rattle.naga_oil_ir.specs.Parts.{parts};
 ghost use Rattle.naga_oil_ir.specs.ModuleValue.{expression_values, argument_value, local_value, function_value};
-ghost use Rattle.naga_oil_derive.specs.Walks.{Walks};
+ghost use Rattle.naga_oil_walk.specs.Walks.{Walks};
 ghost use Rattle.naga_oil_derive.specs.Went.{went};
 ghost use Rattle.naga_oil_derive.specs.Copies.{under_table, range_under, FitIn};
 ghost use Rattle.naga_oil_derive.specs.CopiedFunction.{copy_place as place_of_copy, with_copy, expression_state, copy_expression, copy_expressions, copy_function};
@@ -116,8 +116,9 @@ pub fn copy_expressions(names: Went<'_>, function: &Function, walk: &Walk) -> Tr
         IfOk result (λ c. expression_state c.table.items c.target ≡ made) }
 {
     let source = function.expressions.as_slice();
+    let room = Vec::with_capacity(names.alloc, walk.places.len())?;
     let mut copies = Copies {
-        target: Arena::new(names.alloc),
+        target: Arena::from_items(room),
         table: nowhere(source.len(), names.alloc)?,
     };
     for at in 0..walk.places.len() {
@@ -146,7 +147,7 @@ impl Copied<'_> {
             let made = map (argument_under r) (map argument_value arguments.now) in
             IfOk result (λ v. map argument_value v.items ≡ made) }
     {
-        let mut copies = Vec::new(self.went.alloc);
+        let mut copies = Vec::with_capacity(self.went.alloc, arguments.len())?;
         for of in arguments {
             let (name, ty) = (copied_name(&of.name)?, self.ty(of.ty));
             copies.push(FunctionArgument { name, ty, ..*of })?;
@@ -161,7 +162,8 @@ impl Copied<'_> {
             let r = under_table (went c.went) c.table.now ranges in
             IfOk result (λ v. local_values v ≡ map (local_under r) (local_values locals.now)) }
     {
-        let mut copies = Arena::new(self.went.alloc);
+        let room = Vec::with_capacity(self.went.alloc, locals.len())?;
+        let mut copies = Arena::from_items(room);
         for local in locals {
             let (name, ty) = (copied_name(&local.0.name)?, self.ty(local.0.ty));
             let init = renamed_option(self, local.0.init);

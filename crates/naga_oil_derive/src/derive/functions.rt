@@ -6,9 +6,6 @@ ghost use Rattle.naga_oil_derive.specs.DerivedFunctions.{having, meant, CanCopy,
 
 use super::*;
 
-#[cfg(test)]
-mod tests;
-
 /// Takes the functions out of a module.
 fn take(target: &mut Module, names: &mut FunctionNames, alloc: Global) -> Functions
     ensures taken { (result.copies ≡ target.old.functions) × (result.names ≡ names.old) }

@@ -9,7 +9,7 @@ use Rattle.naga_oil_derive.proofs.localized.copy_expressions.Goals as goal
 pub loop-at-init : goal.loop-at-init
 loop-at-init c = record {
   room = ap length c.in_ok-nowhere.ensures ∙ length-replicate (length c.as_slice-source.result.now) None;
-  state = upto_start (went c.args.names) c.as_slice-source.result.now c.args.walk.now.places.items c.args.walk.now.began c.in_ok-nowhere.field-0.items c.new.result c.in_ok-nowhere.ensures c.new.ensures;
+  state = upto_start (went c.args.names) c.as_slice-source.result.now c.args.walk.now.places.items c.args.walk.now.began c.in_ok-nowhere.field-0.items c.from_items.result c.in_ok-nowhere.ensures (c.from_items.ensures ∙ c.in_ok-room.ensures.items);
 }
 
 pub loop-at-preserved : goal.loop-at-preserved

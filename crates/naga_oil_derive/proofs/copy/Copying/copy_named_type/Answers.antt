@@ -3,7 +3,7 @@ use Rattle.naga_oil_derive.specs.World.{value_of}
 use Rattle.naga_oil_derive.specs.Copying.{goes_under}
 use Rattle.naga_oil_derive.specs.Copied.{CopyState, copy_state, put_type}
 use Rattle.naga_oil_derive.specs.Putting.{Putting, NothingPut, NoType}
-use Rattle.naga_oil_derive.proofs.CopyLemmas.{none_of}
+use Rattle.naga_oil_walk.proofs.OptionLemmas.{none_of}
 use Rattle.naga_oil_derive.proofs.CopiedLemmas.{named_gone, named_fresh}
 use Rattle.naga_oil_derive.proofs.PuttingLemmas.{putting_copying, putting_type}
 use Rattle.naga_oil_derive.proofs.copy.Copying.copy_named_type.Goals as goal

@@ -2,7 +2,7 @@ use Rattle.std.proofs.Common.{Option, nat_eq, string_bytes, ap, sym, ◌∙◌, 
 use Rattle.std.proofs.lemmas.Iterator.Consumers.{YieldsList-at, YieldsList-end, YieldsList-from_rest}
 use Rattle.naga_oil_derive.specs.Functions.{named_values, names_under, name_put}
 use Rattle.naga_oil_derive.proofs.LocalSteps.{named_put, names_more}
-use Rattle.naga_oil_derive.proofs.ImportSteps.{none_if}
+use Rattle.naga_oil_walk.proofs.OptionLemmas.{none_if}
 use Rattle.indexmap.specs.IndexMap.{insert_entry}
 use Rattle.naga_oil_derive.proofs.localized.Copied.named.Goals as goal
 

@@ -1,0 +1,12 @@
+use Rattle.std.proofs.Common.{◌≡◌, take}
+use Rattle.naga_oil_derive.specs.World.{value_of}
+use Rattle.naga_oil_derive.specs.Copied.{copy_state, copy_all}
+use Rattle.naga_oil_derive.specs.Putting.{Putting}
+use Rattle.naga_oil_derive.proofs.copy.Copying.copy_names.Given as goal
+
+abbrev pub invariant-loop-name : goal.invariant-loop-name
+invariant-loop-name l = record {
+  state : copy_state l.self.maps l.self.target ≡ copy_all (value_of l.source) l.fn.self.maps.offset (copy_state l.fn.self.maps l.fn.self.target) (take l.name-index l.list);
+  putting : Putting (value_of l.source) l.fn.self.maps.offset (copy_state l.fn.self.maps l.fn.self.target) (copy_state l.self.maps l.self.target);
+  offset : l.self.maps.offset ≡ l.fn.self.maps.offset;
+}

@@ -1,0 +1,252 @@
+//! Expressions and bodies, made anew with their handles renamed.
+ghost use Rattle.std.specs.Prelude.{◌≡◌, ℕ, IfOk, map, option_map};
+ghost use Rattle.naga_oil_ir.specs.Parts.{parts, level_code, level_x, level_y, query_code, query_level};
+ghost use Rattle.naga_oil_ir.specs.Body.{used, given, given_by, block_tokens, statement_tokens, case_tokens, ray_query_tokens};
+ghost use Rattle.naga_oil_ir.specs.declared.names.ItemPlace.{ItemPlace};
+ghost use Rattle.naga_oil_rename.specs.Renames.{Renames, rename, rename_place, rename_token, rename_tokens};
+ghost use Rattle.std.specs.List.{flat_map};
+
+use super::*;
+
+/// Says where handles, ranges and spans go.
+pub trait Renaming {
+    ghost renames: { Self → Renames };
+
+    fn ty(&self, handle: Handle<Type>) -> Handle<Type>
+        ensures { result ≡ (renames self.now).ty handle };
+
+    fn constant(&self, handle: Handle<Constant>) -> Handle<Constant>
+        ensures { result ≡ (renames self.now).constant handle };
+
+    fn pipeline_override(&self, handle: Handle<Override>) -> Handle<Override>
+        ensures { result ≡ (renames self.now).pipeline_override handle };
+
+    fn global(&self, handle: Handle<GlobalVariable>) -> Handle<GlobalVariable>
+        ensures { result ≡ (renames self.now).global handle };
+
+    fn function(&self, handle: Handle<Function>) -> Handle<Function>
+        ensures { result ≡ (renames self.now).function handle };
+
+    fn expression(&self, handle: Handle<Expression>) -> Handle<Expression>
+        ensures { result ≡ (renames self.now).expression handle };
+
+    fn range(&self, range: Range<Expression>) -> Range<Expression>
+        ensures { result ≡ (renames self.now).range range };
+
+    fn span(&self, span: Span) -> Span
+        ensures { result ≡ (renames self.now).span span };
+}
+
+/// An operand that may be absent, renamed.
+pub fn renamed_option<R: Renaming>(names: &R, handle: Option<Operand>) -> Option<Operand>
+    ensures handle { result ≡ option_map (R.renames names.now).expression handle }
+    ensures place { let r = R.renames names.now in
+        let place = option_map ItemPlace.ExpressionItem in
+        place result ≡ option_map (rename_place r) (place handle) }
+    ensures used { used result ≡ rename_token (R.renames names.now) (used handle) }
+    ensures given { given result ≡ rename_token (R.renames names.now) (given handle) }
+    ensures given_by { let r = R.renames names.now in
+        (f : ℕ) → given_by (r.function f) result ≡ rename_token r (given_by f handle) }
+{
+    handle.map(|handle| names.expression(handle))
+}
+
+/// Operands, renamed.
+pub fn renamed_list<R: Renaming>(names: &R, list: &[Operand], alloc: Global) -> Tried<Vec<Operand>>
+    ensures { IfOk result (λ v. v.items ≡ map (R.renames names.now).expression list.now) }
+{
+    list.iter().map(|h| names.expression(*h)).collect(alloc)
+}
+
+/// A level with its operands renamed.
+#[rattlefmt::skip]
+fn renamed_level<R: Renaming>(names: &R, level: &SampleLevel) -> SampleLevel
+    ensures code { level_code result ≡ level_code level.now }
+    ensures x { level_x result ≡ option_map (R.renames names.now).expression (level_x level.now) }
+    ensures y { level_y result ≡ option_map (R.renames names.now).expression (level_y level.now) }
+{
+    match level {
+        SampleLevel::Auto => SampleLevel::Auto,
+        SampleLevel::Zero => SampleLevel::Zero,
+        SampleLevel::Exact(e) => SampleLevel::Exact(names.expression(*e)),
+        SampleLevel::Bias(e) => SampleLevel::Bias(names.expression(*e)),
+        SampleLevel::Gradient { x, y } => SampleLevel::Gradient { x: names.expression(*x), y: names.expression(*y) },
+    }
+}
+
+/// A query with its operand renamed.
+#[rattlefmt::skip]
+fn renamed_query<R: Renaming>(names: &R, query: &ImageQuery) -> ImageQuery
+    ensures code { query_code result ≡ query_code query.now }
+    ensures level { let r = R.renames names.now in
+        query_level result ≡ option_map r.expression (query_level query.now) }
+{
+    match query {
+        ImageQuery::Size { level } => ImageQuery::Size { level: renamed_option(names, *level) },
+        ImageQuery::Other(code) => ImageQuery::Other(*code),
+    }
+}
+
+/// Renames a value of an enum: first the kinds whose patterns are given, then those that hold one plain value, then a table of
+/// the others, each made again from its plain values, its operands and those that may be absent.
+macro_rules! rename_kind {
+    ($kinds:ident, $value:expr, $names:ident;
+     $($pattern:pat => $made:expr;)*
+     @ $($code:ident)*;
+     $($kind:ident { $($plain:ident)*; $($operand:ident)*; $($option:ident)* })*) => {
+        match $value {
+            $($pattern => Ok($made),)*
+            $($kinds::$code(code) => Ok($kinds::$code(*code)),)*
+            $($kinds::$kind { $($plain,)* $($operand,)* $($option,)* } => Ok($kinds::$kind {
+                $($plain: *$plain,)*
+                $($operand: $names.expression(*$operand),)*
+                $($option: renamed_option($names, *$option),)*
+            }),)*
+        }
+    };
+}
+
+pub(crate) use rename_kind;
+
+/// The expression with its handles renamed.
+#[rattlefmt::skip]
+pub fn renamed_expression<R: Renaming>(names: &R, expression: &Expression, alloc: Global) -> Tried<Expression>
+    ensures { IfOk result (λ e. parts e ≡ rename (R.renames names.now) (parts expression.now)) }
+{
+    rename_kind! { Expression, expression, names;
+        Expression::ZeroValue(x) => Expression::ZeroValue(names.ty(*x));
+        Expression::Constant(x) => Expression::Constant(names.constant(*x));
+        Expression::Override(x) => Expression::Override(names.pipeline_override(*x));
+        Expression::GlobalVariable(x) => Expression::GlobalVariable(names.global(*x));
+        Expression::CallResult(x) => Expression::CallResult(names.function(*x));
+        Expression::AtomicResult { ty, comparison } =>
+            Expression::AtomicResult { ty: names.ty(*ty), comparison: *comparison };
+        Expression::WorkGroupUniformLoadResult { ty } =>
+            Expression::WorkGroupUniformLoadResult { ty: names.ty(*ty) };
+        Expression::RayQueryProceedResult => Expression::RayQueryProceedResult;
+        Expression::SubgroupBallotResult => Expression::SubgroupBallotResult;
+        Expression::SubgroupOperationResult { ty } =>
+            Expression::SubgroupOperationResult { ty: names.ty(*ty) };
+        Expression::Compose { ty, components } =>
+            Expression::Compose { ty: names.ty(*ty), components: renamed_list(names, components, alloc)? };
+        Expression::ImageSample { image, sampler, gather, coordinate, array_index, offset, level, depth_ref } =>
+            Expression::ImageSample {
+                image: names.expression(*image), sampler: names.expression(*sampler), gather: *gather,
+                coordinate: names.expression(*coordinate), array_index: renamed_option(names, *array_index),
+                offset: renamed_option(names, *offset), level: renamed_level(names, level),
+                depth_ref: renamed_option(names, *depth_ref),
+            };
+        Expression::ImageQuery { image, query } =>
+            Expression::ImageQuery { image: names.expression(*image), query: renamed_query(names, query) };
+        Expression::ArrayLength(x) => Expression::ArrayLength(names.expression(*x));
+        @ LocalVariable FunctionArgument;
+        Literal { kind bits; ; }
+        Access { ; base index; }
+        AccessIndex { index; base; }
+        Splat { size; value; }
+        Swizzle { size pattern; vector; }
+        Load { ; pointer; }
+        ImageLoad { ; image coordinate; array_index sample level }
+        Unary { op; expr; }
+        Binary { op; left right; }
+        Select { ; condition accept reject; }
+        Derivative { axis; expr; }
+        Relational { fun; argument; }
+        Math { fun; arg; arg1 arg2 arg3 }
+        As { kind convert; expr; }
+        RayQueryGetIntersection { committed; query; }
+        RayQueryVertexPositions { committed; query; }
+    }
+}
+
+/// What is done with a ray query, with its handles renamed.
+#[rattlefmt::skip]
+fn renamed_ray_query<R: Renaming>(names: &R, fun: &RayQueryFunction) -> RayQueryFunction
+    ensures { let r = R.renames names.now in
+        ray_query_tokens result ≡ rename_tokens r (ray_query_tokens fun.now) }
+{
+    match fun {
+        RayQueryFunction::Initialize { acceleration_structure, descriptor } => RayQueryFunction::Initialize {
+            acceleration_structure: names.expression(*acceleration_structure),
+            descriptor: names.expression(*descriptor),
+        },
+        RayQueryFunction::Proceed { result } => RayQueryFunction::Proceed { result: names.expression(*result) },
+        RayQueryFunction::Terminate => RayQueryFunction::Terminate,
+        RayQueryFunction::GenerateIntersection { hit_t } =>
+            RayQueryFunction::GenerateIntersection { hit_t: names.expression(*hit_t) },
+        RayQueryFunction::ConfirmIntersection => RayQueryFunction::ConfirmIntersection,
+    }
+}
+
+/// The block with its handles renamed.
+#[cycle(renaming)]
+pub fn renamed_block<R: Renaming>(names: &R, block: &Block, alloc: Global) -> Tried<Block>
+    ensures { let r = R.renames names.now in
+        IfOk result (λ b. block_tokens b ≡ rename_tokens r (block_tokens block.now)) }
+{
+    let mut body = Vec::with_capacity(alloc, block.body.len())?;
+    for entry in &block.body {
+        let statement = renamed_statement(names, &entry.0, alloc)?;
+        body.push((statement, names.span(entry.1)))?;
+    }
+    Ok(Block { body })
+}
+
+/// The arms of a switch.
+type Cases = Vec<SwitchCase>;
+
+/// The arms of a switch with their handles renamed.
+#[cycle(renaming)]
+fn renamed_cases<R: Renaming>(names: &R, cases: &[SwitchCase], alloc: Global) -> Tried<Cases>
+    ensures { let r = R.renames names.now in
+        IfOk result (λ v. flat_map case_tokens v.items ≡ rename_tokens r (flat_map case_tokens cases.now)) }
+{
+    let mut copies = Vec::new(alloc);
+    for case in cases {
+        let body = renamed_block(names, &case.body, alloc)?;
+        copies.push(SwitchCase { body, ..*case })?;
+    }
+    Ok(copies)
+}
+
+/// The statement with its handles renamed.
+#[cycle(renaming)]
+#[rattlefmt::skip]
+fn renamed_statement<R: Renaming>(names: &R, statement: &Statement, alloc: Global) -> Tried<Statement>
+    ensures { let r = R.renames names.now in
+        IfOk result (λ s. statement_tokens s ≡ rename_tokens r (statement_tokens statement.now)) }
+{
+    rename_kind! { Statement, statement, names;
+        Statement::Emit(x) => Statement::Emit(names.range(*x));
+        Statement::Block(x) => Statement::Block(renamed_block(names, x, alloc)?);
+        Statement::If { condition, accept, reject } => Statement::If {
+            condition: names.expression(*condition),
+            accept: renamed_block(names, accept, alloc)?, reject: renamed_block(names, reject, alloc)?,
+        };
+        Statement::Switch { selector, cases } =>
+            Statement::Switch { selector: names.expression(*selector), cases: renamed_cases(names, cases, alloc)? };
+        Statement::Loop { body, continuing, break_if } => Statement::Loop {
+            body: renamed_block(names, body, alloc)?, continuing: renamed_block(names, continuing, alloc)?,
+            break_if: renamed_option(names, *break_if),
+        };
+        Statement::Break => Statement::Break;
+        Statement::Continue => Statement::Continue;
+        Statement::Kill => Statement::Kill;
+        Statement::Call { callee, arguments, result } => Statement::Call {
+            callee: names.function(*callee),
+            arguments: renamed_list(names, arguments, alloc)?, result: renamed_option(names, *result),
+        };
+        Statement::RayQuery { query, fun } =>
+            Statement::RayQuery { query: names.expression(*query), fun: renamed_ray_query(names, fun) };
+        @ ControlBarrier MemoryBarrier;
+        Return { ; ; value }
+        Store { ; pointer value; }
+        ImageStore { ; image coordinate value; array_index }
+        Atomic { fun; pointer value; compare result }
+        ImageAtomic { fun; image coordinate value; array_index compare }
+        WorkGroupUniformLoad { ; pointer result; }
+        SubgroupBallot { ; result; predicate }
+        SubgroupGather { mode; argument result; index }
+        SubgroupCollectiveOperation { op collective; argument result; }
+    }
+}

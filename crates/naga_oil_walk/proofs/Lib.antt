@@ -1,0 +1,7 @@
+pub mod OptionLemmas
+pub mod WalkLemmas
+pub mod WalkForm
+pub mod WalkNotes
+pub mod FunctionWalk
+pub mod NamingLemmas
+pub mod ReachSteps

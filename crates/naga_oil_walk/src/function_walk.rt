@@ -1,0 +1,269 @@
+//! The walk over a function, in the order of copying.
+ghost use Rattle.std.specs.Prelude.{◌≡◌, ◌<◌, ◌≤◌, ◌∷◌, ◌++◌, ℕ, [], length, OnOk, All, IfOk, option_to_list};
+ghost use Rattle.std.specs.List.{flat_map};
+ghost use Rattle.naga_oil_ir.specs.Links.{lists, linked, added, trail};
+ghost use Rattle.naga_oil_ir.specs.BodyForm.{places, kinds, callees, operand_links, MayStand};
+ghost use Rattle.naga_oil_walk.specs.Walk.{IsReachOrder, externals, brief, IsWithin, notes_of, notes_after};
+ghost use Rattle.naga_oil_walk.specs.Walks.{IsOver, Walks};
+ghost use Rattle.naga_oil_walk.specs.Naming.{names_from, requests_at, asked, token_names, Adds, local_names, signature_names};
+ghost use Rattle.naga_oil_ir.specs.Body.{block_tokens};
+ghost use Rattle.naga_oil_ir.specs.WellFormed.{initialisers, initialisers_of};
+
+use super::*;
+
+/// Requests what is named, an item or a function.
+fn ask(named: Named, requests: &mut Vec<Request>) -> Tried
+    ensures { OnOk result (requests.new.items ≡ requests.old.items ++ asked named) }
+{
+    if let Named::FunctionAt(function) = named {
+        requests.push(Request::Call(function))?;
+    } else if let Some(item) = named_item(named) {
+        requests.push(Request::Item(item))?;
+    }
+    Ok(())
+}
+
+/// Requests the item that the expression at a place names, if it names one.
+fn request(of: &Reading, place: usize, requests: &mut Vec<Request>) -> Tried
+    ensures { OnOk result
+        (requests.new.items ≡ requests.old.items ++ requests_at of.now.named.items place) }
+{
+    match of.named.get(place) {
+        Some(named) if named_item(*named).is_some() => ask(*named, requests),
+        _ => Ok(()),
+    }
+}
+
+/// Lists a place behind all that it reaches.
+pub fn reach(of: &Reading, place: usize, walk: &mut Walk) -> Tried
+    requires in_range { place < length of.now.links.items }
+    requires over { IsOver of.now walk.old }
+    requires ready { IsReachOrder (lists of.now.links.items) walk.old.places.items }
+    ensures order { let ls = lists of.now.links.items in
+        let more = trail ls place in
+        OnOk result (walk.new.places.items ≡ added walk.old.places.items more) }
+    ensures emitted { walk.new.emitted ≡ walk.old.emitted }
+    ensures ready { OnOk result (IsReachOrder (lists of.now.links.items) walk.new.places.items) }
+    ensures requests { let ls = lists of.now.links.items in
+        let ns = of.now.named.items in
+        let asks = names_from ns ls place in
+        OnOk result (Adds walk.old.requests.items asks walk.new.requests.items) }
+    ensures over { OnOk result (IsOver of.now walk.new) }
+{
+    if walk.has(place) {
+        return Ok(());
+    }
+    request(of, place, &mut walk.requests)?;
+    for operand in &of.links[place] {
+        reach(of, *operand, walk)?;
+    }
+    walk.list(place)?;
+    Ok(())
+}
+
+/// Lists a place and what it names, unless it is there.
+fn add(of: &Reading, place: usize, walk: &mut Walk) -> Tried
+    requires in_range { place < length of.now.links.items }
+    requires over { IsOver of.now walk.old }
+    ensures order { OnOk result (walk.new.places.items ≡ added walk.old.places.items (place ∷ [])) }
+    ensures emitted { walk.new.emitted ≡ walk.old.emitted }
+    ensures requests { let ns = of.now.named.items in
+        let asks = requests_at ns place in
+        OnOk result (Adds walk.old.requests.items asks walk.new.requests.items) }
+    ensures over { OnOk result (IsOver of.now walk.new) }
+{
+    if walk.has(place) {
+        return Ok(());
+    }
+    request(of, place, &mut walk.requests)?;
+    walk.list(place)?;
+    Ok(())
+}
+
+/// Lists the external ones of what a place names.
+fn add_externals(of: &Reading, place: usize, walk: &mut Walk) -> Tried
+    requires in_range { place < length of.now.links.items }
+    requires over { IsOver of.now walk.old }
+    ensures order { let ls = lists of.now.links.items in
+        let ks = of.now.kinds.items in
+        let more = externals ks (linked ls place) in
+        OnOk result (walk.new.places.items ≡ added walk.old.places.items more) }
+    ensures emitted { walk.new.emitted ≡ walk.old.emitted }
+    ensures requests { let ls = lists of.now.links.items in
+        let ks = of.now.kinds.items in
+        let ns = of.now.named.items in
+        let asks = flat_map (requests_at ns) (externals ks (linked ls place)) in
+        OnOk result (Adds walk.old.requests.items asks walk.new.requests.items) }
+    ensures over { OnOk result (IsOver of.now walk.new) }
+{
+    for operand in &of.links[place] {
+        if is_external(&of.kinds, *operand) {
+            add(of, *operand, walk)?;
+        }
+    }
+    Ok(())
+}
+
+/// Lists the external ones of what a range names.
+fn add_all_externals(of: &Reading, range: Range<Expression>, walk: &mut Walk) -> Tried
+    requires in_range { (range.0 ≤ range.1) × (range.1 ≤ length of.now.links.items) }
+    requires over { IsOver of.now walk.old }
+    ensures order { let ls = lists of.now.links.items in
+        let ks = of.now.kinds.items in
+        let more = externals ks (flat_map (linked ls) (places range)) in
+        OnOk result (walk.new.places.items ≡ added walk.old.places.items more) }
+    ensures emitted { walk.new.emitted ≡ walk.old.emitted }
+    ensures requests { let ls = lists of.now.links.items in
+        let ks = of.now.kinds.items in
+        let ns = of.now.named.items in
+        let asks = flat_map (requests_at ns) (externals ks (flat_map (linked ls) (places range))) in
+        OnOk result (Adds walk.old.requests.items asks walk.new.requests.items) }
+    ensures over { OnOk result (IsOver of.now walk.new) }
+{
+    for place in range.start()..range.end() {
+        add_externals(of, place, walk)?;
+    }
+    Ok(())
+}
+
+/// Lists an emitted range behind the external ones of what it names.
+fn add_emitted(of: &Reading, range: Range<Expression>, walk: &mut Walk) -> Tried
+    requires in_range { (range.0 ≤ range.1) × (range.1 ≤ length of.now.links.items) }
+    requires over { IsOver of.now walk.old }
+    ensures order { let ls = lists of.now.links.items in
+        let ks = of.now.kinds.items in
+        let more = brief ks ls (Token.Emitted range) in
+        OnOk result (walk.new.places.items ≡ added walk.old.places.items more) }
+    ensures emitted { let ls = lists of.now.links.items in
+        let ks = of.now.kinds.items in
+        let notes = notes_of ks ls walk.old.places.items in
+        OnOk result (walk.new.emitted.items ≡ notes walk.old.emitted.items (Token.Emitted range)) }
+    ensures requests { let ls = lists of.now.links.items in
+        let ks = of.now.kinds.items in
+        let ns = of.now.named.items in
+        let asks = flat_map (requests_at ns) (brief ks ls (Token.Emitted range)) in
+        OnOk result (Adds walk.old.requests.items asks walk.new.requests.items) }
+    ensures over { OnOk result (IsOver of.now walk.new) }
+{
+    add_all_externals(of, range, walk)?;
+    let begin = walk.places.len();
+    for place in range.start()..range.end() {
+        add(of, place, walk)?;
+    }
+    let end = walk.places.len();
+    note(&mut walk.emitted, range, begin, end);
+    Ok(())
+}
+
+/// Lists what a part of a body names.
+fn add_token(of: &Reading, token: Token, walk: &mut Walk) -> Tried
+    requires within { IsWithin (length of.now.links.items) token }
+    requires over { IsOver of.now walk.old }
+    ensures order { let ls = lists of.now.links.items in
+        let ks = of.now.kinds.items in
+        let more = brief ks ls token in
+        OnOk result (walk.new.places.items ≡ added walk.old.places.items more) }
+    ensures emitted { let ls = lists of.now.links.items in
+        let ks = of.now.kinds.items in
+        let notes = notes_of ks ls walk.old.places.items in
+        OnOk result (walk.new.emitted.items ≡ notes walk.old.emitted.items token) }
+    ensures requests { let ls = lists of.now.links.items in
+        let ks = of.now.kinds.items in
+        let ns = of.now.named.items in
+        let asks = token_names ks ns ls token in
+        OnOk result (Adds walk.old.requests.items asks walk.new.requests.items) }
+    ensures over { OnOk result (IsOver of.now walk.new) }
+{
+    match token {
+        Token::Use(h) | Token::Give(h) | Token::GiveCall(_, h) => add(of, h.index(), walk),
+        Token::Emitted(range) => add_emitted(of, range, walk),
+        Token::Callee(function) => ask(Named::FunctionAt(function), &mut walk.requests),
+        _ => Ok(()),
+    }
+}
+
+/// Lists what a body names.
+pub fn add_tokens(of: &Reading, tokens: &[Token], walk: &mut Walk) -> Tried
+    requires within { All (IsWithin (length of.now.links.items)) tokens.now }
+    requires over { IsOver of.now walk.old }
+    ensures order { let ls = lists of.now.links.items in
+        let ks = of.now.kinds.items in
+        let more = flat_map (brief ks ls) tokens.now in
+        OnOk result (walk.new.places.items ≡ added walk.old.places.items more) }
+    ensures emitted { let ls = lists of.now.links.items in
+        let ks = of.now.kinds.items in
+        let notes = notes_after ks ls walk.old.places.items in
+        OnOk result (walk.new.emitted.items ≡ notes walk.old.emitted.items tokens.now) }
+    ensures requests { let ls = lists of.now.links.items in
+        let ks = of.now.kinds.items in
+        let ns = of.now.named.items in
+        let asks = flat_map (token_names ks ns ls) tokens.now in
+        OnOk result (Adds walk.old.requests.items asks walk.new.requests.items) }
+    ensures over { OnOk result (IsOver of.now walk.new) }
+{
+    for token in tokens {
+        add_token(of, *token, walk)?;
+    }
+    Ok(())
+}
+
+/// Requests the types of arguments and of the result.
+fn request_types(function: &Function, requests: &mut Vec<Request>) -> Tried
+    ensures { OnOk result
+        (requests.new.items ≡ requests.old.items ++ signature_names function.now) }
+{
+    for argument in &function.arguments {
+        requests.push(Request::Item(ItemPlace::TypeItem(argument.ty)))?;
+    }
+    if let Some(outcome) = function.result {
+        requests.push(Request::Item(ItemPlace::TypeItem(outcome.ty)))?;
+    }
+    Ok(())
+}
+
+/// Requests the types of local variables and lists what their initialisers reach.
+fn reach_locals(of: &Reading, locals: &[(LocalVariable, Span)], walk: &mut Walk) -> Tried
+    requires there { All (λ h. h < length of.now.links.items) (initialisers_of locals.now) }
+    requires over { IsOver of.now walk.old }
+    requires ready { IsReachOrder (lists of.now.links.items) walk.old.places.items }
+    ensures order { let ls = lists of.now.links.items in
+        let more = flat_map (trail ls) (initialisers_of locals.now) in
+        OnOk result (walk.new.places.items ≡ added walk.old.places.items more) }
+    ensures emitted { walk.new.emitted ≡ walk.old.emitted }
+    ensures ready { OnOk result (IsReachOrder (lists of.now.links.items) walk.new.places.items) }
+    ensures requests { let ls = lists of.now.links.items in
+        let ns = of.now.named.items in
+        let asks = flat_map (local_names ns ls) locals.now in
+        OnOk result (Adds walk.old.requests.items asks walk.new.requests.items) }
+    ensures over { OnOk result (IsOver of.now walk.new) }
+{
+    for local in locals {
+        let ty = ItemPlace::TypeItem(local.0.ty);
+        walk.requests.push(Request::Item(ty))?;
+        if let Some(init) = local.0.init {
+            reach(of, init.index(), walk)?;
+        }
+    }
+    Ok(())
+}
+
+/// Lists what a function reaches in the order of copying: the types of its arguments and its result, its local variables,
+/// each with its type and its initialiser, then its body.
+pub fn walk_function(function: &Function, alloc: Global) -> Tried<Walk>
+    requires { let es = function.now.expressions in
+        let starts = initialisers function.now in
+        let tokens = block_tokens function.now.body in
+        MayStand (kinds es) (callees es) (operand_links es) starts tokens }
+    ensures { IfOk result (Walks function.now) }
+{
+    let read = read(function.expressions.as_slice(), alloc)?;
+    let mut walk = Walk::new(function.expressions.len(), alloc)?;
+    request_types(function, &mut walk.requests)?;
+    reach_locals(&read, function.local_variables.as_slice(), &mut walk)?;
+    let began = walk.places.len();
+    let mut tokens = Vec::new(alloc);
+    push_block(&function.body, &mut tokens)?;
+    add_tokens(&read, &tokens, &mut walk)?;
+    walk.began = began;
+    Ok(walk)
+}

@@ -1,0 +1,82 @@
+//! What a walk over a function lists.
+ghost use Rattle.std.specs.Prelude.{◌≡◌, ◌<◌, ◌∷◌, ℕ, [], length, OnOk, IfOk, None, replicate};
+ghost use Rattle.naga_oil_ir.specs.Links.{added, has, AreMarks};
+ghost use Rattle.naga_oil_walk.specs.Walk.{noted};
+
+use super::*;
+
+/// What a function names.
+#[derive(Clone, Copy)]
+pub enum Request {
+    Item(ItemPlace),
+    /// A function that it calls.
+    Call(Handle<Function>),
+}
+
+/// Where an emitted range begins and ends in the order of copying.
+pub type Bounds = Option<(usize, usize)>;
+
+/// What a walk over a function lists.
+#[derive(Drop)]
+pub struct Walk {
+    /// The places of its expressions in the order of first reach, each once.
+    pub places: Vec<usize>,
+    marks: Vec<bool>,
+    /// How many of them the initialisers of local variables reach.
+    pub began: usize,
+    /// What the function names, in the order of copying.
+    pub requests: Vec<Request>,
+    /// Where the emitted ranges begin and end in the order, by their first places.
+    pub emitted: Vec<Bounds>,
+    ghost marked: { AreMarks marks.items places.items },
+}
+
+impl Walk {
+    /// The walk that has listed none of so many places.
+    pub fn new(count: usize, alloc: Global) -> Tried<Walk>
+        ensures empty { IfOk result (λ w. (w.places.items ≡ []) × (w.requests.items ≡ [])) }
+        ensures marks { IfOk result (λ w. length w.marks.items ≡ count) }
+        ensures emitted { IfOk result (λ w. w.emitted.items ≡ replicate count None) }
+    {
+        Ok(Walk {
+            places: Vec::new(alloc),
+            marks: no_marks(count, alloc)?,
+            began: 0,
+            requests: Vec::new(alloc),
+            emitted: vec![in alloc; None; count]?,
+        })
+    }
+
+    /// Whether a place is listed.
+    pub fn has(&self, place: usize) -> bool
+        ensures { result ≡ has self.now.places.items place }
+    {
+        is_marked(&self.marks, place)
+    }
+
+    /// Lists a place, unless it is there.
+    pub fn list(&mut self, place: usize) -> Tried
+        requires { place < length self.old.marks.items }
+        ensures order { OnOk result (self.new.places.items ≡ added self.old.places.items (place ∷ [])) }
+        ensures marks { length self.new.marks.items ≡ length self.old.marks.items }
+        ensures emitted { self.new.emitted ≡ self.old.emitted }
+        ensures requests { self.new.requests ≡ self.old.requests }
+    {
+        if self.has(place) {
+            return Ok(());
+        }
+        self.places.push(place)?;
+        self.marks[place] = true;
+        Ok(())
+    }
+}
+
+/// Notes where an emitted range begins and ends in the order.
+pub fn note(emitted: &mut Vec<Bounds>, range: Range<Expression>, begin: usize, end: usize)
+    ensures { emitted.new.items ≡ noted emitted.old.items range (begin, end) }
+{
+    let start = range.start();
+    if start < emitted.len() && (start < range.end() || emitted[start].is_none()) {
+        emitted[start] = Some((begin, end));
+    }
+}
