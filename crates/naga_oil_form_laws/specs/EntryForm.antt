@@ -1,0 +1,86 @@
+-- Which entry points pass the test of form, and which modules, and that the module that is made does.
+use Rattle.std.specs.Prelude.{◌≡◌, ◌<◌, ◌≤◌, ℕ, nat_eq, List, [], length, slice_get, Option, Some, unwrap_or, codes, All, IfSome, IsSome}
+use Rattle.std.specs.List.{IsDistinct}
+use Rattle.naga_oil_ir.specs.ItemForm.{special_types}
+use Rattle.naga_oil_ir.specs.ModuleValue.{ModuleValue, EntryValue}
+use Rattle.naga_oil_ir.specs.WellFormed.{SpanForm, FunctionsForm, EntryForm, WellFormed}
+use Rattle.naga_oil_ir.specs.NameForm.{NameForm}
+use Rattle.naga_oil_ir.specs.declared.module.MeshInfo.{MeshInfo}
+use Rattle.naga_oil_ir.specs.declared.module.Module.{Module}
+use Rattle.naga_oil_derive.specs.CopiedEntry.{make_module}
+use Rattle.naga_oil_derive.specs.Copyable.{CopyableItems}
+use Rattle.naga_oil_derive.specs.Derived.{Derived}
+use Rattle.naga_oil_derive.specs.Tree.{Kept}
+use Rattle.naga_oil_derive.specs.World.{value_of}
+use Rattle.naga_oil_form_laws.specs.DerivedForm.{IsFormed}
+use Rattle.naga_oil_form_laws.specs.FunctionForm.{IsFunctionFormed, AreFunctionsFormed}
+use Rattle.naga_oil_form_laws.specs.ItemsStand.{AreFormed}
+
+-- a global expression that may be named is there
+abbrev pub IsExpressionIn : ModuleValue → Option ℕ → Type 0
+IsExpressionIn m o = IfSome o (λ k. k < length m.global_expressions)
+
+-- what a mesh shader puts out is there
+pub record IsMeshFormed (m : ModuleValue) (i : MeshInfo) : Type 0 where
+  pub vertex : i.vertex_output_type < length m.types
+  pub primitive : i.primitive_output_type < length m.types
+  pub output : i.output < length m.global_variables
+  pub max_vertices : IsExpressionIn m i.max_vertices
+  pub max_primitives : IsExpressionIn m i.max_primitives
+
+-- the test of form of an entry point
+pub record IsEntryFormed (m : ModuleValue) (n : ℕ) (e : EntryValue) : Type 0 where
+  pub function : IsFunctionFormed m (length m.functions) n e.function
+  pub workgroup_size : IfSome e.workgroup_size_overrides (λ os. All (IsExpressionIn m) os)
+  pub mesh_info : IfSome e.mesh_info (IsMeshFormed m)
+  pub task_payload : IfSome e.task_payload (λ k. k < length m.global_variables)
+
+-- the name of an entry point's function, `main` if it has none
+abbrev pub entry_name : EntryValue → List ℕ
+entry_name e = unwrap_or e.function.name (codes "main")
+
+-- the entry points of a module pass it, and no two have one name
+pub record AreEntriesFormed (m : ModuleValue) (n : ℕ) : Type 0 where
+  pub forms : All (IsEntryFormed m n) m.entry_points
+  pub distinct :
+      (j k : ℕ) (e f : EntryValue) → slice_get m.entry_points j ≡ Some e → slice_get m.entry_points k ≡ Some f →
+      entry_name e ≡ entry_name f → j ≡ k
+
+-- a module passes the test of form, but that two of its special types may be one, where the texts of all modules stand one behind
+-- another: so it may be copied
+pub record IsModuleFormed (m : ModuleValue) : Type 0 where
+  pub items : AreFormed m
+  pub functions : AreFunctionsFormed m 4294967295
+  pub entry_points : AreEntriesFormed m 4294967295
+
+-- LAW: so does the module that is made with copies of the entry points of a source that does
+abbrev pub MakeLaw : Type 0
+MakeLaw =
+    (first : Kept) (d : Derived) → IsFormed first d → IsSome d.source →
+    IfSome d.source (λ s. AreEntriesFormed s.value 4294967295) → IsModuleFormed (make_module d)
+
+-- LAW: a module that passes the test of form under a decoration, over a text that a span can name, does as a value
+abbrev pub ParsedLaw : Module → Type 0
+ParsedLaw m = (decoration : List ℕ) (n : ℕ) → n ≤ 4294967295 → WellFormed m decoration n → IsModuleFormed (value_of m)
+
+-- LAW: the items of a module that passes as a value can be copied
+abbrev pub CopyableModuleLaw : Type 0
+CopyableModuleLaw = (m : Module) → AreFormed (value_of m) → CopyableItems m
+
+-- LAW: and it passes the test of form over the texts of all modules, if no two of its special types are one
+abbrev pub WellFormedLaw : Type 0
+WellFormedLaw =
+    (m : Module) → IsModuleFormed (value_of m) → IsDistinct nat_eq (special_types m.special_types) →
+    WellFormed m [] 4294967295
+
+-- what copying and sending calls ask of a module: the test of form, but that two of its special types may be one
+pub record MayBeCopiedFrom (m : Module) : Type 0 where
+  pub items : CopyableItems m
+  pub spans : SpanForm m 4294967295
+  pub names : NameForm m []
+  pub functions : FunctionsForm m 4294967295 m.functions
+  pub entry_points : All (EntryForm m 4294967295) m.entry_points.items
+
+-- LAW: so it is with each module that passes as a value
+abbrev pub CopiedFromLaw : Type 0
+CopiedFromLaw = (m : Module) → IsModuleFormed (value_of m) → MayBeCopiedFrom m
