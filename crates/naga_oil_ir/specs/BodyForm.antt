@@ -161,3 +161,21 @@ IsFineBy n ks fs ls ss gs _ = Unit {0}
 abbrev pub AreFineBy : ℕ → List ℕ → List (Option ℕ) → Links → List Bool → List Bool → Tokens → Type 0
 AreFineBy n ks fs ls ss gs [] = Unit {0}
 AreFineBy n ks fs ls ss gs (t ∷ ts) = IsFineBy n ks fs ls ss gs t × AreFineBy n ks fs ls ss (marks_after gs (made t)) ts
+
+-- ---- the same of expressions that were read
+
+-- a result may be given
+abbrev pub MayBeGivenOver : Reading → List Bool → Option ℕ → ℕ → Type 0
+MayBeGivenOver r gs o h = MayBeGivenBy (length r.links.items) r.kinds.items (map callee r.named.items) gs o h
+
+-- a part of a body may stand
+abbrev pub IsFineOver : Reading → List Bool → List Bool → Token → Type 0
+IsFineOver r ss gs t = IsFineBy (length r.links.items) r.kinds.items (map callee r.named.items) (lists r.links.items) ss gs t
+
+-- the parts of a body may stand one after another, where initialisers reach s
+abbrev pub AreFineOver : Reading → List ℕ → Tokens → Type 0
+AreFineOver r s ts = AreFine (length r.links.items) r.kinds.items (map callee r.named.items) (lists r.links.items) s [] ts
+
+-- they may stand with the initialisers is and a body
+abbrev pub MayStandOver : Reading → List ℕ → Tokens → Type 0
+MayStandOver r is ts = MayStand r.kinds.items (map callee r.named.items) (lists r.links.items) is ts

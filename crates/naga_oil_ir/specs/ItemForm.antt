@@ -1,5 +1,5 @@
 -- Which items may stand: what they name, and the order and kinds of global expressions.
-use Rattle.std.specs.Prelude.{◌≡◌, ◌<◌, ◌⊎◌, ℕ, Bool, true, false, List, ◌++◌, length, map, slice_get, Option, Some, None, option_to_list, is_none, All, IfSome, nat_eq, ◌||◌}
+use Rattle.std.specs.Prelude.{◌≡◌, ◌<◌, ◌⊎◌, ℕ, Bool, true, false, List, [], ◌++◌, length, map, slice_get, Option, Some, None, option_to_list, is_none, All, IfSome, nat_eq, ◌||◌}
 use Rattle.std.specs.List.{filter_map, list_any, IsDistinct}
 use Rattle.naga_oil_ir.specs.BodyForm.{kinds, operand_links}
 use Rattle.naga_oil_ir.specs.Rows.{Row, type_row, constant_row, override_row, global_row, expression_row}
@@ -115,6 +115,10 @@ pub record ExpressionForm (m : Module) : Type 0 where
   pub kinds : All IsGlobalKind (kinds m.global_expressions)
 
 -- ---- special types
+
+-- there are no special types
+abbrev pub LacksSpecialTypes : SpecialTypes → Type 0
+LacksSpecialTypes s = (s.ray_desc ≡ None) × (s.ray_intersection ≡ None) × (s.ray_vertex_return ≡ None) × (s.predeclared_types.entries ≡ [])
 
 -- the special types, the three named ones first
 abbrev pub special_types : SpecialTypes → List ℕ

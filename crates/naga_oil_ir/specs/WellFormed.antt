@@ -1,7 +1,7 @@
 -- Which modules are well formed.
 use Rattle.std.specs.Prelude.{◌≡◌, ◌<◌, ℕ, List, length, slice_get, Option, Some, option_to_list, All, IfSome}
 use Rattle.std.specs.List.{flat_map}
-use Rattle.naga_oil_ir.specs.Body.{block_tokens}
+use Rattle.naga_oil_ir.specs.Body.{Tokens, block_tokens}
 use Rattle.naga_oil_ir.specs.ItemForm.{ItemForm}
 use Rattle.naga_oil_ir.specs.BodyForm.{named_of, kinds, callees, MayStand, IsSpanFine, IsTokenFine, operand_links}
 use Rattle.naga_oil_ir.specs.NameForm.{Name, NameForm}
@@ -39,6 +39,16 @@ initialisers f = initialisers_of f.local_variables
 pub record SpansWithin (n : ℕ) (f : Function) : Type 0 where
   pub locals : All (λ e. IsSpanFine n e.1) f.local_variables
   pub expressions : All (λ e. IsSpanFine n e.1) f.expressions
+
+-- the types of arguments, result and local variables, and the expressions that have names, are there
+abbrev pub SignatureForm : Module → Function → Type 0
+SignatureForm m f =
+    All (λ a. a.ty < length m.types) f.arguments.items × IfSome f.result (λ r. r.ty < length m.types) × All (λ l. l.0.ty < length m.types) f.local_variables × All (λ e. e.0 < length f.expressions) f.named_expressions.entries
+
+-- what the expressions of a function name is there, and they may stand with its initialisers and a body
+abbrev pub ExpressionsForm : Module → Function → Tokens → Type 0
+ExpressionsForm m f ts =
+    All (NamedThere m f) (named_of f.expressions) × MayStand (kinds f.expressions) (callees f.expressions) (operand_links f.expressions) (initialisers f) ts
 
 -- the test of form of a function whose calls go to the first c functions, in a text of n bytes
 pub record FunctionForm (m : Module) (c n : ℕ) (f : Function) : Type 0 where

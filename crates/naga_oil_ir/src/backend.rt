@@ -2,13 +2,8 @@
 ghost use Rattle.naga_oil_ir.specs.Backend.{FrontEnd, Answers, parse_fault, write_fault, valid_fault, text, nothing};
 ghost use Rattle.naga_oil_ir.specs.ModuleValue.{module_value};
 
-use super::language::ShaderLanguage;
-use super::module::Module;
-use super::span::Span;
+use super::*;
 use std::alloc::{AllocError, Global};
-
-#[cfg(test)]
-mod tests;
 
 /// What a device can do, as bits that a front end gives their meaning.
 #[derive(Clone, Copy, Debug, PartialEq, Eq, Default)]

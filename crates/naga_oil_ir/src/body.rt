@@ -1,13 +1,11 @@
 // The test of form of a body: what its statements may use, emit and give.
-ghost use Rattle.std.specs.Prelude.{[], IfOk, ◌≡◌, ◌↔◌, ◌<◌, ◌≤◌, ℕ, List, IsTrue, All, length, map, slice_get, slice_set, Some, None, true, false};
-ghost use Rattle.naga_oil_ir.specs.Links.{lists, is_marked, AreMarks};
-ghost use Rattle.naga_oil_ir.specs.BodyForm.{callee, MayStand, known_by, MayBeEmitted, AreEmittedBy, marks_after, places, made, is_result, MayBeGivenBy, IsFineBy, AreFineBy, AreFine};
+ghost use Rattle.std.specs.Prelude.{IfOk, ◌≡◌, ◌↔◌, ◌<◌, ℕ, List, IsTrue, length, slice_set, Some, None, true, false};
+ghost use Rattle.naga_oil_ir.specs.Links.{is_marked, AreMarks};
+ghost use Rattle.naga_oil_ir.specs.BodyForm.{known_by, MayBeEmitted, marks_after, places, made, is_result, IsFineOver, MayBeGivenOver, AreFineOver, MayStandOver};
 
-use super::Token;
-use super::expression::Expression;
 use super::form::{Reading, Tested, callee_at, is_external, is_result};
-use super::handle::Range;
 use super::links::{are_below, are_earlier, is_marked, no_marks, reached_from};
+use super::*;
 use std::alloc::Global;
 
 /// What is known of a function's expressions before its body is walked.
@@ -38,7 +36,7 @@ fn may_be_emitted(of: &Known<'_>, done: &[bool], operands: &[usize], place: usiz
 fn take_range(of: &Known<'_>, done: &mut Vec<bool>, range: Range<Expression>) -> bool
     requires { length done.old.items ≡ length of.now.read.now.links.items }
     ensures long { length done.new.items ≡ length done.old.items }
-    ensures fine { IsTrue result ↔ ((range.0 ≤ range.1) × ((range.1 ≤ length of.now.read.now.links.items) × AreEmittedBy of.now.read.now.kinds.items (lists of.now.read.now.links.items) of.now.started.now done.old.items (places range))) }
+    ensures fine { IsTrue result ↔ IsFineOver of.now.read.now of.now.started.now done.old.items (Token.Emitted range) }
     ensures done { IsTrue result → done.new.items ≡ marks_after done.old.items (places range) }
 {
     if range.start() > range.end() || range.end() > of.read.links.len() {
@@ -57,7 +55,7 @@ fn take_range(of: &Known<'_>, done: &mut Vec<bool>, range: Range<Expression>) ->
 fn take_given(of: &Known<'_>, done: &mut Vec<bool>, by: Option<usize>, place: usize) -> bool
     requires { length done.old.items ≡ length of.now.read.now.links.items }
     ensures long { length done.new.items ≡ length done.old.items }
-    ensures fine { IsTrue result ↔ MayBeGivenBy (length of.now.read.now.links.items) of.now.read.now.kinds.items (map callee of.now.read.now.named.items) done.old.items by place }
+    ensures fine { IsTrue result ↔ MayBeGivenOver of.now.read.now done.old.items by place }
     ensures done { IsTrue result → done.new.items ≡ slice_set done.old.items place true }
 {
     let given = is_result(&of.read.kinds, place) & (callee_at(&of.read.named, place) == Some(by));
@@ -72,7 +70,7 @@ fn take_given(of: &Known<'_>, done: &mut Vec<bool>, by: Option<usize>, place: us
 fn take_token(of: &Known<'_>, done: &mut Vec<bool>, token: Token) -> bool
     requires { length done.old.items ≡ length of.now.read.now.links.items }
     ensures long { length done.new.items ≡ length done.old.items }
-    ensures fine { IsTrue result ↔ IsFineBy (length of.now.read.now.links.items) of.now.read.now.kinds.items (map callee of.now.read.now.named.items) (lists of.now.read.now.links.items) of.now.started.now done.old.items token }
+    ensures fine { IsTrue result ↔ IsFineOver of.now.read.now of.now.started.now done.old.items token }
     ensures done { IsTrue result → done.new.items ≡ marks_after done.old.items (made token) }
 {
     match token {
@@ -94,7 +92,7 @@ fn no_result_is_marked(kinds: &[u64], marks: &[bool]) -> bool
 
 /// Whether the parts of a body may stand one after another.
 fn body_may_stand(of: &Known<'_>, tokens: &[Token], alloc: Global) -> Tested
-    ensures { IfOk result (λ b. (s : List ℕ) → AreMarks of.now.started.now s → (IsTrue b ↔ AreFine (length of.now.read.now.links.items) of.now.read.now.kinds.items (map callee of.now.read.now.named.items) (lists of.now.read.now.links.items) s [] tokens.now)) }
+    ensures { IfOk result (λ b. (s : List ℕ) → AreMarks of.now.started.now s → (IsTrue b ↔ AreFineOver of.now.read.now s tokens.now)) }
 {
     let mut done = no_marks(of.read.links.len(), alloc)?;
     for token in tokens {
@@ -108,7 +106,7 @@ fn body_may_stand(of: &Known<'_>, tokens: &[Token], alloc: Global) -> Tested
 /// Whether what was read of a function's expressions may stand with the initialisers of its local variables and the parts
 /// of its body.
 pub fn may_stand(read: &Reading, inits: &[usize], tokens: &[Token], alloc: Global) -> Tested
-    ensures { IfOk result (λ b. IsTrue b ↔ MayStand read.now.kinds.items (map callee read.now.named.items) (lists read.now.links.items) inits.now tokens.now) }
+    ensures { IfOk result (λ b. IsTrue b ↔ MayStandOver read.now inits.now tokens.now) }
 {
     if !are_earlier(&read.links) || !are_below(inits, read.links.len()) {
         return Ok(false);

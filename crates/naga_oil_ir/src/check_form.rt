@@ -50,6 +50,3 @@ impl Module {
         Err(FormFault::WrongForm)
     }
 }
-
-#[cfg(test)]
-mod tests;

@@ -1,6 +1,5 @@
 // The expressions of functions and of a module.
-use super::types::{Constant, GlobalVariable, LocalVariable, Override, Type};
-use super::{Function, Handle, Item, kind};
+use super::*;
 
 /// A place of an expression that another one or a statement takes.
 pub type Operand = Handle<Expression>;

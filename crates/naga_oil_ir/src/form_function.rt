@@ -1,16 +1,10 @@
 // The test of form of functions and entry points.
-ghost use Rattle.std.specs.Prelude.{◌≡◌, ◌↔◌, ◌<◌, ℕ, IsTrue, IsSome, IfOk, IfSome, All, length, slice_get, Some};
-ghost use Rattle.naga_oil_ir.specs.Body.{block_tokens};
-ghost use Rattle.naga_oil_ir.specs.BodyForm.{MayStand, kinds, callees, named_of, operand_links};
-ghost use Rattle.naga_oil_ir.specs.WellFormed.{NamedThere, initialisers_of, initialisers, SpansWithin, FunctionForm, FunctionsForm, IsExpressionThere, MeshForm, EntryForm};
+ghost use Rattle.std.specs.Prelude.{◌≡◌, ◌↔◌, ◌<◌, IsTrue, IsSome, IfOk, IfSome, All, length, Some};
+ghost use Rattle.naga_oil_ir.specs.WellFormed.{NamedThere, SignatureForm, ExpressionsForm, initialisers_of, initialisers, SpansWithin, FunctionForm, FunctionsForm, IsExpressionThere, MeshForm, EntryForm};
 
 use super::body::may_stand;
 use super::form::{Tested, are_spans_fine, are_tokens_fine, read};
-use super::tokens::push_block;
-use super::{
-    EntryPoint, Expression, Function, FunctionArgument, FunctionResult, Handle, Index,
-    LocalVariable, MeshInfo, Module, Named, Span, Token, Type,
-};
+use super::*;
 use indexmap::IndexMap;
 use std::alloc::{AllocError, Global};
 
@@ -89,7 +83,7 @@ fn are_named_there(of: &Module, function: &Function, named: &[Named]) -> bool
 }
 
 fn signature_is_fine(of: &Module, function: &Function) -> bool
-    ensures { IsTrue result ↔ (All (λ a. a.ty < length of.now.types) function.now.arguments.items × IfSome function.now.result (λ r. r.ty < length of.now.types) × All (λ l. l.0.ty < length of.now.types) function.now.local_variables × All (λ e. e.0 < length function.now.expressions) function.now.named_expressions.entries) }
+    ensures { IsTrue result ↔ SignatureForm of.now function.now }
 {
     arguments_are_there(of, &function.arguments)
         && result_is_there(of, function.result)
@@ -106,7 +100,7 @@ fn spans_are_within(function: &Function, text_len: usize) -> bool
 
 /// Whether what the expressions of a function name is there, and they may stand with its body.
 fn expressions_are_fine(of: &Module, function: &Function, tokens: &[Token], alloc: Global) -> Tested
-    ensures { IfOk result (λ b. IsTrue b ↔ (All (NamedThere of.now function.now) (named_of function.now.expressions) × MayStand (kinds function.now.expressions) (callees function.now.expressions) (operand_links function.now.expressions) (initialisers function.now) tokens.now)) }
+    ensures { IfOk result (λ b. IsTrue b ↔ ExpressionsForm of.now function.now tokens.now) }
 {
     let read = read(function.expressions.as_slice(), alloc)?;
     let inits = initialisers(function.local_variables.as_slice(), alloc)?;

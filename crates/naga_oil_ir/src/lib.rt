@@ -28,8 +28,6 @@ pub mod parts;
 pub mod redirect_error;
 pub mod span;
 pub mod statement;
-#[cfg(test)]
-mod tests;
 pub mod tokens;
 pub mod types;
 

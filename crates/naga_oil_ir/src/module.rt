@@ -1,8 +1,8 @@
 // A module, its functions and its entry points.
 ghost use Rattle.std.specs.Prelude.{◌≡◌, [], None};
+ghost use Rattle.naga_oil_ir.specs.ItemForm.{LacksSpecialTypes};
 
-use super::types::{Constant, GlobalVariable, LocalVariable, Override, Type};
-use super::{Arena, Block, Expression, Handle, Item, UniqueArena, kind};
+use super::*;
 use indexmap::IndexMap;
 use std::alloc::Global;
 
@@ -90,7 +90,7 @@ pub struct Module {
 impl Module {
     /// The module of nothing.
     pub fn new(alloc: Global) -> Self
-        ensures special { (result.special_types.ray_desc ≡ None) × (result.special_types.ray_intersection ≡ None) × (result.special_types.ray_vertex_return ≡ None) × (result.special_types.predeclared_types.entries ≡ []) }
+        ensures special { LacksSpecialTypes result.special_types }
         ensures items { (result.types ≡ []) × (result.constants ≡ []) × (result.overrides ≡ []) × (result.global_variables ≡ []) × (result.global_expressions ≡ []) }
         ensures functions { (result.functions ≡ []) × (result.entry_points.items ≡ []) }
         ensures rest { (result.diagnostic_filters.items ≡ []) × (result.diagnostic_filter_leaf ≡ None) × (result.doc_comments ≡ None) }

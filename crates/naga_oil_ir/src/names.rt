@@ -2,10 +2,7 @@
 ghost use Rattle.std.specs.Prelude.{◌≡◌, ◌∷◌, [], Some, IfOk, map, option_map};
 ghost use Rattle.naga_oil_ir.specs.Rows.{Row, size_name as size_name_of, member_type, named_place, type_row, constant_row, override_row, global_row, expression_row};
 
-use super::{
-    ArraySize, Constant, Expression, GlobalVariable, Handle, Named, Operand, Override, Span,
-    StructMember, Type, TypeInner,
-};
+use super::*;
 use ItemPlace::{ConstantItem, ExpressionItem, GlobalItem, OverrideItem, TypeItem};
 use std::alloc::{AllocError, Global};
 

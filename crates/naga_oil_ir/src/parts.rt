@@ -2,8 +2,7 @@
 ghost use Rattle.std.specs.Prelude.{◌≡◌, IfOk, length, map, Some};
 ghost use Rattle.naga_oil_ir.specs.Parts.{parts, ReadsAs, level_x, level_y};
 
-use super::types::{Constant, GlobalVariable, LocalVariable, Override, Type};
-use super::{Expression, Function, Handle, ImageQuery, Operand, SampleLevel};
+use super::*;
 use std::alloc::{AllocError, Global};
 
 /// The item that an expression names, if it names one.

@@ -324,6 +324,3 @@ pub fn one_last_mark()
 pub fn one_override()
     ensures { (text module_name rest : List ℕ) → (override_at text ≡ reading module_name rest) ↔ BeginsWithOverride text module_name rest }
 {}
-
-#[cfg(test)]
-mod tests;

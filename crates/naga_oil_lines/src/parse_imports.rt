@@ -424,6 +424,3 @@ pub fn parse_imports(
     push_leaves(alloc, declared_imports, leaves.as_slice())?;
     Ok(())
 }
-
-#[cfg(test)]
-mod tests;

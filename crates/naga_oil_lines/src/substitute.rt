@@ -217,10 +217,18 @@ impl Substitution<'_> {
         used_imports: &mut IndexMap<String, ImportDefWithOffset>,
         output: &mut String,
     ) -> Result<(), SubstituteFault>
-        ensures text { OnOk result (string_bytes output.new ≡ string_bytes output.old ++ flat_map (path_text identifier.now) (paths_for (declared_of self.now.declared_imports.now) identifier.now)) }
-        ensures used { OnOk result (uses_of used_imports.new ≡ with_mentions (uses_of used_imports.old) (mentions_in (declared_of self.now.declared_imports.now) (record { name = identifier.now; place = place } ∷ []))) }
-        ensures allowed { OnOk result (first_ambiguous (declared_of self.now.declared_imports.now) self.now.allow_ambiguous (record { name = identifier.now; place = place } ∷ []) ≡ None) }
-        ensures fault { IfErr result (λ e. RefusesUses (declared_of self.now.declared_imports.now) self.now.allow_ambiguous (record { name = identifier.now; place = place } ∷ []) (uses_of used_imports.old) (uses_of used_imports.new) e) }
+        ensures text { let paths = paths_for (declared_of self.now.declared_imports.now) identifier.now in
+            let more = flat_map (path_text identifier.now) paths in
+            OnOk result (string_bytes output.new ≡ string_bytes output.old ++ more) }
+        ensures used { let declared = declared_of self.now.declared_imports.now in
+            let more = mentions_in declared (record { name = identifier.now; place = place } ∷ []) in
+            OnOk result (uses_of used_imports.new ≡ with_mentions (uses_of used_imports.old) more) }
+        ensures allowed { let declared = declared_of self.now.declared_imports.now in
+            let first = first_ambiguous declared self.now.allow_ambiguous (record { name = identifier.now; place = place } ∷ []) in
+            OnOk result (first ≡ None) }
+        ensures fault { let declared = declared_of self.now.declared_imports.now in
+            let refuses = RefusesUses declared self.now.allow_ambiguous (record { name = identifier.now; place = place } ∷ []) in
+            IfErr result (λ e. refuses (uses_of used_imports.old) (uses_of used_imports.new) e) }
     {
         let (first, behind) = split_identifier(identifier);
         let paths = self.declared_paths(first);
@@ -260,9 +268,15 @@ pub fn substitute_identifiers(
     allow_ambiguous: bool,
 ) -> Result<String, SubstituteFault>
     ensures text { IfOk result (λ t. string_bytes t ≡ substituted (declared_of declared_imports.now) (lexemes 0 0 (chars input.now))) }
-    ensures used { OnOk result (uses_of used_imports.new ≡ with_mentions (uses_of used_imports.old) (mentions_in (declared_of declared_imports.now) (usize_sites (sites offset (lexemes 0 0 (chars input.now)))))) }
-    ensures allowed { OnOk result (first_ambiguous (declared_of declared_imports.now) allow_ambiguous (usize_sites (sites offset (lexemes 0 0 (chars input.now)))) ≡ None) }
-    ensures fault { IfErr result (λ e. RefusesUses (declared_of declared_imports.now) allow_ambiguous (usize_sites (sites offset (lexemes 0 0 (chars input.now)))) (uses_of used_imports.old) (uses_of used_imports.new) e) }
+    ensures used { let found = usize_sites (sites offset (lexemes 0 0 (chars input.now))) in
+        let more = mentions_in (declared_of declared_imports.now) found in
+        OnOk result (uses_of used_imports.new ≡ with_mentions (uses_of used_imports.old) more) }
+    ensures allowed { let found = usize_sites (sites offset (lexemes 0 0 (chars input.now))) in
+        let first = first_ambiguous (declared_of declared_imports.now) allow_ambiguous found in
+        OnOk result (first ≡ None) }
+    ensures fault { let found = usize_sites (sites offset (lexemes 0 0 (chars input.now))) in
+        let refuses = RefusesUses (declared_of declared_imports.now) allow_ambiguous found in
+        IfErr result (λ e. refuses (uses_of used_imports.old) (uses_of used_imports.new) e) }
 {
     if declared_imports.is_empty() && !input.contains("::") {
         return Ok(String::from_str(alloc, input)?);
@@ -294,6 +308,3 @@ pub fn substitute_identifiers(
 pub fn exact_places()
     ensures { (offset : ℕ) (text : List ℕ) → IsUtf8 text → offset + length text < 2 ^ 64 → usize_sites (sites offset (lexemes 0 0 (chars text))) ≡ sites offset (lexemes 0 0 (chars text)) }
 {}
-
-#[cfg(test)]
-mod tests;

@@ -230,6 +230,3 @@ impl<'a> Iterator for Tokenizer<'a> {
 pub fn one_token_list()
     ensures { (at : ℕ) (cs : List ℕ) (ts : List Lexeme) → AreTokens at cs ts ↔ (ts ≡ lexemes 0 at cs) }
 {}
-
-#[cfg(test)]
-mod tests;

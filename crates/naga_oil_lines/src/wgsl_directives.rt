@@ -275,6 +275,3 @@ pub fn names_in_order()
     ensures rise { (names : List (List ℕ)) → IsStrictlySortedBy (slice_cmp nat_cmp) (in_order names) }
     ensures members { (names : List (List ℕ)) (name : List ℕ) → Contains (in_order names) name ↔ Contains names name }
 {}
-
-#[cfg(test)]
-mod tests;

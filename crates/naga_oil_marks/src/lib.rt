@@ -40,6 +40,3 @@ pub fn add_decoration(name: &mut String, decoration: &str) -> Result<bool, Alloc
     name.push_str(decoration)?;
     Ok(true)
 }
-
-#[cfg(test)]
-mod tests;

@@ -6,12 +6,8 @@ ghost use Rattle.naga_oil_pre.specs.KindView.{condition_of};
 ghost use Rattle.naga_oil_pre.specs.Values.{operator_holds};
 ghost use Rattle.naga_oil_pre.specs.View.{Gives, fault_of};
 
-use crate::fault::ComposerErrorInner;
-use crate::line_kind::Condition;
-use crate::shader_def::ShaderDefValue;
-use std::alloc::{AllocError, Global};
+use super::*;
 use std::cmp::Ordering;
-use std::collections::BTreeMap;
 
 // Whether the operator holds of two values that compare so.
 fn is_ordered(operator: &str, ordering: Ordering) -> Option<bool>

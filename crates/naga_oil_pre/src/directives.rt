@@ -13,14 +13,8 @@ ghost use Rattle.naga_oil_pre.specs.DirectiveView.{line_directive_of};
 ghost use Rattle.naga_oil_pre.specs.Extracted.{kept, found, goes_on, ◌and◌, extracted};
 ghost use Rattle.naga_oil_pre.specs.View.{Gives};
 
-use crate::fault::ComposerErrorInner;
-use crate::preprocess::Preprocessor;
-use naga_oil_lines::text::split_first_char;
-use naga_oil_lines::wgsl_directives::{
-    DiagnosticDirective, EnableDirective, RequiresDirective, WgslDirectives,
-};
-use std::alloc::{AllocError, Global};
-use std::str::Lines;
+use super::*;
+use naga_oil_lines::wgsl_directives::{DiagnosticDirective, EnableDirective, RequiresDirective};
 
 // What a line is among directives.
 #[derive(Drop)]
@@ -250,6 +244,3 @@ impl Preprocessor {
         Ok((cleaned, directives))
     }
 }
-
-#[cfg(test)]
-mod tests;

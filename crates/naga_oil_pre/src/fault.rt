@@ -132,6 +132,3 @@ impl From<RedirectError> for ComposerErrorInner {
         }
     }
 }
-
-#[cfg(test)]
-mod tests;

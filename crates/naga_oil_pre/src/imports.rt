@@ -1,29 +1,21 @@
 // What imports declare, and what lines use of them.
-ghost use Rattle.std.specs.Prelude.{◌≡◌, ℕ, ◌+◌, ◌<◌, ◌≤◌, ◌^◌, ◌++◌, List, Some, None, Ok, length, string_bytes, replicate, map, false, OnOk, IfOk, IfErr};
+ghost use Rattle.std.specs.Prelude.{◌≡◌, ◌+◌, ◌<◌, ◌≤◌, ◌^◌, ◌++◌, Some, None, Ok, length, string_bytes, replicate, false, OnOk, IfOk, IfErr};
 ghost use Rattle.std.specs.BTreeMap.{get_by_text};
 ghost use Rattle.naga_oil_lines.specs.Declarations.{declared_of};
 ghost use Rattle.naga_oil_lines.specs.Uses.{uses_of};
 ghost use Rattle.naga_oil_lines.specs.Leaves.{import_leaves, with_import};
 ghost use Rattle.naga_oil_lines.specs.Substituted.{substituted, sites, first_ambiguous, used_by};
 ghost use Rattle.naga_oil_pre.specs.Line.{Line, end_place};
-ghost use Rattle.naga_oil_pre.specs.Fault.{Definitions};
 ghost use Rattle.naga_oil_pre.specs.View.{Fails};
 ghost use Rattle.naga_oil_pre.specs.Preprocessed.{Known, end_line, padded, blanks, import_text, tokens_of, using_tokens, imported_passage, shown_passage};
 ghost use Rattle.naga_oil_pre.specs.Replaced.{replaced};
 ghost use Rattle.naga_oil_pre.specs.Reading.{braces_after, taken, behind_taken};
 ghost use Rattle.naga_oil_pre.specs.SourceView.{line_of};
 
-use crate::fault::ComposerErrorInner;
-use crate::replace::replaced_text;
-use crate::shader_def::ShaderDefValue;
-use crate::source_lines::{SourceLine, SourceLines};
-use indexmap::IndexMap;
-use naga_oil_lines::import_definition::ImportDefWithOffset;
+use super::replace::replaced_text;
+use super::*;
 use naga_oil_lines::parse_imports::{ImportFault, parse_imports};
-use naga_oil_lines::substitute::{SubstituteFault, substitute_identifiers};
 use naga_oil_lines::text::push_spaces;
-use std::alloc::{AllocError, Global};
-use std::collections::BTreeMap;
 
 /// What the imports so far declare, and what the lines so far use of them.
 #[derive(Drop)]
@@ -135,8 +127,12 @@ pub fn record_uses(
 ) -> Result<String, ComposerErrorInner>
     requires { line.now.offset ≤ 2 ^ 63 }
     ensures text { IfOk result (λ t. string_bytes t ≡ substituted (declared_of imports.old.declared) (using_tokens (get_by_text definitions.now) (line_of line.now))) }
-    ensures ok { OnOk result (first_ambiguous (declared_of imports.old.declared) false (sites line.now.offset (using_tokens (get_by_text definitions.now) (line_of line.now))) ≡ None) }
-    ensures used { OnOk result (uses_of imports.new.used ≡ used_by (declared_of imports.old.declared) line.now.offset (using_tokens (get_by_text definitions.now) (line_of line.now)) (uses_of imports.old.used)) }
+    ensures ok { let tokens = using_tokens (get_by_text definitions.now) (line_of line.now) in
+        let first = first_ambiguous (declared_of imports.old.declared) false (sites line.now.offset tokens) in
+        OnOk result (first ≡ None) }
+    ensures used { let tokens = using_tokens (get_by_text definitions.now) (line_of line.now) in
+        let used = used_by (declared_of imports.old.declared) line.now.offset tokens in
+        OnOk result (uses_of imports.new.used ≡ used (uses_of imports.old.used)) }
     ensures declared { OnOk result (declared_of imports.new.declared ≡ declared_of imports.old.declared) }
     ensures err { IfErr result (λ e. (known : Known) → Fails e (shown_passage (get_by_text definitions.now) known (line_of line.now)
         (first_ambiguous (declared_of imports.old.declared) false (sites line.now.offset (using_tokens (get_by_text definitions.now) (line_of line.now)))))) }
@@ -198,8 +194,12 @@ pub fn show_line(
     requires { line.now.offset ≤ 2 ^ 63 }
     ensures text { OnOk result (string_bytes out.new ≡ string_bytes out.old
         ++ end_line (padded (length line.now.text.now) (substituted (declared_of imports.old.declared) (tokens_of (replaced (get_by_text definitions.now) line.now.text.now))))) }
-    ensures ok { OnOk result (first_ambiguous (declared_of imports.old.declared) false (sites line.now.offset (using_tokens (get_by_text definitions.now) (line_of line.now))) ≡ None) }
-    ensures used { OnOk result (uses_of imports.new.used ≡ used_by (declared_of imports.old.declared) line.now.offset (using_tokens (get_by_text definitions.now) (line_of line.now)) (uses_of imports.old.used)) }
+    ensures ok { let tokens = using_tokens (get_by_text definitions.now) (line_of line.now) in
+        let first = first_ambiguous (declared_of imports.old.declared) false (sites line.now.offset tokens) in
+        OnOk result (first ≡ None) }
+    ensures used { let tokens = using_tokens (get_by_text definitions.now) (line_of line.now) in
+        let used = used_by (declared_of imports.old.declared) line.now.offset tokens in
+        OnOk result (uses_of imports.new.used ≡ used (uses_of imports.old.used)) }
     ensures declared { OnOk result (declared_of imports.new.declared ≡ declared_of imports.old.declared) }
     ensures err { IfErr result (λ e. (known : Known) → Fails e (shown_passage (get_by_text definitions.now) known (line_of line.now)
         (first_ambiguous (declared_of imports.old.declared) false (sites line.now.offset (using_tokens (get_by_text definitions.now) (line_of line.now)))))) }

@@ -311,6 +311,3 @@ pub fn unversioned_line_kind(line: &str) -> LineKind<'_>
         None => LineKind::Other,
     }
 }
-
-#[cfg(test)]
-mod tests;

@@ -1,5 +1,5 @@
 // What a text tells before any build.
-ghost use Rattle.std.specs.Prelude.{◌≡◌, ℕ, ◌+◌, ◌^◌, ◌<◌, ◌≤◌, ◌++◌, ◌∷◌, [], List, length, string_bytes, option_copied, option_map, map, true, unwrap_or, Some, Ok, OnOk, IfOk, IfErr};
+ghost use Rattle.std.specs.Prelude.{◌≡◌, ℕ, ◌+◌, ◌^◌, ◌<◌, ◌≤◌, ◌++◌, ◌∷◌, List, length, string_bytes, option_copied, option_map, map, true, unwrap_or, Some, Ok, OnOk, IfOk, IfErr};
 ghost use Rattle.std.specs.BTreeMap.{get_by_text};
 ghost use Rattle.std.specs.BTreeSet.{contains_text};
 ghost use Rattle.naga_oil_lines.specs.Declarations.{declared_of};
@@ -7,7 +7,7 @@ ghost use Rattle.naga_oil_lines.specs.Directives.{directives_of};
 ghost use Rattle.naga_oil_lines.specs.Leaves.{import_leaves};
 ghost use Rattle.naga_oil_lines.specs.Substituted.{used_by};
 ghost use Rattle.naga_oil_lines.specs.Uses.{uses_of, use_of, import_of};
-ghost use Rattle.naga_oil_pre.specs.Line.{Line, source_lines};
+ghost use Rattle.naga_oil_pre.specs.Line.{source_lines};
 ghost use Rattle.naga_oil_pre.specs.KindView.{line_kind_of};
 ghost use Rattle.naga_oil_pre.specs.Metadata.{nothing_found, defined_behind, with_import, found_behind, left_open, going_on, found_in, metadata_of_cleaned, metadata, data_of};
 ghost use Rattle.naga_oil_pre.specs.MetadataView.{has_with, Gains, found_of, metadata_of};
@@ -15,23 +15,12 @@ ghost use Rattle.naga_oil_pre.specs.Preprocessed.{end_line, import_text, tokens_
 ghost use Rattle.naga_oil_pre.specs.Reading.{braces_after, taken, behind_taken};
 ghost use Rattle.naga_oil_pre.specs.Recorded.{is_recorded, line_names, names_of, AgreeOn};
 ghost use Rattle.naga_oil_pre.specs.SourceView.{line_of};
-ghost use Rattle.naga_oil_pre.specs.Fault.{Definitions, invalid_definition};
-ghost use Rattle.naga_oil_pre.specs.View.{Fails, Gives, fault_of};
+ghost use Rattle.naga_oil_pre.specs.Fault.{Definitions};
+ghost use Rattle.naga_oil_pre.specs.View.{Fails, Gives};
 
-use crate::fault::ComposerErrorInner;
-use crate::imports::{Imports, braces_after, declare};
-use crate::line_kind::{LineKind, unversioned_line_kind};
-use crate::preprocess::Preprocessor;
-use crate::recorded::record_line_names;
-use crate::shader_def::{ShaderDefValue, defined_value};
-use crate::source_lines::{SourceLine, SourceLines};
-use indexmap::IndexMap;
-use naga_oil_lines::comment_strip_iter::CommentReplaceExt;
-use naga_oil_lines::import_definition::{ImportDefWithOffset, ImportDefinition};
-use naga_oil_lines::substitute::{SubstituteFault, substitute_identifiers};
-use naga_oil_lines::wgsl_directives::WgslDirectives;
-use std::alloc::{AllocError, Global};
-use std::collections::{BTreeMap, BTreeSet};
+use super::line_kind::unversioned_line_kind;
+use super::recorded::record_line_names;
+use super::*;
 
 /// What a registry needs of a text before any build.
 #[derive(Debug, Drop)]
@@ -165,10 +154,18 @@ fn read_import(
     requires even { length (line_of line.now).covered ≤ length line.now.text.now }
     requires room { source.old.place ≤ 2 ^ 63 }
     ensures left { OnOk result (source.new.left ≡ behind_taken (braces_after 0 (line_of line.now).covered) source.old.left) }
-    ensures ok { OnOk result (with_import (found_of findings.old) line.now.offset (import_leaves (import_text (line_of line.now ∷ taken (braces_after 0 (line_of line.now).covered) source.old.left))) ≡ Ok (found_of findings.new)) }
+    ensures ok { let first = line_of line.now in
+        let more = taken (braces_after 0 first.covered) source.old.left in
+        let leaves = import_leaves (import_text (first ∷ more)) in
+        let found = with_import (found_of findings.old) line.now.offset leaves in
+        OnOk result (found ≡ Ok (found_of findings.new)) }
     ensures names { OnOk result (Gains findings.old.names findings.new.names (names_of (taken (braces_after 0 (line_of line.now).covered) source.old.left))) }
     ensures shorter { OnOk result (length source.new.left ≤ length source.old.left) }
-    ensures err { IfErr result (λ e. Fails e (with_import (found_of findings.old) line.now.offset (import_leaves (import_text (line_of line.now ∷ taken (braces_after 0 (line_of line.now).covered) source.old.left))))) }
+    ensures err { let first = line_of line.now in
+        let more = taken (braces_after 0 first.covered) source.old.left in
+        let leaves = import_leaves (import_text (first ∷ more)) in
+        let found = with_import (found_of findings.old) line.now.offset leaves in
+        IfErr result (λ e. Fails e found) }
 {
     let covered = line.covered.as_str();
     let mut import = String::from_str(alloc, covered)?;
@@ -284,7 +281,9 @@ fn read_metadata(
     allow_defines: bool,
 ) -> Result<PreprocessorMetaData, ComposerErrorInner>
     ensures value { Gives metadata_of result (metadata_of_cleaned allow_defines (string_bytes cleaned) (directives_of directives)) }
-    ensures agreement { IfOk result (λ m. (d e : Definitions) → AgreeOn (contains_text m.effective_defs) d e → preprocessed d (string_bytes m.cleaned_source) ≡ preprocessed e (string_bytes m.cleaned_source)) }
+    ensures agreement { IfOk result (λ m. let text = string_bytes m.cleaned_source in
+        let agree = AgreeOn (contains_text m.effective_defs) in
+        (d e : Definitions) → agree d e → preprocessed d text ≡ preprocessed e text) }
 {
     let Findings {
         name,
@@ -315,7 +314,9 @@ impl Preprocessor {
         allow_defines: bool,
     ) -> Result<PreprocessorMetaData, ComposerErrorInner>
         ensures value { Gives metadata_of result (metadata allow_defines shader_str.now) }
-        ensures agreement { IfOk result (λ m. (d e : Definitions) → AgreeOn (contains_text m.effective_defs) d e → preprocessed d (string_bytes m.cleaned_source) ≡ preprocessed e (string_bytes m.cleaned_source)) }
+        ensures agreement { IfOk result (λ m. let text = string_bytes m.cleaned_source in
+            let agree = AgreeOn (contains_text m.effective_defs) in
+            (d e : Definitions) → agree d e → preprocessed d text ≡ preprocessed e text) }
     {
         let (cleaned, directives) = self.extract_wgsl_directives(alloc, shader_str)?;
         read_metadata(alloc, cleaned, directives, allow_defines)
@@ -360,6 +361,3 @@ pub fn get_preprocessor_data(
         Err(_) => Ok((None, Vec::new(alloc), BTreeMap::new(alloc))),
     }
 }
-
-#[cfg(test)]
-mod tests;

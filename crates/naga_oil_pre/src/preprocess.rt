@@ -1,9 +1,8 @@
 // Conditions and definitions of a text, line by line.
-ghost use Rattle.std.specs.Prelude.{ℕ, List, ◌≡◌, ◌+◌, ◌++◌, ◌∷◌, ◌^◌, ◌≤◌, ◌<◌, length, string_bytes, OnOk, IfOk, IfErr, replicate, All, ◌==◌};
+ghost use Rattle.std.specs.Prelude.{ℕ, List, ◌≡◌, ◌+◌, ◌∷◌, ◌^◌, ◌≤◌, ◌<◌, length, string_bytes, OnOk, IfOk, IfErr, All, ◌==◌};
 ghost use Rattle.std.specs.Str.{NoCharPasses};
 ghost use Rattle.std.specs.Str.Lines.{lines};
 ghost use Rattle.std.specs.BTreeMap.{get_by_text};
-ghost use Rattle.std.specs.Cow.{cow_str_bytes};
 ghost use Rattle.naga_oil_pre.specs.Line.{Line, end_place};
 ghost use Rattle.naga_oil_pre.specs.Kind.{kind_of};
 ghost use Rattle.naga_oil_pre.specs.Step.{step, opened, scanned};
@@ -17,18 +16,11 @@ ghost use Rattle.naga_oil_pre.specs.Treatment.{status_of, open_after};
 ghost use Rattle.naga_oil_pre.specs.SourceView.{line_of};
 ghost use Rattle.naga_oil_pre.specs.declared.scope.ScopeLevel.{ScopeLevel};
 
-use crate::condition::evaluate;
-use crate::fault::ComposerErrorInner;
-use crate::imports::{Imports, blank_line, braces_after, declare, show_line, take_lines};
-use crate::line_kind::{LineKind, line_kind};
-use crate::scope::Scope;
-use crate::shader_def::ShaderDefValue;
-use crate::source_lines::{SourceLine, SourceLines};
-use indexmap::IndexMap;
-use naga_oil_lines::comment_strip_iter::CommentReplaceExt;
-use naga_oil_lines::import_definition::ImportDefWithOffset;
-use std::alloc::Global;
-use std::collections::BTreeMap;
+use super::condition::evaluate;
+use super::imports::{blank_line, show_line, take_lines};
+use super::line_kind::line_kind;
+use super::scope::Scope;
+use super::*;
 
 /// What a text becomes.
 #[derive(Debug, Drop)]
@@ -54,10 +46,14 @@ fn read_line(
     definitions: &BTreeMap<String, ShaderDefValue>,
     scope: &mut Scope,
 ) -> Result<Treatment, ComposerErrorInner>
-    ensures ok { IfOk result (λ treatment. (more : List Line) → step (get_by_text definitions.now) scope.old (line_of line.now) (kind_of (line_of line.now).covered) more ≡ (status_of treatment (line_of line.now) more, scope.new)) }
+    ensures ok { let here = line_of line.now in
+        let next = step (get_by_text definitions.now) scope.old here (kind_of here.covered) in
+        IfOk result (λ treatment. (more : List Line) → next more ≡ (status_of treatment here more, scope.new)) }
     ensures opened { IfOk result (λ treatment. opened scope.old (line_of line.now) (kind_of (line_of line.now).covered) ≡ open_after treatment) }
     ensures bound { IfOk result (λ treatment. open_after treatment ≤ length (line_of line.now).covered) }
-    ensures err { IfErr result (λ e. (more : List Line) → Notes e ((step (get_by_text definitions.now) scope.old (line_of line.now) (kind_of (line_of line.now).covered) more).0)) }
+    ensures err { let here = line_of line.now in
+        let next = step (get_by_text definitions.now) scope.old here (kind_of here.covered) in
+        IfErr result (λ e. (more : List Line) → Notes e ((next more).0)) }
 {
     let covered = line.covered.as_str();
     match line_kind(covered) {
@@ -143,7 +139,9 @@ fn write_line(
         ≡ prepend (string_bytes out.old) (written (get_by_text definitions.now) (known_of imports.old) (scanned (get_by_text definitions.now) end scope.old 0 (line_of line.entry ∷ source.old.left)))) }
     ensures end { OnOk result (end_place source.new.place source.new.left ≡ end_place source.old.place source.old.left) }
     ensures shorter { OnOk result (length source.new.left ≤ length source.old.left) }
-    ensures err { IfErr result (λ e. (end : ℕ) → Fails e (written (get_by_text definitions.now) (known_of imports.old) (scanned (get_by_text definitions.now) end scope.old 0 (line_of line.entry ∷ source.old.left)))) }
+    ensures err { let given = get_by_text definitions.now in
+        let left = line_of line.entry ∷ source.old.left in
+        IfErr result (λ e. (end : ℕ) → Fails e (written given (known_of imports.old) (scanned given end scope.old 0 left))) }
 {
     match read_line(alloc, &line, definitions, scope)? {
         Treatment::Blank => {
@@ -177,9 +175,13 @@ impl Preprocessor {
         shader_defs: &BTreeMap<String, ShaderDefValue>,
     ) -> Result<PreprocessOutput, ComposerErrorInner>
         ensures value { Gives output_of result (preprocessed (get_by_text shader_defs.now) shader_str.now) }
-        ensures line_ends { All (λ path. line_ends path ≡ 0) (declared_paths (get_by_text shader_defs.now) shader_str.now) → IfOk result (λ o. line_ends (string_bytes o.preprocessed_source) ≡ length (lines shader_str.now)) }
+        ensures line_ends { let paths = declared_paths (get_by_text shader_defs.now) shader_str.now in
+            let count = length (lines shader_str.now) in
+            All (λ path. line_ends path ≡ 0) paths → IfOk result (λ o. line_ends (string_bytes o.preprocessed_source) ≡ count) }
         // A text without `"` declares no other paths.
-        ensures quoteless { NoCharPasses (λ c. c == 34) shader_str.now → IfOk result (λ o. line_ends (string_bytes o.preprocessed_source) ≡ length (lines shader_str.now)) }
+        ensures quoteless { let count = length (lines shader_str.now) in
+            let quoteless = NoCharPasses (λ c. c == 34) shader_str.now in
+            quoteless → IfOk result (λ o. line_ends (string_bytes o.preprocessed_source) ≡ count) }
     {
         let mut out = String::with_capacity(alloc, shader_str.len() + 1)?;
         let mut scope = Scope::new(alloc);
@@ -209,6 +211,3 @@ impl Preprocessor {
         })
     }
 }
-
-#[cfg(test)]
-mod tests;

@@ -7,11 +7,8 @@ ghost use Rattle.naga_oil_pre.specs.Recorded.{condition_names, text_names, kind_
 ghost use Rattle.naga_oil_pre.specs.Replaced.{hash_names};
 ghost use Rattle.naga_oil_pre.specs.SourceView.{line_of};
 
-use crate::line_kind::{Condition, LineKind};
-use crate::replace::{split_at_hash, split_hash_name};
-use crate::source_lines::SourceLine;
-use std::alloc::{AllocError, Global};
-use std::collections::BTreeSet;
+use super::replace::{split_at_hash, split_hash_name};
+use super::*;
 
 // Records a name. One that is there takes no memory.
 fn record_name(alloc: Global, names: &mut BTreeSet<String>, name: &str) -> Result<(), AllocError>

@@ -1,5 +1,5 @@
 // Puts values in the place of the `#` names of a line.
-ghost use Rattle.std.specs.Prelude.{◌≡◌, ℕ, ◌++◌, ◌∷◌, ◌≤◌, ◌==◌, List, length, drop, string_bytes, OnOk, IfOk, IsOkAnd, MatchOption, None, false};
+ghost use Rattle.std.specs.Prelude.{◌≡◌, ◌++◌, ◌∷◌, ◌≤◌, ◌==◌, length, string_bytes, OnOk, IfOk, IsOkAnd, MatchOption, None, false};
 ghost use Rattle.std.specs.BTreeMap.{get_by_text};
 ghost use Rattle.std.specs.Cow.{cow_str_bytes, IsBorrowedStr};
 ghost use Rattle.std.specs.List.{prefix_len};
@@ -9,12 +9,8 @@ ghost use Rattle.naga_oil_pre.specs.LineKinds.{is_name_char};
 ghost use Rattle.naga_oil_pre.specs.Replaced as spec;
 ghost use Rattle.naga_oil_pre.specs.Splits.{SplitsName, SplitsHashName, SplitsAtHash};
 
-use crate::line_kind::{CharClass, behind_run};
-use crate::shader_def::ShaderDefValue;
-use naga_oil_lines::text::{after_whitespace, split_first_char, text_before};
-use std::alloc::{AllocError, Global};
-use std::borrow::CowStr;
-use std::collections::BTreeMap;
+use super::line_kind::{CharClass, behind_run};
+use super::*;
 
 // What follows this character, if the text begins with it.
 fn past_char(text: &str, wanted: char) -> Option<&str>
@@ -72,7 +68,9 @@ fn push_hash<'a>(
     behind: &'a str,
     definitions: &BTreeMap<String, ShaderDefValue>,
 ) -> Result<&'a str, AllocError>
-    ensures value { IfOk result (λ rest. string_bytes out.new ++ spec.replaced_from (get_by_text definitions.now) (chars rest.now) ≡ string_bytes out.old ++ spec.replaced_from (get_by_text definitions.now) (35 ∷ chars behind.now)) }
+    ensures value { let from = spec.replaced_from (get_by_text definitions.now) in
+        let whole = string_bytes out.old ++ from (35 ∷ chars behind.now) in
+        IfOk result (λ rest. string_bytes out.new ++ from (chars rest.now) ≡ whole) }
     ensures utf8 { IfOk result (λ rest. IsUtf8 rest.now) }
     ensures bound { IfOk result (λ rest. length rest.now ≤ length behind.now) }
 {
@@ -121,6 +119,3 @@ pub(crate) fn replaced_text<'a>(
     push_replaced(&mut out, line, definitions)?;
     Ok(CowStr::Owned(out))
 }
-
-#[cfg(test)]
-mod tests;

@@ -38,6 +38,3 @@ pub fn defined_value(value: Option<&str>) -> Option<ShaderDefValue>
         Some(ShaderDefValue::Bool(text.parse::<bool>().ok()?))
     }
 }
-
-#[cfg(test)]
-mod tests;

@@ -7,11 +7,9 @@ ghost use Rattle.naga_oil_lines.specs.CoveredLines.{covered_lines, covered_lines
 ghost use Rattle.naga_oil_pre.specs.Line.{Line, placed, source_lines, next_place};
 ghost use Rattle.naga_oil_pre.specs.SourceView.{line_of};
 
+use super::*;
 use naga_oil_lines::comment_strip_iter::CommentReplaceIter;
-use std::alloc::AllocError;
-use std::borrow::CowStr;
 use std::marker::Model;
-use std::str::Lines;
 
 /// A line without its end, the same with its comments covered, and the place of its first byte.
 #[derive(Drop)]

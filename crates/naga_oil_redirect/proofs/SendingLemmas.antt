@@ -12,9 +12,9 @@ use Rattle.naga_oil_ir.specs.declared.statement.Statement.{Loop, Call, If, Switc
 use Rattle.naga_oil_ir.specs.declared.expression.Expression.{Expression}
 use Rattle.naga_oil_ir.specs.declared.expression.Expression.TheVariants.{CallResult}
 use Rattle.naga_oil_ir.proofs.BodyLemmas.{switch_tokens}
-use Rattle.naga_oil_derive.specs.Renames.{Renames, rename, rename_token, rename_tokens, rename_named}
+use Rattle.naga_oil_rename.specs.Renames.{Renames, rename, rename_token, rename_tokens, rename_named}
 use Rattle.naga_oil_redirect.specs.Redirected.{sent}
-use Rattle.naga_oil_derive.proofs.RenamingLemmas.{map-Use-rename, loop_tokens, call_tokens, block_inside_tokens, if_tokens}
+use Rattle.naga_oil_rename.proofs.RenamingLemmas.{map-Use-rename, loop_tokens, call_tokens, block_inside_tokens, if_tokens}
 
 inside-rename : (r : Renames) (ts us : Tokens) → us ≡ rename_tokens r ts → inside us ≡ rename_tokens r (inside ts)
 inside-rename r ts us e = ap inside e ∙ sym (map-append (rename_token r) (Open ∷ ts) (Close ∷ []))

@@ -29,7 +29,7 @@ use Rattle.naga_oil_ir.specs.declared.tokens.Token.{Token}
 use Rattle.naga_oil_ir.specs.declared.tokens.Token.TheVariants.{At, Head, Plain, Flag, Absent, Use, Give, GiveCall, Emitted, Callee, Open, Close}
 use Rattle.naga_oil_ir.specs.declared.types.LocalVariable.{LocalVariable}
 use Rattle.naga_oil_derive.specs.Copies.{value_links}
-use Rattle.naga_oil_derive.specs.Renames.{rename, rename_named, rename_token, rename_tokens}
+use Rattle.naga_oil_rename.specs.Renames.{rename, rename_named, rename_token, rename_tokens}
 use Rattle.naga_oil_redirect.specs.Redirectable.{Redirectable}
 use Rattle.naga_oil_redirect.specs.Redirected.{function_values, is_named, sent, send, send_at, send_entry}
 use Rattle.naga_oil_redirect.proofs.SendingLemmas.{options-sent}

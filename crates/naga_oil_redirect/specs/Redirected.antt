@@ -8,7 +8,7 @@ use Rattle.naga_oil_ir.specs.NameForm.{Name}
 use Rattle.naga_oil_ir.specs.ModuleValue.{ModuleValue, FunctionValue, EntryValue, function_value}
 use Rattle.naga_oil_ir.specs.declared.module.Function.{Function}
 use Rattle.naga_oil_ir.specs.declared.span.Span.{Span}
-use Rattle.naga_oil_derive.specs.Renames.{Renames, rename, rename_tokens}
+use Rattle.naga_oil_rename.specs.Renames.{Renames, rename, rename_tokens}
 use Rattle.naga_oil_ir.specs.RedirectFault.{RedirectFault, not_found, argument_mismatch, return_type_mismatch}
 
 -- functions with their spans

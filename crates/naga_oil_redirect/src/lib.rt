@@ -5,7 +5,7 @@
 //! that order into a derived module.
 #![tactic(auto)]
 
-mod order;
+pub mod order;
 pub mod redirect;
 mod sent_calls;
 

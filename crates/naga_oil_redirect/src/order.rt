@@ -191,6 +191,3 @@ pub fn ordered(functions: &[(Function, Span)], alloc: Global) -> Result<Vec<usiz
     let names = names_at(functions, &circular, alloc)?;
     Err(RedirectError::CircularReference(names))
 }
-
-#[cfg(test)]
-mod tests;

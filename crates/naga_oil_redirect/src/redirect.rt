@@ -124,6 +124,13 @@ impl Redirector {
         Redirector { module: shader, alloc }
     }
 
+    /// The module so far.
+    pub fn module(&self) -> &Module
+        ensures { module_value result.now ≡ self.now }
+    {
+        &self.module
+    }
+
     /// The first function of a name, with its place.
     fn find(&self, name: &str) -> Result<(usize, &Function), RedirectError>
         ensures found { Gives (λ f. (f.0, function_value f.1.now)) result (found name.now self.now.functions) }
@@ -206,6 +213,3 @@ impl TryFrom<Redirector> for Module {
         redirector.into_module()
     }
 }
-
-#[cfg(test)]
-mod tests;

@@ -4,7 +4,7 @@ ghost use Rattle.std.specs.List.{flat_map};
 ghost use Rattle.naga_oil_ir.specs.Parts.{parts};
 ghost use Rattle.naga_oil_ir.specs.Body.{block_tokens, statement_tokens, case_tokens};
 ghost use Rattle.naga_oil_ir.specs.ModuleValue.{function_value};
-ghost use Rattle.naga_oil_derive.specs.Renames.{rename, rename_tokens};
+ghost use Rattle.naga_oil_rename.specs.Renames.{rename, rename_tokens};
 ghost use Rattle.naga_oil_redirect.specs.Redirected.{sent, send};
 
 use super::*;

@@ -3,7 +3,7 @@ use Rattle.std.specs.List.{flat_map}
 use Rattle.std.proofs.lemmas.List.{take_all}
 use Rattle.naga_oil_ir.specs.Body.{spanned_tokens, statement_tokens}
 use Rattle.naga_oil_ir.proofs.BodyLemmas.{block_tokens-out}
-use Rattle.naga_oil_derive.specs.Renames.{rename_tokens}
+use Rattle.naga_oil_rename.specs.Renames.{rename_tokens}
 use Rattle.naga_oil_redirect.specs.Redirected.{sent}
 use Rattle.naga_oil_redirect.proofs.SendingLemmas.{sent_inner, sent_if, sent_loop, sent_switch, sent_call}
 use Rattle.naga_oil_redirect.proofs.sent_calls.+sending.Goals as goal

@@ -2,7 +2,7 @@ use Rattle.std.proofs.Common.{◌≡◌, take}
 use Rattle.std.specs.List.{flat_map}
 use Rattle.naga_oil_ir.specs.Body.{spanned_tokens, case_tokens}
 use Rattle.naga_oil_ir.specs.declared.statement.Block.{out-Block}
-use Rattle.naga_oil_derive.specs.Renames.{rename_tokens}
+use Rattle.naga_oil_rename.specs.Renames.{rename_tokens}
 use Rattle.naga_oil_redirect.specs.Redirected.{sent}
 use Rattle.naga_oil_redirect.proofs.sent_calls.+sending.Given as goal
 

@@ -5,7 +5,7 @@ use Rattle.std.proofs.lemmas.List.{get_or-set_other, take_at, take_all}
 use Rattle.naga_oil_ir.specs.Parts.{parts, Parts}
 use Rattle.naga_oil_ir.specs.declared.expression.Expression.{Expression}
 use Rattle.naga_oil_ir.specs.declared.span.Span.{Span}
-use Rattle.naga_oil_derive.specs.Renames.{rename}
+use Rattle.naga_oil_rename.specs.Renames.{rename}
 use Rattle.naga_oil_redirect.specs.Redirected.{sent}
 use Rattle.naga_oil_redirect.proofs.SendingLemmas.{map_more_sent}
 use Rattle.naga_oil_redirect.proofs.sent_calls.send_calls.Goals as goal

@@ -2,7 +2,7 @@ use Rattle.std.proofs.Common.{◌≡◌, ◌≤◌, ℕ, map, take, get_or}
 use Rattle.naga_oil_ir.specs.ModuleValue.{expression_values}
 use Rattle.naga_oil_ir.specs.declared.expression.Expression.{Expression}
 use Rattle.naga_oil_ir.specs.declared.span.Span.{Span}
-use Rattle.naga_oil_derive.specs.Renames.{rename}
+use Rattle.naga_oil_rename.specs.Renames.{rename}
 use Rattle.naga_oil_redirect.specs.Redirected.{sent}
 use Rattle.naga_oil_redirect.proofs.sent_calls.send_calls.Given as goal
 

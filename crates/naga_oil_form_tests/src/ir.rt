@@ -1,0 +1,4 @@
+//! Tests of `naga_oil_ir`.
+mod backend;
+mod check_form;
+mod tests;
