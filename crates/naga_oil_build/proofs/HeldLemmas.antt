@@ -1,5 +1,5 @@
 -- What a build holds of the module that its whole text says.
-use Rattle.std.proofs.Common.{◌≡◌, ℕ, ◌<◌, ◌≤◌, Bool, true, false, not, nat_lt, cond, List, length, Option, Some, None, Result, Ok, Err, refl, ap, ◌∙◌}
+use Rattle.std.proofs.Common.{◌≡◌, ℕ, ◌<◌, ◌≤◌, Bool, true, false, not, nat_lt, cond, List, length, Option, Some, None, Result, Ok, Err, refl, sym, ap, ◌∙◌}
 use Rattle.std.specs.Prelude.{◌&&◌}
 use Rattle.std.proofs.lemmas.Bool.{lt-ltb, le-ltb}
 use Rattle.naga_oil_ir.specs.Backend.{FrontEnd}
@@ -13,13 +13,13 @@ use Rattle.naga_oil_pre.specs.declared.fault.ComposerErrorInner.{ComposerErrorIn
 use Rattle.naga_oil_registry.specs.Added.{◌>>=◌}
 use Rattle.naga_oil_registry.proofs.NewDefinitionLemmas.{fails-through}
 use Rattle.naga_oil_link.specs.BuiltModule.{BuiltModule}
-use Rattle.naga_oil_link.specs.CopiedBuild.{copy_build, copies_special, with_special}
-use Rattle.naga_oil_link.specs.Form.{is_formed, if_formed}
+use Rattle.naga_oil_link.specs.CopiedBuild.{copy_build, copies_special}
+use Rattle.naga_oil_link.specs.Form.{is_formed}
 use Rattle.naga_oil_link.specs.FormView.{GivesFormed}
 use Rattle.naga_oil_link.specs.OwnPlaces.{OwnPlaces}
 use Rattle.naga_oil_link.specs.Owned.{own_places, owned_module, owned_build}
 use Rattle.naga_oil_build.specs.Built.{parsed_text}
-use Rattle.naga_oil_build.specs.Held.{Settings, or_wrong_form, parse_whole, is_tested, if_tested, names_back, copy_tested, hold}
+use Rattle.naga_oil_build.specs.Held.{Settings, parse_whole, is_tested, if_tested, names_back, copy_tested, hold}
 use Rattle.naga_oil_build.specs.HeldView.{FormedAs}
 use Rattle.naga_oil_build.specs.Writeback.{came_back}
 
@@ -28,6 +28,11 @@ pub fails_on : {Y Z : Type 0} (e : ComposerErrorInner) (v : Result Y Fault) (mor
 fails_on e v more h = fails-through e v (v >>= more) h (λ f p. ap (λ (r : Result _ Fault). r >>= more) p)
 
 -- ---- forms
+-- a value, or the fault of a wrong form
+abbrev pub or_wrong_form : {X : Type 0} → Option X → Result X Fault
+or_wrong_form (Some x) = Ok x
+or_wrong_form None = Err wrong_form
+
 -- an answer on a form, told as a fault
 pub given_form : {X Y : Type 0} (view : X → Y) (answer : Result X FormFault) (r : Result X ComposerErrorInner) (o : Option Y) → FormedAs answer r → GivesFormed view answer o → Gives view r (or_wrong_form o)
 given_form view (Ok x) r o f g = rw (f, g) refl
@@ -64,11 +69,6 @@ module _ (front : FrontEnd) (language : ShaderLanguage) (text decoration : List 
   whole_parsed lt m q p = rw (lt-ltb (length text) 2097152 lt, q) (is_passed (is_formed m decoration (length text)) m p)
 
 -- ---- copies
-is_copied : (special known : Bool) (o : Option BuiltModule) (b : BuiltModule) → or_wrong_form (with_special special o) ≡ Ok (b, known) → (or_wrong_form o ≡ Ok b) × (special ≡ known)
-is_copied special known (Some c) b e =
-    let same : ◌≡◌ {A = BuiltModule × Bool} (c, special) (b, known) = cc in
-    (ap (λ (p : BuiltModule × Bool). Ok p.0) same, ap (λ (p : BuiltModule × Bool). p.1) same)
-is_copied special known None b e = absurd cc
 
 -- whether names have to come back, as the code asks
 pub is_asked : (index : ℕ) (validate special : Bool) → ((nat_lt 0 index && validate) && not special) ≡ true → is_tested index validate special ≡ true
@@ -78,13 +78,20 @@ is_asked index validate special e = by (nat_lt 0 index) validate (not special) e
     by true b c e = e
     by false b c e = e
 
+pub is_unasked : (index : ℕ) (validate special : Bool) → ((nat_lt 0 index && validate) && not special) ≡ false → is_tested index validate special ≡ false
+is_unasked index validate special e = by (nat_lt 0 index) validate (not special) e
+  where
+    by : (a b c : Bool) → ((a && b) && c) ≡ false → (a && b && c) ≡ false
+    by true b c e = e
+    by false b c e = refl
+
 module _ (s : Settings) (m : ModuleValue) (own : OwnPlaces) (b : BuiltModule) (functions : ℕ) where
-  module _ (c : BuiltModule) (special : Bool) (copied : or_wrong_form (with_special (copies_special m own b.decoration) (copy_build m own b)) ≡ Ok (c, special)) where
+  module _ (c : BuiltModule) (special : Bool) (copied : c ≡ copy_build m own b) (knows : special ≡ copies_special m own b.decoration b.functions) where
     behind_copy : copy_tested s m own b functions ≡ (names_back s special m own c functions >>= λ done. Ok c)
-    behind_copy =
-        let h = is_copied (copies_special m own b.decoration) special (copy_build m own b) c copied in
-        ap (λ (r : Result BuiltModule Fault). r >>= λ c. names_back s (copies_special m own b.decoration) m own c functions >>= λ done. Ok c) h.0
-        ∙ ap (λ (x : Bool). names_back s x m own c functions >>= λ done. Ok c) h.1
+    behind_copy = sym (λ i. names_back s (knows i) m own (copied i) functions >>= λ done. Ok (copied i))
+
+    pub untested : is_tested c.index s.validate special ≡ false → copy_tested s m own b functions ≡ Ok c
+    untested q = behind_copy ∙ ap (λ (x : Bool). if_tested x (came_back s.front s.capabilities m own c functions) >>= λ done. Ok c) q
 
     pub tested : is_tested c.index s.validate special ≡ true → (r : Result (Unit {0}) ComposerErrorInner) → Gives (λ done. done) r (came_back s.front s.capabilities m own c functions) → Gives (λ done. c) r (copy_tested s m own b functions)
     tested q r g = by r g
@@ -103,11 +110,7 @@ module _ (s : Settings) (language : ShaderLanguage) (text : List ℕ) (b : Built
   hold_unparsed e h = fails_on e (parse_whole s.front language text b.decoration) _ h
 
   module _ (m : ModuleValue) (parsed : parse_whole s.front language text b.decoration ≡ Ok m) where
-    pub hold_misformed : (e : ComposerErrorInner) → Fails e (or_wrong_form (if_formed (owned_module b.index b.decoration m))) → Fails e (hold s language text b)
-    unfolding hold
-    hold_misformed e h = fails-through e (or_wrong_form (if_formed (owned_module b.index b.decoration m))) _ h (λ f p. rw (parsed, p) refl)
-
-    pub held_by : (own : ModuleValue) (places : OwnPlaces) (c : BuiltModule) (functions : ℕ) → or_wrong_form (if_formed (owned_module b.index b.decoration m)) ≡ Ok own → places ≡ own_places m → c ≡ owned_build b.index m b → functions ≡ length m.functions
+    pub held_by : (own : ModuleValue) (places : OwnPlaces) (c : BuiltModule) (functions : ℕ) → own ≡ owned_module b.index b.decoration m → places ≡ own_places m → c ≡ owned_build b.index m b → functions ≡ length m.functions
         → hold s language text b ≡ copy_tested s own places c functions
     unfolding hold
     held_by own places c functions p q r t = rw (parsed, p, q, r, t) refl

@@ -1,12 +1,14 @@
 -- Functions that are overridden.
-use Rattle.std.proofs.Common.{◌≡◌, ℕ, List, [], ◌∷◌, ◌++◌, map, Bool, true, false, cond, ◌||◌, Option, Some, None, option_map, Bor, refl, sym, ap, ◌∙◌, String, Global, Vec, string_bytes}
+use Rattle.std.proofs.Common.{◌≡◌, ℕ, List, [], ◌∷◌, ◌++◌, map, Bool, true, false, cond, ◌||◌, Option, Some, None, option_map, MatchOption, IsSomeAnd, Bor, refl, sym, ap, ◌∙◌, String, Global, Vec, string_bytes}
 use Rattle.std.proofs.lemmas.Bool.Decides.{Decides-like, same_from_decides}
 use Rattle.std.proofs.lemmas.Slice.Eq.{bytes_eq-Decides}
+use Rattle.std.specs.Arc.{arc_value}
 use Rattle.std.specs.List.{list_any}
 use Rattle.std.specs.Map.{lookup, set_value}
 use Rattle.std.specs.Option.{option_copied}
 use Rattle.std.specs.Str.{bytes_eq}
 use Rattle.std.specs.String.{string_eq}
+use Rattle.std.specs.declared.sync.Arc.{Arc}
 use Rattle.indexmap.specs.IndexMap.{insert_entry}
 use Rattle.naga_oil_lines.specs.Uses.{Import, import_of}
 use Rattle.naga_oil_lines.specs.declared.import_definition.ImportDefinition.{ImportDefinition}
@@ -18,8 +20,8 @@ use Rattle.naga_oil_build.specs.Virtuals.{imported_build, unless_virtual}
 use Rattle.naga_oil_link.specs.declared.module.ComposableModule.{ComposableModule}
 
 -- builds by their names
-abbrev pub builds_in : List (String Global × ComposableModule) → Builds
-builds_in es = map (λ e. (string_bytes e.0, built_of e.1)) es
+abbrev pub builds_in : List (String Global × Arc ComposableModule Global) → Builds
+builds_in es = map (λ e. (string_bytes e.0, built_of (arc_value e.1))) es
 
 same_bytes : (a b : List ℕ) → bytes_eq a b ≡ bytes_eq b a
 same_bytes a b = same_from_decides _ _ (Decides-like _ sym sym (bytes_eq-Decides a b)) (bytes_eq-Decides b a)
@@ -63,17 +65,20 @@ any_among [] name = refl
 any_among (s ∷ ss) name = ap (λ b. b || list_any (λ n. bytes_eq (string_bytes n) name) ss) (same_bytes (string_bytes s) name) ∙ ap (λ b. bytes_eq name (string_bytes s) || b) (any_among ss name)
 
 -- the build of a name
-pub found_build : (es : List (String Global × ComposableModule)) (name : List ℕ) → option_map built_of (lookup (λ k. bytes_eq name (string_bytes k)) es) ≡ build_named (builds_in es) name
+pub found_build : (es : List (String Global × Arc ComposableModule Global)) (name : List ℕ) → option_map (λ a. built_of (arc_value a)) (lookup (λ k. bytes_eq name (string_bytes k)) es) ≡ build_named (builds_in es) name
 found_build [] name = refl
 found_build (e ∷ es) name = by (bytes_eq name (string_bytes e.0)) (found_build es name)
   where
-    by : (b : Bool) → option_map built_of (lookup (λ k. bytes_eq name (string_bytes k)) es) ≡ build_named (builds_in es) name → option_map built_of (cond b (Some e.1) (lookup (λ k. bytes_eq name (string_bytes k)) es)) ≡ cond b (Some (built_of e.1)) (build_named (builds_in es) name)
+    by : (b : Bool) → option_map (λ a. built_of (arc_value a)) (lookup (λ k. bytes_eq name (string_bytes k)) es) ≡ build_named (builds_in es) name → option_map (λ a. built_of (arc_value a)) (cond b (Some e.1) (lookup (λ k. bytes_eq name (string_bytes k)) es)) ≡ cond b (Some (built_of (arc_value e.1))) (build_named (builds_in es) name)
     by true h = refl
     by false h = h
 
-pub copied_build : (o : Option (Bor ComposableModule)) → option_map (λ b. built_of b.now) o ≡ option_map built_of (option_copied o)
-copied_build None = refl
-copied_build (Some b) = refl
+-- the same, as a reference to what is shared
+pub shared_build : (R : Bor (Arc ComposableModule Global) → Bor ComposableModule → Type 0) (o : Option (Bor (Arc ComposableModule Global))) (r : Option (Bor ComposableModule)) → MatchOption o (r ≡ None) (λ a. IsSomeAnd r (R a)) → ((a : Bor (Arc ComposableModule Global)) (b : Bor ComposableModule) → R a b → b.now ≡ arc_value a.now)
+    → option_map (λ b. built_of b.now) r ≡ option_map (λ a. built_of (arc_value a)) (option_copied o)
+shared_build R None r h k = ap (option_map (λ b. built_of b.now)) h
+shared_build R (Some a) None h k = elim h [ ]
+shared_build R (Some a) (Some b) h k = ap (λ m. Some (built_of m)) (k a b h)
 
 pub any_import : (name : List ℕ) (ds : List ImportDefinition) → list_any (λ d. bytes_eq (string_bytes d.import) name) ds ≡ list_any (λ i. bytes_eq i.import name) (map import_of ds)
 any_import name [] = refl

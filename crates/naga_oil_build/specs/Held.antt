@@ -1,5 +1,5 @@
 -- What a build holds of the module that its whole text says.
-use Rattle.std.specs.Prelude.{ℕ, Bool, not, ◌&&◌, nat_lt, if◌then◌else◌, List, length, Option, Some, None, Result, Ok, Err}
+use Rattle.std.specs.Prelude.{ℕ, Bool, not, ◌&&◌, nat_lt, if◌then◌else◌, List, length, Result, Ok, Err}
 use Rattle.naga_oil_ir.specs.Backend.{FrontEnd}
 use Rattle.naga_oil_ir.specs.ModuleValue.{ModuleValue}
 use Rattle.naga_oil_ir.specs.declared.backend.Capabilities.{Capabilities}
@@ -8,7 +8,7 @@ use Rattle.naga_oil_pre.specs.Fault.{Fault, text_too_large, wrong_form}
 use Rattle.naga_oil_registry.specs.Added.{◌>>=◌}
 use Rattle.naga_oil_link.specs.BuiltModule.{BuiltModule}
 use Rattle.naga_oil_link.specs.CopiedBuild.{copy_build, copies_special}
-use Rattle.naga_oil_link.specs.Form.{is_formed, if_formed}
+use Rattle.naga_oil_link.specs.Form.{is_formed}
 use Rattle.naga_oil_link.specs.OwnPlaces.{OwnPlaces}
 use Rattle.naga_oil_link.specs.Owned.{own_places, owned_module, owned_build}
 use Rattle.naga_oil_build.specs.Built.{parsed_text}
@@ -28,11 +28,6 @@ settings front capabilities validate = record { front = front; capabilities = ca
 -- a text of 2,097,152 bytes or more is too large
 abbrev pub unless_too_large : (text : List ℕ) → Result (Unit {0}) Fault
 unless_too_large text = if nat_lt (length text) 2097152 then Ok tt else Err text_too_large
-
--- a value, or the fault of a wrong form
-abbrev pub or_wrong_form : {X : Type 0} → Option X → Result X Fault
-or_wrong_form (Some x) = Ok x
-or_wrong_form None = Err wrong_form
 
 -- the module that a whole text says, which has to be of good form under a decoration
 unfoldable pub parse_whole : FrontEnd → ShaderLanguage → (text decoration : List ℕ) → Result ModuleValue Fault
@@ -57,9 +52,8 @@ names_back s special m own b functions = if_tested (is_tested b.index s.validate
 
 -- a module is copied into a build, and the names of what the build owns come back
 abbrev pub copy_tested : Settings → ModuleValue → OwnPlaces → BuiltModule → (functions : ℕ) → Result BuiltModule Fault
-copy_tested s m own b functions = do
-  c ← or_wrong_form (copy_build m own b)
-  done ← names_back s (copies_special m own b.decoration) m own c functions
+copy_tested s m own b functions = let c = copy_build m own b in do
+  done ← names_back s (copies_special m own b.decoration b.functions) m own c functions
   Ok c
 
 -- ---- all of it
@@ -68,5 +62,4 @@ copy_tested s m own b functions = do
 unfoldable pub hold : Settings → ShaderLanguage → (text : List ℕ) → BuiltModule → Result BuiltModule Fault
 hold s in_language text b = do
   parse ← parse_whole s.front in_language text b.decoration
-  own ← or_wrong_form (if_formed (owned_module b.index b.decoration parse))
-  copy_tested s own (own_places parse) (owned_build b.index parse b) (length parse.functions)
+  copy_tested s (owned_module b.index b.decoration parse) (own_places parse) (owned_build b.index parse b) (length parse.functions)

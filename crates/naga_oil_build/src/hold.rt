@@ -1,6 +1,8 @@
 //! What a build holds of the module that its whole text says.
-ghost use Rattle.std.specs.Prelude.{◌≡◌, string_bytes};
+ghost use Rattle.std.specs.Prelude.{◌≡◌, ◌<◌, IfOk, length, string_bytes};
 ghost use Rattle.naga_oil_ir.specs.ModuleValue.{module_value};
+ghost use Rattle.naga_oil_ir.specs.WellFormed.{WellFormed};
+ghost use Rattle.naga_oil_form_laws.specs.EntryForm.{IsModuleFormed};
 ghost use Rattle.naga_oil_pre.specs.View.{Gives};
 ghost use Rattle.naga_oil_link.specs.BuiltModule.{built_of};
 ghost use Rattle.naga_oil_link.specs.OwnPlaces.{own_of};
@@ -27,7 +29,9 @@ fn or_wrong_form<T>(answer: Formed<T>) -> Checked<T>
 impl<B: Backend> Builder<'_, B> {
     // The module that a whole text says, which has to be of good form under a decoration.
     fn parse_whole(&self, language: ShaderLanguage, text: &str, decoration: &str) -> Checked<Module>
-        ensures { Gives module_value result (parse_whole (B.front self.now.front.now) language text.now decoration.now) }
+        ensures form { IfOk result (λ m. WellFormed m decoration.now (length text.now)) }
+        ensures fits { IfOk result (λ m. length text.now < 2097152) }
+        ensures value { Gives module_value result (parse_whole (B.front self.now.front.now) language text.now decoration.now) }
     {
         if text.len() >= 2_097_152 {
             return Err(Inner::TextTooLarge);
@@ -40,17 +44,18 @@ impl<B: Backend> Builder<'_, B> {
     // Copies a module into a build, whose names have to come back: those of a module, when validating, without special types.
     fn copy_tested(
         &self,
-        source: &FormedModule,
+        source: &Module,
         own: &OwnItems,
         built: &mut Build,
         functions: usize,
     ) -> Checked
+        requires { IsModuleFormed (module_value source.now) }
         ensures { let s = settings_in B.front self.now in
-            let copied = copy_tested s source.now (own_of own.now) (built_of built.old) in
-            Gives (λ done. built_of built.new) result (copied functions) }
+            let m = module_value source.now in
+            let copied = copy_tested s m (own_of own.now) (built_of built.old) functions in
+            Gives (λ done. built_of built.new) result copied }
     {
-        let source = source.get();
-        let special = or_wrong_form(copy_build(self.alloc, source, own, built))?;
+        let special = copy_build(self.alloc, source, own, built)?;
         if (index_of(built) > 0) & self.validate & !special {
             return self.came_back(source, own, built, functions);
         }
@@ -64,7 +69,6 @@ impl<B: Backend> Builder<'_, B> {
     {
         let mut source = self.parse_whole(language, text, built.decorated_name.as_str())?;
         let (own, functions) = own(self.alloc, &mut source, built)?;
-        let source = or_wrong_form(FormedModule::new(self.alloc, source))?;
         self.copy_tested(&source, &own, built, functions)
     }
 }

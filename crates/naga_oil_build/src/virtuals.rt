@@ -106,7 +106,7 @@ fn imported_build<'b>(builds: &'b Builds, imports: &[Import], name: &str) -> Opt
         option_map (λ b. built_of b.now) result ≡ imported name.now }
 {
     if imports.iter().any(|import| import.import.as_str() == name) {
-        builds.get(name)
+        builds.get(name).map(|build| &**build)
     } else {
         None
     }

@@ -1,16 +1,12 @@
 -- How the items of a parsed module are copied.
-use Rattle.std.proofs.Common.{◌≡◌, ◌↔◌, ℕ, zero, suc, ◌+◌, ◌<◌, nat_lt, Bool, true, false, IsTrue, List, [], ◌∷◌, ◌++◌, length, map, fold, take, get_or, Option, Some, None, Result, Err, refl, sym, ap, ◌∙◌, subst, arith}
+use Rattle.std.proofs.Common.{◌≡◌, ◌↔◌, ℕ, zero, suc, ◌+◌, ◌<◌, nat_lt, Bool, true, false, IsTrue, List, [], ◌∷◌, ◌++◌, length, map, fold, take, get_or, refl, sym, ap, ◌∙◌, arith}
 use Rattle.std.proofs.lemmas.Bool.{lt-ltb}
 use Rattle.std.proofs.lemmas.List.{take_more, map-append}
 use Rattle.std.proofs.lemmas.List.Sums.{fold-append}
 use Rattle.naga_oil_ir.specs.ModuleValue.{ModuleValue}
-use Rattle.naga_oil_ir.specs.declared.check_form.FormFault.{FormFault}
-use Rattle.naga_oil_ir.specs.declared.check_form.FormFault.TheVariants.{WrongForm, Memory}
 use Rattle.naga_oil_derive.specs.Derived.{Derived}
-use Rattle.naga_oil_lines.specs.Text.{◌>>=◌}
 use Rattle.naga_oil_link.specs.BuiltModule.{BuiltModule}
-use Rattle.naga_oil_link.specs.CopiedBuild.{OwnCopies, copies_of, copy_header, copy_whole, put_header, put_whole, have_special, with_special, copy_build, copies_special}
-use Rattle.naga_oil_link.specs.FormView.{GivesFormed}
+use Rattle.naga_oil_link.specs.CopiedBuild.{OwnCopies, copies_of, copy_header, copy_whole, put_header, put_whole, have_special, copy_build, copies_special}
 use Rattle.naga_oil_link.specs.OwnPlaces.{OwnPlaces, own_of}
 use Rattle.naga_oil_link.specs.declared.copied.OwnCopies.{OwnCopies as CodeCopies}
 
@@ -34,32 +30,18 @@ module _ {X D : Type 0} (f : D → X → D) (a : D) (xs : List X) (i : ℕ) (x :
 pub copies_then : (c e : CodeCopies) (p : OwnCopies) (f : Derived → Derived) → copies_of c ≡ p → e.derived ≡ f c.derived → e.own ≡ c.own → copies_of e ≡ record p { derived = f p.derived }
 copies_then c e p f is derived own = (λ i. record { derived = derived i; own = own_of (own i) }) ∙ ap (λ (q : OwnCopies). record q { derived = f q.derived }) is
 
--- ---- an error that is passed on
-
-pub gives_err : {X Y Z W : Type 0} (view : X → Y) (other : Z → W) (r : Result Z FormFault) (e : FormFault) (v : Option Y) (w : Option W) → r ≡ Err e → (v ≡ None → w ≡ None) → GivesFormed view (Err e) v → GivesFormed other r w
-gives_err {Z = Z} view other r e v w is f h = subst (λ (q : Result Z FormFault). GivesFormed other q w) (sym is) (by e h)
-  where
-    by : (e : FormFault) → GivesFormed view (Err e) v → GivesFormed other (Err e) w
-    by WrongForm h = f h
-    by Memory h = tt
+-- ---- a build's header and module
 
 pub special_is : (b : Bool) (n : ℕ) → IsTrue b ↔ (0 < n) → b ≡ nat_lt 0 n
 special_is true n h = sym (lt-ltb 0 n (h.0 refl))
 special_is false zero h = refl
 special_is false (suc k) h = let e : false ≡ true = h.1 (omega arith) in absurd cc
 
--- ---- a build's header and module
-
-pub gives_same : {X Y : Type 0} (view : X → Y) (r : Result X FormFault) (v w : Option Y) → v ≡ w → GivesFormed view r v → GivesFormed view r w
-gives_same {Y = Y} view r v w is h = subst (λ (o : Option Y). GivesFormed view r o) is h
-
-module _ (m : ModuleValue) (own : OwnPlaces) (b : BuiltModule) (header whole : OwnCopies) (first : header ≡ copy_header m own b.decoration b.functions) (second : whole ≡ copy_whole m own b.decoration) where
-  pub copied : (between : BuiltModule) → put_header header b ≡ Some between → with_special (have_special whole) (put_whole whole between) ≡ with_special (copies_special m own b.decoration) (copy_build m own b)
-  unfolding copy_build copies_special
-  copied between h =
-      let w = copy_whole m own b.decoration in
-      ap (λ c. with_special (have_special c) (put_whole c between)) second ∙ ap (λ o. with_special (have_special w) (o >>= put_whole w)) (sym h ∙ ap (λ c. put_header c b) first)
-
-  pub uncopied : put_header header b ≡ None → with_special (copies_special m own b.decoration) (copy_build m own b) ≡ None
+module _ (m : ModuleValue) (own : OwnPlaces) (b : BuiltModule) where
+  pub copied : (header whole : OwnCopies) → header ≡ copy_header m own b.decoration b.functions → whole ≡ copy_whole m own b.decoration b.functions → (between : BuiltModule) → between ≡ put_header header b → put_whole whole between ≡ copy_build m own b
   unfolding copy_build
-  uncopied h = ap (λ o. with_special (copies_special m own b.decoration) (o >>= put_whole (copy_whole m own b.decoration))) (sym (ap (λ c. put_header c b) first) ∙ h)
+  copied header whole first second between h = ap (λ c. put_whole c between) second ∙ ap (put_whole (copy_whole m own b.decoration b.functions)) (h ∙ ap (λ c. put_header c b) first)
+
+  pub copied_special : (whole : OwnCopies) → whole ≡ copy_whole m own b.decoration b.functions → have_special whole ≡ copies_special m own b.decoration b.functions
+  unfolding copies_special
+  copied_special whole second = ap have_special second

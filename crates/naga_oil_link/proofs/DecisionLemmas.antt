@@ -1,5 +1,5 @@
 -- Tests that decide what is said of each element of a list, of what may be absent, and of places.
-use Rattle.std.proofs.Common.{◌≡◌, ℕ, zero, suc, ◌+◌, ◌<◌, ◌≤◌, Bool, true, false, not, ◌&&◌, List, [], ◌∷◌, length, map, slice_get, unwrap_or, Option, Some, None, option_map, IfSome, All, Decides, nat_eq, nat_lt, nat_le, leb, refl, ap, sym, ◌∙◌, subst, arith, rules, tests}
+use Rattle.std.proofs.Common.{◌≡◌, ℕ, zero, suc, ◌+◌, ◌<◌, ◌≤◌, Bool, true, false, not, ◌&&◌, List, [], ◌∷◌, map, slice_get, unwrap_or, Option, Some, None, IfSome, All, Decides, nat_eq, nat_lt, nat_le, refl, ap, sym, ◌∙◌, subst, arith, rules, tests}
 use Rattle.std.specs.List.{list_all, enumerate_from, AllByRecursion, IsDistinct}
 use Rattle.std.specs.Option.{option_eq}
 use Rattle.std.proofs.lemmas.Bool.{false≢true}

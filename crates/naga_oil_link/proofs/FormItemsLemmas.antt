@@ -1,15 +1,15 @@
 -- The tests of items decide which of them pass.
-use Rattle.std.proofs.Common.{◌≡◌, ◌⊎◌, ℕ, ◌<◌, Bool, true, false, not, ◌&&◌, ◌||◌, List, [], ◌∷◌, length, map, slice_get, Option, Some, None, option_map, is_none, IfSome, All, Decides, nat_eq, nat_lt, string_bytes, String, Global, refl, ap, sym, ◌∙◌, subst}
-use Rattle.std.specs.List.{list_all, list_any, enumerate_from, IsDistinct}
+use Rattle.std.proofs.Common.{◌≡◌, ℕ, ◌<◌, true, false, not, ◌||◌, List, length, slice_get, Option, Some, None, option_map, is_none, IfSome, All, Decides, nat_eq, nat_lt, string_bytes, refl, ap, sym, ◌∙◌}
+use Rattle.std.specs.List.{list_all, list_any}
 use Rattle.std.proofs.lemmas.Bool.Decides.{Decides-at, Decides-or}
 use Rattle.std.proofs.lemmas.Option.{slice_get-map}
 use Rattle.std.proofs.lemmas.Simd.{map-map}
-use Rattle.naga_oil_ir.specs.BodyForm.{operand_links, kinds}
-use Rattle.naga_oil_ir.specs.ItemForm.{IsThere, NamesThere, types_named, types_of, type_links, is_override, pending, is_sized, NamesWell, NamesForm, init_of_constant, init_of_override, initialiser, StandAfter, IsGlobalKind, ExpressionForm, special_types, is_unnamed, is_plain, ReachPlain, SpecialForm, ItemForm}
-use Rattle.naga_oil_ir.specs.Links.{Links, AreEarlier, AtEach, trail, has, reaches}
-use Rattle.naga_oil_ir.specs.ModuleValue.{ModuleValue, module_value}
-use Rattle.naga_oil_ir.specs.Parts.{Parts, parts}
-use Rattle.naga_oil_ir.specs.Rows.{Row, Text, parts_row, inner_row, type_row, constant_row, override_row, global_row, expression_row}
+use Rattle.naga_oil_ir.specs.BodyForm.{operand_links}
+use Rattle.naga_oil_ir.specs.ItemForm.{IsThere, NamesThere, types_named, types_of, type_links, is_override, pending, is_sized, NamesWell, NamesForm, init_of_constant, init_of_override, initialiser, IsGlobalKind, ExpressionForm, special_types, is_unnamed, is_plain, SpecialForm, ItemForm}
+use Rattle.naga_oil_ir.specs.Links.{trail, has, reaches}
+use Rattle.naga_oil_ir.specs.ModuleValue.{module_value}
+use Rattle.naga_oil_ir.specs.Parts.{parts}
+use Rattle.naga_oil_ir.specs.Rows.{Row, Text, inner_row, type_row, constant_row, override_row, global_row, expression_row}
 use Rattle.naga_oil_ir.specs.declared.expression.Expression.{Expression}
 use Rattle.naga_oil_ir.specs.declared.module.Module.{Module}
 use Rattle.naga_oil_ir.specs.declared.names.ItemPlace.{ItemPlace}
@@ -21,9 +21,9 @@ use Rattle.naga_oil_ir.specs.declared.types.Type.{«Type» as TypeOfShader}
 use Rattle.naga_oil_ir.specs.declared.types.TypeInner.{TypeInner}
 use Rattle.naga_oil_ir.specs.declared.types.TypeInner.TheVariants.{Scalar, Vector, Matrix, ValuePointer, Image, Sampler, Atomic, AccelerationStructure, RayQuery, Pointer, Struct, Array, BindingArray}
 use Rattle.naga_oil_link.specs.Form.{are_items_formed}
-use Rattle.naga_oil_link.specs.FormItems.{is_there, names_there, links_of, pending_of, is_size_pending, names_well, are_names_formed, expression_at, row_initialiser, initialiser_of, stands_after, is_global_kind, are_expressions_formed, specials_of, has_no_name, is_unnamed_or_special, are_specials_formed}
-use Rattle.naga_oil_link.specs.FormParts.{passes_if_there, are_earlier, operands_of}
-use Rattle.naga_oil_link.proofs.DecisionLemmas.{both, like, always, itself, fails, less, each, each_itself, in_order, at_each, at_each_from, earlier, if_there, number, distinct}
+use Rattle.naga_oil_link.specs.FormItems.{is_there, names_there, links_of, pending_of, is_size_pending, names_well, are_names_formed, expression_at, row_initialiser, initialiser_of, stands_after, is_global_kind, are_expressions_formed, has_no_name, is_unnamed_or_special, are_specials_formed}
+use Rattle.naga_oil_link.specs.FormParts.{passes_if_there, are_earlier}
+use Rattle.naga_oil_link.proofs.DecisionLemmas.{both, like, itself, fails, less, each, each_itself, in_order, at_each, at_each_from, earlier, if_there, distinct}
 use Rattle.naga_oil_link.proofs.FormPartsLemmas.{below, operands_same}
 
 -- ---- rows

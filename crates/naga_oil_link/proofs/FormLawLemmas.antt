@@ -1,13 +1,13 @@
 -- The test of form decides which modules are well formed.
-use Rattle.std.proofs.Common.{◌≡◌, ℕ, ◌<◌, Bool, true, ◌&&◌, List, [], length, map, slice_get, Option, Some, None, option_map, unwrap_or, is_some, IfSome, All, Decides, nat_eq, nat_lt, string_bytes, codes, refl, ap, sym, ◌∙◌}
-use Rattle.std.specs.List.{list_all, enumerate_from, IsDistinct}
+use Rattle.std.proofs.Common.{◌≡◌, ℕ, ◌<◌, true, List, [], length, map, Option, Some, None, option_map, unwrap_or, is_some, All, Decides, nat_eq, string_bytes, codes, refl, ap}
+use Rattle.std.specs.List.{list_all, enumerate_from}
 use Rattle.std.specs.Cmp.Lexicographic.{pointwise}
 use Rattle.std.proofs.lemmas.Bool.Decides.{Decides-at}
 use Rattle.std.proofs.lemmas.List.{length-map}
 use Rattle.std.proofs.lemmas.Simd.{map-map}
 use Rattle.naga_oil_marks.specs.Marks.{with_decoration}
 use Rattle.naga_oil_ir.specs.BodyForm.{IsSpanFine}
-use Rattle.naga_oil_ir.specs.ModuleValue.{ModuleValue, FunctionValue, EntryValue, module_value, function_value, entry_value}
+use Rattle.naga_oil_ir.specs.ModuleValue.{FunctionValue, EntryValue, module_value, function_value, entry_value}
 use Rattle.naga_oil_ir.specs.NameForm.{NameForm, function_name, entry_name}
 use Rattle.naga_oil_ir.specs.WellFormed.{FunctionForm, FunctionsForm, IsExpressionThere, MeshForm, EntryForm, SpanForm, WellFormed}
 use Rattle.naga_oil_ir.specs.declared.module.EntryPoint.{EntryPoint}

@@ -1,16 +1,16 @@
 -- The tests of bodies and functions decide which of them pass.
-use Rattle.std.proofs.Common.{◌≡◌, ℕ, ◌+◌, ◌<◌, ◌≤◌, Bool, true, false, not, ◌&&◌, List, [], ◌∷◌, ◌++◌, length, map, slice_get, Option, Some, None, option_to_list, IfSome, All, Decides, nat_eq, nat_lt, nat_le, string_bytes, refl, ap, sym, ◌∙◌, subst}
-use Rattle.std.specs.List.{list_all, flat_map}
+use Rattle.std.proofs.Common.{◌≡◌, ℕ, ◌<◌, true, false, not, List, [], ◌∷◌, ◌++◌, length, map, slice_get, Option, Some, None, option_to_list, IfSome, All, Decides, nat_eq, nat_lt, sym, ◌∙◌, subst}
+use Rattle.std.specs.List.{flat_map}
 use Rattle.std.specs.Option.{option_eq}
 use Rattle.std.proofs.lemmas.List.{length-map}
 use Rattle.std.proofs.lemmas.List.Folds.{flat_map-map}
 use Rattle.std.proofs.lemmas.Simd.{map-map}
 use Rattle.naga_oil_ir.specs.Body.{Tokens, block_tokens}
-use Rattle.naga_oil_ir.specs.BodyForm.{kinds, named_of, callee, callees, operand_links, is_external, is_result, places, is_known, made, AreEmitted, MayBeGiven, IsFine, AreFine, IsSpanFine, IsTokenFine, MayStand}
+use Rattle.naga_oil_ir.specs.BodyForm.{kinds, callee, callees, operand_links, is_external, is_result, places, is_known, made, AreEmitted, MayBeGiven, IsFine, AreFine, IsSpanFine, IsTokenFine, MayStand}
 use Rattle.naga_oil_ir.specs.Links.{Links, linked, has, started}
-use Rattle.naga_oil_ir.specs.ModuleValue.{ModuleValue, FunctionValue, LocalValue, argument_value, local_value, expression_values, function_value, module_value}
+use Rattle.naga_oil_ir.specs.ModuleValue.{LocalValue, argument_value, local_value, expression_values, function_value, module_value}
 use Rattle.naga_oil_ir.specs.Parts.{Parts, parts}
-use Rattle.naga_oil_ir.specs.WellFormed.{NamedThere, SpansWithin, FunctionForm, initialisers}
+use Rattle.naga_oil_ir.specs.WellFormed.{NamedThere, FunctionForm, initialisers}
 use Rattle.naga_oil_ir.specs.declared.expression.Expression.{Expression}
 use Rattle.naga_oil_ir.specs.declared.module.Function.{Function}
 use Rattle.naga_oil_ir.specs.declared.module.Module.{Module}
@@ -20,7 +20,7 @@ use Rattle.naga_oil_ir.specs.declared.span.Span.{Span}
 use Rattle.naga_oil_ir.specs.declared.tokens.Token.{Token}
 use Rattle.naga_oil_ir.specs.declared.tokens.Token.TheVariants.{At, Head, Plain, Flag, Absent, Use, Give, GiveCall, Emitted, Callee, Open, Close}
 use Rattle.naga_oil_ir.specs.declared.types.LocalVariable.{LocalVariable}
-use Rattle.naga_oil_link.specs.FormParts.{are_earlier, kinds_of, callees_of, operands_of, are_emitted, may_be_given, is_fine, are_fine, is_span_fine, is_token_fine, may_stand, is_named_there, is_signature_formed, is_function_formed}
+use Rattle.naga_oil_link.specs.FormParts.{kinds_of, callees_of, operands_of, are_emitted, may_be_given, is_fine, are_fine, is_span_fine, is_token_fine, may_stand, is_named_there, is_signature_formed, is_function_formed}
 use Rattle.naga_oil_link.proofs.DecisionLemmas.{both, like, always, itself, fails, at_most, less, each, each_from, each_itself, earlier, if_there, number, option}
 
 -- ---- bodies

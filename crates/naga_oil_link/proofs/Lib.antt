@@ -5,9 +5,10 @@ pub mod FormGivenLemmas
 pub mod FormItemsLemmas
 pub mod FormLawLemmas
 pub mod FormPartsLemmas
-pub mod FormedLemmas
+pub mod GoodFormLemmas
 pub mod LinkedLemmas
 pub mod NamesLemmas
+pub mod OwnedFormLemmas
 pub mod OwnedLemmas
 pub mod PlaceLemmas
 pub mod SourceLemmas

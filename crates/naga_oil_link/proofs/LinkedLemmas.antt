@@ -12,19 +12,21 @@ use Rattle.std.proofs.lemmas.Map.Lookups.{exact_unsigned}
 use Rattle.std.proofs.lemmas.Option.{slice_get-map, slice_get-get_or, get_or_from_slice_get}
 use Rattle.std.proofs.lemmas.Bool.Decides.{nat_tests}
 use Rattle.std.proofs.lemmas.Slice.Eq.{bytes_eq-Decides}
+use Rattle.std.specs.Arc.{arc_value}
 use Rattle.std.specs.BTreeMap.{is_at}
 use Rattle.std.specs.BTreeSet.{insert_key}
 use Rattle.std.specs.List.{filter, flat_map, list_any, prefix_len, range_with_len, AllByRecursion, IsDistinct}
 use Rattle.std.specs.Map.{keys_of, values_of}
 use Rattle.std.specs.Ordering.{nat_cmp, is_eq, match_ordering}
+use Rattle.std.specs.declared.sync.Arc.{Arc}
 use Rattle.naga_oil_ir.specs.ModuleValue.{ModuleValue, module_value}
-use Rattle.naga_oil_ir.specs.WellFormed.{WellFormed}
 use Rattle.naga_oil_ir.specs.Rows.{Text}
 use Rattle.naga_oil_ir.specs.declared.module.Module.{Module}
 use Rattle.naga_oil_derive.specs.CopiedEntry.{make_module}
 use Rattle.naga_oil_derive.specs.Derived.{Derived, nothing}
 use Rattle.naga_oil_derive.specs.DerivedValue.{set_source}
 use Rattle.naga_oil_derive.specs.World.{value_of}
+use Rattle.naga_oil_form_laws.specs.EntryForm.{IsModuleFormed}
 use Rattle.naga_oil_lines.specs.Text.{texts, is_among}
 use Rattle.naga_oil_lines.specs.Uses.{Import, import_of}
 use Rattle.naga_oil_lines.specs.declared.import_definition.ImportDefinition.{ImportDefinition}
@@ -108,8 +110,8 @@ module _ {X : Type 0} (own : X → Bool) (step : Derived → X → Derived) wher
 -- ---- a source
 
 -- a module that was set is the source
-pub set_copies : (m : Module) (shift : ℕ) (d e : Derived) → WellFormed m [] 4294967295 → e ≡ set_source d (value_of m) shift → CopiesFrom m e
-unfolding CopiesFrom
+pub set_copies : (m : Module) (shift : ℕ) (d e : Derived) → IsModuleFormed (module_value m) → e ≡ set_source d (value_of m) shift → CopiesFrom m e
+unfolding CopiesFrom value_of
 set_copies m shift d e form is = record { form = form; source = _; set = ap (λ (x : Derived). x.source) is; value = refl }
 
 -- ---- one build
@@ -140,10 +142,10 @@ position-map p f xs =
     λ i. cond (nat_lt (front i) (long i)) (Some (front i)) None
 
 abbrev pub Entries : Type 0
-Entries = List (String Global × ComposableModule)
+Entries = List (String Global × Arc ComposableModule Global)
 
-abbrev pub entry_of : String Global × ComposableModule → List ℕ × BuiltModule
-entry_of e = (string_bytes e.0, built_of e.1)
+abbrev pub entry_of : String Global × Arc ComposableModule Global → List ℕ × BuiltModule
+entry_of e = (string_bytes e.0, built_of (arc_value e.1))
 
 abbrev pub named : List ℕ → List ℕ × BuiltModule → Bool
 named name e = bytes_eq name e.0
@@ -390,7 +392,7 @@ module _ (es : Entries) (name : List ℕ) where
   pub found_at : (k : ℕ) → position (λ (n : String Global). bytes_eq name (string_bytes n)) (keys_of es) ≡ Some k → position (named name) (map entry_of es) ≡ Some k
   found_at k at = same_position es name ∙ at
 
-  pub entry_at : (k : ℕ) (n : String Global) (b : ComposableModule) → slice_get es k ≡ Some (n, b) → slice_get (map entry_of es) k ≡ Some (string_bytes n, built_of b)
+  pub entry_at : (k : ℕ) (n : String Global) (b : Arc ComposableModule Global) → slice_get es k ≡ Some (n, b) → slice_get (map entry_of es) k ≡ Some (string_bytes n, built_of (arc_value b))
   entry_at k n b is = slice_get-map entry_of es k ∙ ap (option_map entry_of) is
 
   pub missing_at : position (λ (n : String Global). bytes_eq name (string_bytes n)) (keys_of es) ≡ None → list_any (named name) (map entry_of es) ≡ false

@@ -1,32 +1,38 @@
--- What copies ask of their source, where it passes the test of form.
-use Rattle.std.proofs.Common.{◌≡◌, ℕ, ◌<◌, ◌≤◌, List, [], ◌∷◌, ◌++◌, length, slice_get, Option, Some, None, IsSome, false, IfSome, refl, ap, sym, ◌∙◌, subst, All, get_or, append-nil, arith}
-use Rattle.std.proofs.lemmas.List.Elements.{All-nil, All-cons, All-head, All-tail, All-same}
+-- What copies ask of their source, which passes the test of form.
+use Rattle.std.proofs.Common.{◌≡◌, inr, ℕ, zero, suc, ◌<◌, ◌≤◌, List, [], ◌∷◌, ◌++◌, length, slice_get, Option, Some, None, IsSome, option_map, false, IfSome, refl, ap, sym, ◌∙◌, subst, All, get_or, append-nil, arith}
+use Rattle.std.proofs.lemmas.List.Elements.{All-nil, All-cons, All-head, All-tail, All-same, All-weaker}
 use Rattle.std.proofs.lemmas.Option.{slice_get_within, slice_get-get_or}
-use Rattle.naga_oil_ir.specs.BodyForm.{is_result}
+use Rattle.naga_oil_ir.specs.Body.{block_tokens}
+use Rattle.naga_oil_ir.specs.BodyForm.{is_result, IsTokenFine}
 use Rattle.naga_oil_ir.specs.ItemForm.{IsThere}
-use Rattle.naga_oil_ir.specs.ModuleValue.{ModuleValue, FunctionValue, function_value}
+use Rattle.naga_oil_ir.specs.ModuleValue.{ModuleValue, FunctionValue, function_value, module_value}
 use Rattle.naga_oil_ir.specs.Rows.{Row}
-use Rattle.naga_oil_ir.specs.WellFormed.{FunctionForm, FunctionsForm, WellFormed}
+use Rattle.naga_oil_ir.specs.WellFormed.{FunctionForm, FunctionsForm}
 use Rattle.naga_oil_ir.specs.declared.module.Function.{Function}
 use Rattle.naga_oil_ir.specs.declared.module.Module.{Module}
 use Rattle.naga_oil_ir.specs.declared.names.ItemPlace.{ItemPlace}
 use Rattle.naga_oil_ir.specs.declared.span.Span.{Span}
+use Rattle.naga_oil_ir.specs.declared.tokens.Token.{Token}
+use Rattle.naga_oil_ir.specs.declared.tokens.Token.TheVariants.{At, Head, Plain, Flag, Absent, Open, Close, Use, Give, GiveCall, Emitted, Callee}
 use Rattle.naga_oil_derive.specs.Derived.{Source, Derived, HasItem, KeepsSource, Keeps}
 use Rattle.naga_oil_derive.specs.DerivedEntries.{CanCopyEntries}
 use Rattle.naga_oil_derive.specs.DerivedValue.{set_source, copy_special}
-use Rattle.naga_oil_derive.specs.DerivedFunctions.{KeepsFunctions, CanImport, MayAsk, MayCopy, MayCall, requests_of, signature_requests}
-use Rattle.naga_oil_derive.specs.declared.walk.Request.{Request}
+use Rattle.naga_oil_derive.specs.DerivedFunctions.{Meanings, KeepsFunctions, CanImport, MayAsk, MayCopy, MayCall, requests_of, signature_requests}
+use Rattle.naga_oil_walk.specs.declared.walk.Request.{Request}
 use Rattle.naga_oil_derive.specs.World.{world, value_of}
 use Rattle.naga_oil_derive.proofs.FormEntries.{HasSource, source_copy, entries_can}
-use Rattle.naga_oil_derive.proofs.FormFunctions.{form_body, function_named}
+use Rattle.naga_oil_derive.proofs.FormFunctions.{CallsIn, form_copy, function_named}
+use Rattle.naga_oil_derive.proofs.FunctionValues.{seen, functions_length, functions_at}
 use Rattle.naga_oil_derive.proofs.RankLemmas.{place_there}
+use Rattle.naga_oil_form_laws.specs.EntryForm.{IsModuleFormed, MayBeCopiedFrom}
+use Rattle.naga_oil_form_laws.proofs.FormedModules.{copied_from}
 use Rattle.naga_oil_link.specs.CopySources.{CopiesFrom, IsFunctionOf, stub_of}
 
 -- ---- the source stays
 
 -- a source that was set, by what is made
-pub from_set_source : (m : Module) (shift : ℕ) (d e : Derived) → WellFormed m [] 4294967295 → e ≡ set_source d (value_of m) shift → CopiesFrom m e
-unfolding CopiesFrom
+pub from_set_source : (m : Module) (shift : ℕ) (d e : Derived) → IsModuleFormed (module_value m) → e ≡ set_source d (value_of m) shift → CopiesFrom m e
+unfolding CopiesFrom value_of
 from_set_source m shift d e w h = record { form = w; source = record { value = value_of m; offset = shift; places = (copy_special d (value_of m) shift).places }; set = ap (λ (x : Derived). x.source) h; value = refl }
 
 later : (m : Module) (s : Source) (o : Option Source) → s.value ≡ value_of m → KeepsSource (Some s) o → (t : Source) × (o ≡ Some t) × (t.value ≡ value_of m)
@@ -55,9 +61,9 @@ at_source m d c Q h = (subst (λ (o : Option Source). IsSome o) (sym c.set) refl
 pub is_set : (m : Module) (d : Derived) → CopiesFrom m d → IsSome d.source
 is_set m d c = (at_source m d c (λ s. Unit {0}) (λ s e. tt)).0
 
-form_of : (m : Module) (d : Derived) → CopiesFrom m d → WellFormed m [] 4294967295
+form_of : (m : Module) (d : Derived) → CopiesFrom m d → MayBeCopiedFrom m
 unfolding CopiesFrom
-form_of m d c = c.form
+form_of m d c = copied_from m c.form
 
 pub has_item : (m : Module) (d : Derived) (p : ItemPlace) → CopiesFrom m d → IsThere m p → HasItem d p
 has_item m d p c h =
@@ -97,12 +103,36 @@ item_at m fs k e same l is = function_at m k e (subst (λ (xs : List (Function �
 pub place_at : (m : Module) (ps qs : List ItemPlace) (k : ℕ) (p : ItemPlace) → All (IsThere m) ps → qs ≡ ps → k < length qs → p ≡ get_or qs k p → IsThere m p
 place_at m ps qs k p h e l is = subst (IsThere m) (sym is) (subst (λ (xs : List ItemPlace). All (IsThere m) xs) (sym e) h k p l)
 
+-- what is called stands before a place
+call_before : (m : Module) (P : ℕ → Type 0) (c n : ℕ) → c ≤ length m.functions → ((g : ℕ) → g < c → P g) → (t : Token) → IsTokenFine c n t → CallsIn m P t
+call_before m P c n l w (Callee g) h = (omega (arith, l, h), w g h)
+call_before m P c n l w _ h = tt
+
+body_copied : (m : Module) (P : ℕ → Type 0) (c : ℕ) (f : Function) → c ≤ length m.functions → ((g : ℕ) → g < c → P g) → FunctionForm m c 4294967295 f → MayCopy (value_of m) P (function_value f)
+body_copied m P c f l w h = form_copy m P c 4294967295 f h (All-weaker (IsTokenFine c 4294967295) (CallsIn m P) (call_before m P c 4294967295 l w) (block_tokens f.body) h.statements)
+
+function_copied : (m : Module) (P : ℕ → Type 0) (k : ℕ) → ((g : ℕ) → g < k → P g) → MayBeCopiedFrom m → (o : Option (Function × Span)) → slice_get m.functions k ≡ o → IfSome (option_map seen o) (λ e. IsSome e.0.name × MayCopy (value_of m) P e.0)
+function_copied m P k w h None at = tt
+function_copied m P k w h (Some e) at =
+    let l = slice_get_within m.functions k e at in
+    (function_named m k e at h.names.named, body_copied m P k e.0 (omega (arith, l)) w (form_at m k e at h.functions))
+
+-- each function can be called, at a depth that is greater than its place
+may_call : (m : Module) (ns : Meanings) → MayBeCopiedFrom m → (depth k : ℕ) → k < depth → MayCall (value_of m) ns depth k
+may_call m ns h zero k l = absurd (omega arith)
+may_call m ns h (suc depth) k l =
+    let P = MayCall (value_of m) ns depth in
+    inr (subst (λ (o : Option (FunctionValue × Span)). IfSome o (λ e. IsSome e.0.name × MayCopy (value_of m) P e.0)) (sym (functions_at m k)) (function_copied m P k (λ g i. may_call m ns h depth g (omega (arith, i, l))) h (slice_get m.functions k) refl))
+
 module _ (m : Module) (d : Derived) (c : CopiesFrom m d) where
   has_source : HasSource (value_of m) d
   has_source = at_source m d c (λ s. s.value ≡ value_of m) (λ s e. e)
 
   may_copy : (k : ℕ) (f : Function) → k ≤ length m.functions → FunctionForm m k 4294967295 f → MayCopy (value_of m) (MayCall (value_of m) d.function_names (length (value_of m).functions)) (function_value f)
-  may_copy k f l h = form_body m [] 4294967295 d.function_names k f l (form_of m d c) h
+  may_copy k f l h =
+      let e = functions_length m in
+      let size = length (value_of m).functions in
+      body_copied m (MayCall (value_of m) d.function_names size) k f l (λ g i. may_call m d.function_names (form_of m d c) size g (omega (arith, i, l, e))) h
 
   function_copy : (e : Function × Span) → IsFunctionOf m e → MayCopy (value_of m) (MayCall (value_of m) d.function_names (length (value_of m).functions)) (function_value e.0)
   function_copy e stands =

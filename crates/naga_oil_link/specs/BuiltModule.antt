@@ -1,6 +1,8 @@
 -- A module that was built under some definitions, without where it lies in memory.
 use Rattle.std.specs.Prelude.{ℕ, List, [], map, String, Vec, string_bytes}
+use Rattle.std.specs.Arc.{arc_value}
 use Rattle.std.specs.declared.alloc.Global.{Global}
+use Rattle.std.specs.declared.sync.Arc.{Arc}
 use Rattle.indexmap.specs.IndexMap.{IndexMap}
 use Rattle.naga_oil_ir.specs.ModuleValue.{ModuleValue, no_items}
 use Rattle.naga_oil_lines.specs.Text.{texts}
@@ -82,5 +84,5 @@ nothing_built decoration index = record {
 abbrev pub Builds : Type 0
 Builds = List (List ℕ × BuiltModule)
 
-abbrev pub builds_of : {S : Type 0} → IndexMap (String Global) ComposableModule S → Builds
-builds_of m = map (λ e. (string_bytes e.0, built_of e.1)) m.entries
+abbrev pub builds_of : {S : Type 0} → IndexMap (String Global) (Arc ComposableModule Global) S → Builds
+builds_of m = map (λ e. (string_bytes e.0, built_of (arc_value e.1))) m.entries

@@ -5,14 +5,13 @@ use Rattle.naga_oil_ir.specs.Rows.{Text}
 use Rattle.naga_oil_ir.specs.declared.names.ItemPlace.{ItemPlace}
 use Rattle.naga_oil_ir.specs.declared.names.ItemPlace.TheVariants.{TypeItem, ConstantItem, OverrideItem, GlobalItem, ExpressionItem}
 use Rattle.naga_oil_ir.specs.declared.span.Span.{Span}
-use Rattle.naga_oil_lines.specs.Text.{◌>>=◌, is_among}
+use Rattle.naga_oil_lines.specs.Text.{is_among}
 use Rattle.naga_oil_derive.specs.CopiedEntry.{make_module}
 use Rattle.naga_oil_derive.specs.Derived.{Derived, nothing}
 use Rattle.naga_oil_derive.specs.DerivedValue.{import_item, rename_type, import_function, set_source, place_by}
 use Rattle.naga_oil_derive.specs.World.{special_entries}
 use Rattle.naga_oil_link.specs.BuiltModule.{BuiltModule}
 use Rattle.naga_oil_link.specs.CopySources.{stub_of}
-use Rattle.naga_oil_link.specs.Form.{if_formed}
 use Rattle.naga_oil_link.specs.OwnPlaces.{OwnPlaces, own_of, nothing_own, is_own, with_own}
 use Rattle.naga_oil_link.specs.declared.copied.OwnCopies.{OwnCopies as CodeCopies}
 use Rattle.naga_oil_link.specs.Places.{name_at, places_of}
@@ -80,13 +79,13 @@ copy_places all_types m own d = fold (copy_at all_types m own d) (nothing_copied
 
 -- ---- functions
 
--- a function is copied with its span
-abbrev pub copy_with_body : Derived → FunctionValue × Span → Derived
-copy_with_body d f = import_function d f.0 f.1
-
 abbrev pub has_name_among : List (List ℕ) → Text → Bool
 has_name_among names None = false
 has_name_among names (Some n) = is_among names n
+
+-- a function is copied with what it calls, if its name is among these
+abbrev pub copy_with_body : (names : List (List ℕ)) → Derived → FunctionValue × Span → Derived
+copy_with_body names d f = if has_name_among names f.0.name then import_function d f.0 f.1 else d
 
 -- a function is copied without its body, if its name is among these
 abbrev pub copy_stub : (names : List (List ℕ)) → Derived → FunctionValue × Span → Derived
@@ -94,9 +93,9 @@ copy_stub names d f = if has_name_among names f.0.name then import_function d (s
 
 -- ---- the module and its header
 
--- all types, the own items, and then all functions
-abbrev pub copy_whole : ModuleValue → OwnPlaces → (decoration : List ℕ) → OwnCopies
-copy_whole m own d = let c = copy_places true m own d in record c { derived = fold copy_with_body c.derived m.functions }
+-- all types, the own items, and then the functions of these names with what they call
+abbrev pub copy_whole : ModuleValue → OwnPlaces → (decoration : List ℕ) → (functions : List (List ℕ)) → OwnCopies
+copy_whole m own d functions = let c = copy_places true m own d in record c { derived = fold (copy_with_body functions) c.derived m.functions }
 
 -- the own items, and then the functions of these names without their bodies
 abbrev pub copy_header : ModuleValue → OwnPlaces → (decoration : List ℕ) → (functions : List (List ℕ)) → OwnCopies
@@ -109,26 +108,21 @@ with_header b own m = record b { header = m; own_in_header = own }
 abbrev pub with_value : BuiltModule → OwnPlaces → ModuleValue → BuiltModule
 with_value b own m = record b { value = m; own_in_value = own }
 
--- a build with these copies as its header; none if they have the wrong form
-abbrev pub put_header : OwnCopies → BuiltModule → Option BuiltModule
-put_header c b = option_map (with_header b c.own) (if_formed c.derived.target)
+-- a build with these copies as its header
+abbrev pub put_header : OwnCopies → BuiltModule → BuiltModule
+put_header c b = with_header b c.own c.derived.target
 
--- a build with these copies as its module, with the entry points of their source; none if they have the wrong form
-abbrev pub put_whole : OwnCopies → BuiltModule → Option BuiltModule
-put_whole c b = option_map (with_value b c.own) (if_formed (make_module c.derived))
+-- a build with these copies as its module, with the entry points of their source
+abbrev pub put_whole : OwnCopies → BuiltModule → BuiltModule
+put_whole c b = with_value b c.own (make_module c.derived)
 
 abbrev pub have_special : OwnCopies → Bool
 have_special c = nat_lt 0 (length (special_entries c.derived.target.special_types))
 
--- a build that holds copies of a module, of which these items are its own, with the module's entry points; none if one of the two
--- has the wrong form
-unfoldable pub copy_build : ModuleValue → OwnPlaces → BuiltModule → Option BuiltModule
-copy_build m own b = put_header (copy_header m own b.decoration b.functions) b >>= put_whole (copy_whole m own b.decoration)
+-- a build that holds copies of a module, of which these items are its own, with the module's entry points
+unfoldable pub copy_build : ModuleValue → OwnPlaces → BuiltModule → BuiltModule
+copy_build m own b = put_whole (copy_whole m own b.decoration b.functions) (put_header (copy_header m own b.decoration b.functions) b)
 
 -- whether the copy of a module has special types
-unfoldable pub copies_special : ModuleValue → OwnPlaces → (decoration : List ℕ) → Bool
-copies_special m own d = have_special (copy_whole m own d)
-
--- a build, and whether it has special types
-abbrev pub with_special : Bool → Option BuiltModule → Option (BuiltModule × Bool)
-with_special special b = option_map (λ c. (c, special)) b
+unfoldable pub copies_special : ModuleValue → OwnPlaces → (decoration : List ℕ) → (functions : List (List ℕ)) → Bool
+copies_special m own d functions = have_special (copy_whole m own d functions)

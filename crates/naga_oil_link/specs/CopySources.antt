@@ -1,16 +1,16 @@
 -- What modules are copied from.
 use Rattle.std.specs.Prelude.{◌≡◌, ℕ, [], slice_get, Some, None}
 use Rattle.naga_oil_ir.specs.ModuleValue.{FunctionValue}
-use Rattle.naga_oil_ir.specs.WellFormed.{WellFormed}
 use Rattle.naga_oil_ir.specs.declared.module.Function.{Function}
 use Rattle.naga_oil_ir.specs.declared.module.Module.{Module}
 use Rattle.naga_oil_ir.specs.declared.span.Span.{Span}
 use Rattle.naga_oil_derive.specs.World.{value_of}
 use Rattle.naga_oil_derive.specs.Derived.{Source, Derived}
+use Rattle.naga_oil_form_laws.specs.EntryForm.{IsModuleFormed}
 
 -- a module that passes the test of form is the source
 pub record IsSource (m : Module) (d : Derived) : Type 0 where
-  pub form : WellFormed m [] 4294967295
+  pub form : IsModuleFormed (value_of m)
   pub source : Source
   pub set : d.source ≡ Some source
   pub value : source.value ≡ value_of m

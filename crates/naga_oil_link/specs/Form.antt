@@ -1,5 +1,5 @@
 -- The test of form of a module, as a value.
-use Rattle.std.specs.Prelude.{ℕ, Bool, true, ◌&&◌, List, [], length, map, Option, Some, None, if◌then◌else◌, unwrap_or, is_some, nat_eq, nat_lt, codes}
+use Rattle.std.specs.Prelude.{ℕ, Bool, ◌&&◌, List, [], length, map, Option, unwrap_or, is_some, nat_eq, nat_lt, codes}
 use Rattle.std.specs.List.{list_all, enumerate_from}
 use Rattle.std.specs.Cmp.Lexicographic.{pointwise}
 use Rattle.naga_oil_marks.specs.Marks.{with_decoration}
@@ -45,7 +45,3 @@ unfoldable pub is_formed : ModuleValue → (decoration : List ℕ) → ℕ → B
 is_formed m decoration n =
     are_items_formed m && are_spans_formed m n && are_function_names_formed m decoration
     && list_all (λ e. is_function_formed m e.0 n e.1.0) (enumerate_from 0 m.functions) && list_all (is_entry_formed m n) m.entry_points
-
--- a module that passes over the texts of all modules, one behind another
-unfoldable pub if_formed : ModuleValue → Option ModuleValue
-if_formed m = if is_formed m [] 4294967295 then Some m else None

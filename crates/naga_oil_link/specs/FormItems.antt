@@ -9,7 +9,7 @@ use Rattle.naga_oil_ir.specs.Rows.{Row, parts_row}
 use Rattle.naga_oil_ir.specs.declared.names.ItemPlace.{ItemPlace}
 use Rattle.naga_oil_ir.specs.declared.names.ItemPlace.TheVariants.{TypeItem, ConstantItem, OverrideItem, GlobalItem, ExpressionItem}
 use Rattle.naga_oil_ir.specs.declared.span.Span.{Span}
-use Rattle.naga_oil_link.specs.FormParts.{passes_if_there, are_earlier, kinds_of, operands_of}
+use Rattle.naga_oil_link.specs.FormParts.{passes_if_there, are_earlier, operands_of}
 
 -- whether an item is there
 abbrev pub is_there : ModuleValue → ItemPlace → Bool

@@ -1,5 +1,5 @@
 -- The test of form of places, bodies and functions, as values.
-use Rattle.std.specs.Prelude.{ℕ, Bool, true, false, not, ◌&&◌, List, [], ◌∷◌, ◌++◌, length, map, slice_get, flat_map, Option, Some, None, option_to_list, nat_eq, nat_lt, nat_le}
+use Rattle.std.specs.Prelude.{ℕ, Bool, true, not, ◌&&◌, List, [], ◌∷◌, ◌++◌, length, map, slice_get, flat_map, Option, Some, None, option_to_list, nat_eq, nat_lt, nat_le}
 use Rattle.std.specs.List.{list_all, enumerate_from}
 use Rattle.std.specs.Option.{option_eq}
 use Rattle.naga_oil_ir.specs.Body.{Tokens}

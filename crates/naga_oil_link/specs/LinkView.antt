@@ -6,11 +6,17 @@ use Rattle.naga_oil_ir.specs.declared.names.ItemPlace.{ItemPlace}
 use Rattle.naga_oil_ir.specs.declared.span.Span.{Span}
 use Rattle.naga_oil_derive.specs.Derived.{Derived}
 use Rattle.naga_oil_derive.specs.DerivedValue.{import_item}
+use Rattle.naga_oil_derive.specs.Tree.{Kept}
+use Rattle.naga_oil_form_laws.specs.DerivedForm.{IsFormed}
 use Rattle.naga_oil_lines.specs.Text.{is_among}
 use Rattle.naga_oil_lines.specs.Uses.{Import}
 use Rattle.naga_oil_link.specs.BuiltModule.{BuiltModule, Builds}
 use Rattle.naga_oil_link.specs.Linked.{LinkState, passes, link_function, link_imports}
 use Rattle.naga_oil_link.specs.OwnPlaces.{OwnPlaces, is_own}
+
+-- what is linked so far is of good form, whatever was kept
+unfoldable pub IsLinkFormed : Derived → Type 0
+IsLinkFormed d = (first : Kept) → IsFormed first d
 
 -- a step is made with an item, if there is one that passes a test
 abbrev pub step_if : {X : Type 0} → (X → Bool) → (Derived → X → Derived) → Derived → Option X → Derived

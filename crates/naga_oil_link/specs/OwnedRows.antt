@@ -1,5 +1,5 @@
 -- Worked rows: names that are owned, which items are own, and how entry points are named.
-use Rattle.std.specs.Prelude.{◌≡◌, refl, ℕ, List, true, false, Some, None, [], ◌∷◌, ◌++◌, codes}
+use Rattle.std.specs.Prelude.{◌≡◌, refl, ℕ, List, true, false, Some, None, [], ◌∷◌, codes}
 use Rattle.naga_oil_ir.specs.ModuleValue.{ModuleValue, no_items}
 use Rattle.naga_oil_ir.specs.Rows.{Row, ConstantKind, row}
 use Rattle.naga_oil_ir.specs.Spans.{undefined}

@@ -30,7 +30,9 @@ pub struct NamedItems {
 
 // Notes the place of an item under its name, if it has one.
 fn note_place(alloc: Global, index: &mut ByName, name: Option<&str>, at: usize) -> Tried
-    ensures { OnOk result ((q : List ℕ) → places_by index.new q ≡ places_by index.old q ++ (if is_name q (option_map (λ n. n.now) name.entry) then at ∷ [] else [])) }
+    ensures { let named = option_map (λ n. n.now) name.entry in
+        OnOk result ((q : List ℕ) → places_by index.new q ≡ places_by index.old q
+        ++ (if is_name q named then at ∷ [] else [])) }
 {
     if let Some(name) = name {
         let name = String::from_str(alloc, name)?;

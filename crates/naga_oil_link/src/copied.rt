@@ -3,22 +3,22 @@ ghost use Rattle.std.specs.Prelude.{◌≡◌, [], true, false, IfOk, IsSome, On
 ghost use Rattle.naga_oil_ir.specs.Body.{block_tokens};
 ghost use Rattle.naga_oil_ir.specs.ItemForm.{IsThere};
 ghost use Rattle.naga_oil_ir.specs.ModuleValue.{argument_value, function_value, module_value};
-ghost use Rattle.naga_oil_ir.specs.WellFormed.{WellFormed};
+ghost use Rattle.naga_oil_derive.specs.CopiedEntry.{make_module};
 ghost use Rattle.naga_oil_derive.specs.Derived.{HasItem, Keeps};
 ghost use Rattle.naga_oil_derive.specs.DerivedEntries.{CanCopyEntries};
 ghost use Rattle.naga_oil_derive.specs.DerivedValue.{import_item};
+ghost use Rattle.naga_oil_form_laws.specs.EntryForm.{IsModuleFormed};
 ghost use Rattle.naga_oil_lines.specs.Text.{texts};
 ghost use Rattle.naga_oil_link.specs.BuiltModule.{built_of};
-ghost use Rattle.naga_oil_link.specs.CopiedBuild.{copies_of, nothing_copied, decorated_type, went_to, import_own, copy_own, copy_other, copy_at, copy_places, copy_with_body, copy_stub, copy_header, copy_whole, have_special, put_header, put_whole, with_special, copy_build, copies_special, has_name_among};
+ghost use Rattle.naga_oil_link.specs.CopiedBuild.{copies_of, nothing_copied, decorated_type, went_to, import_own, copy_own, copy_other, copy_at, copy_places, copy_with_body, copy_stub, copy_header, copy_whole, have_special, put_header, put_whole, copy_build, copies_special, has_name_among};
 ghost use Rattle.naga_oil_link.specs.CopySources.{CopiesFrom, IsFunctionOf, stub_of};
-ghost use Rattle.naga_oil_link.specs.FormView.{GivesFormed};
 ghost use Rattle.naga_oil_link.specs.OwnPlaces.{own_of};
 ghost use Rattle.naga_oil_link.specs.Places.{places_of, name_at};
 
 use super::items::{name_at, named, places_of};
 use super::*;
-use naga_oil_derive::copied_name;
 use naga_oil_ir::Block;
+use naga_oil_rename::copied_name;
 
 /// Copies an item of the source, and answers where it went.
 pub fn import_item(into: &mut DerivedModule<'_>, place: ItemPlace) -> Tried<ItemPlace>
@@ -141,7 +141,7 @@ struct OwnCopies<'m> {
 impl<'m> OwnCopies<'m> {
     // Nothing is copied yet but the special types of the source.
     fn new(alloc: Global, source: &'m Module) -> Tried<OwnCopies<'m>>
-        requires { WellFormed source.now [] 4294967295 }
+        requires { IsModuleFormed (module_value source.now) }
         ensures source { IfOk result (λ c. CopiesFrom source.now c.derived) }
         ensures value { IfOk result (λ c. copies_of c ≡ nothing_copied (module_value source.now)) }
     {
@@ -197,7 +197,8 @@ impl<'m> OwnCopies<'m> {
         requires there { IsThere source.now place.now }
         requires source { CopiesFrom source.now self.old.derived }
         ensures source { CopiesFrom source.now self.new.derived }
-        ensures value { OnOk result (copies_of self.new ≡ copy_at all_types (module_value source.now) (own_of own.now) decoration.now (copies_of self.old) place.now) }
+        ensures value { let copy = copy_at all_types (module_value source.now) (own_of own.now) decoration.now in
+            OnOk result (copies_of self.new ≡ copy (copies_of self.old) place.now) }
     {
         if own.contains(*place) {
             self.copy_own(alloc, source, decoration, *place)
@@ -206,15 +207,31 @@ impl<'m> OwnCopies<'m> {
         }
     }
 
-    // Copies functions.
-    fn copy_functions(&mut self, source: &Module) -> Tried
+    // Copies a function with what it calls, if it has one of these names.
+    fn copy_function(&mut self, source: &Module, item: &(Function, Span), names: &Names) -> Tried
+        requires function { IsFunctionOf source.now item.now }
+        requires source { CopiesFrom source.now self.old.derived }
+        ensures source { CopiesFrom source.now self.new.derived }
+        ensures value { OnOk result (self.new.derived ≡ copy_with_body (texts names.now.keys) self.old.derived (function_value item.now.0, item.now.1)) }
+        ensures own { self.new.own ≡ self.old.own }
+    {
+        let (function, span) = item;
+        if has_name_among(function, names) {
+            self.derived.import_function(function, *span)?;
+        }
+        Ok(())
+    }
+
+    // The same of all functions.
+    fn copy_functions(&mut self, source: &Module, names: &Names) -> Tried
         requires { CopiesFrom source.now self.old.derived }
         ensures source { CopiesFrom source.now self.new.derived }
-        ensures value { OnOk result (self.new.derived ≡ fold copy_with_body self.old.derived (module_value source.now).functions) }
+        ensures value { let functions = (module_value source.now).functions in
+            OnOk result (self.new.derived ≡ fold (copy_with_body (texts names.now.keys)) self.old.derived functions) }
         ensures own { self.new.own ≡ self.old.own }
     {
         for item in source.functions.as_slice() {
-            self.derived.import_function(&item.0, item.1)?;
+            self.copy_function(source, item, names)?;
         }
         Ok(())
     }
@@ -246,7 +263,8 @@ impl<'m> OwnCopies<'m> {
     fn copy_stubs(&mut self, alloc: Global, source: &Module, names: &Names) -> Tried
         requires { CopiesFrom source.now self.old.derived }
         ensures source { CopiesFrom source.now self.new.derived }
-        ensures value { OnOk result (self.new.derived ≡ fold (copy_stub (texts names.now.keys)) self.old.derived (module_value source.now).functions) }
+        ensures value { let functions = (module_value source.now).functions in
+            OnOk result (self.new.derived ≡ fold (copy_stub (texts names.now.keys)) self.old.derived functions) }
         ensures own { self.new.own ≡ self.old.own }
     {
         for item in source.functions.as_slice() {
@@ -264,7 +282,7 @@ fn copy_places<'m>(
     decoration: &str,
     all_types: bool,
 ) -> Tried<OwnCopies<'m>>
-    requires { WellFormed source.now [] 4294967295 }
+    requires { IsModuleFormed (module_value source.now) }
     ensures source { IfOk result (λ c. CopiesFrom source.now c.derived) }
     ensures value { IfOk result (λ c. copies_of c ≡ copy_places all_types (module_value source.now) (own_of own.now) decoration.now) }
 {
@@ -284,7 +302,7 @@ fn copy_header<'m>(
     decoration: &str,
     names: &Names,
 ) -> Tried<OwnCopies<'m>>
-    requires { WellFormed source.now [] 4294967295 }
+    requires { IsModuleFormed (module_value source.now) }
     ensures { IfOk result (λ c. copies_of c ≡ copy_header (module_value source.now) (own_of own.now) decoration.now (texts names.now.keys)) }
 {
     let mut copies = copy_places(alloc, source, own, decoration, false)?;
@@ -292,25 +310,28 @@ fn copy_header<'m>(
     Ok(copies)
 }
 
-// The module: all types, the own items, and all functions.
+// The module: all types, the own items, and the functions of these names with what they call.
 fn copy_whole<'m>(
     alloc: Global,
     source: &'m Module,
     own: &OwnItems,
     decoration: &str,
+    names: &Names,
 ) -> Tried<OwnCopies<'m>>
-    requires { WellFormed source.now [] 4294967295 }
+    requires { IsModuleFormed (module_value source.now) }
     ensures source { IfOk result (λ c. CopiesFrom source.now c.derived) }
-    ensures value { IfOk result (λ c. copies_of c ≡ copy_whole (module_value source.now) (own_of own.now) decoration.now) }
+    ensures value { IfOk result (λ c. copies_of c ≡ copy_whole (module_value source.now) (own_of own.now) decoration.now (texts names.now.keys)) }
 {
     let mut copies = copy_places(alloc, source, own, decoration, true)?;
-    copies.copy_functions(source)?;
+    copies.copy_functions(source, names)?;
     Ok(copies)
 }
 
 // Puts copies into a build as its header.
-fn put_header(alloc: Global, header: OwnCopies<'_>, built: &mut Build) -> Formed
-    ensures { GivesFormed (λ done. built_of built.new) result (put_header (copies_of header.entry) (built_of built.old)) }
+fn put_header(alloc: Global, header: OwnCopies<'_>, built: &mut Build) -> Tried
+    requires { IsModuleFormed header.derived.target }
+    ensures { let put = put_header (copies_of header.entry) (built_of built.old) in
+        OnOk result (built_of built.new ≡ put) }
 {
     built.header_ir = Header::new(alloc, Module::from(header.derived))?;
     built.own_in_header = header.own;
@@ -318,27 +339,37 @@ fn put_header(alloc: Global, header: OwnCopies<'_>, built: &mut Build) -> Formed
 }
 
 // Puts copies into a build as its module, with the entry points of their source. Says whether there are special types.
-fn put_whole(alloc: Global, whole: OwnCopies<'_>, built: &mut Build) -> Formed<bool>
+fn put_whole(alloc: Global, whole: OwnCopies<'_>, built: &mut Build) -> Tried<bool>
     requires set { IsSome whole.derived.source }
     requires entries { CanCopyEntries whole.derived }
-    ensures { GivesFormed (λ special. (built_of built.new, special)) result (with_special (have_special (copies_of whole.entry)) (put_whole (copies_of whole.entry) (built_of built.old))) }
+    requires form { IsModuleFormed (make_module whole.derived) }
+    ensures special { IfOk result (λ special. special ≡ have_special (copies_of whole.entry)) }
+    ensures value { let put = put_whole (copies_of whole.entry) (built_of built.old) in
+        OnOk result (built_of built.new ≡ put) }
 {
     let has_special_types = whole.derived.has_required_special_types();
-    built.module_ir = FormedModule::new(alloc, whole.derived.into_module_with_entrypoints()?)?;
+    let module_ = whole.derived.into_module_with_entrypoints()?;
+    built.module_ir = FormedModule::new(alloc, module_);
     built.own_in_module = whole.own;
     Ok(has_special_types)
 }
 
-/// Copies into a build, of a parsed module, all types and functions, and of the other items those that are its own, with the
-/// module's entry points; the names of own types are decorated. The build's header has its own items, functions without bodies.
+/// Copies into a build, of a parsed module, all types, and of the other items and the functions those that are its own, with what
+/// these name and call, and the module's entry points; the names of own types are decorated. What a text takes over from the header
+/// before it and doesn't call stays out. The build's header has its own items, functions without bodies.
 /// Says whether there are special types.
-pub fn copy_build(alloc: Global, source: &Module, own: &OwnItems, built: &mut Build) -> Formed<bool>
-    requires { WellFormed source.now [] 4294967295 }
-    ensures { GivesFormed (λ special. (built_of built.new, special)) result (with_special (copies_special (module_value source.now) (own_of own.now) (string_bytes built.old.decorated_name)) (copy_build (module_value source.now) (own_of own.now) (built_of built.old))) }
+pub fn copy_build(alloc: Global, source: &Module, own: &OwnItems, built: &mut Build) -> Tried<bool>
+    requires { IsModuleFormed (module_value source.now) }
+    ensures special { let b = built_of built.old in
+        let of = copies_special (module_value source.now) (own_of own.now) in
+        IfOk result (λ special. special ≡ of b.decoration b.functions) }
+    ensures value { let b = built_of built.old in
+        let copied = copy_build (module_value source.now) (own_of own.now) b in
+        OnOk result (built_of built.new ≡ copied) }
 {
     let decoration = built.decorated_name.as_str();
     let header = copy_header(alloc, source, own, decoration, &built.owned_functions)?;
-    let whole = copy_whole(alloc, source, own, decoration)?;
+    let whole = copy_whole(alloc, source, own, decoration, &built.owned_functions)?;
     put_header(alloc, header, built)?;
     put_whole(alloc, whole, built)
 }

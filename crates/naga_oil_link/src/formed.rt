@@ -1,9 +1,10 @@
 //! Modules that pass the test of form.
-ghost use Rattle.std.specs.Prelude.{◌≡◌, [], OnOk, Some, None, if◌then◌else◌};
+ghost use Rattle.std.specs.Prelude.{◌≡◌, [], IfOk, OnOk, Some, None, if◌then◌else◌};
 ghost use Rattle.naga_oil_ir.specs.ModuleValue.{module_value, no_items};
 ghost use Rattle.naga_oil_ir.specs.WellFormed.{WellFormed};
+ghost use Rattle.naga_oil_form_laws.specs.EntryForm.{IsModuleFormed};
 ghost use Rattle.naga_oil_link.specs.ByName.{HasItems};
-ghost use Rattle.naga_oil_link.specs.Form.{is_formed, if_formed};
+ghost use Rattle.naga_oil_link.specs.Form.{is_formed};
 ghost use Rattle.naga_oil_link.specs.FormView.{GivesFormed};
 
 use super::by_name::{ByName, NamedItems};
@@ -18,22 +19,44 @@ pub fn check_form(alloc: Global, of: &Module, decoration: &str, len: usize) -> F
     of.check_form(alloc, decoration, len)
 }
 
-/// A module that passes the test of form over the texts of all modules, one behind another.
+// Gives back the room of an arena that its items don't need.
+fn trim<T: Item + Drop>(alloc: Global, arena: &mut Arena<T>)
+    ensures { arena.new ≡ arena.old }
+{
+    let mut items = mem::replace(arena, Arena::new(alloc)).into_items();
+    items.shrink_to_fit();
+    *arena = Arena::from_items(items);
+}
+
+// A module that has no more room than its items need.
+fn trimmed(alloc: Global, module_: Module) -> Module
+    ensures { result ≡ module_ }
+{
+    let mut module_ = module_;
+    trim(alloc, &mut module_.constants);
+    trim(alloc, &mut module_.overrides);
+    trim(alloc, &mut module_.global_variables);
+    trim(alloc, &mut module_.global_expressions);
+    trim(alloc, &mut module_.functions);
+    module_
+}
+
+/// A module that passes the test of form, but that two of its special types may be one, over the texts of all modules, one
+/// behind another.
 #[derive(Drop)]
 pub struct FormedModule {
     module_: Module,
 }
 
 impl Model for FormedModule {
-    ghost use Rattle.std.specs.Prelude.{[]};
     ghost use Rattle.naga_oil_ir.specs.ModuleValue.{ModuleValue, module_value};
-    ghost use Rattle.naga_oil_ir.specs.WellFormed.{WellFormed};
+    ghost use Rattle.naga_oil_form_laws.specs.EntryForm.{IsModuleFormed};
 
     ghost Value = { ModuleValue };
 
     ghost view = { λ f. module_value f.module_ };
 
-    ghost invariant = { λ f. WellFormed f.module_ [] 4294967295 };
+    ghost invariant = { λ f. IsModuleFormed (module_value f.module_) };
 }
 
 impl FormedModule {
@@ -45,16 +68,17 @@ impl FormedModule {
         FormedModule { module_ }
     }
 
-    /// The module, if it passes.
-    pub fn new(alloc: Global, module_: Module) -> Formed<FormedModule>
-        ensures { GivesFormed (λ formed. formed) result (if_formed (module_value module_)) }
+    /// The module, with no more room than its items need.
+    pub fn new(alloc: Global, module_: Module) -> FormedModule
+        requires { IsModuleFormed (module_value module_) }
+        ensures { result ≡ module_value module_ }
     {
-        check_form(alloc, &module_, "", 4_294_967_295)?;
-        Ok(FormedModule { module_ })
+        let module_ = trimmed(alloc, module_);
+        FormedModule { module_ }
     }
 
     pub fn get(&self) -> &Module
-        ensures form { WellFormed result.now [] 4294967295 }
+        ensures form { IsModuleFormed (module_value result.now) }
         ensures value { module_value result.now ≡ self.now }
     {
         &self.module_
@@ -92,18 +116,19 @@ impl Header {
         Header { formed, items }
     }
 
-    /// The module, if it passes.
-    pub fn new(alloc: Global, module_: Module) -> Formed<Header>
-        ensures { GivesFormed (λ header. header) result (if_formed (module_value module_)) }
+    /// The module, with no more room than its items need.
+    pub fn new(alloc: Global, module_: Module) -> Tried<Header>
+        requires { IsModuleFormed (module_value module_) }
+        ensures { IfOk result (λ header. header ≡ module_value module_) }
     {
-        let formed = FormedModule::new(alloc, module_)?;
+        let formed = FormedModule::new(alloc, module_);
         let items = NamedItems::new(alloc, formed.get())?;
         Ok(Header { formed, items })
     }
 
     /// The module, and its items by their names.
     pub fn named(&self) -> (&Module, &NamedItems)
-        ensures form { WellFormed result.0.now [] 4294967295 }
+        ensures form { IsModuleFormed (module_value result.0.now) }
         ensures value { module_value result.0.now ≡ self.now }
         ensures items { HasItems (module_value result.0.now) result.1.now }
     {

@@ -1,8 +1,10 @@
 //! The items of a parsed module: those whose names have no mark of a module are its own and get its decoration.
-ghost use Rattle.std.specs.Prelude.{◌≡◌, ◌++◌, ◌||◌, All, IfOk, OnOk, fold, length, map, not, option_map, string_bytes};
+ghost use Rattle.std.specs.Prelude.{◌≡◌, ◌≤◌, ◌++◌, ◌||◌, ℕ, All, IfOk, OnOk, fold, length, map, not, option_map, string_bytes};
 ghost use Rattle.std.specs.List.{flat_map};
 ghost use Rattle.naga_oil_ir.specs.ItemForm.{IsThere};
 ghost use Rattle.naga_oil_ir.specs.ModuleValue.{ModuleValue, argument_value, entry_value, function_value, module_value};
+ghost use Rattle.naga_oil_ir.specs.WellFormed.{WellFormed};
+ghost use Rattle.naga_oil_form_laws.specs.EntryForm.{IsModuleFormed};
 ghost use Rattle.naga_oil_lines.specs.DirectivesText.{in_order, with_name};
 ghost use Rattle.naga_oil_lines.specs.Text.{texts, is_among};
 ghost use Rattle.naga_oil_marks.specs.Marks.{has_module_mark, with_decoration};
@@ -14,6 +16,7 @@ ghost use Rattle.naga_oil_link.specs.Places.{places_of, name_at};
 
 use super::*;
 use naga_oil_derive::special::special_entries;
+use naga_oil_form_laws::parsed::well_formed_modules_are_formed;
 
 /// A name, if there is one.
 pub fn named(name: &Option<String>) -> Option<&str>
@@ -83,8 +86,12 @@ fn own_type(
     suffix: &str,
     owned: &mut Names,
 ) -> Tried<bool>
-    ensures own { IfOk result (λ own. (m : ModuleValue) → texts special.now.keys ≡ in_order (special_names m) → own ≡ is_own_type m (option_map string_bytes ty.now.name)) }
-    ensures owned { OnOk result ((m : ModuleValue) → texts special.now.keys ≡ in_order (special_names m) → texts owned.new.keys ≡ with_own_type m suffix.now (texts owned.old.keys) (option_map string_bytes ty.now.name)) }
+    ensures own { let name = option_map string_bytes ty.now.name in
+        IfOk result (λ own. (m : ModuleValue) → texts special.now.keys ≡ in_order (special_names m) →
+        own ≡ is_own_type m name) }
+    ensures owned { let name = option_map string_bytes ty.now.name in
+        OnOk result ((m : ModuleValue) → texts special.now.keys ≡ in_order (special_names m) →
+        texts owned.new.keys ≡ with_own_type m suffix.now (texts owned.old.keys) name) }
 {
     let Some(name) = named(&ty.name) else {
         return Ok(false);
@@ -98,8 +105,11 @@ fn own_type(
 
 // The types that are owned, whose decorated names are noted.
 fn own_types(alloc: Global, of: &Module, suffix: &str, owned: &mut Names) -> Tried<Places>
-    ensures places { IfOk result (λ places. places.keys ≡ places_where (is_own_type (module_value of.now)) (item_names (module_value of.now).types)) }
-    ensures owned { OnOk result (texts owned.new.keys ≡ fold (with_own_type (module_value of.now) suffix.now) (texts owned.old.keys) (item_names (module_value of.now).types)) }
+    ensures places { let m = module_value of.now in
+        IfOk result (λ places. places.keys ≡ places_where (is_own_type m) (item_names m.types)) }
+    ensures owned { let m = module_value of.now in
+        let own = fold (with_own_type m suffix.now) (texts owned.old.keys) (item_names m.types) in
+        OnOk result (texts owned.new.keys ≡ own) }
 {
     let special = special_names(alloc, of)?;
     let mut places = Places::new(alloc);
@@ -205,7 +215,8 @@ fn own_vars(
 // Decorates the functions that are owned.
 fn own_functions(alloc: Global, of: &mut Arena<Function>, suffix: &str, owned: &mut Names) -> Tried
     ensures items { OnOk result (function_values of.new ≡ map (owned_function suffix.now) (function_values of.old)) }
-    ensures owned { OnOk result (texts owned.new.keys ≡ fold (with_owned suffix.now) (texts owned.old.keys) (function_texts (function_values of.old))) }
+    ensures owned { let names = function_texts (function_values of.old) in
+        OnOk result (texts owned.new.keys ≡ fold (with_owned suffix.now) (texts owned.old.keys) names) }
 {
     let mut items = mem::replace(of, Arena::new(alloc)).into_items();
     for item in items.iter_mut() {
@@ -306,8 +317,10 @@ fn demote_one(
     functions: &mut Arena<Function>,
     owned: &mut Names,
 ) -> Tried
-    ensures functions { OnOk result (function_values functions.new ≡ function_values functions.old ++ demoted decoration.now (texts names.now.keys) (entry_value entry_point)) }
-    ensures owned { OnOk result (texts owned.new.keys ≡ fold with_name (texts owned.old.keys) (function_names (demoted decoration.now (texts names.now.keys) (entry_value entry_point)))) }
+    ensures functions { let more = demoted decoration.now (texts names.now.keys) (entry_value entry_point) in
+        OnOk result (function_values functions.new ≡ function_values functions.old ++ more) }
+    ensures owned { let more = demoted decoration.now (texts names.now.keys) (entry_value entry_point) in
+        OnOk result (texts owned.new.keys ≡ fold with_name (texts owned.old.keys) (function_names more)) }
 {
     let (name, function) = demoted(alloc, entry_point, decoration)?;
     if names.contains(name.as_str()) {
@@ -326,8 +339,12 @@ fn demote_all(
     functions: &mut Arena<Function>,
     owned: &mut Names,
 ) -> Tried
-    ensures functions { OnOk result (function_values functions.new ≡ function_values functions.old ++ flat_map (demoted decoration.now (function_names (function_values functions.old))) (map entry_value entry_points.items)) }
-    ensures owned { OnOk result (texts owned.new.keys ≡ fold with_name (texts owned.old.keys) (function_names (flat_map (demoted decoration.now (function_names (function_values functions.old))) (map entry_value entry_points.items)))) }
+    ensures functions { let before = function_values functions.old in
+        let more = flat_map (demoted decoration.now (function_names before)) (map entry_value entry_points.items) in
+        OnOk result (function_values functions.new ≡ before ++ more) }
+    ensures owned { let before = function_values functions.old in
+        let more = flat_map (demoted decoration.now (function_names before)) (map entry_value entry_points.items) in
+        OnOk result (texts owned.new.keys ≡ fold with_name (texts owned.old.keys) (function_names more)) }
 {
     if entry_points.is_empty() {
         return Ok(());
@@ -342,8 +359,11 @@ fn demote_all(
 // Makes the entry points functions behind the others, decorated, without bindings and with no span. One whose function has
 // the name of another function is left out.
 fn demote(alloc: Global, of: &mut Module, built: &mut Build) -> Tried
-    ensures items { OnOk result (module_value of.new ≡ with_demoted (demotable (string_bytes built.old.decorated_name) (module_value of.old)) (module_value of.old)) }
-    ensures built { OnOk result (built_of built.new ≡ owning_demoted (demotable (string_bytes built.old.decorated_name) (module_value of.old)) (built_of built.old)) }
+    ensures items { let m = module_value of.old in
+        let fs = demotable (string_bytes built.old.decorated_name) m in
+        OnOk result (module_value of.new ≡ with_demoted fs m) }
+    ensures built { let fs = demotable (string_bytes built.old.decorated_name) (module_value of.old) in
+        OnOk result (built_of built.new ≡ owning_demoted fs (built_of built.old)) }
 {
     let entry_points = mem::replace(&mut of.entry_points, Vec::new(alloc));
     let decoration = built.decorated_name.as_str();
@@ -352,13 +372,18 @@ fn demote(alloc: Global, of: &mut Module, built: &mut Build) -> Tried
 }
 
 /// Decorates what a build owns of a parsed module, entry points too where it isn't the shader, whose index is 0; types get their
-/// decoration as they are copied. Gives the places of its own items, and how many functions there were before.
+/// decoration as they are copied. Gives the places of its own items, and how many functions there were before. A module that passed the
+/// test of form under the decoration is of good form then.
 pub fn own(alloc: Global, source: &mut Module, built: &mut Build) -> Tried<(OwnItems, usize)>
     ensures own { IfOk result (λ r. own_of r.0 ≡ own_places (module_value source.old)) }
     ensures functions { IfOk result (λ r. r.1 ≡ length (module_value source.old).functions) }
-    ensures items { OnOk result (module_value source.new ≡ owned_module built.old.index (string_bytes built.old.decorated_name) (module_value source.old)) }
+    ensures items { let decoration = string_bytes built.old.decorated_name in
+        OnOk result (module_value source.new ≡ owned_module built.old.index decoration (module_value source.old)) }
     ensures built { OnOk result (built_of built.new ≡ owned_build built.old.index (module_value source.old) (built_of built.old)) }
+    ensures form { let passes = WellFormed source.old (string_bytes built.old.decorated_name) in
+        OnOk result ((n : ℕ) → n ≤ 4294967295 → passes n → IsModuleFormed (module_value source.new)) }
 {
+    well_formed_modules_are_formed(source);
     let own = own_items(alloc, source, built)?;
     let functions = source.functions.len();
     if built.index > 0 {

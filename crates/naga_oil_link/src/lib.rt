@@ -25,7 +25,7 @@ pub use module::{Build, ComposableModule, Overrides};
 use naga_oil_derive::{DerivedModule, Tried};
 use naga_oil_ir::{
     Arena, Constant, EntryPoint, FormFault, Function, FunctionArgument, FunctionResult,
-    GlobalVariable, Handle, Index, ItemPlace, Module, Override, Span, Type,
+    GlobalVariable, Handle, Index, Item, ItemPlace, Module, Override, Span, Type,
 };
 use naga_oil_lines::ImportDefinition;
 use naga_oil_marks::{add_decoration, has_module_mark};
@@ -33,6 +33,7 @@ pub use own_items::OwnItems;
 use std::alloc::Global;
 use std::collections::{BTreeMap, BTreeSet};
 use std::mem;
+use std::sync::Arc;
 
 /// Names, in byte order.
 pub type Names = BTreeSet<String>;

@@ -1,8 +1,8 @@
 //! One module out of builds: what is asked for of each, behind what that imports.
 ghost use Rattle.std.specs.Prelude.{◌≡◌, ◌++◌, [], IfOk, OnOk, fold, map, slice_get};
 ghost use Rattle.naga_oil_ir.specs.ModuleValue.{module_value};
-ghost use Rattle.naga_oil_ir.specs.WellFormed.{WellFormed};
 ghost use Rattle.naga_oil_derive.specs.Derived.{nothing};
+ghost use Rattle.naga_oil_form_laws.specs.EntryForm.{IsModuleFormed};
 ghost use Rattle.naga_oil_lines.specs.DirectivesText.{with_name, in_order};
 ghost use Rattle.naga_oil_lines.specs.Text.{texts};
 ghost use Rattle.naga_oil_lines.specs.Uses.{import_of};
@@ -10,7 +10,7 @@ ghost use Rattle.naga_oil_link.specs.BuiltModule.{built_of, builds_of};
 ghost use Rattle.naga_oil_link.specs.ByName.{HasItems};
 ghost use Rattle.naga_oil_link.specs.CopySources.{CopiesFrom};
 ghost use Rattle.naga_oil_link.specs.Linked.{asked_names, asked_of, overriding_names, link_places, link_functions, link_source, link_items, link_header, link_whole};
-ghost use Rattle.naga_oil_link.specs.LinkView.{link_own_function, LinksImports};
+ghost use Rattle.naga_oil_link.specs.LinkView.{IsLinkFormed, link_own_function, LinksImports};
 ghost use Rattle.naga_oil_link.specs.OwnPlaces.{own_of};
 
 use super::by_name::{Asked, NamedItems, add_named, wanted};
@@ -18,8 +18,8 @@ use super::copied::{has_name_among, import_item};
 use super::*;
 use naga_oil_lines::ImportDefinition as Import;
 
-/// The builds of a make by their names, each behind those that it imports.
-pub type Builds = IndexMap<String, Build>;
+/// The builds of a make by their names, each behind those that it imports. Each may be shared.
+pub type Builds = IndexMap<String, Arc<Build>>;
 
 // The decorated names of items.
 fn decorated(alloc: Global, items: &[String], decoration: &str) -> Tried<Names>
@@ -106,7 +106,9 @@ impl<'b> Linker<'b> {
         requires items { HasItems (module_value of.from.now) of.by.now }
         requires source { CopiesFrom of.from.now self.old.derived }
         ensures source { CopiesFrom of.entry.from.now self.new.derived }
-        ensures value { OnOk result (self.new.derived ≡ link_places (own_of of.entry.own.now) (module_value of.entry.from.now) (asked_names asked.entry) self.old.derived) }
+        ensures value { let own = own_of of.entry.own.now in
+            let link = link_places own (module_value of.entry.from.now) (asked_names asked.entry) in
+            OnOk result (self.new.derived ≡ link self.old.derived) }
         ensures rest { self.new ≡ record self.old { derived = self.new.derived } }
     {
         let places = wanted(self.alloc, &of.by.by_name, of.by.places.len(), asked)?;
@@ -126,7 +128,9 @@ impl<'b> Linker<'b> {
     fn link_functions(&mut self, of: Linked<'b, '_>, asked: Asked) -> Tried
         requires items { HasItems (module_value of.from.now) of.by.now }
         requires source { CopiesFrom of.from.now self.old.derived }
-        ensures value { OnOk result (self.new.derived ≡ link_functions (built_of of.entry.of.now) (module_value of.entry.from.now) (asked_names asked.entry) self.old.derived) }
+        ensures value { let b = built_of of.entry.of.now in
+            let link = link_functions b (module_value of.entry.from.now) (asked_names asked.entry) in
+            OnOk result (self.new.derived ≡ link self.old.derived) }
         ensures rest { self.new ≡ record self.old { derived = self.new.derived } }
     {
         let overriding = overriding(self.alloc, of.of)?;
@@ -140,9 +144,14 @@ impl<'b> Linker<'b> {
 
     // Links what is asked for of a module of a build, which has items of these names.
     fn link_source(&mut self, of: Linked<'b, '_>, asked: Asked) -> Tried
-        requires form { WellFormed of.from.now [] 4294967295 }
+        requires form { IsModuleFormed (module_value of.from.now) }
         requires items { HasItems (module_value of.from.now) of.by.now }
-        ensures value { OnOk result (self.new.derived ≡ link_source (built_of of.entry.of.now) (own_of of.entry.own.now) (module_value of.entry.from.now) (asked_names asked.entry) self.old.derived) }
+        requires formed { IsLinkFormed self.old.derived }
+        ensures value { let b = built_of of.entry.of.now in
+            let own = own_of of.entry.own.now in
+            let link = link_source b own (module_value of.entry.from.now) (asked_names asked.entry) in
+            OnOk result (self.new.derived ≡ link self.old.derived) }
+        ensures formed { OnOk result (IsLinkFormed self.new.derived) }
         ensures rest { self.new ≡ record self.old { derived = self.new.derived } }
     {
         let shift = of.of.index * 2_097_152;
@@ -155,7 +164,10 @@ impl<'b> Linker<'b> {
 
     // Links the items of a build that are asked for; by none all that it owns.
     fn link_items(&mut self, of: &'b Build, asked: Asked<'_>) -> Tried
-        ensures value { OnOk result (self.new.derived ≡ link_items self.old.of_headers (built_of of.now) (asked_names asked.entry) self.old.derived) }
+        requires { IsLinkFormed self.old.derived }
+        ensures value { let link = link_items self.old.of_headers (built_of of.now) (asked_names asked.entry) in
+            OnOk result (self.new.derived ≡ link self.old.derived) }
+        ensures formed { OnOk result (IsLinkFormed self.new.derived) }
         ensures rest { self.new ≡ record self.old { derived = self.new.derived } }
     {
         if self.of_headers {
@@ -171,7 +183,11 @@ impl<'b> Linker<'b> {
 
     // Links what an import asks for of a build.
     fn link_asked(&mut self, import: &Import, build: &'b Build) -> Tried
-        ensures value { OnOk result (self.new.derived ≡ link_items self.old.of_headers (built_of build.now) (asked_of (import_of import.now) (built_of build.now)) self.old.derived) }
+        requires { IsLinkFormed self.old.derived }
+        ensures value { let b = built_of build.now in
+            let link = link_items self.old.of_headers b (asked_of (import_of import.now) b) in
+            OnOk result (self.new.derived ≡ link self.old.derived) }
+        ensures formed { OnOk result (IsLinkFormed self.new.derived) }
         ensures rest { self.new ≡ record self.old { derived = self.new.derived } }
     {
         let asked = decorated(self.alloc, &import.items, build.decorated_name.as_str())?;
@@ -180,7 +196,11 @@ impl<'b> Linker<'b> {
 
     // Links what imports ask for of the builds before a place, behind what those import, into which it descends once.
     fn link_imports(&mut self, imports: &[Import], end: usize) -> Tried
-        ensures value { OnOk result (LinksImports self.old.of_headers (builds_of self.old.builds.now) end (map import_of imports.now) self.old.derived self.old.descended.keys self.new.derived self.new.descended.keys) }
+        requires { IsLinkFormed self.old.derived }
+        ensures value { let builds = builds_of self.old.builds.now in
+            let links = LinksImports self.old.of_headers builds end (map import_of imports.now) in
+            OnOk result (links self.old.derived self.old.descended.keys self.new.derived self.new.descended.keys) }
+        ensures formed { OnOk result (IsLinkFormed self.new.derived) }
         ensures rest { (self.new.builds ≡ self.old.builds) × (self.new.of_headers ≡ self.old.of_headers) }
     {
         // With the length it is known that no two builds have one name.
@@ -201,18 +221,20 @@ impl<'b> Linker<'b> {
     }
 }
 
-/// The header of imports: what they ask for of the headers of their builds, behind what those import.
+/// The header of imports: what they ask for of the headers of their builds, behind what those import; it is of good form.
 pub fn link_header(alloc: Global, builds: &Builds, imports: &[Import]) -> Tried<Module>
-    ensures { IfOk result (λ header. module_value header ≡ link_header (builds_of builds.now) (map import_of imports.now)) }
+    ensures form { IfOk result (λ header. IsModuleFormed (module_value header)) }
+    ensures value { IfOk result (λ header. module_value header ≡ link_header (builds_of builds.now) (map import_of imports.now)) }
 {
     let mut linker = Linker::new(alloc, builds, true);
     linker.link_imports(imports, builds.len())?;
     Ok(Module::from(linker.derived))
 }
 
-/// The whole of a build: all that it owns, behind what it imports, with its entry points.
+/// The whole of a build: all that it owns, behind what it imports, with its entry points; it is of good form.
 pub fn link_whole<'b>(alloc: Global, builds: &'b Builds, of: &'b Build) -> Tried<Module>
-    ensures { IfOk result (λ whole. module_value whole ≡ link_whole (builds_of builds.now) (built_of of.now)) }
+    ensures form { IfOk result (λ whole. IsModuleFormed (module_value whole)) }
+    ensures value { IfOk result (λ whole. module_value whole ≡ link_whole (builds_of builds.now) (built_of of.now)) }
 {
     let mut linker = Linker::new(alloc, builds, false);
     linker.link_imports(&of.imports, builds.len())?;

@@ -1,11 +1,12 @@
 // What is added: its text, its name, and what it imports.
-ghost use Rattle.std.specs.Prelude.{◌≡◌, IfOk, OnOk, OnErr, map, option_map, string_bytes};
+ghost use Rattle.std.specs.Prelude.{◌≡◌, ℕ, List, IfOk, OnOk, OnErr, map, option_map, string_bytes};
+ghost use Rattle.std.specs.BTreeSet.{contains_text};
 ghost use Rattle.naga_oil_lines.specs.Uses.{use_of};
 ghost use Rattle.naga_oil_pre.specs.View.{Gives};
 ghost use Rattle.naga_oil_registry.specs.Added.{described, imported_among, new_definition, shown_by, Enters};
 ghost use Rattle.naga_oil_registry.specs.Definition.{definition_of};
 ghost use Rattle.naga_oil_registry.specs.Descriptor.{module_source};
-ghost use Rattle.naga_oil_registry.specs.Registry.{removed, IsRegistry};
+ghost use Rattle.naga_oil_registry.specs.Registry.{reaches, removed, IsRegistry};
 ghost use Rattle.naga_oil_registry.specs.DescribedView.{described_of, KnowsRecorded};
 
 use super::merge::{clone_imports, push_additional, take_over};
@@ -41,7 +42,9 @@ fn imported_modules<'a>(
     modules: &[&'a Definition],
     imports: &[Use],
 ) -> Checked<Vec<&'a Definition>>
-    ensures { Gives (λ v. map (λ d. definition_of d.now) v.items) result (imported_among (map (λ d. definition_of d.now) modules.now) (map use_of imports.now)) }
+    ensures { let standing = map (λ d. definition_of d.now) modules.now in
+        let imported = imported_among standing (map use_of imports.now) in
+        Gives (λ v. map (λ d. definition_of d.now) v.items) result imported }
 {
     let mut imported = Vec::with_capacity(alloc, imports.len())?;
     for import in imports {
@@ -63,7 +66,9 @@ fn new_definition(
     described: Described,
 ) -> Checked<Definition>
     requires { KnowsRecorded described }
-    ensures { Gives definition_of result (new_definition (map (λ d. definition_of d.now) modules.now) (module_source desc.entry) (described_of described)) }
+    ensures { let standing = map (λ d. definition_of d.now) modules.now in
+        let definition = new_definition standing (module_source desc.entry) (described_of described) in
+        Gives definition_of result definition }
 {
     let Described { name, mut metadata } = described;
     push_additional(&mut metadata.imports, desc.additional_imports)?;
@@ -87,17 +92,26 @@ fn new_definition(
     })
 }
 
-/// Registers a module, and answers its index. A refusal changes nothing.
+/// Registers a module, and answers its index, with the names of the modules that go for it. A refusal changes nothing.
 pub fn register(
     alloc: Global,
     modules: &mut Vec<Definition>,
     desc: ComposableModuleDescriptor<'_>,
     described: Described,
-) -> Checked<usize>
+) -> Checked<(usize, Names)>
     requires registry { IsRegistry (map definition_of modules.old.items) }
     requires recorded { KnowsRecorded described }
-    ensures reply { Gives (λ i. i) result (shown_by (λ d. d.index) (new_definition (removed (described_of described).name (map definition_of modules.old.items)) (module_source desc.entry) (described_of described))) }
-    ensures registry { OnOk result (Enters (map definition_of modules.old.items) (new_definition (removed (described_of described).name (map definition_of modules.old.items)) (module_source desc.entry) (described_of described)) (map definition_of modules.new.items)) }
+    ensures reply { let of = described_of described in
+        let standing = removed of.name (map definition_of modules.old.items) in
+        let definition = new_definition standing (module_source desc.entry) of in
+        Gives (λ r. r.0) result (shown_by (λ d. d.index) definition) }
+    ensures registry { let of = described_of described in
+        let before = map definition_of modules.old.items in
+        let definition = new_definition (removed of.name before) (module_source desc.entry) of in
+        OnOk result (Enters before definition (map definition_of modules.new.items)) }
+    ensures gone { let before = map definition_of modules.old.items in
+        let name = (described_of described).name in
+        IfOk result (λ r. (other : List ℕ) → contains_text r.1 other ≡ reaches before other name) }
     ensures refused { OnErr result (modules.new.items ≡ modules.old.items) }
 {
     let gone = gone_with(alloc, modules, described.name.as_str())?;
@@ -106,5 +120,5 @@ pub fn register(
     drop(standing);
     let index = definition.module_index;
     enter(modules, &gone, definition)?;
-    Ok(index)
+    Ok((index, gone))
 }

@@ -1,5 +1,5 @@
 // What a module takes over from those that it imports.
-ghost use Rattle.std.specs.Prelude.{◌≡◌, ℕ, ◌++◌, List, map, fold, IfOk, OnOk};
+ghost use Rattle.std.specs.Prelude.{◌≡◌, ◌++◌, map, fold, IfOk, OnOk};
 ghost use Rattle.std.specs.List.{flat_map};
 ghost use Rattle.naga_oil_lines.specs.DirectivesText.{with_name};
 ghost use Rattle.naga_oil_lines.specs.Uses.{use_of, import_of};
@@ -32,7 +32,8 @@ fn add_names(names: &mut Names, others: &Names) -> Tried
 /// Overwrites definitions by those of each module in turn, and adds its effective names.
 pub(crate) fn take_over(defs: &mut Defs, names: &mut Names, imported: &[&Definition]) -> Tried
     ensures defs { OnOk result (defs_of defs.new ≡ merged (defs_of defs.old) (map (λ d. definition_of d.now) imported.now)) }
-    ensures names { OnOk result (texts names.new.keys ≡ fold with_name (texts names.old.keys) (flat_map (λ d. (definition_of d.now).effective) imported.now)) }
+    ensures names { let more = flat_map (λ d. (definition_of d.now).effective) imported.now in
+        OnOk result (texts names.new.keys ≡ fold with_name (texts names.old.keys) more) }
 {
     for definition in imported {
         overwrite(defs, &definition.shader_defs)?;

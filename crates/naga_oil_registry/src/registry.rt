@@ -1,5 +1,5 @@
 // The list of what is registered, the newest module first.
-ghost use Rattle.std.specs.Prelude.{◌≡◌, ℕ, ◌+◌, ◌<◌, ◌≤◌, ◌==◌, ◌∷◌, false, length, slice_index_or, vec_len, vec_capacity, List, map, ◌||◌, option_map, string_bytes, OnOk, OnErr, IfOk};
+ghost use Rattle.std.specs.Prelude.{◌≡◌, ℕ, ◌<◌, ◌≤◌, ◌==◌, ◌∷◌, false, length, slice_index_or, vec_len, vec_capacity, List, map, ◌||◌, option_map, OnOk, OnErr, IfOk};
 ghost use Rattle.std.specs.BTreeSet.{contains_text};
 ghost use Rattle.std.specs.List.{list_any};
 ghost use Rattle.std.specs.Str.{bytes_eq};
@@ -18,7 +18,9 @@ pub(crate) fn module_named<'a>(modules: &[&'a Definition], name: &str) -> Option
 
 // Whether a module goes with those that go: it is the named one, or imports one that goes.
 fn goes(definition: &Definition, gone: &Names, name: &str) -> bool
-    ensures { result ≡ (bytes_eq (definition_of definition.now).name name.now || list_any (λ u. contains_text gone.now u.import.import) (definition_of definition.now).imports) }
+    ensures { let of = definition_of definition.now in
+        let imports_one = list_any (λ u. contains_text gone.now u.import.import) of.imports in
+        result ≡ (bytes_eq of.name name.now || imports_one) }
 {
     if definition.name.as_str() == name {
         return true;
@@ -70,7 +72,9 @@ pub(crate) fn standing<'a>(
 fn taken_indices(alloc: Global, modules: &[&Definition], end: usize) -> Tried<Vec<bool>>
     requires { 0 < end }
     ensures len { IfOk result (λ marks. length marks.items ≡ end) }
-    ensures marks { IfOk result (λ marks. (index : ℕ) → index < end → slice_index_or marks.items index false ≡ (index == 0 || taken (map (λ d. definition_of d.now) modules.now) index)) }
+    ensures marks { let taken = taken (map (λ d. definition_of d.now) modules.now) in
+        IfOk result (λ marks. (index : ℕ) → index < end →
+        slice_index_or marks.items index false ≡ (index == 0 || taken index)) }
 {
     let mut taken = vec![in alloc; false; end]?;
     taken[0] = true;
@@ -99,20 +103,25 @@ fn remove_all(modules: &mut Vec<Definition>, gone: &Names)
     modules.retain(|definition| !gone.contains(definition.name.as_str()));
 }
 
-/// Removes a module, and with it all that reach it by imports.
-pub fn remove(alloc: Global, modules: &mut Vec<Definition>, name: &str) -> Tried
+/// Removes a module, and with it all that reach it by imports. Answers the names of those that go.
+pub fn remove(alloc: Global, modules: &mut Vec<Definition>, name: &str) -> Tried<Names>
     requires { IsRegistry (map definition_of modules.old.items) }
-    ensures ok { OnOk result (map definition_of modules.new.items ≡ removed name.now (map definition_of modules.old.items)) }
+    ensures ok { let before = map definition_of modules.old.items in
+        OnOk result (map definition_of modules.new.items ≡ removed name.now before) }
+    ensures gone { let before = map definition_of modules.old.items in
+        IfOk result (λ gone. (other : List ℕ) → contains_text gone other ≡ reaches before other name.now) }
     ensures err { OnErr result (modules.new.items ≡ modules.old.items) }
 {
     let gone = gone_with(alloc, modules, name)?;
     remove_all(modules, &gone);
-    Ok(())
+    Ok(gone)
 }
 
 /// Enters a module as the newest in the place of those of some names.
 pub(crate) fn enter(modules: &mut Vec<Definition>, gone: &Names, of: Definition) -> Tried
-    ensures ok { OnOk result (map definition_of modules.new.items ≡ definition_of of ∷ standing (contains_text gone.now) (map definition_of modules.old.items)) }
+    ensures ok { let before = map definition_of modules.old.items in
+        let left = standing (contains_text gone.now) before in
+        OnOk result (map definition_of modules.new.items ≡ definition_of of ∷ left) }
     ensures err { OnErr result (modules.new.items ≡ modules.old.items) }
 {
     modules.reserve(1)?;

@@ -179,7 +179,8 @@ impl Source<'_> {
 
     // Writes a place with what is said of it.
     fn push_place(self, out: &mut String, place: usize, said: &str) -> Tried
-        ensures { OnOk result (string_bytes out.new ≡ string_bytes out.old ++ place_line self.entry.path.now (line_column self.entry.text.now place) said.now) }
+        ensures { let line = place_line self.entry.path.now (line_column self.entry.text.now place) said.now in
+            OnOk result (string_bytes out.new ≡ string_bytes out.old ++ line) }
     {
         let (line, column) = self.line_column(place);
         write!(out, "  at {}:{line}:{column}", self.path)?;
@@ -188,7 +189,9 @@ impl Source<'_> {
 
     // Writes spans with what is said of each.
     fn push_spans(self, out: &mut String, spans: &[(Span, String)]) -> Tried
-        ensures { OnOk result (string_bytes out.new ≡ string_bytes out.old ++ span_lines self.entry.path.now self.entry.text.now self.entry.offset (labels spans.now)) }
+        ensures { let of = self.entry in
+            let lines = span_lines of.path.now of.text.now of.offset (labels spans.now) in
+            OnOk result (string_bytes out.new ≡ string_bytes out.old ++ lines) }
     {
         if spans.is_empty() {
             return write!(out, "  in {}\n", self.path);
@@ -201,7 +204,9 @@ impl Source<'_> {
 
     // Writes where something is wrong.
     fn push_places(self, out: &mut String, places: Places<'_>, message: &str) -> Tried
-        ensures { OnOk result (string_bytes out.new ≡ string_bytes out.old ++ place_lines self.entry.path.now self.entry.text.now self.entry.offset message.now (report_places places.entry)) }
+        ensures { let of = self.entry in
+            let lines = place_lines of.path.now of.text.now of.offset message.now (report_places places.entry) in
+            OnOk result (string_bytes out.new ≡ string_bytes out.old ++ lines) }
     {
         match places {
             Places::Nowhere => write!(out, "  in {}\n", self.path),

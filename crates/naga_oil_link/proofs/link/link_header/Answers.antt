@@ -1,16 +1,26 @@
-use Rattle.std.proofs.Common.{◌≡◌, true, length, map, sym, ap, ◌∙◌, arith}
+use Rattle.std.proofs.Common.{◌≡◌, true, length, map, subst, sym, ap, ◌∙◌, arith}
 use Rattle.std.proofs.lemmas.List.{length-map}
 use Rattle.naga_oil_derive.specs.Derived.{Derived}
 use Rattle.naga_oil_derive.specs.World.{value_of}
 use Rattle.naga_oil_lines.specs.Uses.{import_of}
+use Rattle.naga_oil_form_laws.specs.EntryForm.{IsModuleFormed}
 use Rattle.naga_oil_link.specs.BuiltModule.{builds_of}
 use Rattle.naga_oil_link.specs.Linked.{link_header}
+use Rattle.naga_oil_link.specs.LinkView.{IsLinkFormed}
+use Rattle.naga_oil_link.proofs.GoodFormLemmas.{nothing_formed_yet, linked_target}
 use Rattle.naga_oil_link.proofs.LinkedLemmas.{entry_of, linked_all}
 use Rattle.naga_oil_link.proofs.link.link_header.Goals as goal
 
-pub returns : goal.returns
+pub link_imports-requires : goal.link_imports-requires
+link_imports-requires c = subst IsLinkFormed (sym c.new-linker.ensures.linked.0) nothing_formed_yet
+
+pub returns-clause-form : goal.returns-clause-form
+unfolding value_of
+returns-clause-form c = subst IsModuleFormed (sym c.from.ensures) (linked_target _ c.in_ok-link_imports.ensures.formed)
+
+pub returns-clause-value : goal.returns-clause-value
 unfolding value_of link_header
-returns c =
+returns-clause-value c =
     let bs = builds_of c.args.builds.now in
     let start = c.new-linker.result in
     let given = c.new-linker.ensures.given in

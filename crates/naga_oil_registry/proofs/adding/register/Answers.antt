@@ -1,5 +1,5 @@
-use Rattle.std.proofs.Common.{◌≡◌, map, ap, ◌∙◌, sym, ℕ, List}
-use Rattle.std.specs.BTreeSet.{contains_text}
+use Rattle.std.proofs.Common.{◌≡◌, map, ap, ◌∙◌, sym, ℕ, List, String, Global}
+use Rattle.std.specs.BTreeSet.{BTreeSet, contains_text}
 use Rattle.naga_oil_registry.specs.Added.{new_definition, shown_by}
 use Rattle.naga_oil_registry.specs.Definition.{definition_of}
 use Rattle.naga_oil_registry.specs.DescribedView.{described_of}
@@ -21,7 +21,7 @@ returns-in_err-definition-clause-reply c =
     λ other. c.in_ok-gone.ensures other ∙ ap (λ ds. reaches (map definition_of ds) other c.as_str.result.now) c.deref.ensures.value ∙ ap (reaches ms other) c.as_str.ensures.value in
     let stays : map (λ d. definition_of d.now) c.as_slice.result.now ≡ removed d.name ms =
     ap (map (λ d. definition_of d.now)) c.as_slice.ensures.value ∙ c.in_ok-standing.ensures ∙ ap (λ ds. spec.standing leaves (map definition_of ds)) c.deref-2.ensures.value ∙ standing-same leaves (λ other. reaches ms other d.name) gone ms in
-    gives-refused (λ (i : ℕ). i) c.from_residual-in_err-definition.result c.in_err-definition.field-0.0 (shown_by (λ d. d.index) (new_definition (removed d.name ms) m d)) c.from_residual-in_err-definition.ensures.1
+    gives-refused (λ (r : ℕ × BTreeSet (String Global)). r.0) c.from_residual-in_err-definition.result c.in_err-definition.field-0.0 (shown_by (λ d. d.index) (new_definition (removed d.name ms) m d)) c.from_residual-in_err-definition.ensures.1
     (fails-through c.in_err-definition.field-0.0 _ (shown_by (λ d. d.index) (new_definition (removed d.name ms) m d)) c.in_err-definition.ensures
     (λ f e. ap (shown_by (λ d. d.index)) (ap (λ ds. new_definition ds m d) (sym stays) ∙ e)))
 
