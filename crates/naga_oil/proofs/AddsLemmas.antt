@@ -10,7 +10,7 @@ use Rattle.naga_oil_registry.specs.Definition.{Definition}
 use Rattle.naga_oil_registry.specs.Descriptor.{ModuleSource}
 use Rattle.naga_oil.specs.Refused.{Place, in_text, nowhere, place_of, Refused, refused_of, Tells, placed}
 use Rattle.naga_oil_registry.specs.Registry.{removed}
-use Rattle.naga_oil.specs.State.{State, Adds}
+use Rattle.naga_oil.specs.State.{State, Adds, forget_with}
 
 -- an error tells what is wrong at the place, or it is want of memory
 abbrev pub IsRefusal : ComposerErrorInner → ComposerError → Place → Type 0
@@ -55,6 +55,7 @@ module _ {B X Y : Type 0} (view : X → Y) (shown : Definition → Y) (old : Sta
       either = inl refl;
     };
     registry = tt;
+    kept = tt;
     refused = refl;
     rest = refl;
   }
@@ -75,6 +76,7 @@ module _ {B X Y : Type 0} (view : X → Y) (shown : Definition → Y) (old : Sta
           (λ r bad. shown_err r (addition old.registry old.counter m) (behind_read ∙ ap (λ (v : Result Described Refused). v >>= λ d. placed (in_text m.file_path text 0) (new_definition (removed d.name old.registry) m d)) bad));
       counter = record { exact = unless_memory inner e (in_text m.file_path m.source 0) (counter ≡ counter_after old.counter m.source) is (λ f has. counted); either = inr counted };
       registry = tt;
+      kept = tt;
       refused = refl;
       rest = refl;
     }
@@ -90,6 +92,7 @@ module _ {B X Y : Type 0} (view : X → Y) (shown : Definition → Y) (old : Sta
             (λ r bad. shown_err r (addition old.registry old.counter m) (behind_described ∙ unshown (new_definition (removed d.name old.registry) m d) r bad));
         counter = record { exact = unless_memory inner e (in_text m.file_path text 0) (counter ≡ counter_after old.counter m.source) is (λ f has. counted); either = inr counted };
         registry = tt;
+        kept = tt;
         refused = refl;
         rest = refl;
       }
@@ -99,7 +102,7 @@ module _ {B X Y : Type 0} (view : X → Y) (shown : Definition → Y) (old : Sta
           unshown (Err f) r bad = let same : record { fault = f; place = in_text m.file_path text 0 } ≡ r = cc in ap (λ (q : Refused). Err q) same
 
 -- the module is registered
-pub adds-registered : {B X Y : Type 0} (view : X → Y) (shown : Definition → Y) (old : State B) (m : ModuleSource) (text : List ℕ) (counter : ℕ) (d : Described) (new : Definition) (x : X) → read_source old.counter m.source ≡ Ok (text, counter) → described m.as_name text ≡ Ok d → new_definition (removed d.name old.registry) m d ≡ Ok new → view x ≡ shown new → Adds view shown old m (Ok x) (record old { counter = counter; registry = registry_with old.registry new })
+pub adds-registered : {B X Y : Type 0} (view : X → Y) (shown : Definition → Y) (old : State B) (m : ModuleSource) (text : List ℕ) (counter : ℕ) (d : Described) (new : Definition) (x : X) → read_source old.counter m.source ≡ Ok (text, counter) → described m.as_name text ≡ Ok d → new_definition (removed d.name old.registry) m d ≡ Ok new → view x ≡ shown new → Adds view shown old m (Ok x) (record old { counter = counter; registry = registry_with old.registry new; kept = forget_with old.registry new.name old.kept })
 unfolding addition
 adds-registered view shown old m text counter d new x read known added is =
     let whole : addition old.registry old.counter m ≡ Ok new =
@@ -111,6 +114,7 @@ adds-registered view shown old m text counter d new x read known added is =
       reply = ap (shown_by shown) whole ∙ ap (λ y. Ok y) (sym is);
       counter = record { exact = counted; either = inr counted };
       registry = (new, whole, refl);
+      kept = (new, whole, refl);
       refused = tt;
       rest = refl;
     }

@@ -41,6 +41,7 @@ module _ {B : Type 0} (old : State B) (m : ModuleSource) where
         reply = shown (addition old.registry old.counter m) ∙ adds.registry.1 ∙ ap (λ (d : Definition). Ok d) same;
         counter = record { exact = adds.counter.exact; either = adds.counter.either };
         registry = adds.registry;
+        kept = adds.kept;
         refused = tt;
         rest = adds.rest;
       }
@@ -53,6 +54,7 @@ module _ {B : Type 0} (old : State B) (m : ModuleSource) where
         reply = told e (addition old.registry old.counter m) adds'.reply;
         counter = record { exact = adds'.counter.exact; either = adds'.counter.either };
         registry = tt;
+        kept = tt;
         refused = adds'.refused;
         rest = adds'.rest;
       }

@@ -1,6 +1,6 @@
 -- Calls that are sent down the functions that override another.
 use mathlib.Core.Path.{fun_ext}
-use Rattle.std.proofs.Common.{◌≡◌, ℕ, List, [], ◌∷◌, map, length, Bool, true, false, cond, if◌then◌else◌, ◌||◌, Option, Some, None, MatchOption, Result, Ok, Err, String, Vec, Global, string_bytes, refl, sym, ap, ◌∙◌}
+use Rattle.std.proofs.Common.{◌≡◌, ℕ, List, [], ◌∷◌, map, length, Bool, true, false, cond, ◌||◌, Option, Some, None, MatchOption, Result, Ok, Err, String, Vec, Global, string_bytes, refl, sym, ap, ◌∙◌}
 use Rattle.std.proofs.lemmas.List.{length-map, nil_from_length}
 use Rattle.std.proofs.lemmas.Map.Text.{btree_set_updates_text}
 use Rattle.std.proofs.lemmas.Bool.Decides.{Decides-like, same_from_decides}
@@ -24,11 +24,8 @@ use Rattle.naga_oil_pre.specs.declared.fault.ComposerErrorInner.{ComposerErrorIn
 use Rattle.naga_oil_lines.specs.Text.{is_among, texts}
 use Rattle.naga_oil_registry.specs.Added.{◌>>=◌}
 use Rattle.naga_oil_link.specs.BuiltModule.{Overriding}
-use Rattle.naga_oil_link.specs.FormView.{GivesFormed}
-use Rattle.naga_oil_ir.specs.declared.check_form.FormFault.{FormFault}
-use Rattle.naga_oil_ir.specs.declared.check_form.FormFault.TheVariants.{WrongForm, Memory}
 use Rattle.naga_oil_pre.specs.View.{fault_of, redirect_error}
-use Rattle.naga_oil.specs.Chain.{sent_down, all_sent_down, check_apart, put_in_order_as, chain_all, chain}
+use Rattle.naga_oil.specs.Chain.{sent_down, all_sent_down, put_in_order_as, chain_all, chain}
 
 -- ---- the functions that are omitted
 pub same_bytes : (a b : List ℕ) → bytes_eq a b ≡ bytes_eq b a
@@ -97,21 +94,14 @@ fault_then e P Q so h = by (fault_of e) h
 abbrev ordered_after : Result ModuleValue Fault → Result ModuleValue Fault
 ordered_after r = r >>= λ sent. put_in_order_as (put_in_order sent)
 
-abbrev sent_after : Overriding → Result ModuleValue Fault → Result ModuleValue Fault
-sent_after all r = r >>= λ formed. ordered_after (all_sent_down formed all)
-
 module _ (all : Overriding) (m : ModuleValue) where
-  pub not_formed : (f : Fault) → check_apart m ≡ Err f → chain_all all m ≡ Err f
+  pub not_all_sent : (f : Fault) → all_sent_down m all ≡ Err f → chain_all all m ≡ Err f
   unfolding chain_all
-  not_formed f e = ap (sent_after all) e
+  not_all_sent f h = ap ordered_after h
 
-  pub not_all_sent : (formed : ModuleValue) → check_apart m ≡ Ok formed → (f : Fault) → all_sent_down formed all ≡ Err f → chain_all all m ≡ Err f
+  pub sent_and_ordered : (sent : ModuleValue) → all_sent_down m all ≡ Ok sent → chain_all all m ≡ put_in_order_as (put_in_order sent)
   unfolding chain_all
-  not_all_sent formed e f h = ap (sent_after all) e ∙ ap ordered_after h
-
-  pub sent_and_ordered : (formed : ModuleValue) → check_apart m ≡ Ok formed → (sent : ModuleValue) → all_sent_down formed all ≡ Ok sent → chain_all all m ≡ put_in_order_as (put_in_order sent)
-  unfolding chain_all
-  sent_and_ordered formed e sent h = ap (sent_after all) e ∙ ap ordered_after h
+  sent_and_ordered sent h = ap ordered_after h
 
 -- where a function is overridden, and where none is
 pub chains : (all : Overriding) (m : ModuleValue) → (all ≡ [] → ⊥) → chain all m ≡ chain_all all m
@@ -130,21 +120,3 @@ none_overridden es e = ap (map chain_of) (nil_from_length es e)
 
 pub some_overridden : (es : List (String Global × Vec (String Global) Global)) → map chain_of es ≡ [] → length es ≡ 0
 some_overridden es e = sym (length-map es chain_of) ∙ ap length e
-
--- ---- the test of form, passed and refused
-abbrev pub told_if : Bool → Option (Unit {0})
-told_if b = if b then Some tt else None
-
-pub passed : (b : Bool) → told_if b ≡ Some tt → b ≡ true
-passed true e = refl
-passed false e = absurd cc
-
-failed : (b : Bool) → told_if b ≡ None → b ≡ false
-failed true e = absurd cc
-failed false e = refl
-
--- where a test that another needs is refused
-pub refused_apart : {X : Type 0} (view : X → ModuleValue) (e : FormFault) (test apart : Bool) (m : ModuleValue) → (test ≡ false → apart ≡ false) → GivesFormed {X = Unit {0}} (λ done. done) (Err e) (told_if test)
-    → GivesFormed view (Err e) (if apart then Some m else None)
-refused_apart view WrongForm test apart m so h = ap (λ (b : Bool). if b then Some m else None) (so (failed test h))
-refused_apart view Memory test apart m so h = tt

@@ -1,37 +1,56 @@
 -- What a make comes to, and its registered modules.
-use Rattle.std.proofs.Common.{◌≡◌, ◌≤◌, ℕ, List, [], ◌∷◌, map, All, Option, Some, None, MatchOption, Result, Ok, Err, refl, sym, ap, inl, inr}
-use Rattle.std.proofs.lemmas.List.Elements.{All-nil, All-cons}
+use Rattle.std.proofs.Common.{◌≡◌, ◌≤◌, ◌+◌, ◌-◌, ◌∙◌, ℕ, List, [], length, min, Option, Some, None, MatchOption, Result, Ok, Err, refl, sym, ap, subst, inl, inr, arith}
+use Rattle.std.proofs.Math.Nat.{min-eq_left}
 use Rattle.naga_oil_ir.specs.Backend.{FrontEnd}
 use Rattle.naga_oil_ir.specs.ModuleValue.{ModuleValue, module_value}
 use Rattle.naga_oil_ir.specs.declared.module.Module.{Module}
 use Rattle.naga_oil_pre.specs.Fault.{Fault}
 use Rattle.naga_oil_pre.specs.View.{fault_of, Fails}
 use Rattle.naga_oil_pre.specs.declared.fault.ComposerErrorInner.{ComposerErrorInner}
-use Rattle.naga_oil_registry.specs.Added.{read_source, counter_behind, counter_after}
-use Rattle.naga_oil_registry.specs.Definition.{Definition, definition_of}
+use Rattle.naga_oil_registry.specs.Added.{read_source, counter_behind, counter_after, ◌>>=◌}
+use Rattle.naga_oil_registry.specs.Definition.{Definition, Defs}
 use Rattle.naga_oil_registry.specs.Descriptor.{ShaderSource}
-use Rattle.naga_oil_registry.specs.Registry.{IsRegistry}
-use Rattle.naga_oil_registry.specs.declared.definition.ComposableModuleDefinition.{ComposableModuleDefinition}
 use Rattle.naga_oil_link.specs.BuiltModule.{Builds}
 use Rattle.naga_oil_build.specs.Held.{Settings}
 use Rattle.naga_oil.specs.Answer.{make, answer}
-use Rattle.naga_oil.specs.MakeView.{memory_nowhere}
+use Rattle.naga_oil.specs.MakeDefs.{defs_of_text, defs_or_none, make_defs}
+use Rattle.naga_oil.specs.MakeView.{KeepsFirst, memory_nowhere}
 use Rattle.naga_oil.specs.Makes.{Makes, settings_of}
 use Rattle.naga_oil.specs.Outcome.{Outcome, Does, given, done_with}
-use Rattle.naga_oil.specs.Refused.{Place, Refused, refused_of, in_text, placed, UnlessMemory}
+use Rattle.naga_oil.specs.Refused.{Place, Refused, refused_of, in_text, nowhere, place_of, placed, UnlessMemory}
 use Rattle.naga_oil.specs.State.{State}
+use Rattle.naga_oil.specs.Store.{Kept, keep_builds, count_kept}
 use Rattle.naga_oil.specs.declared.compose.error.ComposerError.{ComposerError}
 use Rattle.naga_oil.proofs.AddsLemmas.{IsRefusal, failed, unless_memory}
 use Rattle.naga_oil.proofs.DoesLemmas.{does_answers}
+use Rattle.naga_oil.proofs.KeepsLemmas.{always}
+use Rattle.naga_oil.proofs.StoreKeyLemmas.{keeps_none}
 use Rattle.naga_oil.proofs.PlacedLemmas.{tells_on, tells_placed, answers_same}
 
-always : {X E F : Type 0} (told : E → Option F) (r : Result X E) (P : Type 0) → P → UnlessMemory told r P
-always told (Ok x) P p = p
-always {X} {E} {F} told (Err e) P p = go (told e)
+-- nothing newly kept is counted
+counted_none : (count : ℕ) (kept : Kept) → count ≤ 18446744073709551615 → count ≡ count_kept count kept kept
+counted_none count kept fits = sym (min-eq_left (omega (arith, fits)) ∙ (let e : count + (length kept - length kept) ≡ count = omega arith in e))
+
+-- what is newly kept is added, as far as that is counted
+pub counted : (begun count before after news : ℕ) (kept more : Kept) → before ≡ length kept → after ≡ length more → news ≡ after - before → count ≡ min (begun + news) 18446744073709551615 → count ≡ count_kept begun kept more
+counted begun count before after news kept more is is' new sum = sum ∙ (λ i. min (begun + (new ∙ (λ j. is' j - is j)) i) 18446744073709551615)
+
+-- what holds of the builds that were made holds of those of the value
+does_builds : {X Y : Type 0} (view : X → Y) (result : Result X ComposerError) (builds : Builds) (v : Outcome Y Refused) (P : Builds → Type 0) → Does view refused_of memory_nowhere result builds v → UnlessMemory refused_of result (P builds) → UnlessMemory refused_of result (P v.builds)
+does_builds view (Ok x) builds v P h p = subst P (sym (ap (λ (o : Outcome _ Refused). o.builds) h)) p
+does_builds {X} {Y} view (Err e) builds v P h p = go (refused_of e) h p
   where
-    go : (o : Option F) → MatchOption o (Unit {0}) (λ f. P)
-    go None = tt
-    go (Some f) = p
+    go : (o : Option Refused) → MatchOption o (memory_nowhere e) (λ r. v ≡ record { builds = builds; result = Err r }) → MatchOption o (Unit {0}) (λ r. P builds) → MatchOption o (Unit {0}) (λ r. P v.builds)
+    go None h p = tt
+    go (Some r) h p = subst P (sym (ap (λ (o : Outcome Y Refused). o.builds) h)) p
+
+unless_same : {X E F : Type 0} (told : E → Option F) (r : Result X E) (P Q : Type 0) → (P → Q) → UnlessMemory told r P → UnlessMemory told r Q
+unless_same told (Ok x) P Q up h = up h
+unless_same {X} {E} {F} told (Err e) P Q up h = go (told e) h
+  where
+    go : (o : Option F) → MatchOption o (Unit {0}) (λ f. P) → MatchOption o (Unit {0}) (λ f. Q)
+    go None h = tt
+    go (Some f) h = up h
 
 module _ {B : Type 0} (front : B → FrontEnd) (old : State B) (m : ShaderSource) where
   abbrev source_place : Place
@@ -41,9 +60,9 @@ module _ {B : Type 0} (front : B → FrontEnd) (old : State B) (m : ShaderSource
   behind read = make (settings_of front old) old.registry m read.0
 
   -- the source isn't read
-  pub makes_unread : (inner : ComposerErrorInner) (e : ComposerError) → IsRefusal inner e source_place → Fails inner (read_source old.counter m.source) → Makes front old m (Err e) old
+  pub makes_unread : (inner : ComposerErrorInner) (e : ComposerError) → old.builds ≤ 18446744073709551615 → IsRefusal inner e source_place → Fails inner (read_source old.counter m.source) → Makes front old m (Err e) old
   unfolding answer
-  makes_unread inner e is fails = record {
+  makes_unread inner e fits is fails = record {
     reply = tells_on e (placed source_place (read_source old.counter m.source)) (answer (settings_of front old) old.registry old.counter m).result
         (λ r bad. ap (λ (v : Result (List ℕ × ℕ) Refused). (done_with (given v []) behind v).result) bad)
         (tells_placed inner e source_place (read_source old.counter m.source) is fails);
@@ -51,28 +70,34 @@ module _ {B : Type 0} (front : B → FrontEnd) (old : State B) (m : ShaderSource
       exact = unless_memory inner e source_place (old.counter ≡ counter_after old.counter m.source) is (λ f has. ap (counter_behind old.counter) (sym (failed inner f (read_source old.counter m.source) has fails)));
       either = inl refl;
     };
+    kept = none_built (refused_of e) is;
+    more = keeps_none old.kept;
+    builds = counted_none old.builds old.kept fits;
     rest = refl;
   }
+    where
+      none_built : (o : Option Refused) → MatchOption o (place_of e.source ≡ nowhere) (λ r. (fault_of inner ≡ Some r.fault) × (r.place ≡ source_place)) → MatchOption o (Unit {0}) (λ r. old.kept ≡ keep_builds old.registry (make_defs old.registry old.counter m) old.kept (answer (settings_of front old) old.registry old.counter m).builds)
+      none_built None h = tt
+      none_built (Some r) h = sym (ap (λ (v : Result (List ℕ × ℕ) Fault). keep_builds old.registry (make_defs old.registry old.counter m) old.kept (done_with (given (placed source_place v) []) behind (placed source_place v)).builds) (failed inner r.fault (read_source old.counter m.source) h.0 fails))
 
   -- it is read, and the shader is made
   pub makes_read : (result : Result Module ComposerError) (text : List ℕ) (counter : ℕ) (builds : Builds) → read_source old.counter m.source ≡ Ok (text, counter)
-      → Does module_value refused_of memory_nowhere result builds (make (settings_of front old) old.registry m text []) → Makes front old m result (record old { counter = counter })
-  unfolding answer
-  makes_read result text counter builds read does =
+      → Does module_value refused_of memory_nowhere result builds (make (settings_of front old) old.registry m text []) → (under : Defs) (more : Kept) (count : ℕ) → KeepsFirst (settings_of front old) old.registry refused_of (defs_of_text old.registry m text) result old.kept under builds more → count ≡ count_kept old.builds old.kept more → Makes front old m result (record old { counter = counter; kept = more; builds = count })
+  unfolding answer make_defs
+  makes_read result text counter builds read does under more count first counts =
       let counted : counter ≡ counter_after old.counter m.source = ap (counter_behind old.counter) (sym read) in
       record {
         reply = answers_same module_value result (make (settings_of front old) old.registry m text []).result (answer (settings_of front old) old.registry old.counter m).result
             (ap (λ (v : Result (List ℕ × ℕ) Fault). (done_with (given (placed source_place v) []) behind (placed source_place v)).result) read)
             (does_answers module_value result builds (make (settings_of front old) old.registry m text []) does);
         counter = record { exact = always (λ e. fault_of e.inner) result (counter ≡ counter_after old.counter m.source) counted; either = inr counted };
+        kept = unless_same refused_of result _ _ (λ h. h ∙ (λ i. keep_builds old.registry (defs_or_none (sym read i >>= λ read. defs_of_text old.registry m read.0)) old.kept (done_with (given (placed source_place (sym read i)) []) behind (placed source_place (sym read i))).builds))
+            (does_builds module_value result builds (make (settings_of front old) old.registry m text []) (λ bs. more ≡ keep_builds old.registry (defs_or_none (defs_of_text old.registry m text)) old.kept bs) does first.kept_all);
+        more = first.all;
+        builds = counts;
         rest = refl;
       }
 
 -- the same shader over the same modules, of which nothing is built
 pub same_make : (s : Settings) (ds es : List Definition) (m : ShaderSource) (text read : List ℕ) (bs : Builds) → ds ≡ es → text ≡ read → bs ≡ [] → make s es m read [] ≡ make s ds m text bs
 same_make s ds es m text read bs a b c = λ i. make s (sym a i) m (sym b i) (sym c i)
-
--- each registered module's index is small
-pub small_indices : (ds : List ComposableModuleDefinition) → IsRegistry (map definition_of ds) → All (λ d. d.module_index ≤ 2047) ds
-small_indices [] h = All-nil (λ d. d.module_index ≤ 2047)
-small_indices (d ∷ ds) h = All-cons (λ d. d.module_index ≤ 2047) d ds h.0.small (small_indices ds h.1)

@@ -36,14 +36,14 @@ goes_on_alike {X = X} {F = F} k l h o = by o.result
     by (Ok x) = h x o.builds
     by (Err e) = refl
 
-bind_alike : {X Y F : Type 0} (a b : Doing X F) (k l : X → Doing Y F) (bs : Builds) → a bs ≡ b bs → ((x : X) (bs : Builds) → k x bs ≡ l x bs) → (a >>= k) bs ≡ (b >>= l) bs
+pub bind_alike : {X Y F : Type 0} (a b : Doing X F) (k l : X → Doing Y F) (bs : Builds) → a bs ≡ b bs → ((x : X) (bs : Builds) → k x bs ≡ l x bs) → (a >>= k) bs ≡ (b >>= l) bs
 bind_alike a b k l bs e h = ap (λ o. done_with o k o.result) e ∙ goes_on_alike k l h (b bs)
 
-built_alike : (f g : Reaching) (name : List ℕ) (bs : Builds) → f name bs ≡ g name bs → unless_built f name bs ≡ unless_built g name bs
+pub built_alike : (f g : Reaching) (name : List ℕ) (bs : Builds) → f name bs ≡ g name bs → unless_built f name bs ≡ unless_built g name bs
 built_alike f g name bs e = ap (λ o. cond (is_built bs name) (given (Ok tt) bs) o) e
 
 -- what a rule allows is reached alike
-each_alike : (rule : Rule) (f g : Reaching) → ((u : Use) → rule u ≡ None → (bs : Builds) → f u.import.import bs ≡ g u.import.import bs) → (us : List Use) (bs : Builds) → reach_each rule f us bs ≡ reach_each rule g us bs
+pub each_alike : (rule : Rule) (f g : Reaching) → ((u : Use) → rule u ≡ None → (bs : Builds) → f u.import.import bs ≡ g u.import.import bs) → (us : List Use) (bs : Builds) → reach_each rule f us bs ≡ reach_each rule g us bs
 unfolding reach_each
 each_alike rule f g h [] bs = refl
 each_alike rule f g h (u ∷ us) bs = bind_alike (unless_refused (rule u) (f u.import.import)) (unless_refused (rule u) (g u.import.import)) (λ _. reach_each rule f us) (λ _. reach_each rule g us) bs (by (rule u) refl) (λ _ cs. each_alike rule f g h us cs)
@@ -70,17 +70,17 @@ module _ (s : Settings) (d e : Defs) (m : Definition) (f g : Reaching) (read : p
 
 -- ---- what a module may import
 
-abbrev imports_name : Definition → List ℕ → Bool
+abbrev pub imports_name : Definition → List ℕ → Bool
 imports_name m x = list_any (λ i. bytes_eq i.import.import x) m.imports
 
-allowed : (m : Definition) (u : Use) → as_recorded m u ≡ None → imports_name m u.import.import ≡ true
+pub allowed : (m : Definition) (u : Use) → as_recorded m u ≡ None → imports_name m u.import.import ≡ true
 allowed m u = by (imports_name m u.import.import)
   where
     by : (b : Bool) → cond b None (Some (missing u.import.import 0)) ≡ None → b ≡ true
     by true e = refl
     by false e = absurd cc
 
-or_true : (b : Bool) → (b || true) ≡ true
+pub or_true : (b : Bool) → (b || true) ≡ true
 or_true true = refl
 or_true false = refl
 
@@ -96,7 +96,7 @@ of_each P (u ∷ us) x any all =
     by false e more here there = there more
 
 -- what holds of a name that is imported holds of an import
-of_one : (P : List ℕ → Bool) (us : List Use) (x : List ℕ) → list_any (λ i. bytes_eq i.import.import x) us ≡ true → P x ≡ true → list_any (λ u. P u.import.import) us ≡ true
+pub of_one : (P : List ℕ → Bool) (us : List Use) (x : List ℕ) → list_any (λ i. bytes_eq i.import.import x) us ≡ true → P x ≡ true → list_any (λ u. P u.import.import) us ≡ true
 of_one P [] x any holds = absurd (true≢false (sym any))
 of_one P (u ∷ us) x any holds = by (bytes_eq u.import.import x) refl any (λ more. of_one P us x more holds)
   where
@@ -124,18 +124,18 @@ module _ (m : Definition) (earlier : List Definition) (follows : MayFollow m ear
   recorded_effective n e = effective_is n ∙ ap (λ b. b || list_any (λ u. is_among (names_at earlier u.import.import) n) m.imports) e
 
   -- what is effective of what it imports is effective
-  imported_effective : (x : List ℕ) → imports_name m x ≡ true → (o : Definition) → module_named x earlier ≡ Some o → (n : List ℕ) → is_among o.effective n ≡ true → is_among m.effective n ≡ true
+  pub imported_effective : (x : List ℕ) → imports_name m x ≡ true → (o : Definition) → module_named x earlier ≡ Some o → (n : List ℕ) → is_among o.effective n ≡ true → is_among m.effective n ≡ true
   imported_effective x may o at n e =
       effective_is n
       ∙ ap (λ b. is_recorded m.source n || b) (of_one (λ y. is_among (names_at earlier y) n) m.imports x may (ap (λ (q : Option Definition). is_among (unwrap_or (option_map (λ d. d.effective) q) []) n) at ∙ e))
       ∙ or_true (is_recorded m.source n)
 
   -- what it imports is registered behind it
-  imported_registered : (x : List ℕ) → imports_name m x ≡ true → registered x earlier ≡ true
+  pub imported_registered : (x : List ℕ) → imports_name m x ≡ true → registered x earlier ≡ true
   imported_registered x may = of_each (λ y. registered y earlier) m.imports x may follows.imports
 
 -- the module of a name that is registered
-named : (x : List ℕ) (ds : List Definition) → registered x ds ≡ true → (d : Definition) × (module_named x ds ≡ Some d)
+pub named : (x : List ℕ) (ds : List Definition) → registered x ds ≡ true → (d : Definition) × (module_named x ds ≡ Some d)
 named x ds r = by (module_named x ds) refl (named-registered x ds ∙ r)
   where
     by : (o : Option Definition) → module_named x ds ≡ o → is_some o ≡ true → (d : Definition) × (module_named x ds ≡ Some d)
@@ -200,18 +200,18 @@ found_past d earlier fresh x other h = by (bytes_eq d.name other) refl
     by true q = absurd (true≢false (sym h ∙ reaches-unregistered other earlier x (ap (λ n. registered n earlier) (sym (bytes_same d.name other q)) ∙ fresh)))
     by false q = refl
 
-reaches-first : (d : Definition) (earlier : List Definition) (name other : List ℕ) → bytes_eq d.name name ≡ true → reaches (d ∷ earlier) name other ≡ (bytes_eq name other || list_any (λ u. reaches earlier u.import.import other) d.imports)
+pub reaches-first : (d : Definition) (earlier : List Definition) (name other : List ℕ) → bytes_eq d.name name ≡ true → reaches (d ∷ earlier) name other ≡ (bytes_eq name other || list_any (λ u. reaches earlier u.import.import other) d.imports)
 unfolding reaches
 reaches-first d earlier name other q = ap (λ b. cond b (bytes_eq name other || list_any (λ u. reaches earlier u.import.import other) d.imports) (reaches earlier name other)) q
 
-reaches-past : (d : Definition) (earlier : List Definition) (name other : List ℕ) → bytes_eq d.name name ≡ false → reaches (d ∷ earlier) name other ≡ reaches earlier name other
+pub reaches-past : (d : Definition) (earlier : List Definition) (name other : List ℕ) → bytes_eq d.name name ≡ false → reaches (d ∷ earlier) name other ≡ reaches earlier name other
 unfolding reaches
 reaches-past d earlier name other q = ap (λ b. cond b (bytes_eq name other || list_any (λ u. reaches earlier u.import.import other) d.imports) (reaches earlier name other)) q
 
 same_bytes : (xs : List ℕ) → bytes_eq xs xs ≡ true
 same_bytes xs = (bytes_eq-Decides xs xs).1 refl
 
-reaches-itself : (ds : List Definition) (name : List ℕ) → registered name ds ≡ true → reaches ds name name ≡ true
+pub reaches-itself : (ds : List Definition) (name : List ℕ) → registered name ds ≡ true → reaches ds name name ≡ true
 reaches-itself [] name r = absurd (true≢false (sym r))
 reaches-itself (d ∷ earlier) name r = by (bytes_eq d.name name) refl r (reaches-itself earlier name)
   where
@@ -220,11 +220,11 @@ reaches-itself (d ∷ earlier) name r = by (bytes_eq d.name name) refl r (reache
     by false q there known = reaches-past d earlier name name q ∙ known there
 
 module _ (s : Settings) (defs : Defs) where
-  reach-first : (e : Definition) (es : List Definition) (name : List ℕ) → bytes_eq e.name name ≡ true → (bs : Builds) → reach s defs (e ∷ es) name bs ≡ reach_module s defs e (unless_built (reach s defs es)) bs
+  pub reach-first : (e : Definition) (es : List Definition) (name : List ℕ) → bytes_eq e.name name ≡ true → (bs : Builds) → reach s defs (e ∷ es) name bs ≡ reach_module s defs e (unless_built (reach s defs es)) bs
   unfolding reach
   reach-first e es name q bs = ap (λ b. cond b (reach_module s defs e (unless_built (reach s defs es))) (reach s defs es name) bs) q
 
-  reach-past : (e : Definition) (es : List Definition) (name : List ℕ) → bytes_eq e.name name ≡ false → (bs : Builds) → reach s defs (e ∷ es) name bs ≡ reach s defs es name bs
+  pub reach-past : (e : Definition) (es : List Definition) (name : List ℕ) → bytes_eq e.name name ≡ false → (bs : Builds) → reach s defs (e ∷ es) name bs ≡ reach s defs es name bs
   unfolding reach
   reach-past e es name q bs = ap (λ b. cond b (reach_module s defs e (unless_built (reach s defs es))) (reach s defs es name) bs) q
 

@@ -1,12 +1,14 @@
 -- Builds by their names, and what is reached of a list of modules.
 use Rattle.std.proofs.Common.{◌≡◌, ℕ, zero, suc, ◌+◌, ◌-◌, ◌<◌, ◌≤◌, List, [], ◌∷◌, Bool, true, false, not, ◌||◌, is_some, cond, refl, ap, ◌∙◌, sym, subst, map, length, drop, take, get_or, String, Global, string_bytes, bytes_eq, nat_lt, Option, Some, None, unwrap_or, MatchOption, Result, Ok, Err, IsErrAnd, arith}
+use Rattle.std.specs.Arc.{arc_value}
 use Rattle.std.specs.BTreeMap.{BTreeMap, get_by_text, is_at}
 use Rattle.std.specs.Cmp.Lexicographic.{slice_cmp}
 use Rattle.std.specs.List.{position, position_or_len, list_any}
 use Rattle.std.specs.Map.{lookup}
 use Rattle.std.specs.Ordering.{nat_cmp}
 use Rattle.std.specs.String.{string_eq}
-use Rattle.std.proofs.lemmas.Bool.{ltb-true, ltb-false}
+use Rattle.std.specs.declared.sync.Arc.{Arc}
+use Rattle.std.proofs.lemmas.Bool.{ltb-true, ltb-false, true≢false}
 use Rattle.std.proofs.lemmas.List.{drop_more, length-map, length-drop, take_all}
 use Rattle.indexmap.specs.IndexMap.{insert_entry}
 use Rattle.naga_oil_lines.specs.Uses.{Use, use_of}
@@ -30,35 +32,42 @@ use Rattle.naga_oil.specs.declared.compose.reach.Unreached.{Unreached as CodeUnr
 
 -- ---- builds by their names
 
--- the builds of entries
-abbrev pub seen : List (String Global × ComposableModule) → Builds
-seen es = map (λ e. (string_bytes e.0, built_of e.1)) es
+-- what is built, each behind its name
+abbrev Entries : Type 0
+Entries = List (String Global × Arc ComposableModule Global)
 
-seen_cond : (b : Bool) (e : String Global × ComposableModule) (v : ComposableModule) (es rest : List (String Global × ComposableModule)) → seen (cond b ((e.0, v) ∷ es) (e ∷ rest)) ≡ cond b ((string_bytes e.0, built_of v) ∷ seen es) ((string_bytes e.0, built_of e.1) ∷ seen rest)
+abbrev shared_of : Arc ComposableModule Global → BuiltModule
+shared_of a = built_of (arc_value a)
+
+-- the builds of entries
+abbrev pub seen : List (String Global × Arc ComposableModule Global) → Builds
+seen es = map (λ e. (string_bytes e.0, built_of (arc_value e.1))) es
+
+seen_cond : (b : Bool) (e : String Global × Arc ComposableModule Global) (v : Arc ComposableModule Global) (es rest : Entries) → seen (cond b ((e.0, v) ∷ es) (e ∷ rest)) ≡ cond b ((string_bytes e.0, shared_of v) ∷ seen es) ((string_bytes e.0, shared_of e.1) ∷ seen rest)
 seen_cond true e v es rest = refl
 seen_cond false e v es rest = refl
 
 -- to enter a build under a name is to enter it under its bytes
-seen_put : (es : List (String Global × ComposableModule)) (k : String Global) (v : ComposableModule) → seen (insert_entry string_eq es k v) ≡ insert_entry bytes_eq (seen es) (string_bytes k) (built_of v)
+seen_put : (es : Entries) (k : String Global) (v : Arc ComposableModule Global) → seen (insert_entry string_eq es k v) ≡ insert_entry bytes_eq (seen es) (string_bytes k) (shared_of v)
 seen_put [] k v = refl
 seen_put (e ∷ es) k v =
-    seen_cond (string_eq k e.0) e v es (insert_entry string_eq es k v) ∙ ap (λ (xs : Builds). cond (string_eq k e.0) ((string_bytes e.0, built_of v) ∷ seen es) ((string_bytes e.0, built_of e.1) ∷ xs)) (seen_put es k v)
+    seen_cond (string_eq k e.0) e v es (insert_entry string_eq es k v) ∙ ap (λ (xs : Builds). cond (string_eq k e.0) ((string_bytes e.0, shared_of v) ∷ seen es) ((string_bytes e.0, shared_of e.1) ∷ xs)) (seen_put es k v)
 
-found_cond : (b : Bool) (e v : ComposableModule) (o : Option ComposableModule) (q : Option BuiltModule) → built_of (unwrap_or o v) ≡ unwrap_or q (built_of v) → built_of (unwrap_or (cond b (Some e) o) v) ≡ unwrap_or (cond b (Some (built_of e)) q) (built_of v)
-found_cond true e v o q h = refl
-found_cond false e v o q h = h
-
-seen_found : (k : String Global) (es : List (String Global × ComposableModule)) (v : ComposableModule) → built_of (unwrap_or (lookup (string_eq k) es) v) ≡ unwrap_or (lookup (bytes_eq (string_bytes k)) (seen es)) (built_of v)
-seen_found k [] v = refl
-seen_found k (e ∷ es) v = found_cond (string_eq k e.0) e.1 v (lookup (string_eq k) es) (lookup (bytes_eq (string_bytes k)) (seen es)) (seen_found k es v)
-
--- entries among which a build was entered
-pub from_entries : (new old : List (String Global × ComposableModule)) (k : String Global) (v : ComposableModule) (name : List ℕ) → string_bytes k ≡ name → new ≡ insert_entry string_eq old k (unwrap_or (lookup (string_eq k) old) v) → seen new ≡ builds_with (seen old) name (built_of v)
-from_entries new old k v name same h =
-    ap seen h ∙ seen_put old k (unwrap_or (lookup (string_eq k) old) v) ∙ ap (λ b. insert_entry bytes_eq (seen old) (string_bytes k) b) (seen_found k old v) ∙ ap (λ n. builds_with (seen old) n (built_of v)) same
+-- entries among which a build was entered that wasn't
+pub from_entries : (new old : List (String Global × Arc ComposableModule Global)) (k : String Global) (a : Arc ComposableModule Global) (name : List ℕ) → is_built (seen old) name ≡ false → string_bytes k ≡ name → new ≡ insert_entry string_eq old k a → seen new ≡ builds_with (seen old) name (built_of (arc_value a))
+from_entries new old k a name none same h =
+    ap seen h ∙ seen_put old k a ∙ (λ i. insert_entry bytes_eq (seen old) (same i) (shared_of a)) ∙ ap (λ o. insert_entry bytes_eq (seen old) name (unwrap_or o (shared_of a))) (sym (absent (seen old) none))
+  where
+    absent : (bs : Builds) → is_built bs name ≡ false → lookup (bytes_eq name) bs ≡ None
+    absent [] h = refl
+    absent (e ∷ bs) h = by (bytes_eq name e.0) h (absent bs)
+      where
+        by : (q : Bool) → (q || is_built bs name) ≡ false → (is_built bs name ≡ false → lookup (bytes_eq name) bs ≡ None) → cond q (Some e.1) (lookup (bytes_eq name) bs) ≡ None
+        by true h known = absurd (true≢false h)
+        by false h known = known h
 
 -- a build is there exactly if its name is found
-pub built_found : (E : String Global → Bool) (n : List ℕ) → ((a : String Global) → E a ≡ bytes_eq n (string_bytes a)) → (es : List (String Global × ComposableModule)) → is_some (lookup E es) ≡ is_built (seen es) n
+pub built_found : (E : String Global → Bool) (n : List ℕ) → ((a : String Global) → E a ≡ bytes_eq n (string_bytes a)) → (es : List (String Global × Arc ComposableModule Global)) → is_some (lookup E es) ≡ is_built (seen es) n
 built_found E n f [] = refl
 built_found E n f (e ∷ es) = some_cond (E e.0) ∙ ap (λ b. b || is_some (lookup E es)) (f e.0) ∙ ap (λ b. bytes_eq n (string_bytes e.0) || b) (built_found E n f es)
   where
@@ -222,7 +231,7 @@ got_map xs k x l e = got_or xs k l ∙ ap definition_of (sym e)
     got_or (y ∷ ys) zero m = refl
     got_or (y ∷ ys) (suc j) m = got_or ys j (omega (arith, m))
 
-dropped_map : (xs : List ComposableModuleDefinition) (k : ℕ) → drop k (map definition_of xs) ≡ map definition_of (drop k xs)
+pub dropped_map : (xs : List ComposableModuleDefinition) (k : ℕ) → drop k (map definition_of xs) ≡ map definition_of (drop k xs)
 dropped_map [] zero = refl
 dropped_map [] (suc k) = refl
 dropped_map (x ∷ xs) zero = refl

@@ -1,5 +1,7 @@
 -- What is told of a made module that isn't valid.
 use Rattle.std.proofs.Common.{◌≡◌, List, ◌∷◌, map, find, Bool, true, false, Option, Some, None, MatchOption, Result, Ok, Err, IsErrAnd, refl, sym, subst, String, Global, string_bytes}
+use Rattle.std.specs.Arc.{arc_value}
+use Rattle.std.specs.declared.sync.Arc.{Arc}
 use Rattle.naga_oil_ir.specs.declared.backend.BackendRefusal.{BackendRefusal}
 use Rattle.naga_oil_ir.specs.declared.backend.BackendRefusal.TheVariants.{Fault, Memory}
 use Rattle.naga_oil_ir.specs.declared.backend.ValidFault.{ValidFault}
@@ -10,8 +12,8 @@ use Rattle.naga_oil.specs.MakeView.{PlacesAs}
 use Rattle.naga_oil.specs.Refused.{Place, Refused, Answers, refused_of, place_of, nowhere}
 use Rattle.naga_oil.specs.declared.compose.error.ComposerError.{ComposerError}
 
-abbrev pub builds_in : List (String Global × ComposableModule) → Builds
-builds_in es = map (λ e. (string_bytes e.0, built_of e.1)) es
+abbrev pub builds_in : List (String Global × Arc ComposableModule Global) → Builds
+builds_in es = map (λ e. (string_bytes e.0, built_of (arc_value e.1))) es
 
 pub find_first : {X : Type 0} (p : X → Bool) (x : X) (xs : List X) → p x ≡ true → find p (x ∷ xs) ≡ Some x
 find_first p x xs e = rw e refl

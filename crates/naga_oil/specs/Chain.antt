@@ -1,16 +1,13 @@
 -- Calls that are sent down the functions that override another, and the stages of a shader's entry points.
-use Rattle.std.specs.Prelude.{ℕ, ◌&&◌, Bool, nat_lt, length, List, [], ◌∷◌, map, Option, Some, None, Result, Ok, Err, if◌then◌else◌}
-use Rattle.std.specs.List.{list_all}
-use Rattle.naga_oil_ir.specs.ModuleValue.{ModuleValue, EntryValue, SpecialValue}
+use Rattle.std.specs.Prelude.{ℕ, List, [], ◌∷◌, map, Result, Ok, Err}
+use Rattle.naga_oil_ir.specs.ModuleValue.{ModuleValue, EntryValue}
 use Rattle.naga_oil_redirect.specs.PutInOrder.{put_in_order}
 use Rattle.naga_oil_redirect.specs.Redirected.{matched, redirected}
 use Rattle.naga_oil_ir.specs.RedirectFault.{RedirectFault}
-use Rattle.naga_oil_pre.specs.Fault.{Fault, redirection, wrong_form}
+use Rattle.naga_oil_pre.specs.Fault.{Fault, redirection}
 use Rattle.naga_oil_lines.specs.Text.{is_among}
 use Rattle.naga_oil_registry.specs.Added.{◌>>=◌}
-use Rattle.naga_oil_derive.specs.World.{special_entries}
 use Rattle.naga_oil_link.specs.BuiltModule.{Overriding}
-use Rattle.naga_oil_link.specs.Form.{is_formed}
 use Rattle.naga_oil_registry.specs.declared.descriptor.ShaderType.{ShaderType}
 use Rattle.naga_oil_registry.specs.declared.descriptor.ShaderType.TheVariants as shader
 
@@ -45,31 +42,14 @@ with_stages shader.GlslFragment m = staged 1 m
 
 -- ---- the whole chain
 
--- no special types
-abbrev pub nothing_special : SpecialValue
-nothing_special = record { ray_desc = None; ray_intersection = None; ray_vertex_return = None; predeclared_types = [] }
-
--- whether it passes but that two of its special types may be one: without them it passes, and they are there
-unfoldable pub is_formed_apart : ModuleValue → Bool
-is_formed_apart m = is_formed (record m { special_types = nothing_special }) [] 4294967295 && list_all (λ e. nat_lt e.1 (length m.types)) (special_entries m.special_types)
-
--- a module that passes so, or wrong form
-abbrev pub or_wrong_form : Option ModuleValue → Result ModuleValue Fault
-or_wrong_form (Some m) = Ok m
-or_wrong_form None = Err wrong_form
-
-abbrev pub check_apart : ModuleValue → Result ModuleValue Fault
-check_apart m = or_wrong_form (if is_formed_apart m then Some m else None)
-
 abbrev pub put_in_order_as : Result ModuleValue RedirectFault → Result ModuleValue Fault
 put_in_order_as (Ok m) = Ok m
 put_in_order_as (Err f) = Err (redirection f)
 
--- a module with its calls sent down what overrides functions, and its functions in order; it has to pass the test of form
+-- a module with its calls sent down what overrides functions, and its functions in order
 unfoldable pub chain_all : Overriding → ModuleValue → Result ModuleValue Fault
 chain_all all m = do
-  formed ← check_apart m
-  sent ← all_sent_down formed all
+  sent ← all_sent_down m all
   put_in_order_as (put_in_order sent)
 
 -- the same where a function is overridden; else the module stays

@@ -1,10 +1,14 @@
 -- The definitions that the contracts of this crate cite.
 pub mod Addition
+pub mod AfreshLaw
 pub mod Answer
 pub mod Chain
 pub mod Finish
+pub mod LocalLaw
+pub mod MakeDefs
 pub mod MakeView
 pub mod Makes
+pub mod NewlyKeptLaw
 pub mod Outcome
 pub mod Reach
 pub mod ReachLaw
@@ -13,4 +17,8 @@ pub mod Run
 pub mod Shader
 pub mod Sources
 pub mod State
+pub mod Store
+pub mod StoreLaw
+pub mod StoreView
+pub mod StoreRows
 pub mod Validate

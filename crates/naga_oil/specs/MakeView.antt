@@ -1,19 +1,25 @@
 -- What the code of a make tells, and what its rules say.
-use Rattle.std.specs.Prelude.{◌≡◌, ℕ, List, Option, Some, None, option_map, Result, Ok, Err, MatchOption, string_bytes}
+use Rattle.std.specs.Prelude.{◌≡◌, ◌≤◌, ◌⊎◌, ℕ, List, length, map, Option, Some, None, option_map, Result, Ok, Err, MatchOption, OnOk, string_bytes}
 use Rattle.naga_oil_lines.specs.Uses.{Use}
 use Rattle.naga_oil_pre.specs.Fault.{Fault}
 use Rattle.naga_oil_pre.specs.View.{fault_of}
 use Rattle.naga_oil_pre.specs.declared.fault.ComposerErrorInner.{ComposerErrorInner}
 use Rattle.naga_oil_registry.specs.Definition.{Definition, Defs, definition_of, defs_of}
+use Rattle.naga_oil_registry.specs.Registry.{IsRegistry}
 use Rattle.naga_oil_ir.specs.Backend.{FrontEnd}
-use Rattle.naga_oil_link.specs.BuiltModule.{Builds, builds_of}
+use Rattle.naga_oil_link.specs.BuiltModule.{BuiltModule, Builds, builds_of}
+use Rattle.naga_oil_build.specs.Build.{Unbuilt}
 use Rattle.naga_oil_build.specs.BuildView.{settings_in}
 use Rattle.naga_oil_build.specs.Held.{Settings}
 use Rattle.naga_oil_build.specs.declared.builder.Unbuilt.{Unbuilt as CodeUnbuilt}
 use Rattle.naga_oil.specs.Answer.{any_use, as_merged}
+use Rattle.naga_oil.specs.MakeDefs.{defs_or_none}
 use Rattle.naga_oil.specs.Outcome.{Outcome, Does}
 use Rattle.naga_oil.specs.Reach.{Unreached, missing, unbuilt, Rule, as_recorded}
-use Rattle.naga_oil.specs.Refused.{Place, Refused, TellsAt, refused_of, place_of, nowhere}
+use Rattle.naga_oil.specs.Refused.{Place, Refused, TellsAt, UnlessMemory, refused_of, place_of, nowhere}
+use Rattle.naga_oil.specs.Store.{Key, Kept, KeepsAll, keep_build, keep_builds}
+use Rattle.naga_oil.specs.StoreLaw.{Stands}
+use Rattle.naga_oil.specs.StoreView.{kept_of}
 use Rattle.naga_oil.specs.declared.compose.error.ComposerError.{ComposerError}
 use Rattle.naga_oil.specs.declared.compose.reach.Maker.{Maker}
 use Rattle.naga_oil.specs.declared.compose.reach.Rule.{Rule as CodeRule}
@@ -59,9 +65,49 @@ defs_in m = defs_of m.defs
 abbrev pub builds_in : {B : Type 0} → Maker B → Builds
 builds_in m = builds_of m.builder.builds
 
--- nothing is changed but what is built
+-- what is registered, and what is kept between makes
+abbrev pub modules_in : {B : Type 0} → Maker B → List Definition
+modules_in m = map definition_of m.modules.now
+
+abbrev pub kept_in : {B : Type 0} → Maker B → Kept
+kept_in m = kept_of m.store
+
+-- nothing is changed but what is built and kept
 abbrev pub BuildsMore : {B : Type 0} → (old new : Maker B) → Type 0
-BuildsMore old new = new ≡ record old { builder = record old.builder { builds = new.builder.builds } }
+BuildsMore old new = new ≡ record old { builder = record old.builder { builds = new.builder.builds }; store = new.store }
+
+-- what a maker has built stands as it is built afresh, and is kept; then it may reach modules from a place on
+pub record IsReady {B : Type 0} (front : B → FrontEnd) (m : Maker B) (from : ℕ) : Type 0 where
+  pub registry : IsRegistry (modules_in m)
+  pub stand : Stands (settings_by front m) (modules_in m) (defs_in m) (builds_in m) (kept_in m)
+  pub within : from ≤ length m.modules.now
+
+-- Whatever came out, what is built stands, and no kept build is lost; and unless memory ran out, what is kept is what keeping the
+-- builds of this make in turn gives from its beginning on, if it was so before.
+pub record Keeps {X E F : Type 0} (s : Settings) (ds : List Definition) (defs : Defs) (told : E → Option F) (result : Result X E) (builds : Builds) (kept : Kept) (newer : Builds) (more : Kept) : Type 0 where
+  pub stand : Stands s ds defs newer more
+  pub since : (begun : Kept) → kept ≡ keep_builds ds defs begun builds → UnlessMemory told result (more ≡ keep_builds ds defs begun newer)
+  pub all : KeepsAll kept more
+
+abbrev pub KeepsMore : {B X E F : Type 0} → (front : B → FrontEnd) → (told : E → Option F) → Result X E → (old new : Maker B) → Type 0
+KeepsMore front told result old new = Keeps (settings_by front old) (modules_in old) (defs_in old) told result (builds_in old) (kept_in old) (builds_in new) (kept_in new)
+
+-- The same of a make that begins with no builds, and comes to definitions, or to none: then it builds nothing.
+pub record KeepsFirst {X E F : Type 0} (s : Settings) (ds : List Definition) (told : E → Option F) (defs : Result Defs Fault) (result : Result X E) (kept : Kept) (under : Defs) (newer : Builds) (more : Kept) : Type 0 where
+  pub comes : OnOk result (defs ≡ Ok under)
+  pub stand : Stands s ds under newer more
+  pub kept_all : UnlessMemory told result (more ≡ keep_builds ds (defs_or_none defs) kept newer)
+  pub all : KeepsAll kept more
+
+abbrev pub KeepsUnder : {B X E F : Type 0} → (front : B → FrontEnd) → (told : E → Option F) → Result Defs Fault → Result X E → (old new : Maker B) → Type 0
+KeepsUnder front told defs result old new = KeepsFirst (settings_by front old) (modules_in old) told defs result (kept_in old) (defs_in new) (builds_in new) (kept_in new)
+
+-- a build is kept, as far as there was memory
+abbrev pub KeepsBuild : Result (Unit {0}) CodeUnreached → Key → Result BuiltModule Unbuilt → (old new : Kept) → Type 0
+KeepsBuild (Ok done) k (Ok b) old new = new ≡ keep_build old k b
+KeepsBuild (Err e) k (Ok b) old new = (new ≡ old) ⊎ (new ≡ keep_build old k b)
+KeepsBuild (Ok done) k (Err u) old new = new ≡ old
+KeepsBuild (Err e) k (Err u) old new = new ≡ old
 
 -- modules are reached so, and this was built then
 abbrev pub Reaches : {B X Y : Type 0} → (X → Y) → Result X CodeUnreached → (new : Maker B) → Outcome Y Unreached → Type 0

@@ -2,10 +2,11 @@
 ghost use Rattle.std.specs.Prelude.{◌≡◌, ◌<◌, length, slice_get, Some, [], true, false, option_map, string_bytes, IfOk, IsOk, OnOk, MatchResult};
 ghost use Rattle.std.specs.Borrow.{sem};
 ghost use Rattle.std.specs.Io.BufRead.{Rests};
-ghost use Rattle.naga_oil_registry.specs.Definition.{definition_of};
+ghost use Rattle.naga_oil_registry.specs.Definition.{definition_of, defs_of};
 
 use super::error::refused;
 use super::reach::Maker;
+use super::store::{Store, forget, has_projection};
 use super::*;
 use naga_oil_registry::adding::{describe, register};
 use naga_oil_registry::registry::remove;
@@ -23,6 +24,9 @@ pub struct Composer<B: Backend> {
     modules: Vec<Definition>,
     // The number of the next binding.
     counter: u32,
+    // The builds that are kept between makes, and how many were kept in all.
+    store: Store,
+    count: u64,
 }
 
 impl<B: Backend> Model for Composer<B> {
@@ -30,12 +34,15 @@ impl<B: Backend> Model for Composer<B> {
     ghost use Rattle.naga_oil.specs.State.{State};
     ghost use Rattle.naga_oil_registry.specs.Registry.{IsRegistry};
     ghost use Rattle.naga_oil_registry.specs.Definition.{definition_of};
+    ghost use Rattle.naga_oil_build.specs.Held.{settings};
+    ghost use Rattle.naga_oil.specs.StoreLaw.{IsStore};
+    ghost use Rattle.naga_oil.specs.StoreView.{kept_of};
 
     ghost Value = { State B };
 
-    ghost view = { λ c. record { front = c.front; validate = c.validate; capabilities = c.capabilities; registry = map definition_of c.modules.items; counter = c.counter } };
+    ghost view = { λ c. record { front = c.front; validate = c.validate; capabilities = c.capabilities; registry = map definition_of c.modules.items; counter = c.counter; kept = kept_of c.store; builds = c.count } };
 
-    ghost invariant = { λ c. IsRegistry (map definition_of c.modules.items) };
+    ghost invariant = { λ c. IsRegistry (map definition_of c.modules.items) × IsStore (settings (B.front c.front) c.capabilities c.validate) (map definition_of c.modules.items) (kept_of c.store) };
 }
 
 impl<B: Backend> Composer<B> {
@@ -43,12 +50,14 @@ impl<B: Backend> Composer<B> {
     ghost use Rattle.naga_oil_lines.specs.Decorate.{decorated_name};
     ghost use Rattle.naga_oil.specs.Addition.{addition};
     ghost use Rattle.naga_oil_registry.specs.Descriptor.{module_source, shader_source};
-    ghost use Rattle.naga_oil.specs.Makes.{Makes};
+    ghost use Rattle.naga_oil.specs.Makes.{Makes, settings_of};
+    ghost use Rattle.naga_oil.specs.Store.{is_kept_named};
+    ghost use Rattle.naga_oil.specs.StoreLaw.{IsStore};
     ghost use Rattle.naga_oil.specs.Refused.{Answers};
     ghost use Rattle.naga_oil_registry.specs.Registry.{registered, module_named, module_indexed, IsRegistry, AreReachedNames};
     ghost use Rattle.naga_oil.specs.State.{nothing_registered, Adds, Removes};
 
-    // A composer with nothing registered and the counter at 0.
+    // A composer with nothing registered or kept and the counter at 0.
     fn empty(alloc: Global, front: B, validate: bool, capabilities: Capabilities) -> Self
         ensures { result ≡ nothing_registered front validate capabilities }
     {
@@ -59,6 +68,8 @@ impl<B: Backend> Composer<B> {
             capabilities,
             modules: Vec::new(alloc),
             counter: 0,
+            store: Store::new(alloc),
+            count: 0,
         }
     }
 
@@ -144,15 +155,39 @@ impl<B: Backend> Composer<B> {
             .find(|definition| definition.module_index == index)
     }
 
-    /// Removes a module, and with it all that reach it by imports. Where it isn't registered nothing changes, and no memory is
-    /// taken.
+    /// How many builds makes have kept in all; those of modules that went since are counted too.
+    pub fn builds(&self) -> u64
+        ensures { result ≡ self.now.builds }
+    {
+        self.count
+    }
+
+    /// Whether the build of a module under definitions is kept: a make that reaches it under them doesn't build it again. Each
+    /// kept build is what building its module afresh gives, and what it imports is kept.
+    pub fn has_build(&self, module_name: &str, shader_defs: &Defs) -> bool
+        ensures kept { let s = settings_of B.front self.now in
+            IsStore s self.now.registry self.now.kept }
+        ensures value { let named = is_kept_named self.now.registry self.now.kept in
+            result ≡ named module_name.now (defs_of shader_defs.now) }
+    {
+        let store = &self.store;
+        let Some(of) = self.module(module_name) else {
+            return false;
+        };
+        store.keys().any(|key| has_projection(of, shader_defs, key))
+    }
+
+    /// Removes a module, and with it all that reach it by imports, and forgets their builds. Where it isn't registered nothing
+    /// changes, and no memory is taken.
     pub fn remove_composable_module(&mut self, module_name: &str) -> Tried
         ensures { Removes self.old module_name.now result self.new }
     {
         if !self.contains_module(module_name) {
             return Ok(());
         }
-        remove(self.alloc, &mut self.modules, module_name)
+        let gone = remove(self.alloc, &mut self.modules, module_name)?;
+        forget(&mut self.store, &gone);
+        Ok(())
     }
 
     /// Adds a module as `add_composable_module` does, and answers its index, which is from 1 to 2047. What stands after it is
@@ -174,7 +209,10 @@ impl<B: Backend> Composer<B> {
             Err(inner) => return Err(refused(alloc, inner, path, source, 0)),
         };
         match register(alloc, &mut self.modules, desc, described) {
-            Ok(index) => Ok(index),
+            Ok((index, gone)) => {
+                forget(&mut self.store, &gone);
+                Ok(index)
+            }
             Err(inner) => Err(refused(alloc, inner, path, text.as_str(), 0)),
         }
     }
@@ -198,12 +236,13 @@ impl<B: Backend> Composer<B> {
 
     /// Makes one shader out of a text and the registered modules that it imports: the text is read under the definitions that
     /// are given and its own, and again under those of what it imports; what it imports is built, each module once and behind
-    /// what it imports itself; the shader is built over that, linked, and validated where that is asked for.
+    /// what it imports itself, unless its build is kept; the shader is built over that, linked, and validated where that is asked for.
     ///
     /// # Errors
     /// The first fault, in this order: a mark of a decoration, no number left for a binding, the text's own, an import that
     /// isn't registered, definitions that differ, what is wrong with a module that is imported, with the text, with what
-    /// overrides functions, and with the whole; or `Memory`. Whether refused or not, it changes the counter alone.
+    /// overrides functions, and with the whole; or `Memory`. Whether refused or not, it changes the counter and what is kept
+    /// alone, and loses no kept build.
     pub fn make_naga_module(&mut self, desc: NagaModuleDescriptor<'_>) -> Told<Module>
         ensures { Makes B.front self.old (shader_source desc.entry) result self.new }
     {
@@ -220,9 +259,18 @@ impl<B: Backend> Composer<B> {
             capabilities: self.capabilities,
             builds: Builds::new(alloc),
         };
-        let defs = Defs::new(alloc);
-        let mut maker = Maker { builder, defs };
-        maker.make(desc, text.as_str(), &self.modules)
+        let before = self.store.len();
+        let mut maker = Maker {
+            builder,
+            defs: Defs::new(alloc),
+            modules: &self.modules,
+            store: mem::replace(&mut self.store, Store::new(alloc)),
+        };
+        let made = maker.make(desc, text.as_str());
+        self.store = maker.store;
+        let more = self.store.len().saturating_sub(before);
+        self.count = self.count.saturating_add(more as u64);
+        made
     }
 
     // The module that was added last, or why none was.

@@ -1,5 +1,5 @@
 //! One shader out of a text and the registered modules that it imports.
-ghost use Rattle.std.specs.Prelude.{◌≡◌, ◌≤◌, ◌==◌, All, find, map, option_map, string_bytes, Ok, Err};
+ghost use Rattle.std.specs.Prelude.{◌≡◌, ◌≤◌, ◌==◌, [], find, map, option_map, string_bytes, Ok, Err};
 ghost use Rattle.naga_oil_ir.specs.Backend.{labels, valid_fault};
 ghost use Rattle.naga_oil_ir.specs.ModuleValue.{ModuleValue, module_value};
 ghost use Rattle.naga_oil_lines.specs.Uses.{use_of};
@@ -8,6 +8,7 @@ ghost use Rattle.naga_oil_pre.specs.View.{Gives};
 ghost use Rattle.naga_oil_registry.specs.Definition.{definition_of, defs_of};
 ghost use Rattle.naga_oil_registry.specs.Descriptor.{shader_source};
 ghost use Rattle.naga_oil_registry.specs.Merged.{overwritten};
+ghost use Rattle.naga_oil_registry.specs.Registry.{IsRegistry};
 ghost use Rattle.naga_oil_link.specs.BuiltModule.{built_of, builds_of};
 ghost use Rattle.naga_oil_link.specs.Linked.{link_whole};
 ghost use Rattle.naga_oil_build.specs.Build.{build};
@@ -15,9 +16,11 @@ ghost use Rattle.naga_oil_build.specs.Built.{preprocessed_of};
 ghost use Rattle.naga_oil.specs.Answer.{of_shader, refusal, read_first, read_second, make, reach_uses};
 ghost use Rattle.naga_oil.specs.Chain.{chain, with_stages};
 ghost use Rattle.naga_oil.specs.Finish.{built_in_text, compose, finish};
-ghost use Rattle.naga_oil.specs.MakeView.{settings_by, defs_in, builds_in, rule_of, BuildsMore, PlacesAs, Replies, TellsUnreached};
+ghost use Rattle.naga_oil.specs.MakeDefs.{defs_merged, defs_of_text};
+ghost use Rattle.naga_oil.specs.MakeView.{settings_by, defs_in, builds_in, kept_in, modules_in, rule_of, BuildsMore, IsReady, KeepsMore, KeepsUnder, PlacesAs, Replies, TellsUnreached};
 ghost use Rattle.naga_oil.specs.Reach.{defined};
 ghost use Rattle.naga_oil.specs.Refused.{Answers, Tells, in_text, placed, refused_of};
+ghost use Rattle.naga_oil.specs.StoreLaw.{IsStore};
 ghost use Rattle.naga_oil.specs.Validate.{last_index, invalid_shader, validate};
 
 use super::chain::{chain, set_stages};
@@ -93,24 +96,18 @@ impl<B: Backend> Maker<'_, B> {
     }
 
     // Builds what a shader uses, each module once, as far as a rule allows.
-    fn reach_uses(
-        &mut self,
-        rule: Rule<'_>,
-        uses: &[Use],
-        shader: &Definition,
-        text: &str,
-        modules: &[Definition],
-    ) -> Told
-        requires { All (λ d. d.module_index ≤ 2047) modules.now }
+    fn reach_uses(&mut self, rule: Rule<'_>, uses: &[Use], shader: &Definition, text: &str) -> Told
+        requires { IsReady B.front self.old 0 }
         ensures reached { let s = settings_by B.front self.old in
-            let ds = map definition_of modules.now in
+            let ds = modules_in self.old in
             let defs = defs_in self.old in
             let reaching = reach_uses s ds defs (rule_of ds defs rule.entry) (map use_of uses.now) in
             let told = of_shader (definition_of shader.now).file_path text.now defs reaching in
             Replies (λ done. done) result self.new (told (builds_in self.old)) }
+        ensures keeps { KeepsMore B.front refused_of result self.old self.new }
         ensures rest { BuildsMore self.old self.new }
     {
-        match self.ensure_each(rule, uses, modules) {
+        match self.ensure_each(rule, uses, 0) {
             Ok(()) => Ok(()),
             Err(why) => Err(self.refusal(why, shader, text)),
         }
@@ -133,39 +130,38 @@ impl<B: Backend> Maker<'_, B> {
     }
 
     // Reads a shader a first time: adds the definitions of what it imports, and builds that.
-    fn read_first(&mut self, shader: &Definition, text: &str, modules: &[Definition]) -> Told
-        requires { All (λ d. d.module_index ≤ 2047) modules.now }
+    fn read_first(&mut self, shader: &Definition, text: &str) -> Told
+        requires registry { IsRegistry (modules_in self.old) }
+        requires store { IsStore (settings_by B.front self.old) (modules_in self.old) (kept_in self.old) }
+        requires begins { builds_in self.old ≡ [] }
         ensures read { let s = settings_by B.front self.old in
-            let ds = map definition_of modules.now in
             let d = definition_of shader.now in
-            let read = read_first s ds text.now d (defs_in self.old) in
+            let read = read_first s (modules_in self.old) text.now d (defs_in self.old) in
             Replies (λ done. defs_in self.new) result self.new (read (builds_in self.old)) }
+        ensures keeps { let own = defs_in self.old in
+            let defs = defs_merged (modules_in self.old) (definition_of shader.now) own in
+            KeepsUnder B.front refused_of defs result self.old self.new }
         ensures rest { BuildsMore (record self.old { defs = self.new.defs }) self.new }
     {
         let output = self.preprocess_shader(shader, text)?;
         let (alloc, path) = (self.builder.alloc, shader.file_path.as_str());
-        let merged = merge(&mut self.defs, &output.imports, modules);
+        let merged = merge(&mut self.defs, &output.imports, self.modules);
         in_text(alloc, path, text, 0, merged)?;
-        self.reach_uses(Rule::Any, &output.imports, shader, text, modules)
+        self.reach_uses(Rule::Any, &output.imports, shader, text)
     }
 
     // Reads a shader a second time, under the definitions of all that it imports, and builds what it imports then.
-    fn read_second(
-        &mut self,
-        shader: &Definition,
-        text: &str,
-        modules: &[Definition],
-    ) -> Told<PreprocessOutput>
-        requires { All (λ d. d.module_index ≤ 2047) modules.now }
+    fn read_second(&mut self, shader: &Definition, text: &str) -> Told<PreprocessOutput>
+        requires { IsReady B.front self.old 0 }
         ensures read { let s = settings_by B.front self.old in
-            let ds = map definition_of modules.now in
             let d = definition_of shader.now in
-            let read = read_second s ds text.now d (defs_in self.old) in
+            let read = read_second s (modules_in self.old) text.now d (defs_in self.old) in
             Replies output_of result self.new (read (builds_in self.old)) }
+        ensures keeps { KeepsMore B.front refused_of result self.old self.new }
         ensures rest { BuildsMore self.old self.new }
     {
         let output = self.preprocess_shader(shader, text)?;
-        self.reach_uses(Rule::Merged, &output.imports, shader, text, modules)?;
+        self.reach_uses(Rule::Merged, &output.imports, shader, text)?;
         Ok(output)
     }
 
@@ -281,18 +277,17 @@ impl<B: Backend> Maker<'_, B> {
         self.compose(&built, of, output.preprocessed_source.as_str(), shader_type)
     }
 
-    /// Makes a shader of a text that was read.
-    pub(crate) fn make(
-        &mut self,
-        desc: NagaModuleDescriptor<'_>,
-        text: &str,
-        modules: &[Definition],
-    ) -> Told<Module>
-        requires { All (λ d. d.module_index ≤ 2047) modules.now }
-        ensures { let s = settings_by B.front self.old in
-            let ds = map definition_of modules.now in
-            let made = make s ds (shader_source desc.entry) text.now in
+    /// Makes a shader of a text that was read. Nothing is built yet.
+    pub(crate) fn make(&mut self, desc: NagaModuleDescriptor<'_>, text: &str) -> Told<Module>
+        requires registry { IsRegistry (modules_in self.old) }
+        requires store { IsStore (settings_by B.front self.old) (modules_in self.old) (kept_in self.old) }
+        requires begins { builds_in self.old ≡ [] }
+        ensures made { let s = settings_by B.front self.old in
+            let made = make s (modules_in self.old) (shader_source desc.entry) text.now in
             Replies module_value result self.new (made (builds_in self.old)) }
+        ensures keeps { let defs = defs_of_text (modules_in self.old) (shader_source desc.entry) text.now in
+            KeepsUnder B.front refused_of defs result self.old self.new }
+        ensures rest { BuildsMore (record self.old { defs = self.new.defs }) self.new }
     {
         let (alloc, shader_type) = (self.builder.alloc, desc.shader_type);
         let shader = in_text(
@@ -303,8 +298,8 @@ impl<B: Backend> Maker<'_, B> {
             read_shader(alloc, &desc, text),
         )?;
         self.defs = own_defs(alloc, desc.shader_defs, &shader)?;
-        self.read_first(&shader, text, modules)?;
-        let output = self.read_second(&shader, text, modules)?;
+        self.read_first(&shader, text)?;
+        let output = self.read_second(&shader, text)?;
         self.finish(&shader, &output, shader_type)
     }
 }

@@ -1,22 +1,29 @@
 //! How the modules that a text imports are built, each over the builds of what it imports itself.
-ghost use Rattle.std.specs.Prelude.{◌≡◌, ◌≤◌, All, IfOk, OnOk, map, option_map, string_bytes};
+ghost use Rattle.std.specs.Prelude.{◌≡◌, ◌≤◌, ◌+◌, slice_get, drop, IfOk, OnOk, OnErr, Some, map, option_map, string_bytes};
+ghost use Rattle.std.specs.Arc.{arc_value};
 ghost use Rattle.naga_oil_lines.specs.Uses.{use_of};
 ghost use Rattle.naga_oil_pre.specs.KnownView.{output_of};
 ghost use Rattle.naga_oil_registry.specs.Definition.{definition_of, defs_of};
 ghost use Rattle.naga_oil_link.specs.BuiltModule.{built_of, builds_of};
 ghost use Rattle.naga_oil_build.specs.Build.{build};
 ghost use Rattle.naga_oil_build.specs.Built.{preprocessed_of};
-ghost use Rattle.naga_oil.specs.MakeView.{missing_there, settings_by, defs_in, builds_in, rule_of, IsUnbuilt, BuildsMore, Reaches, RefusesBy};
-ghost use Rattle.naga_oil.specs.Reach.{builds_with, defined, enter_build, preprocess_module, reach, reach_each, unless_built};
+ghost use Rattle.naga_oil.specs.MakeView.{missing_there, settings_by, defs_in, builds_in, kept_in, modules_in, rule_of, unreached_of, IsReady, IsUnbuilt, BuildsMore, KeepsBuild, KeepsMore, Reaches, RefusesBy};
+ghost use Rattle.naga_oil.specs.Reach.{builds_with, defined, enter_build, preprocess_module, reach, reach_each, reach_module, unless_built};
+ghost use Rattle.naga_oil.specs.Store.{key_under, kept_under};
+ghost use Rattle.naga_oil.specs.StoreView.{key_of};
 
 use super::shader::may_use;
+use super::store::{Key, Store, keep, kept_build, project};
 use super::*;
 
-/// A make: what builds, and the definitions that it builds under.
+/// A make: what builds, the definitions that it builds under, what is registered, the newest first, and the builds that are
+/// kept between makes.
 #[derive(Drop)]
 pub(crate) struct Maker<'c, B: Backend> {
     pub(crate) builder: Builder<'c, B>,
     pub(crate) defs: Defs,
+    pub(crate) modules: &'c [Definition],
+    pub(crate) store: Store,
 }
 
 /// Why a module isn't reached.
@@ -38,6 +45,28 @@ pub(crate) enum Rule<'r> {
     Recorded(&'r Definition),
     /// What is registered with its definitions among those of the make.
     Merged,
+}
+
+impl From<AllocError> for Unreached {
+    ghost use Rattle.std.specs.Prelude.{◌≡◌};
+    ghost use Rattle.naga_oil.specs.declared.compose.reach.Unreached.TheVariants.{Memory};
+
+    ghost from_gives = { λ _ e. e ≡ Memory };
+
+    fn from(_: AllocError) -> Unreached {
+        Unreached::Memory
+    }
+}
+
+impl<T: Drop> From<AllocFailed<T>> for Unreached {
+    ghost use Rattle.std.specs.Prelude.{◌≡◌};
+    ghost use Rattle.naga_oil.specs.declared.compose.reach.Unreached.TheVariants.{Memory};
+
+    ghost from_gives = { λ _ e. e ≡ Memory };
+
+    fn from(_: AllocFailed<T>) -> Unreached {
+        Unreached::Memory
+    }
 }
 
 impl Unreached {
@@ -63,17 +92,23 @@ impl Unreached {
 }
 
 // Enters a build under its name.
-fn enter(alloc: Global, builds: &mut Builds, name: &str, built: Build) -> Tried
-    ensures { let more = builds_with (builds_of builds.old) name.now (built_of built) in
+#[inline(never)]
+fn enter(alloc: Global, builds: &mut Builds, name: &str, build: Arc<Build>) -> Tried
+    ensures ok { let more = builds_with (builds_of builds.old) name.now (built_of (arc_value build)) in
         OnOk result (builds_of builds.new ≡ more) }
+    ensures err { OnErr result (builds_of builds.new ≡ builds_of builds.old) }
 {
-    let name = String::from_str(alloc, name)?;
-    builds.entry(name)?.or_insert(built);
+    if !builds.contains_key(name) {
+        builds.insert(String::from_str(alloc, name)?, build)?;
+    }
     Ok(())
 }
 
+// What is reached goes as deep as modules import one another: at most 2,047 levels. What a level asks for beside its imports isn't inlined,
+// so that a level takes little of the machine's stack.
 impl<B: Backend> Maker<'_, B> {
     // What a module's text becomes, with what it imports.
+    #[inline(never)]
     fn preprocess(&self, of: &Definition) -> Result<PreprocessOutput, Unreached>
         ensures { let d = definition_of of.now in
             let defs = defs_in self.now in
@@ -89,13 +124,23 @@ impl<B: Backend> Maker<'_, B> {
         }
     }
 
-    // Builds a module over the builds of what it imports, and enters it.
-    fn enter_build(&mut self, of: &Definition, output: &PreprocessOutput) -> Result<(), Unreached>
+    // Builds a module over the builds of what it imports, keeps that under a key, and enters it.
+    #[inline(never)]
+    fn enter_build(
+        &mut self,
+        of: &Definition,
+        output: &PreprocessOutput,
+        key: Key,
+    ) -> Result<(), Unreached>
         requires { of.now.module_index ≤ 2047 }
         ensures entered { let s = settings_by B.front self.old in
             let d = definition_of of.now in
             let built = build s d (output_of output.now) (builds_in self.old) in
             Reaches (λ done. done) result self.new (enter_build d.name built (builds_in self.old)) }
+        ensures kept { let s = settings_by B.front self.old in
+            let built = build s (definition_of of.now) (output_of output.now) (builds_in self.old) in
+            KeepsBuild result (key_of key) built (kept_in self.old) (kept_in self.new) }
+        ensures refused { OnErr result (builds_in self.new ≡ builds_in self.old) }
         ensures rest { BuildsMore self.old self.new }
     {
         let (alloc, name) = (self.builder.alloc, of.name.as_str());
@@ -103,23 +148,22 @@ impl<B: Backend> Maker<'_, B> {
             Ok(built) => built,
             Err(unbuilt) => return Err(Unreached::unbuilt(alloc, name, unbuilt)),
         };
-        match enter(alloc, &mut self.builder.builds, name, built) {
-            Ok(()) => Ok(()),
-            Err(_) => Err(Unreached::Memory),
-        }
+        let built = Arc::new(alloc, built)?;
+        keep(&mut self.store, key, built.clone()?)?;
+        Ok(enter(alloc, &mut self.builder.builds, name, built)?)
     }
 
     // Why a use may not be reached, by a rule.
-    fn refuse(&self, rule: Rule<'_>, import: &Use, modules: &[Definition]) -> Option<Unreached>
-        ensures { let ds = map definition_of modules.now in
-            let allowed = rule_of ds (defs_in self.now) rule.entry in
+    #[inline(never)]
+    fn refuse(&self, rule: Rule<'_>, import: &Use) -> Option<Unreached>
+        ensures { let allowed = rule_of (modules_in self.now) (defs_in self.now) rule.entry in
             RefusesBy allowed (use_of import.now) result }
     {
         let name = import.definition().import.as_str();
         let (allowed, offset) = match rule {
             Rule::Any => (true, 0),
             Rule::Recorded(of) => (of.may_import(name), 0),
-            Rule::Merged => (may_use(import, modules, &self.defs), import.offset()),
+            Rule::Merged => (may_use(import, self.modules, &self.defs), import.offset()),
         };
         if allowed {
             return None;
@@ -127,51 +171,106 @@ impl<B: Backend> Maker<'_, B> {
         Some(Unreached::missing(self.builder.alloc, name, offset))
     }
 
-    /// Builds what is used, in order, each module unless it was built, as far as a rule allows.
+    /// Builds what is used, in order, each module unless it was built, as far as a rule allows. It is looked for among the
+    /// modules from a place on.
     #[cycle(ensure)]
     pub(crate) fn ensure_each(
         &mut self,
         rule: Rule<'_>,
         uses: &[Use],
-        modules: &[Definition],
+        from: usize,
     ) -> Result<(), Unreached>
-        requires { All (λ d. d.module_index ≤ 2047) modules.now }
-        ensures reached { let ds = map definition_of modules.now in
+        requires { IsReady B.front self.old from }
+        ensures reached { let ds = modules_in self.old in
             let defs = defs_in self.old in
-            let reaching = unless_built (reach (settings_by B.front self.old) defs ds) in
+            let reaching = unless_built (reach (settings_by B.front self.old) defs (drop from ds)) in
             let each = reach_each (rule_of ds defs rule.entry) reaching (map use_of uses.now) in
             Reaches (λ done. done) result self.new (each (builds_in self.old)) }
+        ensures keeps { KeepsMore B.front unreached_of result self.old self.new }
         ensures rest { BuildsMore self.old self.new }
     {
         for import in uses {
-            if let Some(why) = self.refuse(rule, import, modules) {
+            if let Some(why) = self.refuse(rule, import) {
                 return Err(why);
             }
-            self.ensure(import.definition().import.as_str(), modules)?;
+            self.ensure(import.definition().import.as_str(), from)?;
         }
         Ok(())
     }
 
-    // Builds a module that is among these, which are the newest first, and before it what it imports, unless it was built. What
-    // it imports has to be recorded of its text or imported besides.
+    // Reaches what a kept build imports, and enters it. Nothing is built but what isn't kept.
     #[cycle(ensure)]
-    fn ensure(&mut self, name: &str, modules: &[Definition]) -> Result<(), Unreached>
-        requires { All (λ d. d.module_index ≤ 2047) modules.now }
-        ensures reached { let ds = map definition_of modules.now in
-            let reaching = reach (settings_by B.front self.old) (defs_in self.old) ds in
+    fn ensure_kept(
+        &mut self,
+        of: &Definition,
+        place: usize,
+        kept: Arc<Build>,
+    ) -> Result<(), Unreached>
+        requires ready { IsReady B.front self.old (place + 1) }
+        requires at { slice_get (modules_in self.old) place ≡ Some (definition_of of.now) }
+        requires found { let key = key_under (definition_of of.now) (defs_in self.old) in
+            kept_under (kept_in self.old) key ≡ Some (built_of (arc_value kept)) }
+        ensures reached { let s = settings_by B.front self.old in
+            let defs = defs_in self.old in
+            let reaching = unless_built (reach s defs (drop (place + 1) (modules_in self.old))) in
+            let done = reach_module s defs (definition_of of.now) reaching in
+            Reaches (λ done. done) result self.new (done (builds_in self.old)) }
+        ensures keeps { KeepsMore B.front unreached_of result self.old self.new }
+        ensures rest { BuildsMore self.old self.new }
+    {
+        let imports = kept.imports.as_slice();
+        for import in imports {
+            self.ensure(import.import.as_str(), place + 1)?;
+        }
+        let (alloc, name) = (self.builder.alloc, of.name.as_str());
+        Ok(enter(alloc, &mut self.builder.builds, name, kept)?)
+    }
+
+    // Builds a module, and before it what it imports, which has to be recorded of its text or imported besides.
+    #[cycle(ensure)]
+    fn ensure_built(&mut self, of: &Definition, place: usize, key: Key) -> Result<(), Unreached>
+        requires ready { IsReady B.front self.old (place + 1) }
+        requires at { slice_get (modules_in self.old) place ≡ Some (definition_of of.now) }
+        requires key { key_of key ≡ key_under (definition_of of.now) (defs_in self.old) }
+        ensures reached { let s = settings_by B.front self.old in
+            let defs = defs_in self.old in
+            let reaching = unless_built (reach s defs (drop (place + 1) (modules_in self.old))) in
+            let done = reach_module s defs (definition_of of.now) reaching in
+            Reaches (λ done. done) result self.new (done (builds_in self.old)) }
+        ensures keeps { KeepsMore B.front unreached_of result self.old self.new }
+        ensures rest { BuildsMore self.old self.new }
+    {
+        let output = self.preprocess(of)?;
+        self.ensure_each(Rule::Recorded(of), &output.imports, place + 1)?;
+        self.enter_build(of, &output, key)
+    }
+
+    // Reaches a module that is among those from a place on: it is built, and before it what it imports, unless it was built
+    // in this make or its build is kept.
+    #[cycle(ensure)]
+    fn ensure(&mut self, name: &str, from: usize) -> Result<(), Unreached>
+        requires { IsReady B.front self.old from }
+        ensures reached { let ds = modules_in self.old in
+            let reaching = reach (settings_by B.front self.old) (defs_in self.old) (drop from ds) in
             let done = unless_built reaching name.now in
             Reaches (λ done. done) result self.new (done (builds_in self.old)) }
+        ensures keeps { KeepsMore B.front unreached_of result self.old self.new }
         ensures rest { BuildsMore self.old self.new }
     {
         if self.builder.builds.contains_key(name) {
             return Ok(());
         }
-        let Some(place) = modules.iter().position(|of| of.name.as_str() == name) else {
+        let modules = self.modules;
+        let mut behind = modules[from..].iter();
+        let Some(ahead) = behind.position(|of| of.name.as_str() == name) else {
             return Err(Unreached::missing(self.builder.alloc, name, 0));
         };
+        let place = from + ahead;
         let of = &modules[place];
-        let output = self.preprocess(of)?;
-        self.ensure_each(Rule::Recorded(of), &output.imports, &modules[place + 1..])?;
-        self.enter_build(of, &output)
+        let key = project(self.builder.alloc, of, &self.defs)?;
+        match kept_build(&self.store, &key)? {
+            Some(kept) => self.ensure_kept(of, place, kept),
+            None => self.ensure_built(of, place, key),
+        }
     }
 }

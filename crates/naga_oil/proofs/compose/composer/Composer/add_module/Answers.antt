@@ -1,12 +1,20 @@
-use Rattle.std.proofs.Common.{◌≡◌, ℕ, List, map, Option, Ok, Err, Bor, String, Global, option_map, option_copied, string_bytes, Some, None, ap, ◌∙◌, sym, subst}
+use Rattle.std.proofs.Common.{◌≡◌, ℕ, Bool, List, map, Option, Ok, Err, Bor, String, Global, option_map, option_copied, string_bytes, Some, None, ap, ◌∙◌, sym, subst}
 use Rattle.naga_oil_pre.specs.View.{Fails}
-use Rattle.naga_oil_registry.specs.Added.{described, shown_by}
+use Rattle.std.specs.BTreeSet.{contains_text}
+use Rattle.naga_oil_registry.specs.Added.{Described, described, new_definition, shown_by}
 use Rattle.naga_oil_registry.specs.Definition.{Definition, definition_of}
 use Rattle.naga_oil_registry.specs.DescribedView.{described_of}
-use Rattle.naga_oil_registry.specs.Descriptor.{module_source}
+use Rattle.naga_oil_registry.specs.Descriptor.{module_source, ModuleSource}
+use Rattle.naga_oil_registry.specs.Registry.{IsRegistry, reaches, removed}
+use Rattle.naga_oil_build.specs.Held.{settings}
 use Rattle.naga_oil.specs.Refused.{in_text}
-use Rattle.naga_oil.specs.State.{State, Adds}
-use Rattle.naga_oil_registry.proofs.AddedLemmas.{is_registered}
+use Rattle.naga_oil.specs.State.{State, Adds, forget_with}
+use Rattle.naga_oil.specs.Store.{Kept, forget}
+use Rattle.naga_oil.specs.StoreLaw.{IsStore}
+use Rattle.naga_oil.specs.StoreView.{kept_of}
+use Rattle.naga_oil_registry.proofs.AddedLemmas.{entered-registry, is_registered}
+use Rattle.naga_oil.proofs.ForgetLemmas.{forget_same}
+use Rattle.naga_oil.proofs.StoreForgetLemmas.{forget_law}
 use Rattle.naga_oil.proofs.AddsLemmas.{IsRefusal, adds-unread, adds-undescribed, adds-unregistered, adds-registered}
 use Rattle.naga_oil.proofs.compose.composer.Composer.add_module.Goals as goal
 
@@ -17,7 +25,7 @@ given_name (Some x) o e = ap (option_map string_bytes) e
 pub returns-in-Err : goal.returns-in-Err
 returns-in-Err g c =
     let inside = c.self.inside in
-    let old : State _ = record { front = inside.front; validate = inside.validate; capabilities = inside.capabilities; registry = map definition_of inside.modules.items; counter = inside.counter } in
+    let old : State _ = record { front = inside.front; validate = inside.validate; capabilities = inside.capabilities; registry = map definition_of inside.modules.items; counter = inside.counter; kept = kept_of inside.store; builds = inside.count } in
     let m = module_source c.args.desc in
     subst (λ (v : State _). Adds (λ (i : ℕ). i) (λ (d : Definition). d.index) v m (Err c.refused.result) v) c.self.view_is
     (adds-unread (λ (i : ℕ). i) (λ (d : Definition). d.index) old m c.in-Err.inner c.refused.result c.refused.ensures c.in-Err.ensures)
@@ -25,36 +33,52 @@ returns-in-Err g c =
 pub returns-in-Err-describe : goal.returns-in-Err-describe
 returns-in-Err-describe g c =
     let inside = c.self.inside in
-    let old : State _ = record { front = inside.front; validate = inside.validate; capabilities = inside.capabilities; registry = map definition_of inside.modules.items; counter = inside.counter } in
+    let old : State _ = record { front = inside.front; validate = inside.validate; capabilities = inside.capabilities; registry = map definition_of inside.modules.items; counter = inside.counter; kept = kept_of inside.store; builds = inside.count } in
     let m = module_source c.args.desc in
     let same : described (option_map (λ name. string_bytes name.now) c.as_ref.result) c.as_str.result.now ≡ described m.as_name (string_bytes c.in-Ok.read.0) =
     ap (λ n. described n c.as_str.result.now) (given_name c.as_ref.result c.args.desc.as_name c.as_ref.ensures.value) ∙ ap (described m.as_name) c.as_str.ensures.value in
     subst (λ (v : State _). Adds (λ (i : ℕ). i) (λ (d : Definition). d.index) v m (Err c.refused-in-Err-describe.result) (record old { counter = c.in-Ok.read.1 })) c.self.view_is
     (adds-undescribed (λ (i : ℕ). i) (λ (d : Definition). d.index) old m c.in-Err-describe.inner c.refused-in-Err-describe.result (string_bytes c.in-Ok.read.0) c.in-Ok.read.1 c.in-Ok.ensures c.refused-in-Err-describe.ensures (subst (λ v. Fails c.in-Err-describe.inner v) same c.in-Err-describe.ensures.value))
 
+-- what is forgotten is what goes with the name of the new module
+left_by : (gone : List ℕ → Bool) (ds : List Definition) (m : ModuleSource) (d : Described) (new : Definition) (kept left : Kept) → IsRegistry ds → ((other : List ℕ) → gone other ≡ reaches ds other d.name) → new_definition (removed d.name ds) m d ≡ Ok new → left ≡ forget gone kept → left ≡ forget_with ds new.name kept
+left_by gone ds m d new kept left all same added is =
+    is ∙ forget_same gone (λ other. reaches ds other d.name) same kept ∙ ap (λ n. forget_with ds n kept) (sym (entered-registry ds m d new added all).0)
+
 pub invariant_of-self-in-Ok-register : goal.invariant_of-self-in-Ok-register
 invariant_of-self-in-Ok-register g c =
+    let inside = c.self.inside in
+    let ds = map definition_of inside.modules.items in
+    let m = module_source c.args.desc in
+    let d = described_of c.in-Ok-describe.described in
+    let s = settings (g.B.Backend.front inside.front) inside.capabilities inside.validate in
     let added = c.in-Ok-register.ensures.registry in
-    is_registered (map definition_of c.self.inside.modules.items) (map definition_of c.register.new.modules.items) (module_source c.args.desc) (described_of c.in-Ok-describe.described) added.0 added.1 added.2 c.self.invariant
+    let left = left_by (contains_text c.in-Ok-register.gone) ds m d added.0 (kept_of inside.store) (kept_of c.forget.new.store) c.self.invariant.0 c.in-Ok-register.ensures.gone added.1 c.forget.ensures in
+    let follows = is_registered ds (map definition_of c.register.new.modules.items) m d added.0 added.1 added.2 c.self.invariant.0 in
+    let store = forget_law.addition s ds added.0 (kept_of inside.store) c.self.invariant.0 (subst IsRegistry added.2 follows) c.self.invariant.1 in
+    (follows, subst (λ (k : Kept). IsStore s (map definition_of c.register.new.modules.items) k) (sym left) (subst (λ (es : List Definition). IsStore s es (forget_with ds added.0.name (kept_of inside.store))) (sym added.2) store))
 
 pub returns-in-Ok-register : goal.returns-in-Ok-register
 returns-in-Ok-register g c =
     let inside = c.self.inside in
-    let old : State _ = record { front = inside.front; validate = inside.validate; capabilities = inside.capabilities; registry = map definition_of inside.modules.items; counter = inside.counter } in
+    let old : State _ = record { front = inside.front; validate = inside.validate; capabilities = inside.capabilities; registry = map definition_of inside.modules.items; counter = inside.counter; kept = kept_of inside.store; builds = inside.count } in
     let m = module_source c.args.desc in
+    let d = described_of c.in-Ok-describe.described in
     let same : described (option_map (λ name. string_bytes name.now) c.as_ref.result) c.as_str.result.now ≡ described m.as_name (string_bytes c.in-Ok.read.0) =
     ap (λ n. described n c.as_str.result.now) (given_name c.as_ref.result c.args.desc.as_name c.as_ref.ensures.value) ∙ ap (described m.as_name) c.as_str.ensures.value in
     let added = c.in-Ok-register.ensures.registry in
     let new = added.0 in
+    let left = left_by (contains_text c.in-Ok-register.gone) old.registry m d new (kept_of inside.store) (kept_of c.forget.new.store) c.self.invariant.0 c.in-Ok-register.ensures.gone added.1 c.forget.ensures in
     let index : c.in-Ok-register.index ≡ new.index = (let h = sym c.in-Ok-register.ensures.reply ∙ ap (shown_by (λ d. d.index)) added.1 in cc) in
-    subst (λ (v : State _). Adds (λ (i : ℕ). i) (λ (d : Definition). d.index) v m (Ok c.in-Ok-register.index) (record old { counter = c.in-Ok.read.1; registry = map definition_of c.register.new.modules.items })) c.self.view_is
-    (subst (λ (ds : List Definition). Adds (λ (i : ℕ). i) (λ (d : Definition). d.index) old m (Ok c.in-Ok-register.index) (record old { counter = c.in-Ok.read.1; registry = ds })) (sym added.2)
-    (adds-registered (λ (i : ℕ). i) (λ (d : Definition). d.index) old m (string_bytes c.in-Ok.read.0) c.in-Ok.read.1 (described_of c.in-Ok-describe.described) new c.in-Ok-register.index c.in-Ok.ensures (sym same ∙ c.in-Ok-describe.ensures.value) added.1 index))
+    subst (λ (v : State _). Adds (λ (i : ℕ). i) (λ (d : Definition). d.index) v m (Ok c.in-Ok-register.index) (record old { counter = c.in-Ok.read.1; registry = map definition_of c.register.new.modules.items; kept = kept_of c.forget.new.store })) c.self.view_is
+    (subst (λ (k : Kept). Adds (λ (i : ℕ). i) (λ (d : Definition). d.index) old m (Ok c.in-Ok-register.index) (record old { counter = c.in-Ok.read.1; registry = map definition_of c.register.new.modules.items; kept = k })) (sym left)
+    (subst (λ (ds : List Definition). Adds (λ (i : ℕ). i) (λ (d : Definition). d.index) old m (Ok c.in-Ok-register.index) (record old { counter = c.in-Ok.read.1; registry = ds; kept = forget_with old.registry new.name (kept_of inside.store) })) (sym added.2)
+    (adds-registered (λ (i : ℕ). i) (λ (d : Definition). d.index) old m (string_bytes c.in-Ok.read.0) c.in-Ok.read.1 d new c.in-Ok-register.index c.in-Ok.ensures (sym same ∙ c.in-Ok-describe.ensures.value) added.1 index)))
 
 pub returns : goal.returns
 returns g c =
     let inside = c.self.inside in
-    let old : State _ = record { front = inside.front; validate = inside.validate; capabilities = inside.capabilities; registry = map definition_of inside.modules.items; counter = inside.counter } in
+    let old : State _ = record { front = inside.front; validate = inside.validate; capabilities = inside.capabilities; registry = map definition_of inside.modules.items; counter = inside.counter; kept = kept_of inside.store; builds = inside.count } in
     let m = module_source c.args.desc in
     let same : described (option_map (λ name. string_bytes name.now) c.as_ref.result) c.as_str.result.now ≡ described m.as_name (string_bytes c.in-Ok.read.0) =
     ap (λ n. described n c.as_str.result.now) (given_name c.as_ref.result c.args.desc.as_name c.as_ref.ensures.value) ∙ ap (described m.as_name) c.as_str.ensures.value in

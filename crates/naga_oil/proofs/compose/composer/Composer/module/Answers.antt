@@ -12,7 +12,7 @@ use Rattle.naga_oil_registry.proofs.RegistryLemmas.{find_map, option_map_twice}
 use Rattle.naga_oil.proofs.compose.composer.Composer.module.Goals as goal
 
 pub returns-clause-effective : goal.returns-clause-effective
-returns-clause-effective g c = subst (λ (v : State _). AreReachedNames v.registry) c.self.view_is (are_reached _ c.self.invariant)
+returns-clause-effective g c = subst (λ (v : State _). AreReachedNames v.registry) c.self.view_is (are_reached _ c.self.invariant.0)
 
 pub returns-clause-value : goal.returns-clause-value
 returns-clause-value g c =

@@ -1,15 +1,33 @@
-use Rattle.std.proofs.Common.{map, ap, sym, refl}
+use Rattle.std.proofs.Common.{◌≡◌, ◌∙◌, List, map, ap, sym, subst, refl}
 use Rattle.std.proofs.lemmas.Result.{on_err_weaker}
-use Rattle.naga_oil_registry.specs.Definition.{definition_of}
+use Rattle.std.specs.BTreeSet.{contains_text}
+use Rattle.naga_oil_registry.specs.Definition.{Definition, definition_of}
+use Rattle.naga_oil_registry.specs.Registry.{reaches}
 use Rattle.naga_oil_registry.proofs.RemovedLemmas.{after_removal, removed-unknown}
+use Rattle.naga_oil_build.specs.Held.{settings}
+use Rattle.naga_oil.specs.Store.{Kept, forget}
+use Rattle.naga_oil.specs.StoreLaw.{IsStore}
+use Rattle.naga_oil.specs.StoreView.{kept_of}
+use Rattle.naga_oil.proofs.ForgetLemmas.{forget_same, forget_unknown}
+use Rattle.naga_oil.proofs.StoreForgetLemmas.{forget_law}
 use Rattle.naga_oil.proofs.compose.composer.Composer.remove_composable_module.Goals as goal
 
 pub returns-then-not-contains_module : goal.returns-then-not-contains_module
 returns-then-not-contains_module g c =
-    let stays = removed-unknown c.args.module_name.now c.args.self.now.registry (sym (c.if-not-contains_module.ensures)) in
-    record { done = ap (λ ds. record c.args.self.now { registry = ds }) (sym stays); refused = tt; unknown = λ _. refl }
+    let old = c.args.self.now in
+    let name = c.args.module_name.now in
+    let stays = removed-unknown name old.registry (sym (c.if-not-contains_module.ensures)) in
+    let left = forget_unknown old.registry name (sym (c.if-not-contains_module.ensures)) old.kept in
+    record { done = λ i. record old { registry = sym stays i; kept = sym left i }; refused = tt; unknown = λ _. refl }
 
-pub invariant_of-self : goal.invariant_of-self
-invariant_of-self g c =
-    let modules = c.self.inside.modules.items in
-    after_removal c.remove.result c.args.module_name.now (map definition_of modules) (map definition_of c.remove.new.modules.items) c.remove.ensures.ok (on_err_weaker c.remove.result (λ e. ap (map definition_of) e) c.remove.ensures.err) c.self.invariant
+pub invariant_of-self-2 : goal.invariant_of-self-2
+invariant_of-self-2 g c =
+    let inside = c.self.inside in
+    let name = c.args.module_name.now in
+    let ds = map definition_of inside.modules.items in
+    let s = settings (g.B.Backend.front inside.front) inside.capabilities inside.validate in
+    let stays : Kept = forget (λ other. reaches ds other name) (kept_of inside.store) in
+    let left : kept_of c.forget.new.store ≡ stays = c.forget.ensures ∙ forget_same (contains_text c.in_ok-gone.gone) (λ other. reaches ds other name) c.in_ok-gone.ensures.gone (kept_of inside.store) in (
+      after_removal c.remove.result name ds (map definition_of c.remove.new.modules.items) c.remove.ensures.ok (on_err_weaker c.remove.result (λ e. ap (map definition_of) e) c.remove.ensures.err) c.self.invariant.0,
+      subst (λ (k : Kept). IsStore s (map definition_of c.remove.new.modules.items) k) (sym left) (subst (λ (es : List Definition). IsStore s es stays) (sym c.in_ok-gone.ensures.ok) (forget_law.removal s ds name (kept_of inside.store) c.self.invariant.0 c.self.invariant.1)),
+    )
