@@ -1,12 +1,2 @@
 pub mod OverwriteLemmas
 pub mod WordLemmas
-pub mod NameLemmas
-pub mod SymbolLemmas
-pub mod LineLemmas
-pub mod ReaderLemmas
-pub mod BodyReaderLemmas
-pub mod OrderLemmas
-pub mod WriterLemmas
-pub mod ValidLemmas
-pub mod RefusedLemmas
-pub mod SliceLemmas

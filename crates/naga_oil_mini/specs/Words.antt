@@ -2,8 +2,8 @@
 use Rattle.std.specs.Prelude.{ℕ, Bool, not, ◌==◌, ◌&&◌, if◌then◌else◌, Option, Some, None, is_none, List, [], ◌∷◌, bytes_eq, codes, filter, length, map, string_bytes, String}
 use Rattle.std.specs.List.{list_any, filter_map}
 use Rattle.std.specs.declared.alloc.Global.{Global}
-use Rattle.naga_oil_mini.specs.Items.{◌>>=◌}
-use Rattle.naga_oil_mini.specs.Names.{texts_of}
+use Rattle.naga_oil_front.specs.Items.{◌>>=◌}
+use Rattle.naga_oil_front.specs.Names.{texts_of}
 use Rattle.naga_oil_mini.specs.declared.mini.words.Task.{Task}
 use Rattle.naga_oil_mini.specs.declared.mini.words.Task.TheVariants.{Preprocess, Make}
 use Rattle.naga_oil_mini.specs.declared.mini.words.Request.{Request}

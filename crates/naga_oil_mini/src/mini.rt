@@ -2,30 +2,19 @@
 ghost use Rattle.std.specs.Prelude.{◌≡◌, ◌≤◌, None, map, OnOk, IfOk, IfErr};
 ghost use Rattle.std.specs.Io.KnownBytes.{Appends};
 ghost use Rattle.naga_oil_mini.specs.declared.mini.refusal.Refusal.{Refusal};
-ghost use Rattle.naga_oil_mini.specs.Names.{texts_of};
+ghost use Rattle.naga_oil_front.specs.Names.{texts_of};
 ghost use Rattle.naga_oil_mini.specs.Words.{asked};
 ghost use Rattle.naga_oil_lines.specs.Text.{texts};
 ghost use Rattle.naga_oil_mini.specs.Told.{AppendsFront, IsAsked, Refuses, RefusesFiles, LeavesOut, Tells, TellsFront, Writes, status_of};
 
-mod body_reader;
 mod definitions;
-mod front;
 mod make;
-mod making;
-mod names;
-mod not_written;
-mod order;
 mod pre;
-mod reader;
 mod refusal;
-mod symbol;
 #[cfg(test)]
 mod tests;
-mod valid;
 mod words;
-mod writer;
 
-pub use front::Mini;
 pub use refusal::Refusal;
 use std::alloc::{AllocError, Global};
 use std::io::{self, ErrorKind, Write};

@@ -2,16 +2,14 @@
 ghost use Rattle.std.specs.Prelude.{◌≡◌, IfErr, IfOk, Some, string_bytes};
 ghost use Rattle.naga_oil_ir.specs.ModuleValue.{module_value};
 ghost use Rattle.naga_oil_mini.specs.Told.{IsOfMaking, IsWritten};
-ghost use Rattle.naga_oil_mini.specs.Writer.{module_text};
+ghost use Rattle.naga_oil_front.specs.Writer.{module_text};
 
 use super::definitions::Definitions;
-use super::front::Mini;
-use super::not_written::NotWritten;
 use super::refusal::Refusal;
-use super::writer::module_text;
 use naga_oil::compose::{
     ComposableModuleDescriptor, Composer, ComposerError, NagaModuleDescriptor, ShaderType,
 };
+use naga_oil_front::{Mini, NotWritten, module_text};
 use naga_oil_ir::Module;
 use naga_oil_lines::ImportDefinition;
 use std::alloc::{AllocError, Global};

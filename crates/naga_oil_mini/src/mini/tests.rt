@@ -3,6 +3,8 @@ mod composing;
 mod examples;
 mod faults;
 mod front;
+mod keeping;
+mod keeping_many;
 mod malformed;
 mod pointing;
 mod projects;

@@ -1,6 +1,6 @@
 // What the words behind the program's name ask for.
 ghost use Rattle.std.specs.Prelude.{◌≡◌, ◌<◌, IfOk, IfErr, Some, option_map, length, drop};
-ghost use Rattle.naga_oil_mini.specs.Names.{texts_of};
+ghost use Rattle.naga_oil_front.specs.Names.{texts_of};
 ghost use Rattle.naga_oil_mini.specs.Words.{is_definition, import_of, task_of, files, imports, takes, asked, asked_of};
 ghost use Rattle.naga_oil_lines.specs.Text.{texts};
 ghost use Rattle.naga_oil_mini.specs.Told.{RefusesWords};

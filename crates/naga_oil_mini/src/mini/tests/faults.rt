@@ -1,8 +1,8 @@
 // The faults of whole shaders by their variants, and where their texts begin.
-use crate::mini::front::Mini;
 use naga_oil::compose::{
     ComposableModuleDescriptor, Composer, ComposerError, ImportDefinition, NagaModuleDescriptor,
 };
+use naga_oil_front::Mini;
 use std::alloc::{AllocError, Global};
 use std::process::Abort;
 use std::test::Fail;

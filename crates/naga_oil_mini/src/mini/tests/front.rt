@@ -3,7 +3,7 @@ mod changed;
 mod refusals;
 mod refused;
 
-use crate::mini::front::Mini;
+use naga_oil_front::Mini;
 use naga_oil_ir::{
     Backend, BackendRefusal, Capabilities, Expression, FormFault, Function, Index, Module, Operand,
     ShaderLanguage, Span, Statement,

@@ -1,26 +1,15 @@
 // Modules that break one clause of the test of form, given by a front end.
-ghost use Rattle.std.specs.Prelude.{◌≡◌, ◌∷◌, ℕ, List, [], Some, None, IfOk, map, option_map, string_bytes, codes};
-ghost use Rattle.naga_oil_ir.specs.Rows.{Row, constant_row, override_row, global_row, type_row};
-ghost use Rattle.naga_oil_ir.specs.Parts.{expr};
-ghost use Rattle.naga_oil_ir.specs.Body.{block_tokens};
-ghost use Rattle.naga_oil_ir.specs.declared.parts.Named.TheVariants.{TypeOf, ConstantAt, FunctionAt, Nothing};
-ghost use Rattle.naga_oil_ir.specs.declared.tokens.Token.TheVariants.{At, Head, Use, GiveCall, Emitted, Callee};
-ghost use Rattle.naga_oil_ir.specs.declared.types.TypeInner.TheVariants.{Scalar, Array};
-ghost use Rattle.naga_oil_ir.specs.declared.types.ArraySize.TheVariants.{Pending};
-ghost use Rattle.naga_oil_ir.specs.declared.span.Span.{Span};
-ghost use Rattle.naga_oil_ir.specs.ModuleValue.{FunctionValue, LocalValue, argument_value, local_value, function_value, entry_value, expression_values, special_value};
+mod parts;
 
-use indexmap::IndexMap;
 use naga_oil::compose::{
     ComposableModuleDescriptor, Composer, ComposerError, ComposerErrorInner, ErrSource,
     NagaModuleDescriptor,
 };
 use naga_oil_ir::{
-    Arena, ArraySize, Backend, BackendRefusal, Block, Capabilities, Constant, EntryPoint,
-    Expression, Function, FunctionArgument, FunctionResult, GlobalVariable, Handle, Index,
-    LocalVariable, MeshInfo, Module, Override, ParseFault, Places, ShaderLanguage, Span,
-    SpecialTypes, Statement, Type, TypeInner, UniqueArena, ValidFault, WriteFault,
+    Backend, BackendRefusal, Capabilities, Index, MeshInfo, Module, ParseFault, ShaderLanguage,
+    Span, ValidFault, WriteFault,
 };
+use parts::{constants, entries, functions, globals, overrides, special, types, values};
 use std::alloc::{AllocError, Global};
 use std::marker::Model;
 use std::process::Abort;
@@ -83,9 +72,16 @@ impl Model for Calling {
       arguments = record { name = None; ty = c.0.argument; binding = None } ∷ [];
       result = Some (record { ty = c.0.result; binding = None });
       local_variables = (record { name = None; ty = c.0.local.0; init = Some c.0.local.1 }, c.0.local_span) ∷ [];
-      expressions = (expr 0 (1 ∷ 7 ∷ []) Nothing [], c.0.expression_span) ∷ (expr 1 [] (TypeOf c.0.zero) [], c.0.expression_span) ∷ (expr 7 [] (FunctionAt c.0.result_of) [], c.0.expression_span) ∷ (expr 22 (0 ∷ []) Nothing (Some c.0.operand ∷ []), c.0.expression_span) ∷ [];
+      expressions =
+          (expr 0 (1 ∷ 7 ∷ []) Nothing [], c.0.expression_span)
+          ∷ (expr 1 [] (TypeOf c.0.zero) [], c.0.expression_span)
+          ∷ (expr 7 [] (FunctionAt c.0.result_of) [], c.0.expression_span)
+          ∷ (expr 22 (0 ∷ []) Nothing (Some c.0.operand ∷ []), c.0.expression_span) ∷ [];
       named_expressions = (c.0.named, codes "x") ∷ [];
-      body = At c.0.statement_span ∷ Head 16 ∷ Callee c.0.called ∷ GiveCall c.0.called c.0.given ∷ At c.0.statement_span ∷ Head 0 ∷ Emitted c.0.emitted ∷ At c.0.statement_span ∷ Head 10 ∷ Use c.0.returned ∷ [];
+      body =
+          At c.0.statement_span ∷ Head 16 ∷ Callee c.0.called ∷ GiveCall c.0.called c.0.given
+          ∷ At c.0.statement_span ∷ Head 0 ∷ Emitted c.0.emitted
+          ∷ At c.0.statement_span ∷ Head 10 ∷ Use c.0.returned ∷ [];
       diagnostic_filter_leaf = None;
     } };
 }
@@ -142,246 +138,6 @@ impl Model for Entry {
     } };
 }
 
-fn types(alloc: Global, items: &Items) -> Result<UniqueArena<Type>, AllocError>
-    ensures { IfOk result (λ a. map {B = Row × Span} (λ e. (type_row e.0, e.1)) a ≡ (type_row (record { name = None; inner = Scalar 1 }), items.now.type_span) ∷ (type_row (record { name = None; inner = Array items.now.base (Pending items.now.array_size) 4 }), items.now.type_span) ∷ []) }
-{
-    let mut types = UniqueArena::new(alloc);
-    let inner = TypeInner::Scalar(1);
-    types.insert(Type { name: None, inner }, items.type_span)?;
-    let inner = TypeInner::Array {
-        base: Index::new(items.base),
-        size: ArraySize::Pending(Index::new(items.array_size)),
-        stride: 4,
-    };
-    types.insert(Type { name: None, inner }, items.type_span)?;
-    Ok(types)
-}
-
-fn special(alloc: Global, items: &Items) -> SpecialTypes
-    ensures { special_value result ≡ record { ray_desc = items.now.special; ray_intersection = items.now.other_special; ray_vertex_return = None; predeclared_types = [] } }
-{
-    SpecialTypes {
-        ray_desc: items.special.map(|place| Index::new(place)),
-        ray_intersection: items.other_special.map(|place| Index::new(place)),
-        ray_vertex_return: None,
-        predeclared_types: IndexMap::new(alloc),
-    }
-}
-
-fn constants(alloc: Global, items: &Items) -> Result<Arena<Constant>, AllocError>
-    ensures { IfOk result (λ a. map {B = Row × Span} (λ e. (constant_row e.0, e.1)) a ≡ (constant_row (record { name = None; ty = items.now.constant.0; init = items.now.constant.1 }), items.now.constant_span) ∷ []) }
-{
-    let constant = Constant {
-        name: None,
-        ty: Index::new(items.constant.0),
-        init: Index::new(items.constant.1),
-    };
-    let mut constants = Arena::new(alloc);
-    constants.append(constant, items.constant_span)?;
-    Ok(constants)
-}
-
-fn overrides(alloc: Global, items: &Items) -> Result<Arena<Override>, AllocError>
-    ensures { IfOk result (λ a. map {B = Row × Span} (λ e. (override_row e.0, e.1)) a ≡ (override_row (record { name = None; id = None; ty = items.now.size; init = None }), items.now.size_span) ∷ []) }
-{
-    let size = Override {
-        name: None,
-        id: None,
-        ty: Index::new(items.size),
-        init: None,
-    };
-    let mut overrides = Arena::new(alloc);
-    overrides.append(size, items.size_span)?;
-    Ok(overrides)
-}
-
-fn globals(alloc: Global, items: &Items) -> Result<Arena<GlobalVariable>, AllocError>
-    ensures { IfOk result (λ a. map {B = Row × Span} (λ e. (global_row e.0, e.1)) a ≡ (global_row (record { name = None; space = 1; binding = None; ty = items.now.global; init = None }), items.now.global_span) ∷ []) }
-{
-    let global = GlobalVariable {
-        name: None,
-        space: 1,
-        binding: None,
-        ty: Index::new(items.global),
-        init: None,
-    };
-    let mut globals = Arena::new(alloc);
-    globals.append(global, items.global_span)?;
-    Ok(globals)
-}
-
-// A literal, a zero, a negation and the constant.
-fn values(alloc: Global, items: &Items) -> Result<Arena<Expression>, AllocError>
-    ensures { IfOk result (λ a. expression_values a ≡ (expr 0 (1 ∷ 7 ∷ []) Nothing [], items.now.value_span) ∷ (expr 1 [] (TypeOf items.now.zero) [], items.now.value_span) ∷ (expr 22 (0 ∷ []) Nothing (Some items.now.operand ∷ []), items.now.value_span) ∷ (expr 2 [] (ConstantAt 0) [], items.now.value_span) ∷ []) }
-{
-    let span = items.value_span;
-    let mut values = Arena::new(alloc);
-    values.append(Expression::Literal { kind: 1, bits: 7 }, span)?;
-    values.append(Expression::ZeroValue(Index::new(items.zero)), span)?;
-    let expr = Index::new(items.operand);
-    values.append(Expression::Unary { op: 0, expr }, span)?;
-    values.append(Expression::Constant(Index::new(0)), span)?;
-    Ok(values)
-}
-
-fn arguments(alloc: Global, ty: usize) -> Result<Vec<FunctionArgument>, AllocError>
-    ensures { IfOk result (λ v. map argument_value v.items ≡ record { name = None; ty = ty; binding = None } ∷ []) }
-{
-    let mut arguments = Vec::new(alloc);
-    arguments.push(FunctionArgument {
-        name: None,
-        ty: Index::new(ty),
-        binding: None,
-    })?;
-    Ok(arguments)
-}
-
-fn locals(alloc: Global, of: &Caller) -> Result<Arena<LocalVariable>, AllocError>
-    ensures { IfOk result (λ a. map {B = LocalValue × Span} (λ l. (local_value l.0, l.1)) a ≡ (record { name = None; ty = of.now.local.0; init = Some of.now.local.1 }, of.now.local_span) ∷ []) }
-{
-    let local = LocalVariable {
-        name: None,
-        ty: Index::new(of.local.0),
-        init: Some(Index::new(of.local.1)),
-    };
-    let mut locals = Arena::new(alloc);
-    locals.append(local, of.local_span)?;
-    Ok(locals)
-}
-
-// A literal, a zero, the result of the call and a negation.
-fn expressions(alloc: Global, of: &Caller) -> Result<Arena<Expression>, AllocError>
-    ensures { IfOk result (λ a. expression_values a ≡ (expr 0 (1 ∷ 7 ∷ []) Nothing [], of.now.expression_span) ∷ (expr 1 [] (TypeOf of.now.zero) [], of.now.expression_span) ∷ (expr 7 [] (FunctionAt of.now.result_of) [], of.now.expression_span) ∷ (expr 22 (0 ∷ []) Nothing (Some of.now.operand ∷ []), of.now.expression_span) ∷ []) }
-{
-    let span = of.expression_span;
-    let mut values = Arena::new(alloc);
-    values.append(Expression::Literal { kind: 1, bits: 7 }, span)?;
-    values.append(Expression::ZeroValue(Index::new(of.zero)), span)?;
-    values.append(Expression::CallResult(Index::new(of.result_of)), span)?;
-    let expr = Index::new(of.operand);
-    values.append(Expression::Unary { op: 0, expr }, span)?;
-    Ok(values)
-}
-
-fn names(alloc: Global, place: usize) -> Result<IndexMap<Handle<Expression>, String>, AllocError>
-    ensures { IfOk result (λ v. map {B = ℕ × List ℕ} (λ e. (e.0, string_bytes e.1)) v.entries ≡ (place, codes "x") ∷ []) }
-{
-    let mut names = IndexMap::new(alloc);
-    let name = String::from_str(alloc, "x")?;
-    names.insert(Index::new(place), name)?;
-    Ok(names)
-}
-
-fn body(alloc: Global, of: &Caller) -> Result<Block, AllocError>
-    ensures { IfOk result (λ b. block_tokens b ≡ At of.now.statement_span ∷ Head 16 ∷ Callee of.now.called ∷ GiveCall of.now.called of.now.given ∷ At of.now.statement_span ∷ Head 0 ∷ Emitted of.now.emitted ∷ At of.now.statement_span ∷ Head 10 ∷ Use of.now.returned ∷ []) }
-{
-    let call = Statement::Call {
-        callee: Index::new(of.called),
-        arguments: Vec::new(alloc),
-        result: Some(Index::new(of.given)),
-    };
-    let value = Some(Index::new(of.returned));
-    let mut body = Vec::new(alloc);
-    body.push((call, of.statement_span))?;
-    let emit = Statement::Emit(Places::new(of.emitted.0, of.emitted.1));
-    body.push((emit, of.statement_span))?;
-    body.push((Statement::Return { value }, of.statement_span))?;
-    Ok(Block { body })
-}
-
-fn text(alloc: Global, name: Option<&'static str>) -> Result<Option<String>, AllocError>
-    ensures { IfOk result (λ o. option_map string_bytes o ≡ option_map (λ s. s.now) name.entry) }
-{
-    match name {
-        None => Ok(None),
-        Some(name) => {
-            let text = String::from_str(alloc, name)?;
-            Ok(Some(text))
-        }
-    }
-}
-
-fn result(ty: usize) -> Option<FunctionResult>
-    ensures { result ≡ Some (record { ty = ty; binding = None }) }
-{
-    Some(FunctionResult {
-        ty: Index::new(ty),
-        binding: None,
-    })
-}
-
-fn plain_function(alloc: Global, of: &Plain) -> Result<Function, AllocError>
-    ensures { IfOk result (λ f. function_value f ≡ of.now) }
-{
-    Ok(Function {
-        name: text(alloc, of.name)?,
-        arguments: Vec::new(alloc),
-        result: result(of.result),
-        local_variables: Arena::new(alloc),
-        expressions: Arena::new(alloc),
-        named_expressions: IndexMap::new(alloc),
-        body: Block {
-            body: Vec::new(alloc),
-        },
-        diagnostic_filter_leaf: None,
-    })
-}
-
-fn calling_function(alloc: Global, of: &Calling) -> Result<Function, AllocError>
-    ensures { IfOk result (λ f. function_value f ≡ of.now) }
-{
-    let of = &of.0;
-    Ok(Function {
-        name: text(alloc, of.name)?,
-        arguments: arguments(alloc, of.argument)?,
-        result: result(of.result),
-        local_variables: locals(alloc, of)?,
-        expressions: expressions(alloc, of)?,
-        named_expressions: names(alloc, of.named)?,
-        body: body(alloc, of)?,
-        diagnostic_filter_leaf: None,
-    })
-}
-
-fn entry_point(alloc: Global, of: &Entry) -> Result<EntryPoint, AllocError>
-    ensures { IfOk result (λ e. entry_value e ≡ of.now) }
-{
-    let function = plain_function(alloc, &of.function)?;
-    Ok(EntryPoint {
-        name: String::new(alloc),
-        stage: 2,
-        early_depth_test: None,
-        workgroup_size: [1, 1, 1],
-        workgroup_size_overrides: Some([None, Some(Index::new(of.size)), None]),
-        function,
-        mesh_info: of.mesh,
-        task_payload: Some(Index::new(of.payload)),
-    })
-}
-
-fn functions(
-    alloc: Global,
-    first: &Plain,
-    second: &Calling,
-    span: Span,
-) -> Result<Arena<Function>, AllocError>
-    ensures { IfOk result (λ a. map {B = FunctionValue × Span} (λ e. (function_value e.0, e.1)) a ≡ (first.now, span) ∷ (second.now, span) ∷ []) }
-{
-    let mut functions = Arena::new(alloc);
-    functions.append(plain_function(alloc, first)?, span)?;
-    functions.append(calling_function(alloc, second)?, span)?;
-    Ok(functions)
-}
-
-fn entries(alloc: Global, first: &Entry, second: &Entry) -> Result<Vec<EntryPoint>, AllocError>
-    ensures { IfOk result (λ v. map entry_value v.items ≡ first.now ∷ second.now ∷ []) }
-{
-    let mut entries = Vec::new(alloc);
-    entries.push(entry_point(alloc, first)?)?;
-    entries.push(entry_point(alloc, second)?)?;
-    Ok(entries)
-}
-
 // A front end to which each text says the module of these.
 #[derive(Drop)]
 struct Malformed {
@@ -403,12 +159,32 @@ impl Backend for Malformed {
 
     ghost front = { λ p. record {
       parse = λ language text. Ok (record {
-        types = (type_row (record { name = None; inner = Scalar 1 }), p.items.type_span) ∷ (type_row (record { name = None; inner = Array p.items.base (Pending p.items.array_size) 4 }), p.items.type_span) ∷ [];
-        special_types = record { ray_desc = p.items.special; ray_intersection = p.items.other_special; ray_vertex_return = None; predeclared_types = [] };
-        constants = (constant_row (record { name = None; ty = p.items.constant.0; init = p.items.constant.1 }), p.items.constant_span) ∷ [];
+        types =
+            (type_row (record { name = None; inner = Scalar 1 }), p.items.type_span)
+            ∷ (
+              type_row (record { name = None; inner = Array p.items.base (Pending p.items.array_size) 4 }),
+              p.items.type_span,
+            ) ∷ [];
+        special_types = record {
+          ray_desc = p.items.special;
+          ray_intersection = p.items.other_special;
+          ray_vertex_return = None;
+          predeclared_types = [];
+        };
+        constants = (
+          constant_row (record { name = None; ty = p.items.constant.0; init = p.items.constant.1 }),
+          p.items.constant_span,
+        ) ∷ [];
         overrides = (override_row (record { name = None; id = None; ty = p.items.size; init = None }), p.items.size_span) ∷ [];
-        global_variables = (global_row (record { name = None; space = 1; binding = None; ty = p.items.global; init = None }), p.items.global_span) ∷ [];
-        global_expressions = (expr 0 (1 ∷ 7 ∷ []) Nothing [], p.items.value_span) ∷ (expr 1 [] (TypeOf p.items.zero) [], p.items.value_span) ∷ (expr 22 (0 ∷ []) Nothing (Some p.items.operand ∷ []), p.items.value_span) ∷ (expr 2 [] (ConstantAt 0) [], p.items.value_span) ∷ [];
+        global_variables = (
+          global_row (record { name = None; space = 1; binding = None; ty = p.items.global; init = None }),
+          p.items.global_span,
+        ) ∷ [];
+        global_expressions =
+            (expr 0 (1 ∷ 7 ∷ []) Nothing [], p.items.value_span)
+            ∷ (expr 1 [] (TypeOf p.items.zero) [], p.items.value_span)
+            ∷ (expr 22 (0 ∷ []) Nothing (Some p.items.operand ∷ []), p.items.value_span)
+            ∷ (expr 2 [] (ConstantAt 0) [], p.items.value_span) ∷ [];
         functions = (p.first, p.span) ∷ (p.second, p.span) ∷ [];
         entry_points = p.entry ∷ p.other ∷ [];
         diagnostic_filters = [];

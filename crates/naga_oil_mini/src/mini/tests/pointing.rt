@@ -1,11 +1,11 @@
-// A fault of a validator lies in the module of its last span, if that was built.
+// A fault of a validator lies in the module of its last span, if the make reached that.
 ghost use Rattle.std.specs.Prelude.{◌≡◌, [], ◌∷◌, IfOk, option_map, unwrap_or};
 ghost use Rattle.naga_oil_ir.specs.Backend.{valid_fault};
 
-use crate::mini::front::Mini;
 use naga_oil::compose::{
     ComposableModuleDescriptor, Composer, NagaModuleDescriptor, ShaderDefValue,
 };
+use naga_oil_front::Mini;
 use naga_oil_ir::{
     Backend, BackendRefusal, Capabilities, Module, ParseFault, ShaderLanguage, Span, ValidFault,
     WriteFault,
@@ -36,7 +36,7 @@ fn pointed(alloc: Global, span: Option<Span>) -> Result<ValidFault, AllocError>
 
 impl Backend for Pointing {
     ghost use Rattle.std.specs.Prelude.{[], ◌∷◌, ◌==◌, if◌then◌else◌, length, Ok, Err, option_map, unwrap_or};
-    ghost use Rattle.naga_oil_mini.specs.Front.{mini};
+    ghost use Rattle.naga_oil_front.specs.Front.{mini};
 
     ghost front = { λ p. record { parse = mini.parse; write = mini.write; valid = λ m capabilities. if length m.entry_points == 0 then Ok tt else Err (record { message = []; spans = unwrap_or (option_map (λ s. (s, []) ∷ []) p.span) []; notes = [] }) } };
 
@@ -160,5 +160,28 @@ fn lays_faults_to_what_the_first_reading_imports(rt: HostRuntime) -> Result<(), 
     adds(&rt, &mut composer, "c", "fn g() = 1", false)?;
     let top = "entry main = b::h()\n#ifndef K\nentry two = c::g()\n#endif";
     is_told(&rt, &mut composer, top, "at c:1:4")?;
+    Ok(())
+}
+
+// A module that an earlier make built, and this one doesn't reach, has no part in it.
+#[test]
+fn lays_no_faults_to_what_is_kept(rt: HostRuntime) -> Result<(), Fail> {
+    let span = Some(Span::new(4_194_304 + 29, 4_194_304 + 30));
+    let mut composer = Composer::new(rt.alloc(), Pointing { span });
+    adds(&rt, &mut composer, "b", "fn h() = 1", false)?;
+    adds(
+        &rt,
+        &mut composer,
+        "c",
+        "fn g() = 1\nfn k() = 1\nfn l() = 1",
+        false,
+    )?;
+    for (top, place) in [
+        ("entry main = c::g()", "at c:3:8"),
+        ("entry main = b::h()", "at top:1:4"),
+        ("entry main = c::g()", "at c:3:8"),
+    ] {
+        is_told(&rt, &mut composer, top, place)?;
+    }
     Ok(())
 }

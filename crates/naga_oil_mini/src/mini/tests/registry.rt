@@ -1,11 +1,11 @@
 // Modules added, found and removed, and why an add is refused.
 mod refused;
 
-use crate::mini::front::Mini;
 use naga_oil::compose::{
     Capabilities, ComposableModuleDescriptor, Composer, ImportDefinition, NagaModuleDescriptor,
     OwnedShaderDefs, ShaderDefValue, ShaderLanguage, ShaderType,
 };
+use naga_oil_front::Mini;
 use std::alloc::{AllocError, Global};
 use std::collections::BTreeMap;
 use std::process::Abort;

@@ -1,11 +1,11 @@
 // What each fault is told as.
 mod told;
 
-use crate::mini::front::Mini;
 use naga_oil::compose::{
     ComposableModuleDescriptor, Composer, ComposerError, ComposerErrorInner, EnsureImportsError,
     ErrSource, NagaModuleDescriptor, ShaderDefValue,
 };
+use naga_oil_front::Mini;
 use std::alloc::{AllocError, Global};
 use std::collections::BTreeMap;
 use std::process::Abort;

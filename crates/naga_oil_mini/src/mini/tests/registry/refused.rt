@@ -1,9 +1,9 @@
 // Where memory is refused, an answer is the one with ample memory, or want of memory, and what stands is as it was. So
 // these tests pass whichever allocation is refused.
-use crate::mini::front::Mini;
 use naga_oil::compose::{
     ComposableModuleDescriptor, Composer, ComposerError, ComposerErrorInner, ErrSource,
 };
+use naga_oil_front::Mini;
 use std::alloc::{AllocError, Global};
 
 const FIRST: &str = "#define_import_path a\nenable f16;\nfn f(x) = x + #K\r\n@binding(auto)";

@@ -1,10 +1,10 @@
 // Each variant of the faults of an error, told in a text of its own.
-use crate::mini::front::Mini;
 use naga_oil::compose::{
     Composer, ComposerError, ComposerErrorInner as Inner, ErrSource, ParseFault, ValidFault,
     WriteFault,
 };
 use naga_oil::redirect::RedirectError;
+use naga_oil_front::Mini;
 use naga_oil_ir::Span;
 use std::alloc::{AllocError, Global};
 use std::process::Abort;

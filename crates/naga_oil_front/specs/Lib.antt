@@ -1,0 +1,14 @@
+pub mod Names
+pub mod Symbols
+pub mod SymbolSplits
+pub mod Items
+pub mod Making
+pub mod Reader
+pub mod Refused
+pub mod NotWritten
+pub mod BodyReader
+pub mod Order
+pub mod Writer
+pub mod Valid
+pub mod Front
+pub mod MiniRows

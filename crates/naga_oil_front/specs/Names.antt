@@ -1,0 +1,18 @@
+-- Names in the order in which they were given.
+use Rattle.std.specs.Prelude.{ℕ, suc, List, [], ◌∷◌, map, Option, Some, None, option_map, bytes_eq, if◌then◌else◌}
+use Rattle.std.specs.Option.{option_or}
+use Rattle.std.specs.Borrow.{Bor}
+use Rattle.std.specs.HashMap.{HashMap, get_by}
+
+-- the place of a name, the last one where it was given again
+abbrev pub last_place : List ℕ → List (List ℕ) → Option ℕ
+last_place q [] = None
+last_place q (n ∷ ns) = option_or (option_map suc (last_place q ns)) (if bytes_eq n q then Some 0 else None)
+
+-- names as the code has them
+abbrev pub texts_of : List (Bor (List ℕ)) → List (List ℕ)
+texts_of ts = map (λ t. t.now) ts
+
+-- what a map has at a name
+abbrev pub place_in : {S : Type 0} → HashMap (Bor (List ℕ)) ℕ S → List ℕ → Option ℕ
+place_in m q = get_by (λ k. bytes_eq q k.now) m

@@ -1,0 +1,178 @@
+-- What a text of Mini says, line by line.
+use Rattle.std.specs.Prelude.{◌≡◌, ℕ, ◌+◌, min, Bool, ◌||◌, ◌==◌, if◌then◌else◌, List, [], ◌∷◌, ◌++◌, length, map, Option, Some, None, unwrap_or, Result, Ok, Err, codes, bytes_eq, nat_eq}
+use Rattle.std.specs.List.{starts_with, list_any, slice_split, position_or_len, before_first, after_first}
+use Rattle.std.specs.Str.{trim_start}
+use Rattle.std.specs.Str.Lines.{strip_carriage_return}
+use Rattle.naga_oil_ir.specs.Parts.{Parts}
+use Rattle.naga_oil_ir.specs.Rows.{Row, row, TypeKind, ConstantKind}
+use Rattle.naga_oil_ir.specs.Body.{Tokens}
+use Rattle.naga_oil_ir.specs.ModuleValue.{ModuleValue, FunctionValue, ArgumentValue, argument_value, EntryValue, no_items, module_value}
+use Rattle.naga_oil_ir.specs.Backend.{FaultValue}
+use Rattle.naga_oil_ir.specs.Spans.{undefined}
+use Rattle.naga_oil_ir.specs.declared.module.FunctionArgument.{FunctionArgument}
+use Rattle.naga_oil_ir.specs.declared.module.FunctionResult.{FunctionResult}
+use Rattle.naga_oil_ir.specs.declared.names.ItemPlace.TheVariants.{TypeItem, ExpressionItem}
+use Rattle.naga_oil_ir.specs.declared.span.Span.{Span}
+use Rattle.naga_oil_front.specs.Refused.{LineFault, not_understood, message, understood, ◌>>◌}
+use Rattle.naga_oil_front.specs.Symbols.{Symbol, name, opens, number, equals, comma, closes, symbols}
+use Rattle.naga_oil_front.specs.Making.{Scope, body, literal}
+use Rattle.naga_oil_front.specs.declared.reader.Reader.{Reader}
+
+-- ---- items
+-- the one type
+abbrev pub scalar : Row
+scalar = row (TypeKind 0) None (Some 1 ∷ []) [] []
+
+abbrev pub types : List (Row × Span)
+types = (scalar, undefined) ∷ []
+
+-- the module of no lines
+abbrev pub start : ModuleValue
+start = record no_items { types = types }
+
+abbrev pub name_of : Option (List ℕ) → List ℕ
+name_of n = unwrap_or n []
+
+-- the names of a module's constants and functions
+abbrev pub constant_names : ModuleValue → List (List ℕ)
+constant_names m = map (λ e. name_of e.0.label.name) m.constants
+
+abbrev pub function_names : ModuleValue → List (List ℕ)
+function_names m = map (λ e. name_of e.0.name) m.functions
+
+abbrev pub scope : ModuleValue → List (List ℕ) → Scope
+scope m ps = record { parameters = ps; constants = constant_names m; functions = function_names m }
+
+abbrev pub with_constant : List ℕ → ℕ → Span → ModuleValue → ModuleValue
+with_constant n v at m = record m {
+  global_expressions = m.global_expressions ++ (literal v, at) ∷ [];
+  constants = m.constants ++ (row ConstantKind (Some n) [] [] (Some (TypeItem 0) ∷ Some (ExpressionItem (length m.global_expressions)) ∷ []), at) ∷ [];
+}
+
+abbrev pub argument : List ℕ → ArgumentValue
+argument p = record { name = Some p; ty = 0; binding = None }
+
+abbrev pub arguments : List (List ℕ) → List ArgumentValue
+arguments ps = map argument ps
+
+abbrev pub outcome : Option FunctionResult
+outcome = Some (record { ty = 0; binding = None })
+
+-- a function of a name, with parameters, expressions and a body
+abbrev pub function_of : List ℕ → List (List ℕ) → List (Parts × Span) × Tokens → FunctionValue
+function_of n ps b = record { name = Some n; arguments = arguments ps; result = outcome; local_variables = []; expressions = b.0; named_expressions = []; body = b.1; diagnostic_filter_leaf = None }
+
+-- the function of a name, with parameters and what the end of a line makes
+abbrev pub function : List ℕ → List (List ℕ) → List Symbol → Span → ModuleValue → Result FunctionValue LineFault
+function n ps xs at m = body (scope m ps) at xs >> λ b. Ok (function_of n ps b)
+
+abbrev pub with_function : FunctionValue → Span → ModuleValue → ModuleValue
+with_function f at m = record m { functions = m.functions ++ (f, at) ∷ [] }
+
+-- an entry point of a name and a function
+abbrev pub entry_of : List ℕ → FunctionValue → EntryValue
+entry_of n f = record { name = n; stage = 2; early_depth_test = None; workgroup_size = 1 ∷ 1 ∷ 1 ∷ []; workgroup_size_overrides = None; function = f; mesh_info = None; task_payload = None }
+
+abbrev pub with_entry_point : EntryValue → ModuleValue → ModuleValue
+with_entry_point e m = record m { entry_points = m.entry_points ++ e ∷ [] }
+
+-- ---- lines, each behind its keyword
+-- parameters joined by `,` and the `)` behind them, and what follows
+abbrev pub parameters_from : List Symbol → Result (List (List ℕ) × List Symbol) LineFault
+parameters_from (name p ∷ closes ∷ ss) = Ok (p ∷ [], ss)
+parameters_from (name p ∷ comma ∷ ss) = parameters_from ss >> λ r. Ok (p ∷ r.0, r.1)
+parameters_from ss = Err not_understood
+
+-- the same, or the `)` alone
+abbrev pub read_parameters : List Symbol → Result (List (List ℕ) × List Symbol) LineFault
+read_parameters (closes ∷ ss) = Ok ([], ss)
+read_parameters ss = parameters_from ss
+
+-- `NAME = INT`
+abbrev pub constant_line : List Symbol → Span → ModuleValue → Result ModuleValue LineFault
+constant_line (name n ∷ equals ∷ number v ∷ []) at m = Ok (with_constant n v at m)
+constant_line xs at m = Err not_understood
+
+-- the function of a name and the symbols behind its `(`
+abbrev pub declared : List ℕ → List Symbol → Span → ModuleValue → Result FunctionValue LineFault
+declared n xs at m = read_parameters xs >> λ p. function n p.0 p.1 at m
+
+-- `NAME(P, ..) = EXPR` and `NAME(P, ..)`
+abbrev pub function_line : List Symbol → Span → ModuleValue → Result ModuleValue LineFault
+function_line (opens n ∷ xs) at m = declared n xs at m >> λ f. Ok (with_function f at m)
+function_line xs at m = Err not_understood
+
+-- `NAME = EXPR`
+abbrev pub entry_line : List Symbol → Span → ModuleValue → Result ModuleValue LineFault
+entry_line (name n ∷ x ∷ xs) at m = function n [] (x ∷ xs) at m >> λ f. Ok (with_entry_point (entry_of n f) m)
+entry_line xs at m = Err not_understood
+
+-- a module with the item of a line's symbols more
+abbrev pub with_item : List ℕ → List Symbol → Span → ModuleValue → Result ModuleValue LineFault
+with_item k xs at m =
+    if bytes_eq k (codes "const") then constant_line xs at m
+    else (if bytes_eq k (codes "fn") then function_line xs at m
+    else (if bytes_eq k (codes "entry") then entry_line xs at m else Err not_understood))
+
+abbrev pub with_symbols : Span → ModuleValue → List Symbol → Result ModuleValue LineFault
+with_symbols at m (name k ∷ xs) = with_item k xs at m
+with_symbols at m xs = Err not_understood
+
+-- what lines that are skipped begin with
+abbrev pub marks : List (List ℕ)
+marks = codes "#" ∷ codes "//" ∷ codes "enable " ∷ codes "requires " ∷ codes "diagnostic(" ∷ []
+
+-- a line is skipped: it is blank, or its first text that isn't white space is one of the marks
+abbrev pub is_skipped : List ℕ → Bool
+is_skipped line = (length (trim_start line) == 0) || list_any (λ mark. starts_with nat_eq (trim_start line) mark) marks
+
+-- a module with the item of a line more
+unfoldable pub with_line : List ℕ → Span → ModuleValue → Result ModuleValue LineFault
+with_line line at m = if is_skipped line then Ok m else understood (symbols line) >> with_symbols at m
+
+-- ---- texts
+-- a place in a text, which ends at the greatest u32
+abbrev pub capped : ℕ → ℕ
+capped k = min k 4294967295
+
+-- the span of a line that begins at a place
+abbrev pub span_at : ℕ → List ℕ → Span
+span_at at line = record { start = capped at; end = capped (at + length line) }
+
+-- the lines of what stands between `\n`s, each with its place: a `\r` before a `\n` is no part of its line, but its
+-- byte counts in the places behind it, and nothing behind the last `\n` is no line
+abbrev pub placed : ℕ → List (List ℕ) → List (ℕ × List ℕ)
+placed at [] = []
+placed at (part ∷ []) = if length part == 0 then [] else (at, part) ∷ []
+placed at (part ∷ more ∷ parts) = (at, strip_carriage_return part) ∷ placed (at + length part + 1) (more ∷ parts)
+
+-- the lines of a text whose first byte has a place
+abbrev pub placed_lines : ℕ → List ℕ → List (ℕ × List ℕ)
+placed_lines at text = placed at (slice_split (λ b. b == 10) text)
+
+-- a fault of a line: its span, with an empty text, and no notes
+abbrev pub fault_at : Span → LineFault → FaultValue
+fault_at at f = record { message = message f; spans = (at, []) ∷ []; notes = [] }
+
+-- a module with the items of placed lines more; the first line with a fault is answered
+abbrev pub with_lines : List (ℕ × List ℕ) → ModuleValue → Result ModuleValue FaultValue
+with_lines [] m = Ok m
+with_lines (l ∷ ls) m = elim (with_line l.1 (span_at l.0 l.1) m) [ Ok n ↦ with_lines ls n | Err f ↦ Err (fault_at (span_at l.0 l.1) f) ]
+
+-- what a text says
+unfoldable pub parsed : List ℕ → Result ModuleValue FaultValue
+parsed text = with_lines (placed_lines 0 text) start
+
+-- ---- as the code has them
+-- a text's first line and what is behind its end
+abbrev pub first_line : List ℕ → List ℕ × List ℕ
+first_line text =
+    if position_or_len (λ b. b == 10) text == length text then (text, [])
+    else (strip_carriage_return (before_first (λ b. b == 10) text), after_first (λ b. b == 10) text)
+
+abbrev pub arguments_of : List FunctionArgument → List ArgumentValue
+arguments_of xs = map argument_value xs
+
+-- the maps of names are those of the module
+abbrev pub Knows : Reader → Type 0
+Knows r = (r.constants ≡ constant_names (module_value r.module_)) × (r.functions ≡ function_names (module_value r.module_))

@@ -1,0 +1,277 @@
+// What a text says, line by line.
+ghost use Rattle.std.specs.Prelude.{◌≡◌, OnOk, IfOk, map};
+ghost use Rattle.std.specs.List.{starts_with};
+ghost use Rattle.std.specs.Prelude.{nat_eq};
+ghost use Rattle.naga_oil_ir.specs.Rows.{type_row};
+ghost use Rattle.naga_oil_ir.specs.ModuleValue.{module_value, function_value};
+ghost use Rattle.naga_oil_ir.specs.Backend.{Answers, parse_fault};
+ghost use Rattle.naga_oil_front.specs.Symbols.{line_of};
+ghost use Rattle.naga_oil_front.specs.Refused.{Gives, Faults};
+ghost use Rattle.naga_oil_front.specs.Reader as spec;
+
+use crate::making::{Scope, made};
+use crate::names::Names;
+use crate::symbol::{Refusal, Symbol, symbols};
+use indexmap::IndexMap;
+use naga_oil_ir::{
+    Arena, BackendRefusal, Constant, EntryPoint, Expression, Function, FunctionArgument,
+    FunctionResult, Index, Module, ParseFault, Span, Type, TypeInner,
+};
+use std::alloc::{AllocError, Global};
+
+// The module of the lines that were read, the names of its constants and functions, and the span of the line that is
+// read.
+#[derive(Drop)]
+struct Reader<'a> {
+    alloc: Global,
+    span: Span,
+    module_: Module,
+    constants: Names<'a>,
+    functions: Names<'a>,
+}
+
+#[tactic(auto, using(std::proofs::lemmas::Str::Pattern::starts_text))]
+fn begins(text: &str, mark: &str) -> bool
+    ensures { result ≡ starts_with nat_eq text.now mark.now }
+{
+    text.starts_with(mark)
+}
+
+fn is_skipped(line: &str) -> bool
+    ensures { result ≡ spec.is_skipped line.now }
+{
+    let text = line.trim_start();
+    let marks = ["#", "//", "enable ", "requires ", "diagnostic("];
+    text.is_empty() || marks.iter().any(|mark| begins(text, mark))
+}
+
+// The parameters that a line's symbols begin with, up to `)`, and what follows.
+fn read_parameters<'s, 'a>(
+    alloc: Global,
+    symbols: &'s [Symbol<'a>],
+) -> Result<(Names<'a>, &'s [Symbol<'a>]), Refusal<'a>>
+    ensures { Gives (λ r. (r.0, line_of r.1.now)) result (spec.read_parameters (line_of symbols.now)) }
+{
+    let mut names = Names::new(alloc);
+    if let [Symbol::Closes, rest @ ..] = symbols {
+        return Ok((names, rest));
+    }
+    let mut rest = symbols;
+    while let [Symbol::Name(name), Symbol::Comma, more @ ..] = rest {
+        names.push(name)?;
+        rest = more;
+    }
+    let [Symbol::Name(name), Symbol::Closes, rest @ ..] = rest else {
+        return Err(Refusal::NotUnderstood);
+    };
+    names.push(name)?;
+    Ok((names, rest))
+}
+
+fn arguments(alloc: Global, parameters: &Names<'_>) -> Result<Vec<FunctionArgument>, AllocError>
+    ensures { IfOk result (λ v. spec.arguments_of v.items ≡ spec.arguments parameters.now) }
+{
+    let mut arguments = Vec::new(alloc);
+    for parameter in parameters.texts() {
+        let name = String::from_str(alloc, *parameter)?;
+        arguments.push(FunctionArgument {
+            name: Some(name),
+            ty: Index::new(0),
+            binding: None,
+        })?;
+    }
+    Ok(arguments)
+}
+
+impl<'a> Reader<'a> {
+    fn new(alloc: Global) -> Result<Reader<'a>, AllocError>
+        ensures value { IfOk result (λ r. module_value r.module_ ≡ spec.start) }
+        ensures known { IfOk result spec.Knows }
+    {
+        let mut module_ = Module::new(alloc);
+        let inner = TypeInner::Scalar(1);
+        let ty = Type { name: None, inner };
+        module_.types.insert(ty, Span::UNDEFINED)?;
+        Ok(Reader {
+            alloc,
+            span: Span::UNDEFINED,
+            module_,
+            constants: Names::new(alloc),
+            functions: Names::new(alloc),
+        })
+    }
+
+    // `NAME = INT`
+    fn add_constant(&mut self, symbols: &[Symbol<'a>]) -> Result<(), Refusal<'a>>
+        requires known { spec.Knows self.old }
+        ensures value { Gives (λ _. module_value self.new.module_) result (spec.constant_line (line_of symbols.now) self.old.span (module_value self.old.module_)) }
+        ensures known { OnOk result (spec.Knows self.new) }
+    {
+        let &[Symbol::Name(name), Symbol::Equals, Symbol::Number(bits)] = symbols else {
+            return Err(Refusal::NotUnderstood);
+        };
+        let literal = Expression::Literal { kind: 1, bits };
+        let init = self.module_.global_expressions.append(literal, self.span)?;
+        let ty = Index::new(0);
+        let name_text = Some(String::from_str(self.alloc, name)?);
+        let constant = Constant {
+            name: name_text,
+            ty,
+            init,
+        };
+        self.module_.constants.append(constant, self.span)?;
+        Ok(self.constants.push(name)?)
+    }
+
+    // The function of a name, with parameters and the body that the end of a line says.
+    fn function(
+        &self,
+        name: &str,
+        parameters: &Names<'a>,
+        body: &[Symbol<'a>],
+    ) -> Result<Function, Refusal<'a>>
+        requires known { spec.Knows self.now }
+        ensures { Gives function_value result (spec.function name.now parameters.now (line_of body.now) self.now.span (module_value self.now.module_)) }
+    {
+        let scope = Scope {
+            parameters,
+            constants: &self.constants,
+            functions: &self.functions,
+        };
+        let name = Some(String::from_str(self.alloc, name)?);
+        let arguments = arguments(self.alloc, parameters)?;
+        let (expressions, body) = made(self.alloc, scope, self.span, body)?;
+        Ok(Function {
+            name,
+            arguments,
+            result: Some(FunctionResult {
+                ty: Index::new(0),
+                binding: None,
+            }),
+            local_variables: Arena::new(self.alloc),
+            expressions,
+            named_expressions: IndexMap::new(self.alloc),
+            body,
+            diagnostic_filter_leaf: None,
+        })
+    }
+
+    // `NAME(P, ..) = EXPR` or `NAME(P, ..)`
+    fn add_function(&mut self, symbols: &[Symbol<'a>]) -> Result<(), Refusal<'a>>
+        requires known { spec.Knows self.old }
+        ensures value { Gives (λ _. module_value self.new.module_) result (spec.function_line (line_of symbols.now) self.old.span (module_value self.old.module_)) }
+        ensures known { OnOk result (spec.Knows self.new) }
+    {
+        let [Symbol::Opens(name), rest @ ..] = symbols else {
+            return Err(Refusal::NotUnderstood);
+        };
+        let (parameters, body) = read_parameters(self.alloc, rest)?;
+        let function = self.function(name, &parameters, body)?;
+        self.module_.functions.append(function, self.span)?;
+        Ok(self.functions.push(name)?)
+    }
+
+    // `NAME = EXPR`
+    fn add_entry_point(&mut self, symbols: &[Symbol<'a>]) -> Result<(), Refusal<'a>>
+        requires known { spec.Knows self.old }
+        ensures value { Gives (λ _. module_value self.new.module_) result (spec.entry_line (line_of symbols.now) self.old.span (module_value self.old.module_)) }
+        ensures known { OnOk result (spec.Knows self.new) }
+    {
+        let [Symbol::Name(name), _, ..] = symbols else {
+            return Err(Refusal::NotUnderstood);
+        };
+        let entry_point = EntryPoint {
+            name: String::from_str(self.alloc, name)?,
+            stage: 2,
+            early_depth_test: None,
+            workgroup_size: [1, 1, 1],
+            workgroup_size_overrides: None,
+            function: self.function(name, &Names::new(self.alloc), &symbols[1..])?,
+            mesh_info: None,
+            task_payload: None,
+        };
+        Ok(self.module_.entry_points.push(entry_point)?)
+    }
+
+    // The item that symbols say.
+    fn add(&mut self, symbols: &[Symbol<'a>]) -> Result<(), Refusal<'a>>
+        requires known { spec.Knows self.old }
+        ensures value { Gives (λ _. module_value self.new.module_) result (spec.with_symbols self.old.span (module_value self.old.module_) (line_of symbols.now)) }
+        ensures known { OnOk result (spec.Knows self.new) }
+    {
+        match symbols {
+            [Symbol::Name("const"), rest @ ..] => self.add_constant(rest),
+            [Symbol::Name("fn"), rest @ ..] => self.add_function(rest),
+            [Symbol::Name("entry"), rest @ ..] => self.add_entry_point(rest),
+            _ => Err(Refusal::NotUnderstood),
+        }
+    }
+
+    // One line more.
+    #[tactic(auto, unfolding(crate::specs::Reader::with_line))]
+    fn read(&mut self, line: &'a str) -> Result<(), Refusal<'a>>
+        requires known { spec.Knows self.old }
+        ensures value { Gives (λ _. module_value self.new.module_) result (spec.with_line line.now self.old.span (module_value self.old.module_)) }
+        ensures known { OnOk result (spec.Knows self.new) }
+    {
+        if is_skipped(line) {
+            return Ok(());
+        }
+        let symbols = symbols(self.alloc, line)?;
+        self.add(&symbols)
+    }
+}
+
+// The fault of the line at a span.
+fn fault_at(alloc: Global, refusal: Refusal<'_>, span: Span) -> Result<ParseFault, AllocError>
+    ensures { IfOk result (λ p. Faults refusal.entry (λ f. parse_fault p ≡ spec.fault_at span f)) }
+{
+    let message = match refusal {
+        Refusal::NotUnderstood => String::from_str(alloc, "line not understood")?,
+        Refusal::Unknown(name) => format!(in alloc; "unknown name {name}")?,
+        Refusal::Memory => return Err(AllocError),
+    };
+    Ok(ParseFault {
+        message,
+        spans: vec![in alloc; (span, String::new(alloc))]?,
+        notes: Vec::new(alloc),
+    })
+}
+
+// A text's first line, without its end, and what is behind.
+fn first_line(text: &str) -> (&str, &str)
+    ensures { (result.0.now, result.1.now) ≡ spec.first_line text.now }
+{
+    match text.split_once('\n') {
+        Some((line, rest)) => (line.strip_suffix('\r').unwrap_or(line), rest),
+        None => (text, ""),
+    }
+}
+
+// A place in a text, which ends at the greatest `u32`.
+fn place(bytes: usize) -> u32
+    ensures { result ≡ spec.capped bytes }
+{
+    u32::try_from(bytes).unwrap_or(u32::MAX)
+}
+
+/// What a text says.
+#[tactic(auto, unfolding(crate::specs::Reader::parsed))]
+pub fn parsed(alloc: Global, text: &str) -> Result<Module, BackendRefusal<ParseFault>>
+    ensures { Answers module_value parse_fault result (spec.parsed text.now) }
+{
+    let mut reader = Reader::new(alloc)?;
+    let mut rest = text;
+    while !rest.is_empty() {
+        let (line, behind) = first_line(rest);
+        let start = text.len() - rest.len();
+        let span = Span::new(place(start), place(start + line.len()));
+        reader.span = span;
+        if let Err(refusal) = reader.read(line) {
+            let fault = fault_at(alloc, refusal, span)?;
+            return Err(BackendRefusal::Fault(fault));
+        }
+        rest = behind;
+    }
+    Ok(reader.module_)
+}

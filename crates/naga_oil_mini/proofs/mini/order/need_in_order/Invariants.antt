@@ -1,6 +1,0 @@
-use Rattle.std.proofs.Common.{◌≡◌, ◌++◌, take, drop}
-use Rattle.naga_oil_mini.specs.Order.{needing}
-use Rattle.naga_oil_mini.proofs.mini.order.need_in_order.Given as goal
-
-abbrev pub invariant-loop-line : goal.invariant-loop-line
-invariant-loop-line l = take l.line-index l.line-items ++ needing l.least (drop l.line-index l.line-items) ≡ needing 0 l.fn.lines
