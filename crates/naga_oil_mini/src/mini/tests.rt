@@ -1,15 +1,6 @@
 // Each answer of `oil`, at a reader and writers over memory.
-mod composing;
 mod examples;
-mod faults;
-mod front;
-mod keeping;
-mod keeping_many;
-mod malformed;
-mod pointing;
 mod projects;
-mod registry;
-mod reports;
 
 use super::oil;
 use std::alloc::{AllocError, Global};
