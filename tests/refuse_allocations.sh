@@ -1,38 +1,66 @@
 #!/bin/sh
-# Runs `oil` on a few inputs, and refuses one allocation after another. Each answer has to be the one with ample
-# memory, or the line `error: out of memory` with status 1 and no output.
-# Needs a C compiler, and a loader that knows LD_PRELOAD.
+# Runs `oil` on a few inputs, and refuses one allocation after another, alone and with all behind it. Each answer has to be the
+# one with ample memory, or the line `error: out of memory` with status 1 and no output. Then the same of a list of commands in one
+# composer, whose replies have to be those of its commands done one after another where at most one found no memory; and calls that
+# take no memory are done while every allocation is refused (`naga_oil_scarce`).
+# Needs a C compiler, and a loader that knows LD_PRELOAD. The programs are OIL and SCARCE of the environment, else those that `oil`
+# and `rt run` build.
 root=$(CDPATH='' cd -- "$(dirname -- "$0")/.." && pwd) || exit 1
-program=$root/crates/naga_oil_mini/out/naga_oil_mini
+program=${OIL:-$root/crates/naga_oil_mini/out/naga_oil_mini}
+scarce=${SCARCE:-$root/crates/naga_oil_scarce/out/naga_oil_scarce}
 # A call with no words builds the program, where it isn't built yet.
 [ -x "$program" ] || "$root/oil" > /dev/null
 if [ ! -x "$program" ]; then
     "$root/oil"
     exit 1
 fi
+[ -x "$scarce" ] || (cd "$root/crates/naga_oil_scarce" && rt run -- commands) > /dev/null
+if [ ! -x "$scarce" ]; then
+    echo "refuse_allocations.sh: there is no program $scarce" >&2
+    exit 1
+fi
 folder=$(mktemp -d) || exit 1
 trap 'rm -rf "$folder"' EXIT
 
 cat > "$folder/refuse.c" <<'END'
-/* Refuses the allocation of this number, and then makes a file to say that it came to that. */
+/* Refuses the allocation of this number, with REFUSED_REST also those behind it, and makes a file to say that it came to that. Of a
+   program that writes `without memory` it refuses each one until that writes something else, with number 0, and makes another file
+   then. */
 #define _GNU_SOURCE
 #include <dlfcn.h>
 #include <errno.h>
 #include <fcntl.h>
 #include <stdlib.h>
+#include <string.h>
 #include <unistd.h>
 
 static long allocations;
+static int is_without_memory;
 
 static int is_refused(void)
 {
     const char *wanted = getenv("REFUSED_ALLOCATION");
     const char *told = getenv("REFUSED_FILE");
-    if (!wanted || !told || ++allocations != atol(wanted))
+    if (!wanted || !told)
+        return 0;
+    allocations++;
+    if (!(atol(wanted) ? allocations == atol(wanted) || (allocations > atol(wanted) && getenv("REFUSED_REST")) : is_without_memory))
         return 0;
     close(open(told, O_CREAT | O_WRONLY, 0600));
     errno = ENOMEM;
     return 1;
+}
+
+ssize_t write(int file, const void *text, size_t size)
+{
+    static const char start[] = "without memory";
+    static ssize_t (*next)(int, const void *, size_t);
+    if (!next)
+        next = dlsym(RTLD_NEXT, "write");
+    is_without_memory = size >= strlen(start) && !memcmp(text, start, strlen(start));
+    if (is_without_memory && getenv("BEGUN_FILE"))
+        close(open(getenv("BEGUN_FILE"), O_CREAT | O_WRONLY, 0600));
+    return next(file, text, size);
 }
 
 void *malloc(size_t size)
@@ -94,6 +122,17 @@ is_want_of_memory() {
     [ "$1" -eq 1 ] && [ ! -s "$folder/now.out" ] && [ "$(cat "$folder/now.err")" = 'error: out of memory' ]
 }
 
+# Runs words with one allocation refused; says whether it came to that.
+run_refused() {
+    number=$1
+    shift
+    rm -f "$folder/refused"
+    LD_PRELOAD=$folder/refuse.so REFUSED_ALLOCATION=$number REFUSED_FILE=$folder/refused BEGUN_FILE=$folder/begun \
+        "$@" > "$folder/now.out" 2> "$folder/now.err"
+    status=$?
+    [ -e "$folder/refused" ]
+}
+
 # One input: its name, the status that it has with ample memory, and the words behind `oil`.
 refuse_each() {
     name=$1
@@ -105,18 +144,16 @@ refuse_each() {
     cp "$folder/ample.err" "$folder/now.err"
     [ "$ample" -eq "$expected" ] || wrong_answer "$name" none "$ample"
     allocation=1
-    while :; do
-        rm -f "$folder/refused"
-        LD_PRELOAD=$folder/refuse.so REFUSED_ALLOCATION=$allocation REFUSED_FILE=$folder/refused \
-            "$program" "$@" > "$folder/now.out" 2> "$folder/now.err"
-        status=$?
-        if [ ! -e "$folder/refused" ]; then
-            is_ample_answer "$status" || wrong_answer "$name" none "$status"
-            break
-        fi
+    while run_refused $allocation "$program" "$@"; do
         is_ample_answer "$status" || is_want_of_memory "$status" || wrong_answer "$name" "$allocation" "$status"
+        REFUSED_REST=yes
+        export REFUSED_REST
+        run_refused $allocation "$program" "$@"
+        unset REFUSED_REST
+        is_ample_answer "$status" || is_want_of_memory "$status" || wrong_answer "$name" "$allocation and the rest" "$status"
         allocation=$((allocation + 1))
     done
+    is_ample_answer "$status" || wrong_answer "$name" none "$status"
     echo "$name: $((allocation - 1)) allocations refused"
     refused=$((refused + allocation - 1))
 }
@@ -249,6 +286,88 @@ refuse_each 'a function that is not virtual' 1 make top.txt plain.txt b.txt +b
 refuse_each 'overrides in a circle' 1 make top.txt a.txt turning.txt +b
 refuse_each 'a shader that is not valid' 1 make wrong.txt a.txt
 refuse_each 'a module that is not read' 1 make top.txt a.txt b.txt wrong.txt
+
+# ---- Commands in one composer: a module is added, shaders are made of it without X, with X, with X and Y and with X, it is removed,
+# added again, and a shader is made with X. Then one more is made with X.
+with='made: "fn gX_naga_oil_mod_XNUX() = 1\nentry main = gX_naga_oil_mod_XNUX()\n"'
+without='made: "fn gX_naga_oil_mod_XNUX() = 2\nentry main = gX_naga_oil_mod_XNUX()\n"'
+missing='not made: ImportNotFound("m", 13) from 0'
+unmade='not made: Memory from 0'
+unadded='not added: Memory'
+outcomes=0
+
+# What may be told: which command found no memory, where the module stands then, how many builds were kept, the shader that is made
+# behind that, and the replies.
+outcome() {
+    outcomes=$((outcomes + 1))
+    echo "$1" > "$folder/outcome.$outcomes.name"
+    place=$2
+    builds=$3
+    again=$4
+    shift 4
+    {
+        echo commands
+        printf '%s\n' "$@"
+        echo "m at $place, counter 0, $builds builds"
+        printf '%s\n' "$again"
+    } > "$folder/outcome.$outcomes"
+}
+
+added='added: 1'
+outcome 'no command' 'Some(1)' 3 "$with" "$added" "$without" "$with" "$with" "$with" removed "$added" "$with"
+outcome 'the run itself' None 0 "$missing" 'no replies: Memory'
+outcome 'the first command' 'Some(1)' 1 "$with" "$unadded" "$missing" "$missing" "$missing" "$missing" removed "$added" "$with"
+outcome 'the second command' 'Some(1)' 2 "$with" "$added" "$unmade" "$with" "$with" "$with" removed "$added" "$with"
+outcome 'the second command, once it was built' 'Some(1)' 3 "$with" "$added" "$unmade" "$with" "$with" "$with" removed "$added" "$with"
+outcome 'the third command' 'Some(1)' 3 "$with" "$added" "$without" "$unmade" "$with" "$with" removed "$added" "$with"
+outcome 'the fourth command' 'Some(1)' 3 "$with" "$added" "$without" "$with" "$unmade" "$with" removed "$added" "$with"
+outcome 'the fifth command' 'Some(1)' 3 "$with" "$added" "$without" "$with" "$with" "$unmade" removed "$added" "$with"
+outcome 'the sixth command' 'Some(1)' 3 "$with" "$added" "$without" "$with" "$with" "$with" 'not removed: Memory' "$added" "$with"
+outcome 'the seventh command' None 2 "$missing" "$added" "$without" "$with" "$with" "$with" removed "$unadded" "$missing"
+outcome 'the last command' 'Some(1)' 2 "$with" "$added" "$without" "$with" "$with" "$with" removed "$added" "$unmade"
+outcome 'the last command, once it was built' 'Some(1)' 3 "$with" "$added" "$without" "$with" "$with" "$with" removed "$added" "$unmade"
+outcome 'the make behind the run' 'Some(1)' 3 "$unmade" "$added" "$without" "$with" "$with" "$with" removed "$added" "$with"
+
+# Whether what was told is one of these; notes which.
+is_outcome() {
+    [ "$status" -eq 0 ] || return 1
+    number=1
+    while [ "$number" -le "$outcomes" ]; do
+        if cmp -s "$folder/now.out" "$folder/outcome.$number"; then
+            cat "$folder/outcome.$number.name" >> "$folder/told"
+            return 0
+        fi
+        number=$((number + 1))
+    done
+    return 1
+}
+
+# Whether there was no memory to make the commands, or to tell the replies, which are then those with ample memory.
+is_untold() {
+    [ "$status" -eq 1 ] && [ "$(cat "$folder/now.err")" = 'error: out of memory' ] || return 1
+    head -c "$(wc -c < "$folder/now.out")" "$folder/outcome.1" | cmp -s - "$folder/now.out" || return 1
+    echo 'making the commands, or telling the replies' >> "$folder/told"
+}
+
+: > "$folder/told"
+allocation=1
+while run_refused $allocation "$scarce" commands; do
+    is_outcome || is_untold || wrong_answer 'commands' "$allocation" "$status"
+    allocation=$((allocation + 1))
+done
+[ "$status" -eq 0 ] && cmp -s "$folder/now.out" "$folder/outcome.1" || wrong_answer 'commands' none "$status"
+echo "commands: $((allocation - 1)) allocations refused, by what found no memory:"
+sort "$folder/told" | uniq -c
+refused=$((refused + allocation - 1))
+
+# ---- Calls that take no memory, where every allocation is refused.
+rm -f "$folder/begun"
+printf 'without memory\nwith memory\neach call answered: true\n' > "$folder/ample.out"
+if run_refused 0 "$scarce" calls || [ ! -e "$folder/begun" ] || [ "$status" -ne 0 ] || ! cmp -s "$folder/now.out" "$folder/ample.out"; then
+    wrong_answer 'calls that take no memory' every "$status"
+else
+    echo 'calls that take no memory: none asked for any'
+fi
 
 echo "$refused allocations refused, $wrong wrong"
 [ "$wrong" -eq 0 ]

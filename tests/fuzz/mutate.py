@@ -22,7 +22,7 @@ def collected(root):
     for folder, _, names in sorted(os.walk(os.path.join(root, "crates"))):
         for name in sorted(names):
             path = os.path.join(folder, name)
-            if name.endswith(".rt") and "/tests" in path:
+            if name.endswith(".rt") and "tests" in os.path.relpath(path, root):
                 found = LITERAL.findall(open(path, encoding="utf-8").read())
                 texts += [literal_text(text) for text in found]
     return [text for text in dict.fromkeys(texts) if re.search("[#\n\"/:]| = ", text) and len(text) < 5000]

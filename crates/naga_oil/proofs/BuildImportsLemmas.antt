@@ -48,7 +48,7 @@ held_imports s in_language text b c e =
 whole_imports : (s : Settings) (d : Definition) (bs : Builds) (text : List ℕ) (b : BuiltModule) (w : WholeText) → write_whole s d bs text b ≡ Ok w → w.built.imports ≡ b.imports
 unfolding write_whole
 whole_imports s d bs text b w e =
-    ends_with (functions_in bs b.imports b.decoration b.overriding text) (λ functions. write_heading s d bs b.imports >>= λ heading. Ok (whole functions heading)) (λ y. y.built.imports ≡ b.imports) (λ functions _ y k.
+    ends_with (functions_in s.override_any bs b.imports b.decoration b.overriding text) (λ functions. write_heading s d bs b.imports >>= λ heading. Ok (whole functions heading)) (λ y. y.built.imports ≡ b.imports) (λ functions _ y k.
     ends_with (write_heading s d bs b.imports) (λ heading. Ok (whole functions heading)) (λ y. y.built.imports ≡ b.imports) (λ heading _ y k. ap (λ (z : WholeText). z.built.imports) (is_ok (whole functions heading) y k)) y k) w e
   where
     whole : Functions → List ℕ → WholeText

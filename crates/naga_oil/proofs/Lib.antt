@@ -29,3 +29,9 @@ pub mod ForgetLemmas
 pub mod KeepsLemmas
 pub mod PlacesLemmas
 pub mod StoreNewLemmas
+pub mod BuiltOfLemmas
+pub mod FinishedLemmas
+pub mod EachBuiltLemmas
+pub mod SentDownLemmas
+pub mod FaithfulLemmas
+pub mod ChainsLaws

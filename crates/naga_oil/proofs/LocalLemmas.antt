@@ -178,34 +178,34 @@ module _ (bs cs : Builds) (differ : BuildsDiffer bs) (differ' : BuildsDiffer cs)
         by true h = h refl
         by false h = refl
 
-    override_alike : (decoration : List ℕ) (o : Overrides) (f : MarkedFunction) → with_override bs is decoration o f ≡ with_override cs is decoration o f
-    override_alike decoration o f = by (item_and_module f.name)
+    override_alike : (any : Bool) (decoration : List ℕ) (o : Overrides) (f : MarkedFunction) → with_override any bs is decoration o f ≡ with_override any cs is decoration o f
+    override_alike any decoration o f = by (item_and_module f.name)
       where
         told : List ℕ × List ℕ × List ℕ → Option BuiltModule → Overrides
         told p b = record {
           edits = marked_override o.edits f p.0;
           overriding = overridden o.overriding f.name (override_name p.0 p.1 decoration);
-          fault = option_or (unless_virtual p.2 p.0 f.place b) o.fault;
+          fault = option_or (unless_virtual any p.2 p.0 f.place b) o.fault;
         }
 
-        by : (q : Option (List ℕ × List ℕ × List ℕ)) → noted bs is decoration o f q ≡ noted cs is decoration o f q
+        by : (q : Option (List ℕ × List ℕ × List ℕ)) → noted any bs is decoration o f q ≡ noted any cs is decoration o f q
         by None = refl
         by (Some p) = ap (λ (b : Option BuiltModule). told p b) (imported_alike p.2)
 
-    functions_alike : (decoration : List ℕ) (overriding : Overriding) (text : List ℕ) → functions_in bs is decoration overriding text ≡ functions_in cs is decoration overriding text
+    functions_alike : (any : Bool) (decoration : List ℕ) (overriding : Overriding) (text : List ℕ) → functions_in any bs is decoration overriding text ≡ functions_in any cs is decoration overriding text
     unfolding functions_in
-    functions_alike decoration overriding text = ap (functions_told text) (each_alike (overrides_in text) (record { edits = virtual_edits text; overriding = overriding; fault = None }))
+    functions_alike any decoration overriding text = ap (functions_told text) (each_alike (overrides_in text) (record { edits = virtual_edits text; overriding = overriding; fault = None }))
       where
-        each_alike : (fs : List MarkedFunction) (o : Overrides) → with_overrides bs is decoration o fs ≡ with_overrides cs is decoration o fs
+        each_alike : (fs : List MarkedFunction) (o : Overrides) → with_overrides any bs is decoration o fs ≡ with_overrides any cs is decoration o fs
         each_alike [] o = refl
-        each_alike (f ∷ fs) o = ap (λ x. with_overrides bs is decoration x fs) (override_alike decoration o f) ∙ each_alike fs (with_override cs is decoration o f)
+        each_alike (f ∷ fs) o = ap (λ x. with_overrides any bs is decoration x fs) (override_alike any decoration o f) ∙ each_alike fs (with_override any cs is decoration o f)
 
     heading_alike : (s : Settings) (d : Definition) → write_heading s d bs is ≡ write_heading s d cs is
     heading_alike s d = ap (λ h. header_text s.front s.capabilities d.language h >>= λ header. Ok (first_lines d.language d.directives ++ header)) (links_alike.header bs cs is all)
 
   written_alike : (s : Settings) (d : Definition) (text : List ℕ) (b : BuiltModule) → ImportsAlike bs cs b.imports → write_whole s d bs text b ≡ write_whole s d cs text b
   unfolding write_whole
-  written_alike s d text b all = rw (functions_alike b.imports all b.decoration b.overriding text, heading_alike b.imports all s d) refl
+  written_alike s d text b all = rw (functions_alike b.imports all s.override_any b.decoration b.overriding text, heading_alike b.imports all s d) refl
 
   begun_alike : (d : Definition) (us : List Use) → UsesAlike bs cs us → begin_build bs d us ≡ begin_build cs d us
   begun_alike d us all = ap (λ (o : Overriding). record (nothing_built (decoration_of d) d.index) { imports = map (λ u. u.import) us; overriding = o }) (overriding_alike (map (λ u. u.import) us) (All-map (λ i. AlikeIn (reverse bs) (reverse cs) i.import) (λ u. u.import) us all) [])

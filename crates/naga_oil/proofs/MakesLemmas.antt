@@ -1,5 +1,5 @@
 -- What a make comes to, and its registered modules.
-use Rattle.std.proofs.Common.{◌≡◌, ◌≤◌, ◌+◌, ◌-◌, ◌∙◌, ℕ, List, [], length, min, Option, Some, None, MatchOption, Result, Ok, Err, refl, sym, ap, subst, inl, inr, arith}
+use Rattle.std.proofs.Common.{◌≡◌, ◌≤◌, ◌+◌, ◌-◌, ◌∙◌, ℕ, List, [], length, min, Option, Some, None, MatchOption, Result, Ok, Err, IfOk, refl, sym, ap, subst, inl, inr, arith}
 use Rattle.std.proofs.Math.Nat.{min-eq_left}
 use Rattle.naga_oil_ir.specs.Backend.{FrontEnd}
 use Rattle.naga_oil_ir.specs.ModuleValue.{ModuleValue, module_value}
@@ -13,16 +13,18 @@ use Rattle.naga_oil_registry.specs.Descriptor.{ShaderSource}
 use Rattle.naga_oil_link.specs.BuiltModule.{Builds}
 use Rattle.naga_oil_build.specs.Held.{Settings}
 use Rattle.naga_oil.specs.Answer.{make, answer}
+use Rattle.naga_oil.specs.Faithful.{ParsesModules, IsFaithful}
 use Rattle.naga_oil.specs.MakeDefs.{defs_of_text, defs_or_none, make_defs}
 use Rattle.naga_oil.specs.MakeView.{KeepsFirst, memory_nowhere}
 use Rattle.naga_oil.specs.Makes.{Makes, settings_of}
 use Rattle.naga_oil.specs.Outcome.{Outcome, Does, given, done_with}
-use Rattle.naga_oil.specs.Refused.{Place, Refused, refused_of, in_text, nowhere, place_of, placed, UnlessMemory}
+use Rattle.naga_oil.specs.Refused.{Place, Refused, refused_of, in_text, nowhere, place_of, placed, UnlessMemory, Answers}
 use Rattle.naga_oil.specs.State.{State}
 use Rattle.naga_oil.specs.Store.{Kept, keep_builds, count_kept}
 use Rattle.naga_oil.specs.declared.compose.error.ComposerError.{ComposerError}
 use Rattle.naga_oil.proofs.AddsLemmas.{IsRefusal, failed, unless_memory}
 use Rattle.naga_oil.proofs.DoesLemmas.{does_answers}
+use Rattle.naga_oil.proofs.FaithfulLemmas.{faithful}
 use Rattle.naga_oil.proofs.KeepsLemmas.{always}
 use Rattle.naga_oil.proofs.StoreKeyLemmas.{keeps_none}
 use Rattle.naga_oil.proofs.PlacedLemmas.{tells_on, tells_placed, answers_same}
@@ -59,6 +61,11 @@ module _ {B : Type 0} (front : B → FrontEnd) (old : State B) (m : ShaderSource
   abbrev behind : List ℕ × ℕ → Builds → Outcome ModuleValue Refused
   behind read = make (settings_of front old) old.registry m read.0
 
+  -- a module that is answered is faithful
+  made_faithful : (result : Result Module ComposerError) → ParsesModules (front old.front) → Answers module_value result (answer (settings_of front old) old.registry old.counter m).result → IfOk result (λ made. IsFaithful (settings_of front old) old.registry old.counter m (module_value made))
+  made_faithful (Ok made) modules e = faithful (settings_of front old) old.registry old.counter m (module_value made) modules e
+  made_faithful (Err e) modules h = tt
+
   -- the source isn't read
   pub makes_unread : (inner : ComposerErrorInner) (e : ComposerError) → old.builds ≤ 18446744073709551615 → IsRefusal inner e source_place → Fails inner (read_source old.counter m.source) → Makes front old m (Err e) old
   unfolding answer
@@ -73,6 +80,7 @@ module _ {B : Type 0} (front : B → FrontEnd) (old : State B) (m : ShaderSource
     kept = none_built (refused_of e) is;
     more = keeps_none old.kept;
     builds = counted_none old.builds old.kept fits;
+    faithful = λ modules. tt;
     rest = refl;
   }
     where
@@ -86,15 +94,17 @@ module _ {B : Type 0} (front : B → FrontEnd) (old : State B) (m : ShaderSource
   unfolding answer make_defs
   makes_read result text counter builds read does under more count first counts =
       let counted : counter ≡ counter_after old.counter m.source = ap (counter_behind old.counter) (sym read) in
+      let replies : Answers module_value result (answer (settings_of front old) old.registry old.counter m).result = answers_same module_value result (make (settings_of front old) old.registry m text []).result (answer (settings_of front old) old.registry old.counter m).result
+      (ap (λ (v : Result (List ℕ × ℕ) Fault). (done_with (given (placed source_place v) []) behind (placed source_place v)).result) read)
+      (does_answers module_value result builds (make (settings_of front old) old.registry m text []) does) in
       record {
-        reply = answers_same module_value result (make (settings_of front old) old.registry m text []).result (answer (settings_of front old) old.registry old.counter m).result
-            (ap (λ (v : Result (List ℕ × ℕ) Fault). (done_with (given (placed source_place v) []) behind (placed source_place v)).result) read)
-            (does_answers module_value result builds (make (settings_of front old) old.registry m text []) does);
+        reply = replies;
         counter = record { exact = always (λ e. fault_of e.inner) result (counter ≡ counter_after old.counter m.source) counted; either = inr counted };
         kept = unless_same refused_of result _ _ (λ h. h ∙ (λ i. keep_builds old.registry (defs_or_none (sym read i >>= λ read. defs_of_text old.registry m read.0)) old.kept (done_with (given (placed source_place (sym read i)) []) behind (placed source_place (sym read i))).builds))
             (does_builds module_value result builds (make (settings_of front old) old.registry m text []) (λ bs. more ≡ keep_builds old.registry (defs_or_none (defs_of_text old.registry m text)) old.kept bs) does first.kept_all);
         more = first.all;
         builds = counts;
+        faithful = λ modules. made_faithful result modules replies;
         rest = refl;
       }
 

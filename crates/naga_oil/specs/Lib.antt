@@ -2,7 +2,11 @@
 pub mod Addition
 pub mod AfreshLaw
 pub mod Answer
+pub mod CallsSent
 pub mod Chain
+pub mod Faithful
+mod FaithfulRows
+pub mod ChainsLaw
 pub mod Finish
 pub mod LocalLaw
 pub mod MakeDefs

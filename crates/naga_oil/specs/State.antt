@@ -17,14 +17,24 @@ pub record State (B : Type 0) : Type 0 where
   pub front : B
   pub validate : Bool
   pub capabilities : Capabilities
+  pub override_any : Bool
   pub registry : List Definition
   pub counter : ℕ
   pub kept : Kept
   pub builds : ℕ
 
 -- nothing is registered yet
-abbrev pub nothing_registered : {B : Type 0} → (front : B) → (validate : Bool) → Capabilities → State B
-nothing_registered front validate capabilities = record { front = front; validate = validate; capabilities = capabilities; registry = []; counter = 0; kept = []; builds = 0 }
+abbrev pub nothing_registered : {B : Type 0} → (front : B) → (validate : Bool) → Capabilities → (override_any : Bool) → State B
+nothing_registered front validate capabilities override_any = record {
+  front = front;
+  validate = validate;
+  capabilities = capabilities;
+  override_any = override_any;
+  registry = [];
+  counter = 0;
+  kept = [];
+  builds = 0;
+}
 
 -- the builds of a module that goes are forgotten, and those of all that reach it
 abbrev pub forget_with : List Definition → (name : List ℕ) → Kept → Kept

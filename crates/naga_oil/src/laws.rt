@@ -1,5 +1,6 @@
 //! What the builds of a make depend on.
 ghost use Rattle.naga_oil.specs.AfreshLaw.{AfreshLaw, ReadingLaw};
+ghost use Rattle.naga_oil.specs.ChainsLaw.{ChainsLaw, ComposedLaw};
 ghost use Rattle.naga_oil.specs.LocalLaw.{BuildLaw, FinishLaw, ImportLaw, LinkLaw};
 ghost use Rattle.naga_oil.specs.NewlyKeptLaw.{NewlyKeptLaw};
 ghost use Rattle.naga_oil.specs.ReachLaw.{ProjectionLaw, RegistryLaw};
@@ -50,4 +51,11 @@ pub fn kept_builds_stay()
 /// Of what a make builds, just what isn't kept is newly kept, each once, in the order of building.
 pub fn builds_are_kept_once()
     ensures { NewlyKeptLaw }
+{}
+
+/// Of the functions that override one, each calls the one before it, the first one the function itself, and all others, with
+/// the entry points, call the last, however many there are.
+pub fn calls_go_down_chains()
+    ensures chain { ChainsLaw }
+    ensures compose { ComposedLaw }
 {}

@@ -1,5 +1,5 @@
 -- What a text says of functions by keywords.
-use Rattle.std.proofs.Common.{◌≡◌, ℕ, List, Option, Some, None, option_map, MatchOption, Result, Ok, Err, refl, sym, ap, ◌∙◌}
+use Rattle.std.proofs.Common.{◌≡◌, Bool, ℕ, List, Option, Some, None, option_map, MatchOption, Result, Ok, Err, refl, sym, ap, ◌∙◌}
 use Rattle.std.specs.Prelude.{codes}
 use Rattle.naga_oil_lines.specs.Uses.{Import}
 use Rattle.naga_oil_pre.specs.Fault.{Fault}
@@ -43,21 +43,21 @@ module _ (told : Overrides) (edits : ℕ → Option ℕ) (more : Overriding) whe
   some_told x None e h = absurd cc
   some_told x (Some f) e h = let is : fault_of x ≡ Some f = cc in rw is (ap unless_fault_in (sym h))
 
-module _ (builds : Builds) (imports : List Import) (decoration : List ℕ) (overriding : Overriding) (text covered shown : List ℕ) (vs fs : List MarkedFunction) (none edits : ℕ → Option ℕ)
+module _ (any : Bool) (builds : Builds) (imports : List Import) (decoration : List ℕ) (overriding : Overriding) (text covered shown : List ℕ) (vs fs : List MarkedFunction) (none edits : ℕ → Option ℕ)
     (is_covered : covered ≡ covered_text text) (are_virtual : vs ≡ marked_in (codes "virtual") covered) (is_none : none ≡ (λ at. None)) (are_edits : edits ≡ blanked (codes "       ") none vs)
     (is_shown : shown ≡ with_edits edits covered) (are_marked : fs ≡ marked_in (codes "override") shown) where
   named : names_of vs ≡ names_of (virtuals_in text)
   named = ap names_of (are_virtual ∙ ap (marked_in (codes "virtual")) is_covered)
 
-  whole : with_overrides builds imports decoration (record { edits = edits; overriding = overriding; fault = None }) fs ≡ told_in builds imports decoration overriding text
+  whole : with_overrides any builds imports decoration (record { edits = edits; overriding = overriding; fault = None }) fs ≡ told_in any builds imports decoration overriding text
   whole =
       rw (are_marked, is_shown, are_edits, is_none, are_virtual, is_covered) refl
 
-  pub functions_ok : (next : ℕ → Option ℕ) (more : Overriding) → unless_fault_in (with_overrides builds imports decoration (record { edits = edits; overriding = overriding; fault = None }) fs) ≡ Ok (record { edits = next; overriding = more; fault = None })
-      → functions_in builds imports decoration overriding text ≡ Ok (record { virtuals = names_of vs; overriding = more; text = with_edits next text })
+  pub functions_ok : (next : ℕ → Option ℕ) (more : Overriding) → unless_fault_in (with_overrides any builds imports decoration (record { edits = edits; overriding = overriding; fault = None }) fs) ≡ Ok (record { edits = next; overriding = more; fault = None })
+      → functions_in any builds imports decoration overriding text ≡ Ok (record { virtuals = names_of vs; overriding = more; text = with_edits next text })
   unfolding functions_in
-  functions_ok next more e = told_ok text (told_in builds imports decoration overriding text) (record { edits = next; overriding = more; fault = None }) _ (ap unless_fault_in (sym whole) ∙ e) ∙ ap (λ (ns : List (List ℕ)). read_ok ns more (with_edits next text)) (sym named)
+  functions_ok next more e = told_ok text (told_in any builds imports decoration overriding text) (record { edits = next; overriding = more; fault = None }) _ (ap unless_fault_in (sym whole) ∙ e) ∙ ap (λ (ns : List (List ℕ)). read_ok ns more (with_edits next text)) (sym named)
 
-  pub functions_refused : (f : Fault) → unless_fault_in (with_overrides builds imports decoration (record { edits = edits; overriding = overriding; fault = None }) fs) ≡ Err f → functions_in builds imports decoration overriding text ≡ Err f
+  pub functions_refused : (f : Fault) → unless_fault_in (with_overrides any builds imports decoration (record { edits = edits; overriding = overriding; fault = None }) fs) ≡ Err f → functions_in any builds imports decoration overriding text ≡ Err f
   unfolding functions_in
-  functions_refused f e = told_err (told_in builds imports decoration overriding text) _ f _ (ap unless_fault_in (sym whole) ∙ e)
+  functions_refused f e = told_err (told_in any builds imports decoration overriding text) _ f _ (ap unless_fault_in (sym whole) ∙ e)

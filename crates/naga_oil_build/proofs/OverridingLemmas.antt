@@ -90,9 +90,9 @@ imported_then builds imports name e = rw e refl
 pub imported_else : (builds : Builds) (imports : List Import) (name : List ℕ) → list_any (λ i. bytes_eq i.import name) imports ≡ false → None ≡ imported_build builds imports name
 imported_else builds imports name e = rw e refl
 
--- an item that is virtual in a build, or isn't
-pub virtual_there : (module_name item : List ℕ) (place : ℕ) (b : BuiltModule) → is_among b.virtuals item ≡ true → unless_virtual module_name item place (Some b) ≡ None
-virtual_there module_name item place b e = rw e refl
+-- an item that may be overridden in a build, or may not
+pub virtual_there : (any : Bool) (module_name item : List ℕ) (place : ℕ) (b : BuiltModule) → (any || is_among b.virtuals item) ≡ true → unless_virtual any module_name item place (Some b) ≡ None
+virtual_there any module_name item place b e = rw e refl
 
-pub not_virtual_there : (module_name item : List ℕ) (place : ℕ) (b : BuiltModule) → is_among b.virtuals item ≡ false → unless_virtual module_name item place (Some b) ≡ Some (not_virtual item place)
-not_virtual_there module_name item place b e = rw e refl
+pub not_virtual_there : (any : Bool) (module_name item : List ℕ) (place : ℕ) (b : BuiltModule) → (any || is_among b.virtuals item) ≡ false → unless_virtual any module_name item place (Some b) ≡ Some (not_virtual item place)
+not_virtual_there any module_name item place b e = rw e refl

@@ -100,13 +100,13 @@ pub read_so : {E : Type 0} (r : Result (Option ComposerErrorInner) E) (value : O
 read_so (Ok x) value P p h = (value, h, p)
 read_so (Err e) value P p h = tt
 
-pub one_noted : (builds : Builds) (imports : List Import) (decoration : List ℕ) (edits next : ℕ → Option ℕ) (known more : Overriding) (f : MarkedFunction) (item code module_name : List ℕ) → item_and_module f.name ≡ Some (item, code, module_name)
+pub one_noted : (any : Bool) (builds : Builds) (imports : List Import) (decoration : List ℕ) (edits next : ℕ → Option ℕ) (known more : Overriding) (f : MarkedFunction) (item code module_name : List ℕ) → item_and_module f.name ≡ Some (item, code, module_name)
     → next ≡ marked_override edits f item → more ≡ overridden known f.name (override_name item code decoration) → (before : Option Fault)
-    → ◌≡◌ {A = Overrides} (record { edits = next; overriding = more; fault = option_or (override_fault builds imports module_name item f.place) before }) (with_override builds imports decoration (record { edits = edits; overriding = known; fault = before }) f)
-one_noted builds imports decoration edits next known more f item code module_name e p q before =
-    ap (λ (x : ℕ → Option ℕ). record { edits = x; overriding = more; fault = option_or (override_fault builds imports module_name item f.place) before }) p
-    ∙ ap (λ (x : Overriding). record { edits = marked_override edits f item; overriding = x; fault = option_or (override_fault builds imports module_name item f.place) before }) q
-    ∙ ap (noted builds imports decoration (record { edits = edits; overriding = known; fault = before }) f) (sym e)
+    → ◌≡◌ {A = Overrides} (record { edits = next; overriding = more; fault = option_or (override_fault any builds imports module_name item f.place) before }) (with_override any builds imports decoration (record { edits = edits; overriding = known; fault = before }) f)
+one_noted any builds imports decoration edits next known more f item code module_name e p q before =
+    ap (λ (x : ℕ → Option ℕ). record { edits = x; overriding = more; fault = option_or (override_fault any builds imports module_name item f.place) before }) p
+    ∙ ap (λ (x : Overriding). record { edits = marked_override edits f item; overriding = x; fault = option_or (override_fault any builds imports module_name item f.place) before }) q
+    ∙ ap (noted any builds imports decoration (record { edits = edits; overriding = known; fault = before }) f) (sym e)
 
 pub or_told : (fault last : Option ComposerErrorInner) (told known : Option Fault) → option_map fault_of fault ≡ option_map (λ f. Some f) told → option_map fault_of last ≡ option_map (λ f. Some f) known
     → option_map fault_of (option_or fault last) ≡ option_map (λ f. Some f) (option_or told known)

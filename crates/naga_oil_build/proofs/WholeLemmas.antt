@@ -23,11 +23,11 @@ abbrev pub with_functions : Functions → (offset : ℕ) → BuiltModule → Bui
 with_functions functions offset b = record b { virtuals = functions.virtuals; overriding = functions.overriding; offset = offset }
 
 module _ (s : Settings) (d : Definition) (builds : Builds) (text : List ℕ) (b : BuiltModule) where
-  pub whole_unread : (e : ComposerErrorInner) → Fails e (functions_in builds b.imports b.decoration b.overriding text) → Fails e (write_whole s d builds text b)
+  pub whole_unread : (e : ComposerErrorInner) → Fails e (functions_in s.override_any builds b.imports b.decoration b.overriding text) → Fails e (write_whole s d builds text b)
   unfolding write_whole
-  whole_unread e h = fails_on e (functions_in builds b.imports b.decoration b.overriding text) _ h
+  whole_unread e h = fails_on e (functions_in s.override_any builds b.imports b.decoration b.overriding text) _ h
 
-  module _ (functions : Functions) (read : functions_in builds b.imports b.decoration b.overriding text ≡ Ok functions) where
+  module _ (functions : Functions) (read : functions_in s.override_any builds b.imports b.decoration b.overriding text ≡ Ok functions) where
     pub whole_unheaded : (e : ComposerErrorInner) → Fails e (write_heading s d builds b.imports) → Fails e (write_whole s d builds text b)
     unfolding write_whole
     whole_unheaded e h = fails-through e (write_heading s d builds b.imports) _ h (λ f p. rw (read, p) refl)

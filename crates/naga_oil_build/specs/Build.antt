@@ -53,7 +53,7 @@ pub record WholeText : Type 0 where
 -- the functions of a text that others may override, and those that override others, are read; its heading is put before it
 unfoldable pub write_whole : Settings → Definition → Builds → (text : List ℕ) → BuiltModule → Result WholeText Fault
 write_whole s d builds text b = do
-  functions ← functions_in builds b.imports b.decoration b.overriding text
+  functions ← functions_in s.override_any builds b.imports b.decoration b.overriding text
   heading ← write_heading s d builds b.imports
   Ok (record {
     text = heading ++ functions.text;

@@ -13,7 +13,7 @@ use Rattle.naga_oil_build.specs.declared.builder.Unbuilt.{Unbuilt as CodeUnbuilt
 
 -- the settings of a builder
 abbrev pub settings_in : {B : Type 0} → (front : B → FrontEnd) → Builder B → Settings
-settings_in front b = settings (front b.front.now) b.capabilities b.validate
+settings_in front b = settings (front b.front.now) b.capabilities b.validate b.override_any
 
 -- a whole text, and what was built of it
 abbrev pub whole_with : ComposableModule → String Global → WholeText

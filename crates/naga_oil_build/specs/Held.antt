@@ -19,9 +19,16 @@ pub record Settings : Type 0 where
   pub front : FrontEnd
   pub capabilities : Capabilities
   pub validate : Bool
+  -- whether any function of what is imported may be overridden, and not only one that is virtual
+  pub override_any : Bool
 
-abbrev pub settings : FrontEnd → Capabilities → (validate : Bool) → Settings
-settings front capabilities validate = record { front = front; capabilities = capabilities; validate = validate }
+abbrev pub settings : FrontEnd → Capabilities → (validate override_any : Bool) → Settings
+settings front capabilities validate override_any = record {
+  front = front;
+  capabilities = capabilities;
+  validate = validate;
+  override_any = override_any;
+}
 
 -- ---- what a whole text says
 

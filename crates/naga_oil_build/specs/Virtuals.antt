@@ -1,5 +1,5 @@
 -- Functions that may be overridden, and those that override them, as a text says by keywords.
-use Rattle.std.specs.Prelude.{◌≡◌, ◌<◌, ℕ, Bool, not, ◌&&◌, ◌==◌, nat_eq, ◌+◌, ◌-◌, if◌then◌else◌, Option, Some, None, option_map, Result, Ok, Err, List, [], ◌∷◌, ◌++◌, length, take, drop, map, fold, bytes_eq, codes}
+use Rattle.std.specs.Prelude.{◌≡◌, ◌<◌, ℕ, Bool, not, ◌&&◌, ◌||◌, ◌==◌, nat_eq, ◌+◌, ◌-◌, if◌then◌else◌, Option, Some, None, option_map, Result, Ok, Err, List, [], ◌∷◌, ◌++◌, length, take, drop, map, fold, bytes_eq, codes}
 use Rattle.std.specs.List.{list_any, list_all, starts_with, ends_with}
 use Rattle.std.specs.Option.{option_or}
 use Rattle.std.specs.Str.{chars}
@@ -40,13 +40,14 @@ marked_override edits f item = put (put edits f.keyword (codes "        ")) (f.p
 abbrev pub imported_build : Builds → List Import → (module_name : List ℕ) → Option BuiltModule
 imported_build builds imports module_name = if list_any (λ i. bytes_eq i.import module_name) imports then build_named builds module_name else None
 
-abbrev pub unless_virtual : (module_name item : List ℕ) → (place : ℕ) → Option BuiltModule → Option Fault
-unless_virtual module_name item place None = Some (import_not_found module_name (place + length item + 16))
-unless_virtual module_name item place (Some b) = if is_among b.virtuals item then None else Some (not_virtual item place)
+abbrev pub unless_virtual : (any : Bool) → (module_name item : List ℕ) → (place : ℕ) → Option BuiltModule → Option Fault
+unless_virtual any module_name item place None = Some (import_not_found module_name (place + length item + 16))
+unless_virtual any module_name item place (Some b) = if any || is_among b.virtuals item then None else Some (not_virtual item place)
 
--- why an item of a module can't be overridden by a function whose name is at the place: the module isn't imported, or it isn't virtual there
-abbrev pub override_fault : Builds → List Import → (module_name item : List ℕ) → (place : ℕ) → Option Fault
-override_fault builds imports module_name item place = unless_virtual module_name item place (imported_build builds imports module_name)
+-- why an item of a module can't be overridden by a function whose name is at the place: the module isn't imported, or it isn't virtual
+-- there, and not any function may be overridden
+abbrev pub override_fault : (any : Bool) → Builds → List Import → (module_name item : List ℕ) → (place : ℕ) → Option Fault
+override_fault any builds imports module_name item place = unless_virtual any module_name item place (imported_build builds imports module_name)
 
 -- what stands before the last mark in a text, and behind it
 unfoldable pub around_last : (mark text : List ℕ) → Option (List ℕ × List ℕ)
@@ -75,21 +76,21 @@ pub record Overrides : Type 0 where
 abbrev pub item_and_module : List ℕ → Option (List ℕ × List ℕ × List ℕ)
 item_and_module name = item_and_code name >>= λ p. option_map (λ module_name. (p.0, p.1, module_name)) (decoded p.1)
 
-abbrev pub noted : Builds → List Import → (decoration : List ℕ) → Overrides → MarkedFunction → Option (List ℕ × List ℕ × List ℕ) → Overrides
-noted builds imports decoration o f None = o
-noted builds imports decoration o f (Some p) = record {
+abbrev pub noted : (any : Bool) → Builds → List Import → (decoration : List ℕ) → Overrides → MarkedFunction → Option (List ℕ × List ℕ × List ℕ) → Overrides
+noted any builds imports decoration o f None = o
+noted any builds imports decoration o f (Some p) = record {
   edits = marked_override o.edits f p.0;
   overriding = overridden o.overriding f.name (override_name p.0 p.1 decoration);
-  fault = option_or (override_fault builds imports p.2 p.0 f.place) o.fault;
+  fault = option_or (override_fault any builds imports p.2 p.0 f.place) o.fault;
 }
 
 -- the same with one function more, of which only one whose name is decorated overrides another
-abbrev pub with_override : Builds → List Import → (decoration : List ℕ) → Overrides → MarkedFunction → Overrides
-with_override builds imports decoration o f = noted builds imports decoration o f (item_and_module f.name)
+abbrev pub with_override : (any : Bool) → Builds → List Import → (decoration : List ℕ) → Overrides → MarkedFunction → Overrides
+with_override any builds imports decoration o f = noted any builds imports decoration o f (item_and_module f.name)
 
 -- the same with all of these
-abbrev pub with_overrides : Builds → List Import → (decoration : List ℕ) → Overrides → List MarkedFunction → Overrides
-with_overrides builds imports decoration o fs = fold (with_override builds imports decoration) o fs
+abbrev pub with_overrides : (any : Bool) → Builds → List Import → (decoration : List ℕ) → Overrides → List MarkedFunction → Overrides
+with_overrides any builds imports decoration o fs = fold (with_override any builds imports decoration) o fs
 
 -- ---- what a text says of functions by keywords
 -- the functions that may be overridden
@@ -104,8 +105,8 @@ virtual_edits text = blanked (codes "       ") (λ at. None) (virtuals_in text)
 abbrev pub overrides_in : (text : List ℕ) → List MarkedFunction
 overrides_in text = marked_in (codes "override") (with_edits (virtual_edits text) (covered_text text))
 
-abbrev pub told_in : Builds → List Import → (decoration : List ℕ) → Overriding → (text : List ℕ) → Overrides
-told_in builds imports decoration overriding text = with_overrides builds imports decoration (record { edits = virtual_edits text; overriding = overriding; fault = None }) (overrides_in text)
+abbrev pub told_in : (any : Bool) → Builds → List Import → (decoration : List ℕ) → Overriding → (text : List ℕ) → Overrides
+told_in any builds imports decoration overriding text = with_overrides any builds imports decoration (record { edits = virtual_edits text; overriding = overriding; fault = None }) (overrides_in text)
 
 -- the names of those that may be overridden, what is overridden by what, and the text without the keywords
 pub record Functions : Type 0 where
@@ -121,5 +122,5 @@ abbrev pub functions_told : (text : List ℕ) → Overrides → Result Functions
 functions_told text told = unless_fault told.fault (record { virtuals = names_of (virtuals_in text); overriding = told.overriding; text = with_edits told.edits text })
 
 -- the same of a text over what is imported, whose functions some override already, or the last fault
-unfoldable pub functions_in : Builds → List Import → (decoration : List ℕ) → Overriding → (text : List ℕ) → Result Functions Fault
-functions_in builds imports decoration overriding text = functions_told text (told_in builds imports decoration overriding text)
+unfoldable pub functions_in : (any : Bool) → Builds → List Import → (decoration : List ℕ) → Overriding → (text : List ℕ) → Result Functions Fault
+functions_in any builds imports decoration overriding text = functions_told text (told_in any builds imports decoration overriding text)

@@ -26,19 +26,19 @@ told_so edits overriding fault = record { edits = get nat_cmp edits; overriding 
 
 -- why an item can't be overridden, over what is imported
 abbrev pub fault_over : Over → (module_name item : List ℕ) → (place : ℕ) → Option Fault
-fault_over o module_name item place = override_fault (builds_of o.builds.now) (map import_of o.imports.now) module_name item place
+fault_over o module_name item place = override_fault o.override_any (builds_of o.builds.now) (map import_of o.imports.now) module_name item place
 
 -- one function more, over what is imported
 abbrev pub override_over : Over → Overrides → MarkedFunction → Overrides
-override_over o told f = with_override (builds_of o.builds.now) (map import_of o.imports.now) o.decoration.now told f
+override_over o told f = with_override o.override_any (builds_of o.builds.now) (map import_of o.imports.now) o.decoration.now told f
 
 -- several functions more, over what is imported
 abbrev pub overrides_over : Over → Overrides → List MarkedFunction → Overrides
-overrides_over o told fs = with_overrides (builds_of o.builds.now) (map import_of o.imports.now) o.decoration.now told fs
+overrides_over o told fs = with_overrides o.override_any (builds_of o.builds.now) (map import_of o.imports.now) o.decoration.now told fs
 
 -- what a text says of functions, over what is imported
 abbrev pub functions_over : Over → Overriding → (text : List ℕ) → Result Functions Fault
-functions_over o overriding text = functions_in (builds_of o.builds.now) (map import_of o.imports.now) o.decoration.now overriding text
+functions_over o overriding text = functions_in o.override_any (builds_of o.builds.now) (map import_of o.imports.now) o.decoration.now overriding text
 
 -- what was read of a text
 abbrev pub functions_with : {S : Type 0} → CodeOverriding S → BTreeSet (String Global) × String Global → Functions

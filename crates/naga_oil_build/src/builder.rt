@@ -24,6 +24,8 @@ pub struct Builder<'c, B: Backend> {
     pub front: &'c B,
     pub validate: bool,
     pub capabilities: Capabilities,
+    // Whether any function of what is imported may be overridden, and not only one that is virtual.
+    pub override_any: bool,
     pub builds: Builds,
 }
 
@@ -212,6 +214,7 @@ impl<B: Backend> Builder<'_, B> {
             builds: &self.builds,
             imports: &built.imports,
             decoration: built.decorated_name.as_str(),
+            override_any: self.override_any,
         };
         let overriding = &mut built.override_functions;
         let (virtuals, text) = read_functions(self.alloc, text, over, overriding)?;
@@ -241,7 +244,7 @@ impl<B: Backend> Builder<'_, B> {
     /// Builds a text over the builds of what it imports.
     ///
     /// # Errors
-    /// The first fault, in this order: a function that overrides what isn't imported or isn't virtual there, a header that isn't
+    /// The first fault, in this order: a function that overrides what isn't imported or may not be overridden there, a header that isn't
     /// valid or can't be written, a text that is too large, what the front end says of it, a wrong form, a name that doesn't come
     /// back; or want of memory. From the size of the text on, places count from where the text begins behind its heading.
     pub fn build(&self, of: &Definition, output: &PreprocessOutput) -> Result<Build, Unbuilt>

@@ -1,5 +1,5 @@
 //! Functions that may be overridden, and those that override them, as a text says by keywords that no front end knows.
-ghost use Rattle.std.specs.Prelude.{◌≡◌, ◌+◌, ◌<◌, ◌≤◌, ◌^◌, length, map, Option, option_map, string_bytes, IfSome, IfOk, OnOk};
+ghost use Rattle.std.specs.Prelude.{◌≡◌, ◌||◌, ◌+◌, ◌<◌, ◌≤◌, ◌^◌, length, map, Option, option_map, string_bytes, IfSome, IfOk, OnOk};
 ghost use Rattle.std.specs.BTreeMap.{get};
 ghost use Rattle.std.specs.List.{list_all};
 ghost use Rattle.std.specs.Ordering.{nat_cmp};
@@ -10,7 +10,7 @@ ghost use Rattle.naga_oil_pre.specs.Fault.{Fault};
 ghost use Rattle.naga_oil_pre.specs.View.{fault_of, Gives};
 ghost use Rattle.std.specs.Option.{option_or};
 ghost use Rattle.naga_oil_link.specs.BuiltModule.{built_of, builds_of};
-ghost use Rattle.naga_oil_lines.specs.Text.{texts};
+ghost use Rattle.naga_oil_lines.specs.Text.{is_among, texts};
 ghost use Rattle.naga_oil_registry.specs.KeywordsView.{marked_of};
 ghost use Rattle.naga_oil_build.specs.Virtuals.{AreItemAndCode, names_of, blanked, override_name, marked_override, imported_build, override_fault, are_parts, item_and_code, with_override, with_overrides, unless_fault, functions_in};
 ghost use Rattle.naga_oil_build.specs.VirtualsView.{told_so, fault_over, override_over, overrides_over, functions_over, functions_with, TellsNext};
@@ -20,13 +20,14 @@ use super::*;
 use naga_oil_registry::keywords::{Edits, covered, edit, marked_in, with_edits};
 use ucd_perl::is_word_code;
 
-/// What a build's functions are read over: the builds of the make, what is imported, and what stands behind the names of the
-/// build's own items.
+/// What a build's functions are read over: the builds of the make, what is imported, what stands behind the names of the
+/// build's own items, and whether any function of what is imported may be overridden.
 #[derive(Clone, Copy)]
 pub(crate) struct Over<'a> {
     pub(crate) builds: &'a Builds,
     pub(crate) imports: &'a [Import],
     pub(crate) decoration: &'a str,
+    pub(crate) override_any: bool,
 }
 
 // Adds a name, unless it is there.
@@ -112,7 +113,15 @@ fn imported_build<'b>(builds: &'b Builds, imports: &[Import], name: &str) -> Opt
     }
 }
 
-// Why an item can't be overridden by a function whose name is at a place: its module isn't imported, or it isn't virtual there.
+// Whether an item of a build may be overridden: it is virtual there, or any function may be.
+fn may_override(base: &Build, item: &str, any: bool) -> bool
+    ensures { result ≡ (any || is_among (built_of base.now).virtuals item.now) }
+{
+    any || base.virtual_functions.contains(item)
+}
+
+// Why an item can't be overridden by a function whose name is at a place: its module isn't imported, or it isn't virtual there,
+// and not any function may be overridden.
 fn override_fault(
     alloc: Global,
     over: Over<'_>,
@@ -129,7 +138,7 @@ fn override_fault(
             let code = place + item.len() + DECORATION_PRE.len();
             Ok(Some(Inner::ImportNotFound(module_name, code)))
         }
-        Some(base) if base.virtual_functions.contains(item) => Ok(None),
+        Some(base) if may_override(base, item, over.override_any) => Ok(None),
         Some(_) => {
             let name = String::from_str(alloc, item)?;
             Ok(Some(Inner::OverrideNotVirtual { name, pos: place }))

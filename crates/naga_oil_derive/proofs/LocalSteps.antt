@@ -1,5 +1,5 @@
 -- A function's copy, from the copies of its expressions.
-use Rattle.std.proofs.Common.{◌≡◌, ℕ, ◌+◌, ◌-◌, ◌<◌, ◌≤◌, Bool, true, false, List, [], ◌∷◌, ◌++◌, length, map, get_or, slice_get, option_to_list, Option, Some, None, cond, nat_eq, ◌&&◌, String, string_bytes, Global, refl, ap, sym, ◌∙◌, subst, arith}
+use Rattle.std.proofs.Common.{◌≡◌, ℕ, ◌+◌, ◌-◌, ◌<◌, ◌≤◌, Bool, true, false, List, [], ◌∷◌, ◌++◌, length, map, get_or, slice_get, option_to_list, Option, Some, None, cond, nat_eq, String, string_bytes, Global, refl, ap, sym, ◌∙◌, subst, arith}
 use Rattle.std.specs.List.{flat_map}
 use Rattle.std.specs.Option.{option_flatten}
 use Rattle.std.specs.Borrow.{Bor}
@@ -85,19 +85,15 @@ local_fits f w m c k count e l b x h =
 
 -- ---- names
 
-and_true : (b : Bool) → (b && true) ≡ b
-and_true true = refl
-and_true false = refl
-
 name_cond : (b : Bool) (e : ℕ × String Global) (v : String Global) (es rest : List (ℕ × String Global)) → named_values (cond b ((e.0, v) ∷ es) (e ∷ rest)) ≡ cond b ((e.0, string_bytes v) ∷ named_values es) ((e.0, string_bytes e.1) ∷ named_values rest)
 name_cond true e v es rest = refl
 name_cond false e v es rest = refl
 
 -- to insert a name is to insert its bytes
-pub named_put : (es : List (ℕ × String Global)) (k : ℕ) (v : String Global) → named_values (insert_entry (λ a b. nat_eq a b && true) es k v) ≡ insert_entry nat_eq (named_values es) k (string_bytes v)
+pub named_put : (es : List (ℕ × String Global)) (k : ℕ) (v : String Global) → named_values (insert_entry nat_eq es k v) ≡ insert_entry nat_eq (named_values es) k (string_bytes v)
 named_put [] k v = refl
 named_put (e ∷ es) k v =
-    name_cond (nat_eq k e.0 && true) e v es (insert_entry (λ a b. nat_eq a b && true) es k v) ∙ ap (λ (xs : List (ℕ × List ℕ)). cond (nat_eq k e.0 && true) ((e.0, string_bytes v) ∷ named_values es) ((e.0, string_bytes e.1) ∷ xs)) (named_put es k v) ∙ ap (λ b. cond b ((e.0, string_bytes v) ∷ named_values es) ((e.0, string_bytes e.1) ∷ insert_entry nat_eq (named_values es) k (string_bytes v))) (and_true (nat_eq k e.0))
+    name_cond (nat_eq k e.0) e v es (insert_entry nat_eq es k v) ∙ ap (λ (xs : List (ℕ × List ℕ)). cond (nat_eq k e.0) ((e.0, string_bytes v) ∷ named_values es) ((e.0, string_bytes e.1) ∷ xs)) (named_put es k v)
 
 -- one name more
 pub names_more : (t : Table) (ys : List (Bor ℕ × Bor (String Global))) (x : Bor ℕ × Bor (String Global)) (o : Option ℕ) (old new : List (ℕ × String Global)) → o ≡ option_flatten (slice_get t x.0.now) → named_values old ≡ names_under t [] (named_values (map deref_pair ys)) → named_values new ≡ name_put o (string_bytes x.1.now) (named_values old) → named_values new ≡ names_under t [] (named_values (map deref_pair (ys ++ x ∷ [])))

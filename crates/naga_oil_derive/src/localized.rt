@@ -137,9 +137,6 @@ fn renamed_result<R: Renaming>(names: &R, outcome: Option<FunctionResult>) -> Op
     })
 }
 
-/// Names of expressions.
-type Named = IndexMap<Operand, String>;
-
 impl Copied<'_> {
     /// Arguments with their types renamed.
     fn arguments(&self, arguments: &[FunctionArgument]) -> Tried<Vec<FunctionArgument>>
@@ -173,14 +170,14 @@ impl Copied<'_> {
     }
 
     /// Names at the copies of what they name; of the names of one copy the last stays, at the first's place.
-    fn named(&self, names: &Named) -> Tried<Named>
+    fn named(&self, names: &NamedExpressions) -> Tried<NamedExpressions>
         ensures { let made = names_under self.now.table.now [] (named_values names.now.entries) in
             IfOk result (λ m. named_values m.entries ≡ made) }
     {
-        let mut copies = IndexMap::new(self.went.alloc);
+        let mut copies = NamedExpressions::new();
         for (handle, name) in names.iter() {
             if let Some(copy) = place_of(self.table, *handle) {
-                copies.insert(copy, name.clone()?)?;
+                copies.insert(self.went.alloc, copy, name.clone()?)?;
             }
         }
         Ok(copies)

@@ -45,13 +45,13 @@ use Rattle.naga_oil_faith.proofs.RenameLemmas.{map-after, map-same, option-same,
 
 -- ---- what is reached stays
 
-abbrev ops : Parts × Span → List ℕ
+abbrev pub ops : Parts × Span → List ℕ
 ops e = flat_map option_to_list e.0.operands
 
-links_same : (from to : ℕ) (f : FunctionValue) → value_links (send from to f).expressions ≡ value_links f.expressions
+pub links_same : (from to : ℕ) (f : FunctionValue) → value_links (send from to f).expressions ≡ value_links f.expressions
 links_same from to f = map-after ops (λ (e : Parts × Span). (rename (sent from to) e.0, e.1)) ops (λ e. ap (λ os. flat_map option_to_list os) (map-same (option_map (λ (h : ℕ). h)) option-same e.0.operands)) f.expressions
 
-spoken_same : (from to : ℕ) (t : Token) → spoken (rename_token (sent from to) t) ≡ spoken t
+pub spoken_same : (from to : ℕ) (t : Token) → spoken (rename_token (sent from to) t) ≡ spoken t
 spoken_same from to (At s) = refl
 spoken_same from to (Head k) = refl
 spoken_same from to (Plain n) = refl
@@ -65,39 +65,39 @@ spoken_same from to (Callee f) = refl
 spoken_same from to Open = refl
 spoken_same from to Close = refl
 
-body_same : (from to : ℕ) (ts : Tokens) → flat_map spoken (rename_tokens (sent from to) ts) ≡ flat_map spoken ts
+pub body_same : (from to : ℕ) (ts : Tokens) → flat_map spoken (rename_tokens (sent from to) ts) ≡ flat_map spoken ts
 body_same from to [] = refl
 body_same from to (t ∷ ts) = ap (λ xs. xs ++ flat_map spoken (rename_tokens (sent from to) ts)) (spoken_same from to t) ∙ ap (λ xs. spoken t ++ xs) (body_same from to ts)
 
-reached_same : (from to : ℕ) (f : FunctionValue) → reached_in (send from to f) ≡ reached_in f
+pub reached_same : (from to : ℕ) (f : FunctionValue) → reached_in (send from to f) ≡ reached_in f
 reached_same from to f =
     ap (λ ls. flat_map (trail ls) (initialisers_in f ++ flat_map spoken (rename_tokens (sent from to) f.body))) (links_same from to f) ∙ ap (λ xs. flat_map (trail (value_links f.expressions)) (initialisers_in f ++ xs)) (body_same from to f.body)
 
-begun_same : (from to : ℕ) (f : FunctionValue) → begun (send from to f) ≡ begun f
+pub begun_same : (from to : ℕ) (f : FunctionValue) → begun (send from to f) ≡ begun f
 begun_same from to f = ap (λ ls. started ls (initialisers_in f)) (links_same from to f)
 
 -- ---- names
 
-texts_same : (a b : Text) → option_eq bytes_eq a b ≡ true → a ≡ b
+pub texts_same : (a b : Text) → option_eq bytes_eq a b ≡ true → a ≡ b
 texts_same None None e = refl
 texts_same None (Some y) e = absurd (false≢true e)
 texts_same (Some x) None e = absurd (false≢true e)
 texts_same (Some x) (Some y) e = ap Some ((bytes_eq-Decides x y).0 e)
 
-same_texts : (a b : Text) → a ≡ b → option_eq bytes_eq a b ≡ true
+pub same_texts : (a b : Text) → a ≡ b → option_eq bytes_eq a b ≡ true
 same_texts a b e = subst (λ c. option_eq bytes_eq a c ≡ true) e (self a)
   where
     self : (a : Text) → option_eq bytes_eq a a ≡ true
     self None = refl
     self (Some x) = (bytes_eq-Decides x x).1 refl
 
-if_true : {A : Type 0} (b : Bool) (x y : A) → b ≡ true → (if b then x else y) ≡ x
+pub if_true : {A : Type 0} (b : Bool) (x y : A) → b ≡ true → (if b then x else y) ≡ x
 if_true b x y e = ap (λ (c : Bool). if c then x else y) e
 
-if_false : {A : Type 0} (b : Bool) (x y : A) → b ≡ false → (if b then x else y) ≡ y
+pub if_false : {A : Type 0} (b : Bool) (x y : A) → b ≡ false → (if b then x else y) ≡ y
 if_false b x y e = ap (λ (c : Bool). if c then x else y) e
 
-call_sent : (a : Scope) (from to h : ℕ) → IsOnlyOfItsName a from → CalledAlike (instead_of (a.function_name from) (a.function_name to)) a a h (if h == from then to else h)
+pub call_sent : (a : Scope) (from to h : ℕ) → IsOnlyOfItsName a from → CalledAlike (instead_of (a.function_name from) (a.function_name to)) a a h (if h == from then to else h)
 call_sent a from to h only =
     let name = a.function_name in
     ⊎_elim
@@ -107,7 +107,7 @@ call_sent a from to h only =
     ap name (if_false (h == from) to h e) ∙ sym (⊎_elim (λ (q : option_eq bytes_eq (name from) (name h) ≡ true). absurd (other q)) (λ (q : option_eq bytes_eq (name from) (name h) ≡ false). if_false (option_eq bytes_eq (name from) (name h)) (name to) (name h) q) (cases_Bool (option_eq bytes_eq (name from) (name h)))))
     (cases_Bool (h == from))
 
-named_sent : (a : Scope) (from to : ℕ) (n : Named) → IsOnlyOfItsName a from → NamesAlike (instead_of (a.function_name from) (a.function_name to)) a a (sent from to) n
+pub named_sent : (a : Scope) (from to : ℕ) (n : Named) → IsOnlyOfItsName a from → NamesAlike (instead_of (a.function_name from) (a.function_name to)) a a (sent from to) n
 named_sent a from to Nothing o = (tt, tt)
 named_sent a from to (TypeOf h) o = (λ n. refl, tt)
 named_sent a from to (ConstantAt h) o = (λ n. refl, tt)
@@ -117,18 +117,18 @@ named_sent a from to (LocalAt h) o = (tt, tt)
 named_sent a from to (ArgumentAt h) o = (tt, tt)
 named_sent a from to (FunctionAt h) o = (tt, call_sent a from to h o)
 
-callee_sent : (a : Scope) (from to : ℕ) (t : Token) → IsOnlyOfItsName a from → IfSome (callee_in t) (λ h. CalledAlike (instead_of (a.function_name from) (a.function_name to)) a a h ((sent from to).function h))
+pub callee_sent : (a : Scope) (from to : ℕ) (t : Token) → IsOnlyOfItsName a from → IfSome (callee_in t) (λ h. CalledAlike (instead_of (a.function_name from) (a.function_name to)) a a h ((sent from to).function h))
 callee_sent a from to (Callee f) o = call_sent a from to f o
 callee_sent a from to (GiveCall f h) o = call_sent a from to f o
 callee_sent a from to _ o = tt
 
 -- ---- one function
 
-same_result : (r : Renames) → ((h : ℕ) → r.ty h ≡ h) → (o : Option FunctionResult) → option_map (result_under r) o ≡ o
+pub same_result : (r : Renames) → ((h : ℕ) → r.ty h ≡ h) → (o : Option FunctionResult) → option_map (result_under r) o ≡ o
 same_result r e None = refl
 same_result r e (Some x) = ap (λ t. Some (record x { ty = t })) (e x.ty)
 
-copies_sent : (a : Scope) (f : FunctionValue) (from to : ℕ) → IsAsCopied f → IsOnlyOfItsName a from → CopiesByTree (λ s. s) (instead_of (a.function_name from) (a.function_name to)) a f a (send from to f)
+pub copies_sent : (a : Scope) (f : FunctionValue) (from to : ℕ) → IsAsCopied f → IsOnlyOfItsName a from → CopiesByTree (λ s. s) (instead_of (a.function_name from) (a.function_name to)) a f a (send from to f)
 copies_sent a f from to s only =
     let r = sent from to in
     let g = send from to f in
@@ -161,7 +161,7 @@ copies_sent a f from to s only =
       };
     }
 
-as_sent : (f : FunctionValue) (from to : ℕ) → IsAsCopied f → IsAsCopied (send from to f)
+pub as_sent : (f : FunctionValue) (from to : ℕ) → IsAsCopied f → IsAsCopied (send from to f)
 as_sent f from to s = record {
   earlier = subst AreEarlier (sym (links_same from to f)) s.earlier;
   there = λ k w.
@@ -183,26 +183,26 @@ send_law a f from to s only = (copies_sent a f from to s only, as_sent f from to
 
 -- ---- a module
 
-sent_from : (from to : ℕ) (omitted : Name → Bool) (n : ℕ) (fs : List (FunctionValue × Span)) (k : ℕ) → slice_get (map (send_at from to omitted) (enumerate_from n fs)) k ≡ option_map (λ x. send_at from to omitted (n + k, x)) (slice_get fs k)
+pub sent_from : (from to : ℕ) (omitted : Name → Bool) (n : ℕ) (fs : List (FunctionValue × Span)) (k : ℕ) → slice_get (map (send_at from to omitted) (enumerate_from n fs)) k ≡ option_map (λ x. send_at from to omitted (n + k, x)) (slice_get fs k)
 sent_from from to omitted n [] k = refl
 sent_from from to omitted n (x ∷ fs) zero = ap (λ j. Some (send_at from to omitted (j, x))) (let e : n ≡ n + zero = omega arith in e)
 sent_from from to omitted n (x ∷ fs) (suc k) = sent_from from to omitted (n + 1) fs k ∙ ap (λ j. option_map (λ y. send_at from to omitted (j, y)) (slice_get fs k)) (let e : n + 1 + k ≡ n + suc k = omega arith in e)
 
-function_at : (m : ModuleValue) (from to : ℕ) (omitted : Name → Bool) (k : ℕ) → slice_get (redirected m from to omitted).functions k ≡ option_map (λ x. send_at from to omitted (k, x)) (slice_get m.functions k)
+pub function_at : (m : ModuleValue) (from to : ℕ) (omitted : Name → Bool) (k : ℕ) → slice_get (redirected m from to omitted).functions k ≡ option_map (λ x. send_at from to omitted (k, x)) (slice_get m.functions k)
 function_at m from to omitted k = sent_from from to omitted 0 m.functions k ∙ ap (λ j. option_map (λ x. send_at from to omitted (j, x)) (slice_get m.functions k)) (let e : 0 + k ≡ k = omega arith in e)
 
-name_sent : (from to : ℕ) (omitted : Name → Bool) (k : ℕ) (b : Bool) (x : FunctionValue × Span) → (let y : FunctionValue × Span = if b then x else (send from to x.0, x.1) in y.0.name) ≡ x.0.name
+pub name_sent : (from to : ℕ) (omitted : Name → Bool) (k : ℕ) (b : Bool) (x : FunctionValue × Span) → (let y : FunctionValue × Span = if b then x else (send from to x.0, x.1) in y.0.name) ≡ x.0.name
 name_sent from to omitted k true x = refl
 name_sent from to omitted k false x = refl
 
-names_same_at : (m : ModuleValue) (from to : ℕ) (omitted : Name → Bool) (k : ℕ) → name_of_function (redirected m from to omitted) k ≡ name_of_function m k
+pub names_same_at : (m : ModuleValue) (from to : ℕ) (omitted : Name → Bool) (k : ℕ) → name_of_function (redirected m from to omitted) k ≡ name_of_function m k
 names_same_at m from to omitted k = ap (λ o. option_flatten (option_map (λ (f : FunctionValue × Span). f.0.name) o)) (function_at m from to omitted k) ∙ one (slice_get m.functions k)
   where
     one : (o : Option (FunctionValue × Span)) → option_flatten (option_map (λ (f : FunctionValue × Span). f.0.name) (option_map (λ x. send_at from to omitted (k, x)) o)) ≡ option_flatten (option_map (λ (f : FunctionValue × Span). f.0.name) o)
     one None = refl
     one (Some x) = name_sent from to omitted k ((k == to) || is_named omitted x.0.name) x
 
-world_same : (m : ModuleValue) (from to : ℕ) (omitted : Name → Bool) (p : ItemPlace) → world (redirected m from to omitted) p ≡ world m p
+pub world_same : (m : ModuleValue) (from to : ℕ) (omitted : Name → Bool) (p : ItemPlace) → world (redirected m from to omitted) p ≡ world m p
 unfolding world
 world_same m from to omitted (TypeItem k) = refl
 world_same m from to omitted (ConstantItem k) = refl
@@ -210,29 +210,29 @@ world_same m from to omitted (OverrideItem k) = refl
 world_same m from to omitted (GlobalItem k) = refl
 world_same m from to omitted (ExpressionItem k) = refl
 
-scopes_alike : (m : ModuleValue) (from to : ℕ) (omitted : Name → Bool) → AreAlike (scope_of m) (scope_of (redirected m from to omitted))
+pub scopes_alike : (m : ModuleValue) (from to : ℕ) (omitted : Name → Bool) → AreAlike (scope_of m) (scope_of (redirected m from to omitted))
 scopes_alike m from to omitted =
     let worlds : world (redirected m from to omitted) ≡ world m = λ i q. world_same m from to omitted q i in
     record { reads = λ p n. ap (λ (w : World). tree n w p) worlds; names = names_same_at m from to omitted }
 
-alike_itself : (a : Scope) → AreAlike a a
+pub alike_itself : (a : Scope) → AreAlike a a
 alike_itself a = record { reads = λ p n. refl; names = λ k. refl }
 
-abbrev instead : ModuleValue → (from to : ℕ) → Text → Text
+abbrev pub instead : ModuleValue → (from to : ℕ) → Text → Text
 instead m from to = instead_of (name_of_function m from) (name_of_function m to)
 
-copies_here : (m : ModuleValue) (from to : ℕ) (omitted : Name → Bool) (f : FunctionValue) → IsAsCopied f → IsOnlyOfItsName (scope_of m) from → CopiesByTree (λ s. s) (instead m from to) (scope_of m) f (scope_of (redirected m from to omitted)) (send from to f)
+pub copies_here : (m : ModuleValue) (from to : ℕ) (omitted : Name → Bool) (f : FunctionValue) → IsAsCopied f → IsOnlyOfItsName (scope_of m) from → CopiesByTree (λ s. s) (instead m from to) (scope_of m) f (scope_of (redirected m from to omitted)) (send from to f)
 copies_here m from to omitted f s only = alike (λ x. x) (instead m from to) (scope_of m) (scope_of m) (scope_of m) (scope_of (redirected m from to omitted)) f (send from to f) (alike_itself (scope_of m)) (scopes_alike m from to omitted) (copies_sent (scope_of m) f from to s only)
 
 -- what one function of a redirected module is, where it stays if b
-abbrev IsOf : ModuleValue → (from to : ℕ) → (Name → Bool) → Bool → FunctionValue × Span → FunctionValue × Span → Type 0
+abbrev pub IsOf : ModuleValue → (from to : ℕ) → (Name → Bool) → Bool → FunctionValue × Span → FunctionValue × Span → Type 0
 IsOf m from to omitted b x y = (y.1 ≡ x.1) × CopiesByTree (λ s. s) (if b then (λ t. t) else instead m from to) (scope_of m) x.0 (scope_of (redirected m from to omitted)) y.0 × IsAsCopied y.0
 
-sent_one : (m : ModuleValue) (from to : ℕ) (omitted : Name → Bool) (b : Bool) (x : FunctionValue × Span) → IsAsCopied x.0 → IsOnlyOfItsName (scope_of m) from → IsOf m from to omitted b x (if b then x else (send from to x.0, x.1))
+pub sent_one : (m : ModuleValue) (from to : ℕ) (omitted : Name → Bool) (b : Bool) (x : FunctionValue × Span) → IsAsCopied x.0 → IsOnlyOfItsName (scope_of m) from → IsOf m from to omitted b x (if b then x else (send from to x.0, x.1))
 sent_one m from to omitted true x s only = (refl, alike (λ y. y) (λ t. t) (scope_of m) (scope_of m) (scope_of m) (scope_of (redirected m from to omitted)) x.0 x.0 (alike_itself (scope_of m)) (scopes_alike m from to omitted) (reflexive (scope_of m) x.0 s), s)
 sent_one m from to omitted false x s only = (refl, copies_here m from to omitted x.0 s only, as_sent x.0 from to s)
 
-sent_to : (from to : ℕ) (omitted : Name → Bool) (k : ℕ) (o : Option (FunctionValue × Span)) (g : FunctionValue × Span) → option_map (λ x. send_at from to omitted (k, x)) o ≡ Some g → (x : FunctionValue × Span) × (o ≡ Some x) × (send_at from to omitted (k, x) ≡ g)
+pub sent_to : (from to : ℕ) (omitted : Name → Bool) (k : ℕ) (o : Option (FunctionValue × Span)) (g : FunctionValue × Span) → option_map (λ x. send_at from to omitted (k, x)) o ≡ Some g → (x : FunctionValue × Span) × (o ≡ Some x) × (send_at from to omitted (k, x) ≡ g)
 sent_to from to omitted k None g e = absurd (none-some g e)
 sent_to from to omitted k (Some x) g e = (x, refl, same_Some (send_at from to omitted (k, x)) g e)
 

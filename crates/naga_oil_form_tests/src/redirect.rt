@@ -2,7 +2,6 @@
 //! one driver makes its module, asks, and compares.
 mod refused;
 
-use indexmap::IndexMap;
 use naga_oil_ir::*;
 use naga_oil_redirect::redirect::{Pair, Redirector};
 use std::alloc::{AllocError, Global};
@@ -160,7 +159,7 @@ fn function(name: &str, alloc: Global) -> Result<Function, AllocError> {
         result: None,
         local_variables: Arena::new(alloc),
         expressions: Arena::new(alloc),
-        named_expressions: IndexMap::new(alloc),
+        named_expressions: NamedExpressions::new(),
         body: Block {
             body: Vec::new(alloc),
         },
@@ -461,37 +460,49 @@ fn add_numbered(module: &mut Module, place: usize, alloc: Global) -> Result<(), 
     add_function(module, name.as_str(), false, &[place], alloc)
 }
 
-/// A hundred functions, each of which calls the one before it.
-fn fill_row(module: &mut Module, alloc: Global) -> Result<(), AllocError> {
+/// So many functions besides the first, each of which calls the one before it.
+fn fill_row(module: &mut Module, callers: usize, alloc: Global) -> Result<(), AllocError> {
     add_function(module, "f", false, &[], alloc)?;
-    for place in 0..99 {
+    for place in 0..callers {
         add_numbered(module, place, alloc)?;
     }
     Ok(())
 }
 
 /// Fills a module with the row, and gives the names of its functions.
-fn names_of_row(module: &mut Module, alloc: Global) -> Result<String, AllocError> {
-    fill_row(module, alloc)?;
+fn names_of_row(module: &mut Module, callers: usize, alloc: Global) -> Result<String, AllocError> {
+    fill_row(module, callers, alloc)?;
     names_of(module, alloc)
 }
 
-/// Whether the functions of a module keep their order.
-fn keeps_order(module: Module, names: &str, alloc: Global) -> Result<Option<bool>, FormFault> {
+/// Where the first calls go of a function alone.
+static ALONE: Goes = [None; 4];
+
+/// Whether the functions of a module keep their order, and call the one before them.
+fn keeps_order(
+    module: Module,
+    names: &str,
+    goes: &Goes,
+    alloc: Global,
+) -> Result<Option<bool>, FormFault> {
     let redirector = redirector(module, alloc)?;
     let made = redirector.into_module();
-    Ok(is_order(&made, names, &CHAIN.order.goes, alloc))
+    Ok(is_order(&made, names, goes, alloc))
 }
 
-fn row_keeps_order(alloc: Global) -> Result<Option<bool>, FormFault> {
+fn row_keeps_order(callers: usize, goes: &Goes, alloc: Global) -> Result<Option<bool>, FormFault> {
     let mut module = Module::new(alloc);
-    let names = names_of_row(&mut module, alloc)?;
-    keeps_order(module, names.as_str(), alloc)
+    let names = names_of_row(&mut module, callers, alloc)?;
+    keeps_order(module, names.as_str(), goes, alloc)
 }
 
 #[test]
 fn many_keep_their_order(rt: HostRuntime) -> Result<(), Fail> {
-    holds(row_keeps_order(rt.alloc())?)
+    holds(row_keeps_order(0, &ALONE, rt.alloc())?)?;
+    for callers in [9, 99, 999] {
+        holds(row_keeps_order(callers, &CHAIN.order.goes, rt.alloc())?)?;
+    }
+    Ok(())
 }
 
 /// The texts of the errors, in the order of `error_at`.

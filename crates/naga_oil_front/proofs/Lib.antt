@@ -1,10 +1,8 @@
-pub mod NameLemmas
-pub mod SymbolLemmas
 pub mod LineLemmas
 pub mod ReaderLemmas
 pub mod BodyReaderLemmas
 pub mod OrderLemmas
 pub mod WriterLemmas
 pub mod ValidLemmas
-pub mod RefusedLemmas
 pub mod SliceLemmas
+pub mod WithinLemmas

@@ -3,7 +3,7 @@ use Rattle.std.proofs.Common.{◌≡◌, ℕ, zero, suc, min, ◌&&◌, ◌+◌,
 use Rattle.std.specs.Option.{option_or, IfSome}
 use Rattle.std.proofs.lemmas.Bool.Decides.{same_from_decides}
 use Rattle.std.proofs.lemmas.Slice.Eq.{bytes_eq-Decides}
-use Rattle.naga_oil_front.specs.Names.{last_place}
+use Rattle.naga_oil_symbols.specs.Names.{last_place}
 use Rattle.naga_oil_front.specs.Order.{greatest_count, place_from, next_places, take_last, fits, fit}
 use Rattle.naga_oil_front.specs.declared.order.Room.{Room}
 
@@ -99,16 +99,35 @@ bounded q (n ∷ ns) = bound (bytes_eq n q) (last_place q ns) (bounded q ns)
 pub last_place-bound : (q : List ℕ) (ns : List (List ℕ)) (p : ℕ) → last_place q ns ≡ Some p → p < length ns
 last_place-bound q ns p e = subst (λ o. IfSome o (λ k. k < length ns)) e (bounded q ns)
 
--- ---- lines that are taken from the end
--- a line is taken, and its test is known
-pub fit_taken : (n i c k f : ℕ) (fs es : List Room) (l : Room) (gs hs : List Room) (b whole : Bool) → i < n → take_last fs es ≡ Some (l, gs, hs)
-    → k ≡ min c l.constants.most → f ≡ length gs → fits l f k ≡ b → fit (n - i) c fs es ≡ whole → (b && fit (n - (i + 1)) k gs hs) ≡ whole
-fit_taken n i c k f fs es l gs hs b whole h e ek ef eb w =
-    let one : n - i ≡ suc (n - (i + 1)) = omega arith in
-    ap (λ x. x && fit (n - (i + 1)) k gs hs) (sym eb) ∙ ap (λ x. fits l x k && fit (n - (i + 1)) k gs hs) ef ∙ ap (λ x. fits l (length gs) x && fit (n - (i + 1)) x gs hs) ek
-    ∙ ap (λ o. elim o as (λ _. Bool) [ None ↦ true | Some t ↦ fits t.0 (length t.1) (min c t.0.constants.most) && fit (n - (i + 1)) (min c t.0.constants.most) t.1 t.2 ]) (sym e)
-    ∙ ap (λ x. fit x c fs es) (sym one) ∙ w
+-- ---- the first place of a name
+none_from : (i : ℕ) (n : List ℕ) (ns : List (List ℕ)) → is_there n ns ≡ false → place_from i n ns ≡ greatest_count
+unfolding is_there
+none_from i n [] e = refl
+none_from i n (m ∷ ms) e =
+    elim (bytes_eq n m) as (λ b. cond b true (is_there n ms) ≡ false → cond b i (place_from (i + 1) n ms) ≡ greatest_count) [ true ↦ λ there. cc | false ↦ λ there. none_from (i + 1) n ms there ] e
 
-pub fit_none : (k c : ℕ) (fs es : List Room) → take_last fs es ≡ None → fit k c fs es ≡ true
-fit_none zero c fs es e = refl
-fit_none (suc k) c fs es e = ap (λ o. elim o as (λ _. Bool) [ None ↦ true | Some t ↦ fits t.0 (length t.1) (min c t.0.constants.most) && fit k (min c t.0.constants.most) t.1 t.2 ]) e
+-- a name that has no last place has no first one
+pub first_place : (i : ℕ) (n : List ℕ) (ns : List (List ℕ)) → last_place n ns ≡ None → place_from i n ns ≡ greatest_count
+first_place i n ns e = none_from i n ns (is_there-last n ns ∙ ap is_some e)
+
+-- ---- lines that are taken from the end
+-- what the line that is taken makes of those before it
+abbrev onward : (k c g : ℕ) → Option (Room × List Room × List Room) → Bool
+onward k c g o = elim o as (λ _. Bool) [
+  | None ↦ true
+  | Some t ↦ fits t.0 (length t.1) (min c t.0.constants.most) (min g t.0.globals.most) && fit k (min c t.0.constants.most) (min g t.0.globals.most) t.1 t.2
+]
+
+-- a line is taken, and its test is known
+pub fit_taken : (n i c g k j f : ℕ) (fs es : List Room) (l : Room) (gs hs : List Room) (b whole : Bool) → i < n → take_last fs es ≡ Some (l, gs, hs)
+    → k ≡ min c l.constants.most → j ≡ min g l.globals.most → f ≡ length gs → fits l f k j ≡ b → fit (n - i) c g fs es ≡ whole → (b && fit (n - (i + 1)) k j gs hs) ≡ whole
+fit_taken n i c g k j f fs es l gs hs b whole h e ek ej ef eb w =
+    let one : n - i ≡ suc (n - (i + 1)) = omega arith in
+    ap (λ x. x && fit (n - (i + 1)) k j gs hs) (sym eb) ∙ ap (λ x. fits l x k j && fit (n - (i + 1)) k j gs hs) ef
+    ∙ ap (λ x. fits l (length gs) x j && fit (n - (i + 1)) x j gs hs) ek
+    ∙ ap (λ x. fits l (length gs) (min c l.constants.most) x && fit (n - (i + 1)) (min c l.constants.most) x gs hs) ej
+    ∙ ap (onward (n - (i + 1)) c g) (sym e) ∙ ap (λ x. fit x c g fs es) (sym one) ∙ w
+
+pub fit_none : (k c g : ℕ) (fs es : List Room) → take_last fs es ≡ None → fit k c g fs es ≡ true
+fit_none zero c g fs es e = refl
+fit_none (suc k) c g fs es e = ap (onward k c g) e

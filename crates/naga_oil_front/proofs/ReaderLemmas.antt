@@ -1,20 +1,19 @@
 -- A text's lines, one by one.
 use Rattle.std.proofs.Common.{◌≡◌, ℕ, ◌<◌, ◌+◌, ◌-◌, List, ◌∷◌, ◌++◌, length, map, Option, Some, None, Result, Ok, Err, ap, sym, ◌∙◌, [], ◌≢◌, refl, Bor, bytes_eq, codes, false}
-use Rattle.naga_oil_ir.specs.Body.{Tokens}
-use Rattle.naga_oil_ir.specs.Parts.{Parts}
 use Rattle.naga_oil_ir.specs.ModuleValue.{ModuleValue, FunctionValue, function_value}
 use Rattle.naga_oil_ir.specs.declared.module.Function.{Function}
 use Rattle.naga_oil_ir.specs.Backend.{FaultValue}
 use Rattle.naga_oil_ir.specs.declared.backend.BackendRefusal.TheVariants.{Memory}
 use Rattle.naga_oil_ir.specs.declared.span.Span.{Span}
+use Rattle.naga_oil_front.specs.Making.{Inside}
 use Rattle.naga_oil_front.specs.Reader.{with_line, with_lines, span_at, placed_lines, first_line, fault_at, read_parameters, parameters_from, with_symbols, function_of, name_of}
 use Rattle.naga_oil_front.proofs.LineLemmas.{first_begins}
-use Rattle.naga_oil_front.specs.Refused.{LineFault, not_understood, Refuses, Faults, ◌>>◌}
-use Rattle.naga_oil_front.specs.Symbols.{line_of}
-use Rattle.naga_oil_front.specs.declared.symbol.Refusal.{Refusal}
-use Rattle.naga_oil_front.specs.declared.symbol.Refusal.TheVariants.{NotUnderstood, Unknown, Memory}
-use Rattle.naga_oil_front.specs.declared.symbol.Symbol.{Symbol as SymbolOfCode}
-use Rattle.naga_oil_front.specs.declared.symbol.Symbol.TheVariants as code
+use Rattle.naga_oil_symbols.specs.Refused.{LineFault, not_understood, Refuses, Faults, ◌>>◌}
+use Rattle.naga_oil_symbols.specs.Symbols.{line_of}
+use Rattle.naga_oil_symbols.specs.declared.symbol.Refusal.{Refusal}
+use Rattle.naga_oil_symbols.specs.declared.symbol.Refusal.TheVariants.{NotUnderstood, Unknown, Memory}
+use Rattle.naga_oil_symbols.specs.declared.symbol.Symbol.{Symbol as SymbolOfCode}
+use Rattle.naga_oil_symbols.specs.declared.symbol.Symbol.TheVariants as code
 
 -- what a line's value makes of the lines behind it
 onward : Span → List (ℕ × List ℕ) → Result ModuleValue LineFault → Result ModuleValue FaultValue
@@ -80,10 +79,10 @@ parameters_unfinished (code.Closes ∷ ss) more last = refl
 
 -- ---- items
 -- a line that no keyword begins
-pub symbols_other : (ss : List SymbolOfCode) (at : Span) (m : ModuleValue) → ((k : Bor (List ℕ)) (rest : List SymbolOfCode) → ss ≡ code.Name k ∷ rest → (bytes_eq k.now (codes "const") ≡ false) × (bytes_eq k.now (codes "fn") ≡ false) × (bytes_eq k.now (codes "entry") ≡ false))
+pub symbols_other : (ss : List SymbolOfCode) (at : Span) (m : ModuleValue) → ((k : Bor (List ℕ)) (rest : List SymbolOfCode) → ss ≡ code.Name k ∷ rest → (bytes_eq k.now (codes "const") ≡ false) × (bytes_eq k.now (codes "var") ≡ false) × (bytes_eq k.now (codes "fn") ≡ false) × (bytes_eq k.now (codes "entry") ≡ false))
     → with_symbols at m (line_of ss) ≡ Err not_understood
 symbols_other [] at m h = refl
-symbols_other (code.Name k ∷ ss) at m h = let p = h k ss refl in rw (p.0, p.1, p.2) refl
+symbols_other (code.Name k ∷ ss) at m h = let p = h k ss refl in rw (p.0, p.1, p.2, p.3) refl
 symbols_other (code.Opens n ∷ ss) at m h = refl
 symbols_other (code.Number n ∷ ss) at m h = refl
 symbols_other (code.Equals ∷ ss) at m h = refl
@@ -97,7 +96,7 @@ name_in (Ok f) = f.name
 name_in (Err e) = None
 
 -- a function that was made has its name
-pub function_named : (n : List ℕ) (ps : List (List ℕ)) (b : Result (List (Parts × Span) × Tokens) LineFault) (f : FunctionValue) → (b >> λ r. Ok (function_of n ps r)) ≡ Ok f → f.name ≡ Some n
+pub function_named : (n : List ℕ) (ps : List (List ℕ)) (b : Result Inside LineFault) (f : FunctionValue) → (b >> λ r. Ok (function_of n ps r)) ≡ Ok f → f.name ≡ Some n
 unfolding name_in
 function_named n ps (Ok b) f e = ap name_in (sym e)
 function_named n ps (Err x) f e = let no : Err x ≡ Ok f = e in cc

@@ -10,13 +10,16 @@ use Rattle.naga_oil_ir.specs.declared.statement.Block.{Block, out-Block}
 use Rattle.naga_oil_ir.specs.declared.statement.Statement.{Statement}
 use Rattle.naga_oil_ir.specs.declared.types.Type.{«Type» as TypeItself}
 use Rattle.naga_oil_ir.proofs.BodyLemmas.{block_tokens-out}
-use Rattle.naga_oil_ir.specs.ModuleValue.{FunctionValue}
-use Rattle.naga_oil_front.specs.Names.{texts_of}
+use Rattle.naga_oil_ir.specs.ModuleValue.{FunctionValue, ModuleValue}
+use Rattle.naga_oil_symbols.specs.Names.{texts_of}
 use Rattle.naga_oil_front.specs.NotWritten.{Writes}
 use Rattle.naga_oil_front.specs.Items.{◌>>=◌}
+use Rattle.naga_oil_ir.specs.Body.{Tokens}
+use Rattle.naga_oil_symbols.specs.Symbols.{Symbol}
+use Rattle.naga_oil_front.specs.BodyReader.{NamedInitialiser, context, end_of}
 use Rattle.naga_oil_front.specs.declared.order.Items.{Items}
 use Rattle.naga_oil_front.specs.declared.order.Room.{Room}
-use Rattle.naga_oil_front.specs.Writer.{fits_types, is_scalar, valid_name, parameter_words, body_line, header_text, function_text}
+use Rattle.naga_oil_front.specs.Writer.{fits_types, is_scalar, valid_name, parameter_words, body_line, header_text, function_text, constants_text, globals_text, function_words, items_text, local_words, opening, symbols_text, end_text}
 use Rattle.naga_oil_front.specs.declared.not_written.NotWritten.{NotWritten}
 use Rattle.naga_oil_front.specs.declared.not_written.NotWritten.TheVariants.{NotInMini, Memory}
 
@@ -68,3 +71,24 @@ module _ (i : Items) (f : FunctionValue) (n : List ℕ) (ps : List (List ℕ)) (
       (header_text n ps ++ w.0, is_line ∙ ap line_of w.1, w.2 ∙ ap (λ t. t ++ w.0) header ∙ append_assoc old (header_text n ps) w.0)
   line_written (Err NotInMini) w = is_line ∙ ap line_of w
   line_written (Err Memory) w = w
+
+-- ---- the lines of items
+
+-- the lines of constants are written, and behind them those of globals
+pub items_written : (m : ModuleValue) (t u out : List ℕ) (cs gs fs a b c : List (List ℕ))
+    → constants_text m.global_expressions m.constants ≡ Some (t, cs) → globals_text m.global_expressions m.global_variables ≡ Some (u, gs) → function_words m.functions ≡ Some fs
+    → out ≡ t ++ u → a ≡ cs → b ≡ gs → c ≡ fs → items_text m ≡ Some (out, record { constants = a; globals = b; functions = c })
+unfolding items_text
+items_written m t u out cs gs fs a b c ce ge fe oe ae be xe = rw (ce, ge, fe, oe, ae, be, xe) refl
+
+-- ---- locals and a sum
+
+-- locals and a sum are read, with the names of locals apart
+pub end_written : (i : Items) (ps : List (List ℕ)) (f : FunctionValue) (ts : Tokens) (ls : List NamedInitialiser) (ns : List (List ℕ)) (ss : List Symbol) (room : Room)
+    → local_words f.local_variables ≡ Some ls → ns ≡ map (λ l. l.0) ls
+    → end_of (record { expressions = f.expressions; names = record { parameters = ps; locals = ns }; items = i }) ls ts ≡ Some (ss, room)
+    → end_text i ps f ts ≡ Some (opening ls ++ symbols_text ss ++ 10 ∷ [], room)
+end_written i ps f ts ls ns ss room words named read =
+    let with_names = λ (l : List (List ℕ)). end_of (record { expressions = f.expressions; names = record { parameters = ps; locals = l }; items = i }) ls ts in
+    let known : end_of (context f.expressions ps ls i) ls ts ≡ Some (ss, room) = sym (ap with_names named) ∙ read in
+    rw (words, known) refl

@@ -1,10 +1,6 @@
-pub mod Names
-pub mod Symbols
-pub mod SymbolSplits
 pub mod Items
 pub mod Making
 pub mod Reader
-pub mod Refused
 pub mod NotWritten
 pub mod BodyReader
 pub mod Order

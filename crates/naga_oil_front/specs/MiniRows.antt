@@ -1,23 +1,29 @@
 -- Worked rows: lines that are read and lines that are written.
 use lib.Utf8.{encode}
-use Rattle.std.specs.Prelude.{◌≡◌, refl, ℕ, true, Some, None, Option, List, [], ◌∷◌, ◌++◌, Result, Ok, Err, codes}
+use Rattle.std.specs.Prelude.{◌≡◌, refl, ℕ, true, Some, None, Option, List, [], ◌∷◌, ◌++◌, map, Result, Ok, Err, codes}
 use Rattle.std.specs.Fmt.{digits}
 use Rattle.std.specs.Str.{chars, trim_start}
 use Rattle.ucd_perl.proofs.Computing.{ucd_perl}
 use Rattle.naga_oil_ir.specs.Backend.{FaultValue}
+use Rattle.naga_oil_ir.specs.Body.{Tokens}
+use Rattle.naga_oil_ir.specs.ModuleValue.{LocalValue}
+use Rattle.naga_oil_ir.specs.Parts.{Parts}
+use Rattle.naga_oil_ir.specs.declared.span.Span.{Span}
+use Rattle.naga_oil_ir.specs.declared.tokens.Token.TheVariants.{At, Head, Use, Emitted}
 use Rattle.naga_oil_ir.specs.Spans.{undefined}
 use Rattle.naga_oil_pre.specs.Values.{read_u32}
-use Rattle.naga_oil_front.specs.BodyReader.{sum_of}
-use Rattle.naga_oil_front.specs.Names.{last_place}
+use Rattle.naga_oil_front.specs.BodyReader.{end_of}
+use Rattle.naga_oil_symbols.specs.Names.{last_place}
 use Rattle.naga_oil_front.specs.Order.{has_order}
-use Rattle.naga_oil_front.specs.Reader.{is_skipped, with_line, start, with_constant, parsed}
-use Rattle.naga_oil_front.specs.Refused.{not_understood, unknown, message}
-use Rattle.naga_oil_front.specs.Symbols.{symbols, name, opens, number, equals, plus, comma, closes}
+use Rattle.naga_oil_front.specs.Making.{Inside, literal, global, local, load, binary}
+use Rattle.naga_oil_front.specs.Reader.{is_skipped, with_line, start, with_constant, with_global, with_function, function_of, parsed}
+use Rattle.naga_oil_symbols.specs.Refused.{not_understood, unknown, message}
+use Rattle.naga_oil_symbols.specs.Symbols.{symbols, name, opens, number, equals, plus, comma, closes}
 use Rattle.naga_oil_front.specs.Writer.{header_text, body_line, function_text, entry_text, items_text, module_text}
 
 -- `unfolding rows_unfold` lets `refl` compute what texts say and are
 unfoldable rows_unfold : Unit {0}
-unfolding read_u32 with_line parsed sum_of has_order body_line function_text entry_text items_text module_text digits trim_start chars encode ucd_perl
+unfolding read_u32 with_line parsed end_of has_order body_line function_text entry_text items_text module_text digits trim_start chars encode ucd_perl
 rows_unfold = tt
 
 -- ---- lines
@@ -60,6 +66,22 @@ pub no_keyword : with_line (codes "let x = 1") undefined start ≡ Err not_under
 unfolding rows_unfold
 no_keyword = refl
 
+pub global_row : with_line (codes "var G = 3") undefined start ≡ Ok (with_global (codes "G") 3 undefined start)
+unfolding rows_unfold
+global_row = refl
+
+pub no_space_before_with : with_line (codes "fn f()with V = 1 = V") undefined start ≡ Err not_understood
+unfolding rows_unfold
+no_space_before_with = refl
+
+pub global_in_initialiser : with_line (codes "fn f() with V = G = V") undefined (with_global (codes "G") 3 undefined start) ≡ Err (unknown (codes "G"))
+unfolding rows_unfold
+global_in_initialiser = refl
+
+pub stub_with_locals : with_line (codes "fn f() with V = 1") undefined start ≡ Err not_understood
+unfolding rows_unfold
+stub_with_locals = refl
+
 -- ---- what is written
 pub header_row : header_text (codes "f") (codes "x" ∷ codes "y" ∷ []) ≡ codes "fn f(x, y)"
 header_row = refl
@@ -92,3 +114,60 @@ lines_behind_returns = refl
 pub fault_behind_return : rewritten (codes "const N = 3" ++ 13 ∷ 10 ∷ codes "nonsense") ≡ Err (record { message = message not_understood; spans = (record { start = 13; end = 21 }, []) ∷ []; notes = [] })
 unfolding rows_unfold
 fault_behind_return = refl
+
+-- ---- globals and locals
+-- a body's statements
+abbrev statement : Tokens → Tokens
+statement ts = At undefined ∷ ts
+
+abbrev emit : (from to : ℕ) → Tokens
+emit a b = statement (Head 0 ∷ Emitted (a, b) ∷ [])
+
+abbrev give_back : ℕ → Tokens
+give_back h = statement (Head 10 ∷ Use h ∷ [])
+
+abbrev placed : List Parts → List (Parts × Span)
+placed es = map (λ e. (e, undefined)) es
+
+-- a local of the one type
+abbrev local_of : List ℕ → ℕ → LocalValue × Span
+local_of n h = (record { name = Some n; ty = 0; init = Some h }, undefined)
+
+-- the text of a function `f` of `x` behind a global `G`
+abbrev text_of : Inside → Option (List ℕ)
+text_of b = module_text (with_function (function_of (codes "f") (codes "x" ∷ []) b) undefined (with_global (codes "G") 3 undefined start))
+
+abbrev locals_text : Option (List ℕ)
+locals_text = Some (codes "var G = 3" ++ 10 ∷ codes "fn f(x) with V = 1 + 2, W = 1 + 2 = G + V + W" ++ 10 ∷ [])
+
+pub locals_again : rewritten (codes "var G = 3" ++ 10 ∷ codes "fn f ( x ) with V=1+2 ,W = 1 + 2=G + V + W") ≡ Ok locals_text
+unfolding rows_unfold
+locals_again = refl
+
+-- equal initialisers that were merged, as what is emitted of them
+abbrev with_merged : Tokens → Inside
+with_merged ts = record {
+  locals = local_of (codes "V") 2 ∷ local_of (codes "W") 2 ∷ [];
+  expressions = placed (literal 1 ∷ literal 2 ∷ binary 0 1 ∷ global 0 ∷ load 3 ∷ local 0 ∷ load 5 ∷ binary 4 6 ∷ local 1 ∷ load 8 ∷ binary 7 9 ∷ []);
+  body = ts ++ emit 4 5 ++ emit 6 7 ++ emit 7 8 ++ emit 9 10 ++ emit 10 11 ++ give_back 10;
+}
+
+pub merged_initialisers : text_of (with_merged (emit 3 3 ++ emit 3 3)) ≡ locals_text
+unfolding rows_unfold
+merged_initialisers = refl
+
+pub merged_initialisers_emitted : text_of (with_merged (emit 2 3 ++ emit 3 3)) ≡ locals_text
+unfolding rows_unfold
+merged_initialisers_emitted = refl
+
+pub initialiser_without_emit : text_of (with_merged (emit 3 3)) ≡ None
+unfolding rows_unfold
+initialiser_without_emit = refl
+
+pub initialiser_in_sum : text_of (record { locals = local_of (codes "V") 0 ∷ []; expressions = placed (literal 1 ∷ []); body = give_back 0 }) ≡ None
+unfolding rows_unfold
+initialiser_in_sum = refl
+
+pub load_without_emit : text_of (record { locals = local_of (codes "V") 0 ∷ []; expressions = placed (literal 1 ∷ local 0 ∷ load 1 ∷ []); body = give_back 2 }) ≡ None
+unfolding rows_unfold
+load_without_emit = refl

@@ -1,5 +1,5 @@
 -- Where a line may stand, so that each name means its item: behind each item that it names, and before the next item of
--- that name. Constants, functions and entry points each keep their order.
+-- that name; and a constant before each global of its name. Constants, globals, functions and entry points each keep their order.
 use Rattle.std.specs.Prelude.{ℕ, ◌+◌, min, max, zero, suc, Bool, true, ◌&&◌, nat_le, if◌then◌else◌, List, [], ◌∷◌, length, reverse, slice_get, Option, Some, None, bytes_eq}
 use Rattle.naga_oil_front.specs.declared.order.Bounds.{Bounds}
 use Rattle.naga_oil_front.specs.declared.order.Room.{Room}
@@ -25,7 +25,7 @@ abbrev pub any : Bounds
 any = record { least = 0; most = greatest_count }
 
 abbrev pub anywhere : Room
-anywhere = record { constants = any; functions = any }
+anywhere = record { constants = any; globals = any; functions = any }
 
 -- the item at a place, which stands before the line, and the next of its name behind it
 abbrev pub name_used : List (List ℕ) → ℕ → Option (List ℕ)
@@ -36,18 +36,20 @@ bounds_used ns k b = elim (slice_get (next_places 0 ns) k) [ None ↦ b | Some n
 
 -- ---- lines from the last on
 -- a line needs what the lines of its kind before it need
-abbrev pub needing : ℕ → List Room → List Room
-needing n [] = []
-needing n (l ∷ ls) = record l { constants = record l.constants { least = max n l.constants.least } } ∷ needing (max n l.constants.least) ls
+abbrev pub needing : (constants globals : ℕ) → List Room → List Room
+needing c g [] = []
+needing c g (l ∷ ls) =
+    record l { constants = record l.constants { least = max c l.constants.least }; globals = record l.globals { least = max g l.globals.least } }
+    ∷ needing (max c l.constants.least) (max g l.globals.least) ls
 
--- the last of these functions needs at most so many constants
-abbrev pub needs_at_most : ℕ → List Room → Bool
-needs_at_most n [] = true
-needs_at_most n (f ∷ fs) = nat_le f.constants.least n
+-- the last of these functions needs no more than a line may have before it
+abbrev pub needs_at_most : Room → List Room → Bool
+needs_at_most e [] = true
+needs_at_most e (f ∷ fs) = nat_le f.constants.least e.constants.most && nat_le f.globals.least e.globals.most
 
 -- an entry point may stand behind all of these functions
 abbrev pub may_follow : Room → List Room → Bool
-may_follow e fs = nat_le (length fs) e.functions.most && needs_at_most e.constants.most fs
+may_follow e fs = nat_le (length fs) e.functions.most && needs_at_most e fs
 
 abbrev pub take_function : List Room → List Room → Option (Room × List Room × List Room)
 take_function [] es = None
@@ -58,15 +60,18 @@ abbrev pub take_last : List Room → List Room → Option (Room × List Room × 
 take_last fs [] = take_function fs []
 take_last fs (e ∷ es) = if may_follow e fs then Some (e, fs, es) else take_function fs (e ∷ es)
 
--- a line may stand behind so many functions and at most so many constants
-abbrev pub fits : Room → ℕ → ℕ → Bool
-fits l f c = (nat_le l.functions.least f && nat_le f l.functions.most) && nat_le l.constants.least c
+-- a line may stand behind so many functions and at most so many constants and globals
+abbrev pub fits : Room → (functions constants globals : ℕ) → Bool
+fits l f c g = ((nat_le l.functions.least f && nat_le f l.functions.most) && nat_le l.constants.least c) && nat_le l.globals.least g
 
--- so many lines, of functions and of entry points, where at most so many constants stand before the last
-abbrev pub fit : ℕ → ℕ → List Room → List Room → Bool
-fit zero c fs es = true
-fit (suc n) c fs es = elim (take_last fs es) [ None ↦ true | Some t ↦ fits t.0 (length t.1) (min c t.0.constants.most) && fit n (min c t.0.constants.most) t.1 t.2 ]
+-- so many lines, of functions and of entry points, where at most so many constants and globals stand before the last
+abbrev pub fit : (lines constants globals : ℕ) → List Room → List Room → Bool
+fit zero c g fs es = true
+fit (suc n) c g fs es = elim (take_last fs es) [
+  | None ↦ true
+  | Some t ↦ fits t.0 (length t.1) (min c t.0.constants.most) (min g t.0.globals.most) && fit n (min c t.0.constants.most) (min g t.0.globals.most) t.1 t.2
+]
 
 -- an entry point that may stand last is put there, else a function: a line that may stand last may do so also behind others
 unfoldable pub has_order : List Room → List Room → Bool
-has_order fs es = fit (length fs + length es) greatest_count (reverse (needing 0 fs)) (reverse es)
+has_order fs es = fit (length fs + length es) greatest_count greatest_count (reverse (needing 0 0 fs)) (reverse es)

@@ -3,9 +3,7 @@ use Rattle.std.specs.Prelude.{◌≡◌, ℕ, ◌+◌, min, Bool, ◌||◌, ◌=
 use Rattle.std.specs.List.{starts_with, list_any, slice_split, position_or_len, before_first, after_first}
 use Rattle.std.specs.Str.{trim_start}
 use Rattle.std.specs.Str.Lines.{strip_carriage_return}
-use Rattle.naga_oil_ir.specs.Parts.{Parts}
-use Rattle.naga_oil_ir.specs.Rows.{Row, row, TypeKind, ConstantKind}
-use Rattle.naga_oil_ir.specs.Body.{Tokens}
+use Rattle.naga_oil_ir.specs.Rows.{Row, row, TypeKind, ConstantKind, GlobalKind}
 use Rattle.naga_oil_ir.specs.ModuleValue.{ModuleValue, FunctionValue, ArgumentValue, argument_value, EntryValue, no_items, module_value}
 use Rattle.naga_oil_ir.specs.Backend.{FaultValue}
 use Rattle.naga_oil_ir.specs.Spans.{undefined}
@@ -13,9 +11,10 @@ use Rattle.naga_oil_ir.specs.declared.module.FunctionArgument.{FunctionArgument}
 use Rattle.naga_oil_ir.specs.declared.module.FunctionResult.{FunctionResult}
 use Rattle.naga_oil_ir.specs.declared.names.ItemPlace.TheVariants.{TypeItem, ExpressionItem}
 use Rattle.naga_oil_ir.specs.declared.span.Span.{Span}
-use Rattle.naga_oil_front.specs.Refused.{LineFault, not_understood, message, understood, ◌>>◌}
-use Rattle.naga_oil_front.specs.Symbols.{Symbol, name, opens, number, equals, comma, closes, symbols}
-use Rattle.naga_oil_front.specs.Making.{Scope, body, literal}
+use Rattle.naga_oil_symbols.specs.Refused.{LineFault, not_understood, message, understood, ◌>>◌}
+use Rattle.naga_oil_symbols.specs.Symbols.{Symbol, name, opens, number, equals, comma, closes, symbols}
+use Rattle.naga_oil_marks.specs.Marks.{is_within}
+use Rattle.naga_oil_front.specs.Making.{Scope, Inside, made, literal}
 use Rattle.naga_oil_front.specs.declared.reader.Reader.{Reader}
 
 -- ---- items
@@ -33,20 +32,34 @@ start = record no_items { types = types }
 abbrev pub name_of : Option (List ℕ) → List ℕ
 name_of n = unwrap_or n []
 
--- the names of a module's constants and functions
+-- the names of a module's constants, globals and functions
+abbrev pub row_names : List (Row × Span) → List (List ℕ)
+row_names rs = map (λ e. name_of e.0.label.name) rs
+
 abbrev pub constant_names : ModuleValue → List (List ℕ)
-constant_names m = map (λ e. name_of e.0.label.name) m.constants
+constant_names m = row_names m.constants
+
+abbrev pub global_names : ModuleValue → List (List ℕ)
+global_names m = row_names m.global_variables
 
 abbrev pub function_names : ModuleValue → List (List ℕ)
 function_names m = map (λ e. name_of e.0.name) m.functions
 
 abbrev pub scope : ModuleValue → List (List ℕ) → Scope
-scope m ps = record { parameters = ps; constants = constant_names m; functions = function_names m }
+scope m ps = record { parameters = ps; constants = constant_names m; globals = global_names m; functions = function_names m }
 
+-- a constant, whose number is the next global expression
 abbrev pub with_constant : List ℕ → ℕ → Span → ModuleValue → ModuleValue
 with_constant n v at m = record m {
   global_expressions = m.global_expressions ++ (literal v, at) ∷ [];
   constants = m.constants ++ (row ConstantKind (Some n) [] [] (Some (TypeItem 0) ∷ Some (ExpressionItem (length m.global_expressions)) ∷ []), at) ∷ [];
+}
+
+-- a global of space 1 without a binding, whose number is the next global expression
+abbrev pub with_global : List ℕ → ℕ → Span → ModuleValue → ModuleValue
+with_global n v at m = record m {
+  global_expressions = m.global_expressions ++ (literal v, at) ∷ [];
+  global_variables = m.global_variables ++ (row GlobalKind (Some n) (Some 1 ∷ None ∷ []) [] (Some (TypeItem 0) ∷ Some (ExpressionItem (length m.global_expressions)) ∷ []), at) ∷ [];
 }
 
 abbrev pub argument : List ℕ → ArgumentValue
@@ -58,13 +71,13 @@ arguments ps = map argument ps
 abbrev pub outcome : Option FunctionResult
 outcome = Some (record { ty = 0; binding = None })
 
--- a function of a name, with parameters, expressions and a body
-abbrev pub function_of : List ℕ → List (List ℕ) → List (Parts × Span) × Tokens → FunctionValue
-function_of n ps b = record { name = Some n; arguments = arguments ps; result = outcome; local_variables = []; expressions = b.0; named_expressions = []; body = b.1; diagnostic_filter_leaf = None }
+-- a function of a name, with parameters and what stands in it
+abbrev pub function_of : List ℕ → List (List ℕ) → Inside → FunctionValue
+function_of n ps b = record { name = Some n; arguments = arguments ps; result = outcome; local_variables = b.locals; expressions = b.expressions; named_expressions = []; body = b.body; diagnostic_filter_leaf = None }
 
 -- the function of a name, with parameters and what the end of a line makes
 abbrev pub function : List ℕ → List (List ℕ) → List Symbol → Span → ModuleValue → Result FunctionValue LineFault
-function n ps xs at m = body (scope m ps) at xs >> λ b. Ok (function_of n ps b)
+function n ps xs at m = made (scope m ps) at xs >> λ b. Ok (function_of n ps b)
 
 abbrev pub with_function : FunctionValue → Span → ModuleValue → ModuleValue
 with_function f at m = record m { functions = m.functions ++ (f, at) ∷ [] }
@@ -93,16 +106,20 @@ abbrev pub constant_line : List Symbol → Span → ModuleValue → Result Modul
 constant_line (name n ∷ equals ∷ number v ∷ []) at m = Ok (with_constant n v at m)
 constant_line xs at m = Err not_understood
 
+abbrev pub global_line : List Symbol → Span → ModuleValue → Result ModuleValue LineFault
+global_line (name n ∷ equals ∷ number v ∷ []) at m = Ok (with_global n v at m)
+global_line xs at m = Err not_understood
+
 -- the function of a name and the symbols behind its `(`
 abbrev pub declared : List ℕ → List Symbol → Span → ModuleValue → Result FunctionValue LineFault
 declared n xs at m = read_parameters xs >> λ p. function n p.0 p.1 at m
 
--- `NAME(P, ..) = EXPR` and `NAME(P, ..)`
+-- `NAME(P, ..) = EXPR`, `NAME(P, ..) with V = INIT, .. = EXPR` and `NAME(P, ..)`
 abbrev pub function_line : List Symbol → Span → ModuleValue → Result ModuleValue LineFault
 function_line (opens n ∷ xs) at m = declared n xs at m >> λ f. Ok (with_function f at m)
 function_line xs at m = Err not_understood
 
--- `NAME = EXPR`
+-- `NAME = EXPR` and `NAME with V = INIT, .. = EXPR`
 abbrev pub entry_line : List Symbol → Span → ModuleValue → Result ModuleValue LineFault
 entry_line (name n ∷ x ∷ xs) at m = function n [] (x ∷ xs) at m >> λ f. Ok (with_entry_point (entry_of n f) m)
 entry_line xs at m = Err not_understood
@@ -111,8 +128,9 @@ entry_line xs at m = Err not_understood
 abbrev pub with_item : List ℕ → List Symbol → Span → ModuleValue → Result ModuleValue LineFault
 with_item k xs at m =
     if bytes_eq k (codes "const") then constant_line xs at m
+    else (if bytes_eq k (codes "var") then global_line xs at m
     else (if bytes_eq k (codes "fn") then function_line xs at m
-    else (if bytes_eq k (codes "entry") then entry_line xs at m else Err not_understood))
+    else (if bytes_eq k (codes "entry") then entry_line xs at m else Err not_understood)))
 
 abbrev pub with_symbols : Span → ModuleValue → List Symbol → Result ModuleValue LineFault
 with_symbols at m (name k ∷ xs) = with_item k xs at m
@@ -126,9 +144,15 @@ marks = codes "#" ∷ codes "//" ∷ codes "enable " ∷ codes "requires " ∷ c
 abbrev pub is_skipped : List ℕ → Bool
 is_skipped line = (length (trim_start line) == 0) || list_any (λ mark. starts_with nat_eq (trim_start line) mark) marks
 
+-- no space stands before a `with`, which is behind a `)` where it isn't behind a name
+abbrev pub lacks_space : List ℕ → Bool
+lacks_space line = is_within (codes ")with") line
+
 -- a module with the item of a line more
 unfoldable pub with_line : List ℕ → Span → ModuleValue → Result ModuleValue LineFault
-with_line line at m = if is_skipped line then Ok m else understood (symbols line) >> with_symbols at m
+with_line line at m =
+    if is_skipped line then Ok m
+    else (if lacks_space line then Err not_understood else understood (symbols line) >> with_symbols at m)
 
 -- ---- texts
 -- a place in a text, which ends at the greatest u32
@@ -175,4 +199,7 @@ arguments_of xs = map argument_value xs
 
 -- the maps of names are those of the module
 abbrev pub Knows : Reader → Type 0
-Knows r = (r.constants ≡ constant_names (module_value r.module_)) × (r.functions ≡ function_names (module_value r.module_))
+Knows r =
+    (r.constants ≡ constant_names (module_value r.module_))
+    × (r.globals ≡ global_names (module_value r.module_))
+    × (r.functions ≡ function_names (module_value r.module_))

@@ -1,8 +1,6 @@
 //! The language Mini: a front end that reads, writes and validates modules of one item a line.
 //!
 //! - `front`: the front end as a `Backend`.
-//! - `symbol`: the symbols of a line.
-//! - `names`: names in order, found by a map.
 //! - `making`: the expressions and the body of a sum.
 //! - `reader`: the module that a text says.
 //! - `body_reader`: a body as the symbols of a sum.
@@ -14,11 +12,9 @@
 mod body_reader;
 mod front;
 mod making;
-mod names;
 mod not_written;
 mod order;
 mod reader;
-mod symbol;
 mod valid;
 mod writer;
 

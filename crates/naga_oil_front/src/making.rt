@@ -1,24 +1,29 @@
-// How a sum becomes expressions and a body, from the left.
-ghost use Rattle.std.specs.Prelude.{◌≡◌, OnOk, IfOk, unwrap_or};
+// How locals and a sum become expressions and a body, from the left.
+ghost use Rattle.std.specs.Prelude.{◌≡◌, OnOk, IfOk, length, unwrap_or};
 ghost use Rattle.naga_oil_ir.specs.Parts.{parts};
 ghost use Rattle.naga_oil_ir.specs.Body.{block_tokens, statement_tokens};
 ghost use Rattle.naga_oil_ir.specs.ModuleValue.{expression_values};
-ghost use Rattle.naga_oil_front.specs.Symbols.{symbol_of, line_of};
-ghost use Rattle.naga_oil_front.specs.Refused.{Gives};
+ghost use Rattle.naga_oil_symbols.specs.Symbols.{symbol_of, line_of};
+ghost use Rattle.naga_oil_symbols.specs.Refused.{Gives};
 ghost use Rattle.naga_oil_front.specs.Making as spec;
 
-use crate::names::Names;
-use crate::symbol::{Refusal, Symbol};
-use naga_oil_ir::{Arena, Block, Expression, Function, Handle, Index, Places, Span, Statement};
+use naga_oil_ir::{
+    Arena, Block, Expression, Function, Handle, Index, LocalVariable, Places, Span, Statement,
+};
+use naga_oil_symbols::{Names, Refusal, Symbol};
 use std::alloc::{AllocError, Global};
 
-/// The names that a sum may use: parameters, and the constants and functions of earlier lines.
+/// The names that a sum may use: parameters, and the constants, globals and functions of earlier lines.
 #[derive(Clone, Copy)]
 pub struct Scope<'n, 'a> {
     pub parameters: &'n Names<'a>,
     pub constants: &'n Names<'a>,
+    pub globals: &'n Names<'a>,
     pub functions: &'n Names<'a>,
 }
+
+/// What stands in a function: its locals, its expressions and its body.
+pub type Inside = (Arena<LocalVariable>, Arena<Expression>, Block);
 
 // A call whose arguments are being read, and what is left of the `+` before it.
 #[derive(Drop)]
@@ -28,14 +33,28 @@ struct OpenCall {
     left: Option<Handle<Expression>>,
 }
 
-// A sum that is being read: the expressions and the body so far, the calls that are open, what is left of the last
-// `+`, the sum so far unless a term is wanted, and the first unknown name.
+// What is wanted: the sum, a local's name, the `=` behind its name, or its initialiser.
+#[derive(Clone, Copy)]
+enum Wanted<'a> {
+    Sum,
+    Local,
+    Equals(&'a str),
+    Initialiser(&'a str),
+}
+
+// Locals and a sum that are being read: the names of the locals, the locals, the expressions and the body so far, what is
+// wanted, the calls that are open, what is left of the last `+`, the sum so far unless a term is wanted, and the first
+// unknown name.
 #[derive(Drop)]
 struct Making<'n, 'a> {
+    alloc: Global,
     scope: Scope<'n, 'a>,
     span: Span,
+    names: Names<'a>,
+    locals: Arena<LocalVariable>,
     expressions: Arena<Expression>,
     body: Vec<(Statement, Span)>,
+    wanted: Wanted<'a>,
     calls: Vec<OpenCall>,
     left: Option<Handle<Expression>>,
     sum: Option<Handle<Expression>>,
@@ -49,20 +68,52 @@ impl<'a> Making<'_, 'a> {
         Ok(self.body.push((statement, self.span))?)
     }
 
+    // An expression more. Answers its place.
+    fn put(&mut self, expression: Expression) -> Result<Handle<Expression>, AllocError>
+        ensures place { IfOk result (λ h. h ≡ spec.next_place (spec.made_of self.old)) }
+        ensures made { OnOk result (spec.made_of self.new ≡ spec.put (parts expression) (spec.made_of self.old)) }
+    {
+        self.expressions.append(expression, self.span)
+    }
+
+    // An expression more, which is emitted alone. Answers its place.
+    fn emit(&mut self, expression: Expression) -> Result<Handle<Expression>, AllocError>
+        ensures place { IfOk result (λ h. h ≡ spec.next_place (spec.made_of self.old)) }
+        ensures made { OnOk result (spec.made_of self.new ≡ spec.emitted (parts expression) (spec.made_of self.old)) }
+    {
+        let place = self.put(expression)?;
+        let end = self.expressions.len();
+        self.state(Statement::Emit(Places::new(place.index(), end)))?;
+        Ok(place)
+    }
+
+    // A term at a place joins the sum.
+    fn join(&mut self, right: Handle<Expression>) -> Result<(), AllocError>
+        ensures { OnOk result (spec.made_of self.new ≡ spec.joined self.old.left right (spec.made_of self.old)) }
+    {
+        self.sum = Some(right);
+        if let Some(left) = self.left.take() {
+            let sum = self.emit(Expression::Binary { op: 1, left, right })?;
+            self.sum = Some(sum);
+        }
+        Ok(())
+    }
+
     // A term joins the sum.
     fn add(&mut self, term: Expression) -> Result<(), AllocError>
         ensures { OnOk result (spec.made_of self.new ≡ spec.with_term (parts term) (spec.made_of self.old)) }
     {
-        let right = self.expressions.append(term, self.span)?;
-        self.sum = Some(right);
-        if let Some(left) = self.left.take() {
-            let binary = Expression::Binary { op: 1, left, right };
-            let sum = self.expressions.append(binary, self.span)?;
-            let end = self.expressions.len();
-            self.state(Statement::Emit(Places::new(sum.index(), end)))?;
-            self.sum = Some(sum);
-        }
-        Ok(())
+        let term = self.put(term)?;
+        self.join(term)
+    }
+
+    // A variable joins the sum by a load of it.
+    fn add_variable(&mut self, variable: Expression) -> Result<(), AllocError>
+        ensures { OnOk result (spec.made_of self.new ≡ spec.with_variable (parts variable) (spec.made_of self.old)) }
+    {
+        let pointer = self.put(variable)?;
+        let load = self.emit(Expression::Load { pointer })?;
+        self.join(load)
     }
 
     // The place of a name, or 0 for one that no earlier line gives.
@@ -76,25 +127,36 @@ impl<'a> Making<'_, 'a> {
         place.unwrap_or(0)
     }
 
-    // What a name means: a parameter first, else a constant.
-    fn variable(&mut self, name: &'a str) -> Expression
-        ensures variable { parts result ≡ spec.variable (spec.made_of self.old).scope name.now }
-        ensures met { spec.made_of self.new ≡ spec.variable_met name.now (spec.made_of self.old) }
+    fn add_constant(&mut self, name: &'a str) -> Result<(), AllocError>
+        ensures { OnOk result (spec.made_of self.new ≡ spec.with_constant name.now (spec.made_of self.old)) }
     {
-        if let Some(place) = self.scope.parameters.place(name) {
-            return Expression::FunctionArgument(u32::try_from(place).unwrap_or(u32::MAX));
-        }
         let place = self.known(name, self.scope.constants.place(name));
-        Expression::Constant(Index::new(place))
+        self.add(Expression::Constant(Index::new(place)))
     }
 
-    fn open_call(&mut self, alloc: Global, name: &'a str) -> Result<(), AllocError>
+    // A name joins the sum: a parameter, else a local, else a global, else a constant.
+    fn add_name(&mut self, name: &'a str) -> Result<(), AllocError>
+        ensures { OnOk result (spec.made_of self.new ≡ spec.with_name name.now (spec.made_of self.old)) }
+    {
+        if let Some(parameter) = self.scope.parameters.place(name) {
+            return self.join(Index::new(parameter));
+        }
+        if let Some(local) = self.names.place(name) {
+            return self.add_variable(Expression::LocalVariable(Index::new(local)));
+        }
+        match self.scope.globals.place(name) {
+            Some(global) => self.add_variable(Expression::GlobalVariable(Index::new(global))),
+            None => self.add_constant(name),
+        }
+    }
+
+    fn open_call(&mut self, name: &'a str) -> Result<(), AllocError>
         ensures { OnOk result (spec.made_of self.new ≡ spec.function_met name.now (spec.made_of self.old)) }
     {
         let place = self.known(name, self.scope.functions.place(name));
         self.calls.push(OpenCall {
             callee: Index::new(place),
-            arguments: Vec::new(alloc),
+            arguments: Vec::new(self.alloc),
             left: self.left.take(),
         })?;
         Ok(())
@@ -127,16 +189,13 @@ impl<'a> Making<'_, 'a> {
         self.add(Expression::CallResult(call.callee))
     }
 
-    fn read(&mut self, alloc: Global, symbol: Symbol<'a>) -> Result<(), Refusal<'a>>
-        ensures { Gives (λ _. spec.made_of self.new) result (spec.read_symbol (symbol_of symbol.entry) (spec.made_of self.old)) }
+    fn read_sum(&mut self, symbol: Symbol<'a>) -> Result<(), Refusal<'a>>
+        ensures { Gives (λ _. spec.made_of self.new) result (spec.read_behind self.old.sum (symbol_of symbol.entry) (spec.made_of self.old)) }
     {
         match (symbol, self.sum) {
             (Symbol::Number(bits), None) => Ok(self.add(Expression::Literal { kind: 1, bits })?),
-            (Symbol::Name(name), None) => {
-                let variable = self.variable(name);
-                Ok(self.add(variable)?)
-            }
-            (Symbol::Opens(name), None) => Ok(self.open_call(alloc, name)?),
+            (Symbol::Name(name), None) => Ok(self.add_name(name)?),
+            (Symbol::Opens(name), None) => Ok(self.open_call(name)?),
             (Symbol::Plus, Some(_)) => {
                 self.left = self.sum.take();
                 Ok(())
@@ -153,46 +212,135 @@ impl<'a> Making<'_, 'a> {
         }
     }
 
-    // The end of a line: `=` and a sum, which is returned, or nothing for a stub.
-    fn read_end(&mut self, alloc: Global, symbols: &[Symbol<'a>]) -> Result<(), Refusal<'a>>
-        ensures { Gives (λ _. spec.made_of self.new) result (spec.read_end (line_of symbols.now) (spec.made_of self.old)) }
+    // A local more, whose initialiser has a place.
+    fn add_local(
+        &mut self,
+        name: &'a str,
+        init: Handle<Expression>,
+        wanted: Wanted<'a>,
+    ) -> Result<(), AllocError>
+        ensures { OnOk result (spec.made_of self.new ≡ spec.with_local name.now init (spec.wanted_of wanted.entry) (spec.made_of self.old)) }
     {
-        let sum = match symbols {
-            [] => return Ok(()),
-            [Symbol::Equals, sum @ ..] => sum,
+        let local = LocalVariable {
+            name: Some(String::from_str(self.alloc, name)?),
+            ty: Index::new(0),
+            init: Some(init),
+        };
+        self.locals.append(local, self.span)?;
+        self.names.push(name)?;
+        self.wanted = wanted;
+        self.sum = None;
+        Ok(())
+    }
+
+    // Terms of an initialiser are numbers and constants.
+    fn read_initialiser(&mut self, local: &'a str, symbol: Symbol<'a>) -> Result<(), Refusal<'a>>
+        ensures { Gives (λ _. spec.made_of self.new) result (spec.read_initialiser local.now self.old.sum (symbol_of symbol.entry) (spec.made_of self.old)) }
+    {
+        match (symbol, self.sum) {
+            (Symbol::Number(bits), None) => Ok(self.add(Expression::Literal { kind: 1, bits })?),
+            (Symbol::Name(name), None) => Ok(self.add_constant(name)?),
+            (Symbol::Plus, Some(_)) => {
+                self.left = self.sum.take();
+                Ok(())
+            }
+            (Symbol::Comma, Some(init)) => Ok(self.add_local(local, init, Wanted::Local)?),
+            (Symbol::Equals, Some(init)) => Ok(self.add_local(local, init, Wanted::Sum)?),
+            _ => Err(Refusal::NotUnderstood),
+        }
+    }
+
+    fn read(&mut self, symbol: Symbol<'a>) -> Result<(), Refusal<'a>>
+        ensures { Gives (λ _. spec.made_of self.new) result (spec.read_symbol (symbol_of symbol.entry) (spec.made_of self.old)) }
+    {
+        match (self.wanted, symbol) {
+            (Wanted::Sum, _) => return self.read_sum(symbol),
+            (Wanted::Initialiser(local), _) => return self.read_initialiser(local, symbol),
+            (Wanted::Local, Symbol::Name(name)) => self.wanted = Wanted::Equals(name),
+            (Wanted::Equals(local), Symbol::Equals) => self.wanted = Wanted::Initialiser(local),
+            _ => return Err(Refusal::NotUnderstood),
+        }
+        Ok(())
+    }
+
+    // The arena begins with the parameters.
+    fn add_parameters(&mut self) -> Result<(), AllocError>
+        requires none { length self.old.expressions ≡ 0 }
+        ensures { OnOk result (spec.made_of self.new ≡ spec.begun (spec.wanted_of self.old.wanted) (spec.made_of self.old)) }
+    {
+        for place in 0..self.scope.parameters.texts().len() {
+            let number = u32::try_from(place).unwrap_or(u32::MAX);
+            self.put(Expression::FunctionArgument(number))?;
+        }
+        Ok(())
+    }
+
+    // A sum, or locals and a sum, begins.
+    fn begin(&mut self, symbol: Symbol<'a>) -> Result<(), Refusal<'a>>
+        requires none { length self.old.expressions ≡ 0 }
+        ensures { Gives (λ _. spec.made_of self.new) result (spec.begun_by (symbol_of symbol.entry) (spec.made_of self.old)) }
+    {
+        self.wanted = match symbol {
+            Symbol::Equals => Wanted::Sum,
+            Symbol::Name("with") => Wanted::Local,
             _ => return Err(Refusal::NotUnderstood),
         };
-        for symbol in sum {
-            self.read(alloc, *symbol)?;
-        }
+        Ok(self.add_parameters()?)
+    }
+
+    // The sum is returned, where no call is open and no term is wanted.
+    fn end(&mut self) -> Result<(), Refusal<'a>>
+        ensures { Gives (λ _. spec.made_of self.new) result (spec.returned (spec.made_of self.old)) }
+    {
         let value = self.sum;
-        match self.unknown {
-            _ if value.is_none() || !self.calls.is_empty() => Err(Refusal::NotUnderstood),
-            Some(name) => Err(Refusal::Unknown(name)),
-            None => Ok(self.state(Statement::Return { value })?),
+        let is_whole = value.is_some() && self.calls.is_empty();
+        match (self.wanted, self.unknown) {
+            (Wanted::Sum, None) if is_whole => Ok(self.state(Statement::Return { value })?),
+            (Wanted::Sum, Some(name)) if is_whole => Err(Refusal::Unknown(name)),
+            _ => Err(Refusal::NotUnderstood),
         }
+    }
+
+    // The end of a line: `=` and a sum, `with` and locals before them, or nothing for a stub.
+    fn read_end(&mut self, symbols: &[Symbol<'a>]) -> Result<(), Refusal<'a>>
+        requires none { length self.old.expressions ≡ 0 }
+        ensures { Gives (λ _. spec.made_of self.new) result (spec.read_end (line_of symbols.now) (spec.made_of self.old)) }
+    {
+        let Some((first, rest)) = symbols.split_first() else {
+            return Ok(());
+        };
+        self.begin(*first)?;
+        for symbol in rest {
+            self.read(*symbol)?;
+        }
+        self.end()
     }
 }
 
-/// The expressions and the body that the end of a line says.
+/// What the end of a line says.
 pub fn made<'a>(
     alloc: Global,
     scope: Scope<'_, 'a>,
     span: Span,
     symbols: &[Symbol<'a>],
-) -> Result<(Arena<Expression>, Block), Refusal<'a>>
-    ensures { Gives spec.body_of result (spec.body (spec.scope_of scope.entry) span (line_of symbols.now)) }
+) -> Result<Inside, Refusal<'a>>
+    ensures { Gives spec.inside_of result (spec.made (spec.scope_of scope.entry) span (line_of symbols.now)) }
 {
     let mut making = Making {
+        alloc,
         scope,
         span,
+        names: Names::new(alloc),
+        locals: Arena::new(alloc),
         expressions: Arena::new(alloc),
         body: Vec::new(alloc),
+        wanted: Wanted::Sum,
         calls: Vec::new(alloc),
         left: None,
         sum: None,
         unknown: None,
     };
-    making.read_end(alloc, symbols)?;
-    Ok((making.expressions, Block { body: making.body }))
+    making.read_end(symbols)?;
+    let body = Block { body: making.body };
+    Ok((making.locals, making.expressions, body))
 }

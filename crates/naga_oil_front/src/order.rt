@@ -1,8 +1,8 @@
 // Where a line may stand, so that each name means its item.
-ghost use Rattle.std.specs.Prelude.{◌≡◌, IfOk, map, reverse, option_map};
+ghost use Rattle.std.specs.Prelude.{◌≡◌, ◌&&◌, nat_le, IfOk, map, reverse, option_map};
 ghost use Rattle.naga_oil_front.specs.Order as spec;
 
-use crate::names::Names;
+use naga_oil_symbols::Names;
 use std::alloc::{AllocError, Global};
 use std::marker::Model;
 
@@ -13,10 +13,11 @@ pub struct Bounds {
     pub most: usize,
 }
 
-/// How many constants and functions may stand before a line.
+/// How many constants, globals and functions may stand before a line.
 #[derive(Clone, Copy)]
 pub struct Room {
     pub constants: Bounds,
+    pub globals: Bounds,
     pub functions: Bounds,
 }
 
@@ -28,6 +29,7 @@ const ANY: Bounds = Bounds {
 /// The room of a line that names nothing.
 pub const ANYWHERE: Room = Room {
     constants: ANY,
+    globals: ANY,
     functions: ANY,
 };
 
@@ -50,7 +52,7 @@ impl<'m> Model for ItemNames<'m> {
 }
 
 impl<'m> ItemNames<'m> {
-    ghost use Rattle.naga_oil_front.specs.Order.{name_used, bounds_used};
+    ghost use Rattle.naga_oil_front.specs.Order.{name_used, bounds_used, place_from};
 
     pub fn new(alloc: Global, names: Names<'m>) -> Result<ItemNames<'m>, AllocError>
         ensures { IfOk result (λ i. i ≡ names.entry) }
@@ -78,44 +80,72 @@ impl<'m> ItemNames<'m> {
         }
         self.names.texts().get(place).copied()
     }
+
+    /// The first place of a name, or the greatest number for none.
+    #[tactic(auto, using(crate::proofs::OrderLemmas::first_place))]
+    pub fn first_place(&self, name: &str) -> usize
+        ensures { result ≡ place_from 0 name.now self.now }
+    {
+        if self.names.place(name).is_none() {
+            return usize::MAX;
+        }
+        let texts = self.names.texts();
+        for (place, text) in texts.iter().enumerate() {
+            if name == *text {
+                return place;
+            }
+        }
+        usize::MAX
+    }
 }
 
-/// The names of a module's constants and functions.
+/// The names of a module's constants, globals and functions.
 #[derive(Drop)]
 pub struct Items<'m> {
     pub constants: ItemNames<'m>,
+    pub globals: ItemNames<'m>,
     pub functions: ItemNames<'m>,
 }
 
 // A line needs what the lines of its kind before it need.
 fn need_in_order(lines: &mut [Room])
-    ensures { lines.new ≡ spec.needing 0 lines.old }
+    ensures { lines.new ≡ spec.needing 0 0 lines.old }
 {
-    let mut least = 0;
+    let mut constants = 0;
+    let mut globals = 0;
     for line in lines {
-        least = least.max(line.constants.least);
-        line.constants.least = least;
+        constants = constants.max(line.constants.least);
+        globals = globals.max(line.globals.least);
+        line.constants.least = constants;
+        line.globals.least = globals;
     }
 }
 
 impl Room {
+    // Whether as many constants and globals may stand before the line as a function needs.
+    fn allows(self, function: &Room) -> bool
+        ensures { result ≡ (nat_le function.now.constants.least self.constants.most && nat_le function.now.globals.least self.globals.most) }
+    {
+        function.constants.least <= self.constants.most
+            && function.globals.least <= self.globals.most
+    }
+
     // Whether an entry point may stand behind all of these functions.
     fn may_follow(self, functions: &[Room]) -> bool
         ensures { result ≡ spec.may_follow self (reverse functions.now) }
     {
         functions.len() <= self.functions.most
-            && functions
-                .last()
-                .is_none_or(|last| last.constants.least <= self.constants.most)
+            && functions.last().is_none_or(|last| self.allows(last))
     }
 
-    // Whether the line may stand behind so many functions, and before as many constants at most.
-    fn fits(self, functions: usize, constants: usize) -> bool
-        ensures { result ≡ spec.fits self functions constants }
+    // Whether the line may stand behind so many functions, and before as many constants and globals at most.
+    fn fits(self, functions: usize, constants: usize, globals: usize) -> bool
+        ensures { result ≡ spec.fits self functions constants globals }
     {
         self.functions.least <= functions
             && functions <= self.functions.most
             && self.constants.least <= constants
+            && self.globals.least <= globals
     }
 }
 
@@ -129,18 +159,20 @@ fn take_last(functions: &mut Vec<Room>, entry_points: &mut Vec<Room>) -> Option<
     }
 }
 
-/// Whether the lines of functions and entry points can stand among constants and one another so that each has its room.
+/// Whether the lines of functions and entry points can stand among constants, globals and one another so that each has its room.
 pub fn has_order(functions: &mut Vec<Room>, entry_points: &mut Vec<Room>) -> bool
     ensures { result ≡ spec.has_order functions.old.items entry_points.old.items }
 {
     need_in_order(functions);
     let mut constants = usize::MAX;
+    let mut globals = usize::MAX;
     for _ in 0..functions.len() + entry_points.len() {
         let Some(line) = take_last(functions, entry_points) else {
             return true;
         };
         constants = constants.min(line.constants.most);
-        if !line.fits(functions.len(), constants) {
+        globals = globals.min(line.globals.most);
+        if !line.fits(functions.len(), constants, globals) {
             return false;
         }
     }

@@ -5,28 +5,28 @@ ghost use Rattle.std.specs.Prelude.{nat_eq};
 ghost use Rattle.naga_oil_ir.specs.Rows.{type_row};
 ghost use Rattle.naga_oil_ir.specs.ModuleValue.{module_value, function_value};
 ghost use Rattle.naga_oil_ir.specs.Backend.{Answers, parse_fault};
-ghost use Rattle.naga_oil_front.specs.Symbols.{line_of};
-ghost use Rattle.naga_oil_front.specs.Refused.{Gives, Faults};
+ghost use Rattle.naga_oil_symbols.specs.Symbols.{line_of};
+ghost use Rattle.naga_oil_symbols.specs.Refused.{Gives, Faults};
 ghost use Rattle.naga_oil_front.specs.Reader as spec;
 
 use crate::making::{Scope, made};
-use crate::names::Names;
-use crate::symbol::{Refusal, Symbol, symbols};
-use indexmap::IndexMap;
 use naga_oil_ir::{
     Arena, BackendRefusal, Constant, EntryPoint, Expression, Function, FunctionArgument,
-    FunctionResult, Index, Module, ParseFault, Span, Type, TypeInner,
+    FunctionResult, GlobalVariable, Index, Module, NamedExpressions, ParseFault, Span, Type,
+    TypeInner,
 };
+use naga_oil_symbols::{Names, Refusal, Symbol, symbols};
 use std::alloc::{AllocError, Global};
 
-// The module of the lines that were read, the names of its constants and functions, and the span of the line that is
-// read.
+// The module of the lines that were read, the names of its constants, globals and functions, and the span of the line that
+// is read.
 #[derive(Drop)]
 struct Reader<'a> {
     alloc: Global,
     span: Span,
     module_: Module,
     constants: Names<'a>,
+    globals: Names<'a>,
     functions: Names<'a>,
 }
 
@@ -43,6 +43,13 @@ fn is_skipped(line: &str) -> bool
     let text = line.trim_start();
     let marks = ["#", "//", "enable ", "requires ", "diagnostic("];
     text.is_empty() || marks.iter().any(|mark| begins(text, mark))
+}
+
+// Whether no space stands before a `with`.
+fn lacks_space(line: &str) -> bool
+    ensures { result ≡ spec.lacks_space line.now }
+{
+    line.contains(")with")
 }
 
 // The parameters that a line's symbols begin with, up to `)`, and what follows.
@@ -97,6 +104,7 @@ impl<'a> Reader<'a> {
             span: Span::UNDEFINED,
             module_,
             constants: Names::new(alloc),
+            globals: Names::new(alloc),
             functions: Names::new(alloc),
         })
     }
@@ -123,6 +131,28 @@ impl<'a> Reader<'a> {
         Ok(self.constants.push(name)?)
     }
 
+    // `NAME = INT`
+    fn add_global(&mut self, symbols: &[Symbol<'a>]) -> Result<(), Refusal<'a>>
+        requires known { spec.Knows self.old }
+        ensures value { Gives (λ _. module_value self.new.module_) result (spec.global_line (line_of symbols.now) self.old.span (module_value self.old.module_)) }
+        ensures known { OnOk result (spec.Knows self.new) }
+    {
+        let &[Symbol::Name(name), Symbol::Equals, Symbol::Number(bits)] = symbols else {
+            return Err(Refusal::NotUnderstood);
+        };
+        let literal = Expression::Literal { kind: 1, bits };
+        let init = self.module_.global_expressions.append(literal, self.span)?;
+        let global = GlobalVariable {
+            name: Some(String::from_str(self.alloc, name)?),
+            space: 1,
+            binding: None,
+            ty: Index::new(0),
+            init: Some(init),
+        };
+        self.module_.global_variables.append(global, self.span)?;
+        Ok(self.globals.push(name)?)
+    }
+
     // The function of a name, with parameters and the body that the end of a line says.
     fn function(
         &self,
@@ -136,11 +166,12 @@ impl<'a> Reader<'a> {
         let scope = Scope {
             parameters,
             constants: &self.constants,
+            globals: &self.globals,
             functions: &self.functions,
         };
         let name = Some(String::from_str(self.alloc, name)?);
         let arguments = arguments(self.alloc, parameters)?;
-        let (expressions, body) = made(self.alloc, scope, self.span, body)?;
+        let (locals, expressions, body) = made(self.alloc, scope, self.span, body)?;
         Ok(Function {
             name,
             arguments,
@@ -148,15 +179,15 @@ impl<'a> Reader<'a> {
                 ty: Index::new(0),
                 binding: None,
             }),
-            local_variables: Arena::new(self.alloc),
+            local_variables: locals,
             expressions,
-            named_expressions: IndexMap::new(self.alloc),
+            named_expressions: NamedExpressions::new(),
             body,
             diagnostic_filter_leaf: None,
         })
     }
 
-    // `NAME(P, ..) = EXPR` or `NAME(P, ..)`
+    // `NAME(P, ..) = EXPR`, `NAME(P, ..) with V = INIT, .. = EXPR` or `NAME(P, ..)`
     fn add_function(&mut self, symbols: &[Symbol<'a>]) -> Result<(), Refusal<'a>>
         requires known { spec.Knows self.old }
         ensures value { Gives (λ _. module_value self.new.module_) result (spec.function_line (line_of symbols.now) self.old.span (module_value self.old.module_)) }
@@ -171,7 +202,7 @@ impl<'a> Reader<'a> {
         Ok(self.functions.push(name)?)
     }
 
-    // `NAME = EXPR`
+    // `NAME = EXPR` or `NAME with V = INIT, .. = EXPR`
     fn add_entry_point(&mut self, symbols: &[Symbol<'a>]) -> Result<(), Refusal<'a>>
         requires known { spec.Knows self.old }
         ensures value { Gives (λ _. module_value self.new.module_) result (spec.entry_line (line_of symbols.now) self.old.span (module_value self.old.module_)) }
@@ -201,6 +232,7 @@ impl<'a> Reader<'a> {
     {
         match symbols {
             [Symbol::Name("const"), rest @ ..] => self.add_constant(rest),
+            [Symbol::Name("var"), rest @ ..] => self.add_global(rest),
             [Symbol::Name("fn"), rest @ ..] => self.add_function(rest),
             [Symbol::Name("entry"), rest @ ..] => self.add_entry_point(rest),
             _ => Err(Refusal::NotUnderstood),
@@ -216,6 +248,9 @@ impl<'a> Reader<'a> {
     {
         if is_skipped(line) {
             return Ok(());
+        }
+        if lacks_space(line) {
+            return Err(Refusal::NotUnderstood);
         }
         let symbols = symbols(self.alloc, line)?;
         self.add(&symbols)

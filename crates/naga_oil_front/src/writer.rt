@@ -1,19 +1,21 @@
-// The text of a module: constants, functions, entry points, a line each.
-ghost use Rattle.std.specs.Prelude.{◌≡◌, ◌++◌, OnOk, map, reverse, option_map, string_bytes};
-ghost use Rattle.naga_oil_ir.specs.Rows.{constant_row};
-ghost use Rattle.naga_oil_ir.specs.ModuleValue.{module_value, function_value, entry_value, argument_value, expression_values};
-ghost use Rattle.naga_oil_front.specs.Symbols.{symbol_of, line_of};
+// The text of a module: constants, globals, functions, entry points, a line each.
+ghost use Rattle.std.specs.Prelude.{◌≡◌, ◌++◌, OnOk, IfOk, map, reverse, option_map, string_bytes};
+ghost use Rattle.naga_oil_ir.specs.Rows.{global_row};
+ghost use Rattle.naga_oil_ir.specs.ModuleValue.{module_value, function_value, entry_value, argument_value, local_value, expression_values};
+ghost use Rattle.naga_oil_symbols.specs.Symbols.{symbol_of, line_of};
+ghost use Rattle.naga_oil_front.specs.Making.{local_values};
+ghost use Rattle.naga_oil_front.specs.BodyReader.{locals_of};
 ghost use Rattle.naga_oil_front.specs.NotWritten.{Finds, Writes};
 ghost use Rattle.naga_oil_front.specs.Writer as spec;
 
-use crate::body_reader::{Shape, shape_at, sum_of, tokens_of};
-use crate::names::Names;
+use crate::body_reader::{OwnNames, Shape, end_of, shape_at, tokens_of};
 use crate::not_written::{NotWritten, Written};
 use crate::order::{ANYWHERE, ItemNames, Items, Room, has_order};
-use crate::symbol::{Symbol, is_name};
 use naga_oil_ir::{
-    Constant, EntryPoint, Function, FunctionArgument, Module, Span, Type, TypeInner,
+    EntryPoint, Function, FunctionArgument, GlobalVariable, Handle, LocalVariable, Module, Span,
+    Token, Type, TypeInner,
 };
+use naga_oil_symbols::{Names, Symbol, is_name};
 use std::alloc::{AllocError, Global};
 
 fn push_symbol(out: &mut String, symbol: Symbol<'_>) -> Result<(), AllocError>
@@ -70,6 +72,40 @@ fn parameter_words<'m>(alloc: Global, arguments: &'m [FunctionArgument]) -> Writ
     Ok(names)
 }
 
+// The name of a local of the one type, and the place of its initialiser.
+fn local_word(local: &LocalVariable) -> Written<(&str, usize)>
+    ensures { Finds (λ l. (l.0.now, l.1)) result (spec.local_word (local_value local.now)) }
+{
+    match local.init {
+        Some(init) if local.ty.index() == 0 => Ok((valid_name(&local.name)?, init.index())),
+        _ => Err(NotWritten::NotInMini),
+    }
+}
+
+fn local_words<'m>(
+    alloc: Global,
+    locals: &'m [(LocalVariable, Span)],
+) -> Written<Vec<(&'m str, usize)>>
+    ensures { Finds (λ v. locals_of v.items) result (spec.local_words (local_values locals.now)) }
+{
+    let mut words = Vec::new(alloc);
+    for local in locals {
+        words.push(local_word(&local.0)?)?;
+    }
+    Ok(words)
+}
+
+// The names of locals.
+fn local_names<'m>(alloc: Global, locals: &[(&'m str, usize)]) -> Result<Names<'m>, AllocError>
+    ensures { IfOk result (λ n. n ≡ map (λ l. l.0) (locals_of locals.now)) }
+{
+    let mut names = Names::new(alloc);
+    for (name, _) in locals {
+        names.push(*name)?;
+    }
+    Ok(names)
+}
+
 fn function_words<'m>(alloc: Global, functions: &'m [(Function, Span)]) -> Written<Names<'m>>
     ensures { Finds (λ n. n) result (spec.function_words (spec.function_values functions.now)) }
 {
@@ -80,12 +116,12 @@ fn function_words<'m>(alloc: Global, functions: &'m [(Function, Span)]) -> Writt
     Ok(names)
 }
 
-// The number of a constant of the one type.
-fn number_of(of: &Module, constant: &Constant) -> Written<u64>
-    ensures { Finds (λ n. n) result (spec.constant_number (expression_values of.now.global_expressions) (constant_row constant.now)) }
+// The number at a place, if it is of the one type.
+fn number_at(of: &Module, ty: Handle<Type>, place: usize) -> Written<u64>
+    ensures { Finds (λ n. n) result (spec.number_at (expression_values of.now.global_expressions) ty place) }
 {
-    match shape_at(&of.global_expressions, constant.init.index()) {
-        Shape::Number(value) if constant.ty.index() == 0 => Ok(value),
+    match shape_at(&of.global_expressions, place) {
+        Shape::Number(value) if ty.index() == 0 => Ok(value),
         _ => Err(NotWritten::NotInMini),
     }
 }
@@ -97,8 +133,34 @@ fn push_constants<'m>(alloc: Global, out: &mut String, of: &'m Module) -> Writte
     let mut names = Names::new(alloc);
     for constant in of.constants.as_slice() {
         let name = valid_name(&constant.0.name)?;
-        let value = number_of(of, &constant.0)?;
+        let value = number_at(of, constant.0.ty, constant.0.init.index())?;
         write!(out, "const {name} = {value}\n")?;
+        names.push(name)?;
+    }
+    Ok(names)
+}
+
+// The name and the number of a global.
+fn global_word<'m>(of: &'m Module, global: &'m GlobalVariable) -> Written<(&'m str, u64)>
+    ensures { Finds (λ g. (g.0.now, g.1)) result (spec.global_word (expression_values of.now.global_expressions) (global_row global.now)) }
+{
+    let name = valid_name(&global.name)?;
+    match global.init {
+        Some(init) if global.space == 1 && global.binding.is_none() => {
+            Ok((name, number_at(of, global.ty, init.index())?))
+        }
+        _ => Err(NotWritten::NotInMini),
+    }
+}
+
+// Pushes the lines of globals, and answers their names.
+fn push_globals<'m>(alloc: Global, out: &mut String, of: &'m Module) -> Written<Names<'m>>
+    ensures { Writes (λ n. n) result (spec.globals_text (module_value of.now).global_expressions (module_value of.now).global_variables) (string_bytes out.old) (string_bytes out.new) }
+{
+    let mut names = Names::new(alloc);
+    for global in of.global_variables.as_slice() {
+        let (name, value) = global_word(of, &global.0)?;
+        write!(out, "var {name} = {value}\n")?;
         names.push(name)?;
     }
     Ok(names)
@@ -109,7 +171,6 @@ fn is_plain_function(function: &Function) -> bool
 {
     let outcome = function.result;
     outcome.is_some_and(|r| r.ty.index() == 0 && r.binding.is_none())
-        && function.local_variables.len() == 0
         && function.named_expressions.len() == 0
         && function.diagnostic_filter_leaf.is_none()
 }
@@ -127,6 +188,13 @@ fn is_plain_entry(entry_point: &EntryPoint) -> bool
         && entry_point.task_payload.is_none()
 }
 
+// What stands behind the header of a line.
+fn opening(locals: &[(&str, usize)]) -> &'static str
+    ensures { result.now ≡ spec.opening (locals_of locals.now) }
+{
+    if locals.is_empty() { " = " } else { " with " }
+}
+
 // The lines so far, and the names that they may use.
 #[derive(Drop)]
 struct Writer<'m> {
@@ -136,27 +204,55 @@ struct Writer<'m> {
 }
 
 impl<'m> Writer<'m> {
+    // Locals and a sum, whose tokens are given from the last on. Answers the line's room.
+    fn push_end(
+        &mut self,
+        parameters: Names<'m>,
+        function: &'m Function,
+        tokens: &[Token],
+    ) -> Written<Room>
+        ensures text { Writes (λ r. r) result (spec.end_text self.old.items parameters.entry (function_value function.now) tokens.now) (string_bytes self.old.text) (string_bytes self.new.text) }
+        ensures items { OnOk result (self.new.items ≡ self.old.items) }
+    {
+        let locals = local_words(self.alloc, function.local_variables.as_slice())?;
+        let names = OwnNames {
+            parameters,
+            locals: local_names(self.alloc, &locals)?,
+        };
+        let expressions = &function.expressions;
+        let (symbols, room) = end_of(
+            self.alloc,
+            expressions,
+            &names,
+            &self.items,
+            &locals,
+            tokens,
+        )?;
+        self.text.push_str(opening(&locals))?;
+        push_symbols(&mut self.text, symbols)?;
+        self.text.push('\n')?;
+        Ok(room)
+    }
+
     // What stands behind the header of a line. Answers the line's room.
     #[tactic(auto, unfolding(crate::specs::Writer::body_line))]
-    fn push_body(&mut self, parameters: &Names<'m>, function: &Function) -> Written<Room>
-        ensures text { Writes (λ r. r) result (spec.body_line self.old.items parameters.now (function_value function.now)) (string_bytes self.old.text) (string_bytes self.new.text) }
+    fn push_body(&mut self, parameters: Names<'m>, function: &'m Function) -> Written<Room>
+        ensures text { Writes (λ r. r) result (spec.body_line self.old.items parameters.entry (function_value function.now)) (string_bytes self.old.text) (string_bytes self.new.text) }
         ensures items { OnOk result (self.new.items ≡ self.old.items) }
     {
         if !is_plain_function(function) {
             return Err(NotWritten::NotInMini);
         }
         let mut tokens = tokens_of(self.alloc, &function.body)?;
-        if tokens.is_empty() {
-            self.text.push('\n')?;
-            return Ok(ANYWHERE);
+        if !tokens.is_empty() {
+            tokens.reverse();
+            return self.push_end(parameters, function, &tokens);
         }
-        tokens.reverse();
-        let expressions = &function.expressions;
-        let (symbols, room) = sum_of(self.alloc, expressions, parameters, &self.items, &tokens)?;
-        self.text.push_str(" = ")?;
-        push_symbols(&mut self.text, symbols)?;
+        if function.local_variables.len() != 0 {
+            return Err(NotWritten::NotInMini);
+        }
         self.text.push('\n')?;
-        Ok(room)
+        Ok(ANYWHERE)
     }
 
     #[tactic(auto, unfolding(crate::specs::Writer::function_text))]
@@ -168,7 +264,7 @@ impl<'m> Writer<'m> {
         let parameters = parameter_words(self.alloc, function.arguments.as_slice())?;
         let texts = parameters.texts().join(self.alloc, ", ")?;
         write!(self.text, "fn {name}({texts})")?;
-        self.push_body(&parameters, function)
+        self.push_body(parameters, function)
     }
 
     #[tactic(auto, unfolding(crate::specs::Writer::entry_text))]
@@ -181,7 +277,7 @@ impl<'m> Writer<'m> {
             return Err(NotWritten::NotInMini);
         }
         write!(self.text, "entry {name}")?;
-        self.push_body(&Names::new(self.alloc), &entry_point.function)
+        self.push_body(Names::new(self.alloc), &entry_point.function)
     }
 
     fn push_functions(&mut self, of: &'m Module) -> Written<Vec<Room>>
@@ -213,7 +309,12 @@ fn has_type(of: &Module) -> bool
     ensures { result ≡ spec.has_type (module_value of.now) }
 {
     match of.types.items() {
-        [] => of.constants.len() == 0 && of.functions.len() == 0 && of.entry_points.is_empty(),
+        [] => {
+            of.constants.len() == 0
+                && of.global_variables.len() == 0
+                && of.functions.len() == 0
+                && of.entry_points.is_empty()
+        }
         [ty] => ty.name.is_none() && matches!(ty.inner, TypeInner::Scalar(1)),
         _ => false,
     }
@@ -228,22 +329,23 @@ fn is_plain_module(of: &Module) -> bool
         && of.special_types.ray_vertex_return.is_none()
         && of.special_types.predeclared_types.is_empty()
         && of.overrides.len() == 0
-        && of.global_variables.len() == 0
         && of.diagnostic_filters.is_empty()
         && of.diagnostic_filter_leaf.is_none()
         && of.doc_comments.is_none()
 }
 
-// The lines of constants, and the names of constants and functions.
+// The lines of constants and globals, and the names of constants, globals and functions.
 #[tactic(auto, unfolding(crate::specs::Writer::items_text))]
 fn begun(alloc: Global, of: &Module) -> Written<Writer<'_>>
     ensures { Finds (λ w. (string_bytes w.text, w.items)) result (spec.items_text (module_value of.now)) }
 {
     let mut text = String::new(alloc);
     let constants = push_constants(alloc, &mut text, of)?;
+    let globals = push_globals(alloc, &mut text, of)?;
     let functions = function_words(alloc, of.functions.as_slice())?;
     let items = Items {
         constants: ItemNames::new(alloc, constants)?,
+        globals: ItemNames::new(alloc, globals)?,
         functions: ItemNames::new(alloc, functions)?,
     };
     Ok(Writer { alloc, text, items })

@@ -8,6 +8,7 @@ pub mod ItemForm
 pub mod BodyForm
 pub mod NameForm
 pub mod WellFormed
+pub mod NameEntries
 pub mod ModuleValue
 pub mod Backend
 pub mod RedirectFault

@@ -5,6 +5,9 @@ use Rattle.naga_oil_ir.specs.declared.expression.Expression.TheVariants.{Literal
 use Rattle.naga_oil_ir.specs.declared.expression.SampleLevel.{SampleLevel}
 use Rattle.naga_oil_ir.specs.declared.expression.SampleLevel.TheVariants.{Auto, Zero, Exact, Bias, Gradient}
 use Rattle.naga_oil_ir.specs.declared.expression.ImageQuery.{ImageQuery as Query}
+use Rattle.naga_oil_ir.specs.declared.expression.ImageSample.{ImageSample as Sample}
+use Rattle.naga_oil_ir.specs.declared.expression.ImageLoad.{ImageLoad as Texel}
+use Rattle.naga_oil_ir.specs.declared.expression.Math.{Math as Function}
 use Rattle.naga_oil_ir.specs.declared.expression.ImageQuery.TheVariants.{Size, Other}
 use Rattle.naga_oil_ir.specs.declared.parts.Named.{Named}
 use Rattle.naga_oil_ir.specs.declared.parts.Named.TheVariants.{Nothing, TypeOf, ConstantAt, OverrideAt, GlobalAt, LocalAt, ArgumentAt, FunctionAt}
@@ -55,6 +58,17 @@ abbrev pub query_level : Query → Option ℕ
 query_level (Size l) = l
 query_level (Other c) = None
 
+-- the parts of a sample of an image, of a texel and of a mathematical function
+abbrev pub sample_parts : Sample → Parts
+sample_parts s =
+    expr 19 (s.gather ∷ level_code s.level ∷ []) Nothing (Some s.image ∷ Some s.sampler ∷ Some s.coordinate ∷ s.array_index ∷ s.offset ∷ level_x s.level ∷ level_y s.level ∷ s.depth_ref ∷ [])
+
+abbrev pub load_parts : Texel → Parts
+load_parts l = expr 20 [] Nothing (Some l.image ∷ Some l.coordinate ∷ l.array_index ∷ l.sample ∷ l.level ∷ [])
+
+abbrev pub math_parts : Function → Parts
+math_parts m = expr 27 (m.fun ∷ []) Nothing (Some m.arg ∷ m.arg1 ∷ m.arg2 ∷ m.arg3 ∷ [])
+
 -- the one list of the 32 kinds
 abbrev pub parts : Expression → Parts
 parts (Literal kind bits) = expr 0 (kind ∷ bits ∷ []) Nothing []
@@ -76,17 +90,15 @@ parts (AccessIndex base index) = expr 15 (index ∷ []) Nothing (Some base ∷ [
 parts (Splat size value) = expr 16 (size ∷ []) Nothing (Some value ∷ [])
 parts (Swizzle size vector pattern) = expr 17 (size ∷ pattern ∷ []) Nothing (Some vector ∷ [])
 parts (Load pointer) = expr 18 [] Nothing (Some pointer ∷ [])
-parts (ImageSample image sampler gather coordinate array_index offset level depth_ref) =
-    expr 19 (gather ∷ level_code level ∷ []) Nothing (Some image ∷ Some sampler ∷ Some coordinate ∷ array_index ∷ offset ∷ level_x level ∷ level_y level ∷ depth_ref ∷ [])
-parts (ImageLoad image coordinate array_index sample level) =
-    expr 20 [] Nothing (Some image ∷ Some coordinate ∷ array_index ∷ sample ∷ level ∷ [])
+parts (ImageSample b) = sample_parts b.value
+parts (ImageLoad b) = load_parts b.value
 parts (ImageQuery image query) = expr 21 (query_code query) Nothing (Some image ∷ query_level query ∷ [])
 parts (Unary op e) = expr 22 (op ∷ []) Nothing (Some e ∷ [])
 parts (Binary op left right) = expr 23 (op ∷ []) Nothing (Some left ∷ Some right ∷ [])
 parts (Select condition accept reject) = expr 24 [] Nothing (Some condition ∷ Some accept ∷ Some reject ∷ [])
 parts (Derivative axis e) = expr 25 (axis ∷ []) Nothing (Some e ∷ [])
 parts (Relational fun argument) = expr 26 (fun ∷ []) Nothing (Some argument ∷ [])
-parts (Math fun arg arg1 arg2 arg3) = expr 27 (fun ∷ []) Nothing (Some arg ∷ arg1 ∷ arg2 ∷ arg3 ∷ [])
+parts (Math b) = math_parts b.value
 parts (As e kind convert) = expr 28 (kind ∷ convert ∷ []) Nothing (Some e ∷ [])
 parts (ArrayLength e) = expr 29 [] Nothing (Some e ∷ [])
 parts (RayQueryGetIntersection query committed) = expr 30 (committed ∷ []) Nothing (Some query ∷ [])

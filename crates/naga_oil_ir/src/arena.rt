@@ -192,4 +192,11 @@ impl<T: Item + Eq + Hash> UniqueArena<T> {
             }
         }
     }
+
+    /// Gives back the room that the items don't need.
+    pub fn shrink_to_fit(&mut self)
+        ensures { self.new ≡ self.old }
+    {
+        self.0.shrink_to_fit();
+    }
 }

@@ -22,6 +22,39 @@ pub enum ImageQuery {
     Other(u64),
 }
 
+/// A sample of an image.
+#[derive(PartialEq, Drop)]
+pub struct ImageSample {
+    pub image: Operand,
+    pub sampler: Operand,
+    pub gather: u64,
+    pub coordinate: Operand,
+    pub array_index: Option<Operand>,
+    pub offset: Option<Operand>,
+    pub level: SampleLevel,
+    pub depth_ref: Option<Operand>,
+}
+
+/// A texel of an image.
+#[derive(PartialEq, Drop)]
+pub struct ImageLoad {
+    pub image: Operand,
+    pub coordinate: Operand,
+    pub array_index: Option<Operand>,
+    pub sample: Option<Operand>,
+    pub level: Option<Operand>,
+}
+
+/// A mathematical function of one to four arguments.
+#[derive(PartialEq, Drop)]
+pub struct Math {
+    pub fun: u64,
+    pub arg: Operand,
+    pub arg1: Option<Operand>,
+    pub arg2: Option<Operand>,
+    pub arg3: Option<Operand>,
+}
+
 /// An expression. The first seven kinds are external, the next six are results.
 #[derive(PartialEq, Drop)]
 #[rattlefmt::skip]
@@ -45,25 +78,23 @@ pub enum Expression {
     Splat { size: u64, value: Operand },
     Swizzle { size: u64, vector: Operand, pattern: u64 },
     Load { pointer: Operand },
-    ImageSample {
-        image: Operand, sampler: Operand, gather: u64, coordinate: Operand, array_index: Option<Operand>,
-        offset: Option<Operand>, level: SampleLevel, depth_ref: Option<Operand>,
-    },
-    ImageLoad {
-        image: Operand, coordinate: Operand, array_index: Option<Operand>, sample: Option<Operand>, level: Option<Operand>,
-    },
+    ImageSample(Box<ImageSample>),
+    ImageLoad(Box<ImageLoad>),
     ImageQuery { image: Operand, query: ImageQuery },
     Unary { op: u64, expr: Operand },
     Binary { op: u64, left: Operand, right: Operand },
     Select { condition: Operand, accept: Operand, reject: Operand },
     Derivative { axis: u64, expr: Operand },
     Relational { fun: u64, argument: Operand },
-    Math { fun: u64, arg: Operand, arg1: Option<Operand>, arg2: Option<Operand>, arg3: Option<Operand> },
+    Math(Box<Math>),
     As { expr: Operand, kind: u64, convert: u64 },
     ArrayLength(Operand),
     RayQueryGetIntersection { query: Operand, committed: u64 },
     RayQueryVertexPositions { query: Operand, committed: u64 },
 }
+
+// the widest kinds stand in boxes, so that a list of expressions takes less room
+const _: () = prove!(size_of::<Expression>() == 40);
 
 impl Item for Expression {
     type Kind = kind::Expression;

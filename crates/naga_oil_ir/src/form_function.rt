@@ -5,7 +5,6 @@ ghost use Rattle.naga_oil_ir.specs.WellFormed.{NamedThere, SignatureForm, Expres
 use super::body::may_stand;
 use super::form::{Tested, are_spans_fine, are_tokens_fine, read};
 use super::*;
-use indexmap::IndexMap;
 use std::alloc::{AllocError, Global};
 
 fn is_type_there(of: &Module, ty: Handle<Type>) -> bool
@@ -41,10 +40,10 @@ fn are_handles_below(handles: &[Handle<Expression>], limit: usize) -> bool
     handles.iter().all(|handle| handle.index() < limit)
 }
 
-fn names_are_there(names: &IndexMap<Handle<Expression>, String>, limit: usize) -> bool
+fn names_are_there(names: &NamedExpressions, limit: usize) -> bool
     ensures { IsTrue result ↔ All (λ e. e.0 < limit) names.now.entries }
 {
-    let handles = names.keys().as_slice();
+    let handles = names.as_slice().keys().as_slice();
     are_handles_below(handles, limit)
 }
 

@@ -23,6 +23,7 @@ pub mod kind;
 pub mod language;
 pub mod links;
 pub mod module;
+pub mod named_expressions;
 pub mod names;
 pub mod parts;
 pub mod redirect_error;
@@ -34,12 +35,13 @@ pub mod types;
 pub use arena::{Arena, UniqueArena};
 pub use backend::{Backend, BackendRefusal, Capabilities, ParseFault, ValidFault, WriteFault};
 pub use check_form::FormFault;
-pub use expression::{Expression, ImageQuery, Operand, SampleLevel};
+pub use expression::{Expression, ImageLoad, ImageQuery, ImageSample, Math, Operand, SampleLevel};
 pub use handle::{Handle, Index, Item, Places, Range};
 pub use language::ShaderLanguage;
 pub use module::{
     EntryPoint, Function, FunctionArgument, FunctionResult, MeshInfo, Module, SpecialTypes,
 };
+pub use named_expressions::NamedExpressions;
 pub use names::{ItemPlace, NameList, Names};
 pub use parts::{ExpressionParts, Named};
 pub use redirect_error::RedirectError;

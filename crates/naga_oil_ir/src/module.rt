@@ -29,7 +29,7 @@ pub struct Function {
     pub result: Option<FunctionResult>,
     pub local_variables: Arena<LocalVariable>,
     pub expressions: Arena<Expression>,
-    pub named_expressions: IndexMap<Handle<Expression>, String>,
+    pub named_expressions: NamedExpressions,
     pub body: Block,
     pub diagnostic_filter_leaf: Option<u64>,
 }

@@ -91,10 +91,8 @@ impl Expression {
             Expression::Splat { value, .. } => read_parts(alloc, 16, Nothing, &[Some(*value)]),
             Expression::Swizzle { vector, .. } => read_parts(alloc, 17, Nothing, &[Some(*vector)]),
             Expression::Load { pointer } => read_parts(alloc, 18, Nothing, &[Some(*pointer)]),
-            Expression::ImageSample { image, sampler, coordinate, array_index, offset, level, depth_ref, .. } =>
-                read_parts(alloc, 19, Nothing, &[Some(*image), Some(*sampler), Some(*coordinate), *array_index, *offset, level_x(level), level_y(level), *depth_ref]),
-            Expression::ImageLoad { image, coordinate, array_index, sample, level } =>
-                read_parts(alloc, 20, Nothing, &[Some(*image), Some(*coordinate), *array_index, *sample, *level]),
+            Expression::ImageSample(of) => read_parts(alloc, 19, Nothing, &[Some(of.image), Some(of.sampler), Some(of.coordinate), of.array_index, of.offset, level_x(&of.level), level_y(&of.level), of.depth_ref]),
+            Expression::ImageLoad(of) => read_parts(alloc, 20, Nothing, &[Some(of.image), Some(of.coordinate), of.array_index, of.sample, of.level]),
             Expression::ImageQuery { image, query: ImageQuery::Size { level } } => read_parts(alloc, 21, Nothing, &[Some(*image), *level]),
             Expression::ImageQuery { image, query: ImageQuery::Other(_) } => read_parts(alloc, 21, Nothing, &[Some(*image), None]),
             Expression::Unary { expr, .. } => read_parts(alloc, 22, Nothing, &[Some(*expr)]),
@@ -102,7 +100,7 @@ impl Expression {
             Expression::Select { condition, accept, reject } => read_parts(alloc, 24, Nothing, &[Some(*condition), Some(*accept), Some(*reject)]),
             Expression::Derivative { expr, .. } => read_parts(alloc, 25, Nothing, &[Some(*expr)]),
             Expression::Relational { argument, .. } => read_parts(alloc, 26, Nothing, &[Some(*argument)]),
-            Expression::Math { arg, arg1, arg2, arg3, .. } => read_parts(alloc, 27, Nothing, &[Some(*arg), *arg1, *arg2, *arg3]),
+            Expression::Math(of) => read_parts(alloc, 27, Nothing, &[Some(of.arg), of.arg1, of.arg2, of.arg3]),
             Expression::As { expr, .. } => read_parts(alloc, 28, Nothing, &[Some(*expr)]),
             Expression::ArrayLength(e) => read_parts(alloc, 29, Nothing, &[Some(*e)]),
             Expression::RayQueryGetIntersection { query, .. } => read_parts(alloc, 30, Nothing, &[Some(*query)]),

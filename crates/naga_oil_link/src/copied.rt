@@ -80,7 +80,7 @@ fn stub(alloc: Global, function: &Function) -> Tried<Function>
     let arguments = arguments_of(alloc, &function.arguments)?;
     let local_variables = Arena::new(alloc);
     let expressions = Arena::new(alloc);
-    let named_expressions = IndexMap::new(alloc);
+    let named_expressions = NamedExpressions::new();
     let body = no_body(alloc);
     Ok(Function {
         name,

@@ -33,6 +33,7 @@ fn trimmed(alloc: Global, module_: Module) -> Module
     ensures { result ≡ module_ }
 {
     let mut module_ = module_;
+    module_.types.shrink_to_fit();
     trim(alloc, &mut module_.constants);
     trim(alloc, &mut module_.overrides);
     trim(alloc, &mut module_.global_variables);

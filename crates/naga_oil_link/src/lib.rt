@@ -25,7 +25,7 @@ pub use module::{Build, ComposableModule, Overrides};
 use naga_oil_derive::{DerivedModule, Tried};
 use naga_oil_ir::{
     Arena, Constant, EntryPoint, FormFault, Function, FunctionArgument, FunctionResult,
-    GlobalVariable, Handle, Index, Item, ItemPlace, Module, Override, Span, Type,
+    GlobalVariable, Handle, Index, Item, ItemPlace, Module, NamedExpressions, Override, Span, Type,
 };
 use naga_oil_lines::ImportDefinition;
 use naga_oil_marks::{add_decoration, has_module_mark};

@@ -4,7 +4,7 @@ use naga_oil::compose::{
     NagaModuleDescriptor, Reply, ShaderDefValue, ShaderLanguage, run,
 };
 use naga_oil_front::Mini;
-use naga_oil_ir::{Backend, BackendRefusal, Module};
+use naga_oil_ir::{Backend, BackendRefusal, Function, Module, Statement};
 use std::alloc::{AllocError, Global};
 use std::collections::BTreeMap;
 use std::process::Abort;
@@ -43,7 +43,7 @@ fn add<'a>(
 }
 
 // A shader as Mini writes it, or what is told of a refusal.
-fn shown(
+pub(super) fn shown(
     alloc: Global,
     composer: &Composer<Mini>,
     made: &Result<Module, ComposerError>,
@@ -89,7 +89,7 @@ fn makes(
     Ok(())
 }
 
-fn adds<'a>(
+pub(super) fn adds<'a>(
     rt: &(impl Abort + AllocGlobal),
     composer: &mut Composer<Mini>,
     name: &'a str,
@@ -210,6 +210,7 @@ entry main = gX_naga_oil_mod_XMIX()
 entry two = gX_naga_oil_mod_XMMX()
 ";
     makes(rt, composer, top, &[], both)?;
+    assert_eq!(rt; composer.builds(), 2);
     adds(
         rt,
         composer,
@@ -293,13 +294,46 @@ fn refuses_a_text_that_is_too_large(rt: HostRuntime) -> Result<(), Fail> {
     Ok(())
 }
 
+// A function's copy: what nothing reaches is dropped, equal initialisers are one, and what was emitted of them is nothing.
+#[test]
+fn merges_initialisers(rt: HostRuntime) -> Result<(), Fail> {
+    let mut composer = Composer::new(rt.alloc(), Mini);
+    let source = "var G = 3\nfn f(x) with V = 1 + 2, W = 1 + 2 = G + V + W";
+    adds(&rt, &mut composer, "m", source, &[])?;
+    let mut desc = NagaModuleDescriptor::new(rt.alloc());
+    desc.source = "entry main = m::f(4)";
+    desc.file_path = "top";
+    let made = composer.make_naga_module(desc);
+    let text = shown(rt.alloc(), &composer, &made)?;
+    assert_eq!(&rt;
+        text.as_str(),
+        "var GX_naga_oil_mod_XNUX = 3\nfn fX_naga_oil_mod_XNUX(x) with V = 1 + 2, W = 1 + 2 = GX_naga_oil_mod_XNUX + V + W\nentry main = fX_naga_oil_mod_XNUX(4)\n"
+    );
+    let f = made
+        .as_ref()
+        .ok()
+        .and_then(|made| made.functions.as_slice().first());
+    assert!(&rt; f.is_some_and(|f| is_merged(&f.0)));
+    Ok(())
+}
+
+fn is_merged(function: &Function) -> bool {
+    let mut locals = function.local_variables.as_slice().iter();
+    let mut emits = function.body.body.iter().take(2);
+    function.expressions.len() == 11
+        && locals.all(|local| local.0.init.is_some_and(|init| init.index() == 2))
+        && emits.all(
+            |emit| matches!(emit.0, Statement::Emit(range) if range.start() == range.end()),
+        )
+}
+
 // Many entry points over one function.
 #[test]
 fn makes_many_entry_points(rt: HostRuntime) -> Result<(), Fail> {
     let alloc = rt.alloc();
     let mut composer = Composer::new(alloc, Mini);
     adds(&rt, &mut composer, "m", "fn g() = 1", &[])?;
-    for count in [1, 10, 100] {
+    for count in [1, 10, 100, 1000] {
         let (source, made) = entries(alloc, count)?;
         makes(&rt, &mut composer, source.as_str(), &[], made.as_str())?;
     }
@@ -309,7 +343,7 @@ fn makes_many_entry_points(rt: HostRuntime) -> Result<(), Fail> {
 fn entries(alloc: Global, count: usize) -> Result<(String, String), AllocError> {
     let mut source = String::new(alloc);
     let mut made = String::from_str(alloc, "fn gX_naga_oil_mod_XNUX() = 1\n")?;
-    for at in 0..count {
+    for at in 1..=count {
         source.push_str(&format!(in alloc; "entry e{at} = m::g()\n")?)?;
         made.push_str(&format!(in alloc; "entry e{at} = gX_naga_oil_mod_XNUX()\n")?)?;
     }

@@ -1,9 +1,11 @@
-//! Tests of makes over the language Mini: what is `composing` one shader, what is told of `malformed` modules and of faults that are
-//! `pointing` at modules, and `keeping` builds, also of many modules.
+//! Tests of makes over the language Mini: what is `composing` one shader, `chains` of functions that override one, faults that are
+//! `pointing` at modules, and `keeping` builds, also of many modules. `library` is the README's example.
 //!
 //! They stand here since a check of tests proves the whole crate again, and beside others.
 #![tactic(auto)]
 
+#[cfg(test)]
+mod chains;
 #[cfg(test)]
 mod composing;
 #[cfg(test)]
@@ -11,6 +13,6 @@ mod keeping;
 #[cfg(test)]
 mod keeping_many;
 #[cfg(test)]
-mod malformed;
+mod library;
 #[cfg(test)]
 mod pointing;

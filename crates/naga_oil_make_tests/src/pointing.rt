@@ -138,6 +138,7 @@ fn lays_faults_to_modules(rt: HostRuntime) -> Result<(), Fail> {
     for (span, place) in [
         (None, "in top"),
         (Some(Span::UNDEFINED), "at top:1:1"),
+        (Some(Span::new(10_485_760, 10_485_760)), "at top:1:1"),
         (
             Some(Span::new(10_485_760 + 58, 10_485_760 + 60)),
             "at top:1:7",

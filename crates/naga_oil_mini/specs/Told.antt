@@ -26,7 +26,7 @@ status_of Write = 1
 
 -- the line that shows how `oil` is used
 abbrev pub usage : List ℕ
-usage = codes "usage: oil pre FILE [NAME=VALUE..] | oil make TOP [MODULE..] [+NAME..] [NAME=VALUE..]" ++ 10 ∷ []
+usage = codes "usage: oil pre FILE [NAME=VALUE..] | oil make [--override-any] TOP [MODULE..] [+NAME..] [NAME=VALUE..]" ++ 10 ∷ []
 
 -- what is told: the report of a fault, or a line; of a write that fails nothing
 abbrev pub message_of : Refusal → List ℕ

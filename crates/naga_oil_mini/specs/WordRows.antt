@@ -1,6 +1,6 @@
 -- Worked rows: the words of `oil`.
 use lib.Utf8.{encode}
-use Rattle.std.specs.Prelude.{◌≡◌, refl, negsuc, true, Some, None, [], ◌∷◌, Ok, Err, codes}
+use Rattle.std.specs.Prelude.{◌≡◌, refl, negsuc, true, false, Some, None, [], ◌∷◌, Ok, Err, codes}
 use Rattle.std.specs.Str.{chars}
 use Rattle.ucd_perl.proofs.Computing.{ucd_perl}
 use Rattle.naga_oil_pre.specs.DefineValue.{defined_value}
@@ -18,7 +18,7 @@ unfolding is_name defined_value read_u32 read_i32 read_bool chars encode ucd_per
 words_unfold = tt
 
 -- ---- words
-pub pre_of_a_file : asked (codes "pre" ∷ codes "K=2" ∷ codes "t.txt" ∷ []) ≡ Some (record { task = Preprocess; files = codes "t.txt" ∷ []; imports = [] })
+pub pre_of_a_file : asked (codes "pre" ∷ codes "K=2" ∷ codes "t.txt" ∷ []) ≡ Some (record { task = Preprocess; override_any = false; files = codes "t.txt" ∷ []; imports = [] })
 pre_of_a_file = refl
 
 pub pre_of_two_files : asked (codes "pre" ∷ codes "t.txt" ∷ codes "t.txt" ∷ []) ≡ None
@@ -27,11 +27,24 @@ pre_of_two_files = refl
 pub pre_with_an_import : asked (codes "pre" ∷ codes "t.txt" ∷ codes "+a" ∷ []) ≡ None
 pre_with_an_import = refl
 
-pub make_of_files : asked (codes "make" ∷ codes "top.txt" ∷ codes "+b" ∷ codes "a.txt" ∷ codes "X=" ∷ codes "+c" ∷ []) ≡ Some (record { task = Make; files = codes "top.txt" ∷ codes "a.txt" ∷ []; imports = codes "b" ∷ codes "c" ∷ [] })
+pub make_of_files : asked (codes "make" ∷ codes "top.txt" ∷ codes "+b" ∷ codes "a.txt" ∷ codes "X=" ∷ codes "+c" ∷ []) ≡ Some (record { task = Make; override_any = false; files = codes "top.txt" ∷ codes "a.txt" ∷ []; imports = codes "b" ∷ codes "c" ∷ [] })
 make_of_files = refl
 
 pub make_of_no_file : asked (codes "make" ∷ codes "+a" ∷ codes "A=" ∷ []) ≡ None
 make_of_no_file = refl
+
+pub make_with_the_option : asked (codes "make" ∷ codes "--override-any" ∷ codes "top.txt" ∷ []) ≡ Some (record { task = Make; override_any = true; files = codes "top.txt" ∷ []; imports = [] })
+make_with_the_option = refl
+
+-- elsewhere it is the name of a file
+pub option_behind_a_file : asked (codes "make" ∷ codes "top.txt" ∷ codes "--override-any" ∷ []) ≡ Some (record { task = Make; override_any = false; files = codes "top.txt" ∷ codes "--override-any" ∷ []; imports = [] })
+option_behind_a_file = refl
+
+pub pre_of_the_option : asked (codes "pre" ∷ codes "--override-any" ∷ []) ≡ Some (record { task = Preprocess; override_any = false; files = codes "--override-any" ∷ []; imports = [] })
+pre_of_the_option = refl
+
+pub make_of_the_option_alone : asked (codes "make" ∷ codes "--override-any" ∷ []) ≡ None
+make_of_the_option_alone = refl
 
 pub other_command : asked (codes "post" ∷ codes "t.txt" ∷ []) ≡ None
 other_command = refl

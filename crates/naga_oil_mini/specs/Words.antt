@@ -1,9 +1,9 @@
 -- What the words behind the program's name ask for.
-use Rattle.std.specs.Prelude.{ℕ, Bool, not, ◌==◌, ◌&&◌, if◌then◌else◌, Option, Some, None, is_none, List, [], ◌∷◌, bytes_eq, codes, filter, length, map, string_bytes, String}
+use Rattle.std.specs.Prelude.{ℕ, Bool, true, false, not, ◌==◌, ◌&&◌, if◌then◌else◌, Option, Some, None, is_none, List, [], ◌∷◌, bytes_eq, codes, filter, length, map, string_bytes, String}
 use Rattle.std.specs.List.{list_any, filter_map}
 use Rattle.std.specs.declared.alloc.Global.{Global}
 use Rattle.naga_oil_front.specs.Items.{◌>>=◌}
-use Rattle.naga_oil_front.specs.Names.{texts_of}
+use Rattle.naga_oil_symbols.specs.Names.{texts_of}
 use Rattle.naga_oil_mini.specs.declared.mini.words.Task.{Task}
 use Rattle.naga_oil_mini.specs.declared.mini.words.Task.TheVariants.{Preprocess, Make}
 use Rattle.naga_oil_mini.specs.declared.mini.words.Request.{Request}
@@ -42,15 +42,29 @@ abbrev pub takes : Task → (files imports : ℕ) → Bool
 takes Preprocess files imports = (files == 1) && (imports == 0)
 takes Make files imports = not (files == 0)
 
--- what is asked for: a task, files, of which the first is the shader's, and imports
+-- whether words begin with the option of `make` that lets any function be overridden, and the words behind it
+abbrev pub with_option : Task → List (List ℕ) → Bool × List (List ℕ)
+with_option Preprocess words = (false, words)
+with_option Make [] = (false, [])
+with_option Make (word ∷ words) = if bytes_eq word (codes "--override-any") then (true, words) else (false, word ∷ words)
+
+-- what is asked for: a task, whether any function may be overridden, files, of which the first is the shader's, and imports
 pub record Asked : Type 0 where
   pub task : Task
+  pub override_any : Bool
   pub files : List (List ℕ)
   pub imports : List (List ℕ)
 
+-- what a task asks for with an option, if it is given, and the words behind it
+abbrev pub asked_with : Task → Bool × List (List ℕ) → Option Asked
+asked_with task given =
+    if takes task (length (files given.1)) (length (imports given.1))
+    then Some (record { task = task; override_any = given.0; files = files given.1; imports = imports given.1 })
+    else None
+
 -- what a task asks for with the words behind its command
 abbrev pub task_asked : List (List ℕ) → Task → Option Asked
-task_asked words task = if takes task (length (files words)) (length (imports words)) then Some (record { task = task; files = files words; imports = imports words }) else None
+task_asked words task = asked_with task (with_option task words)
 
 -- what the words ask for
 abbrev pub asked : List (List ℕ) → Option Asked
@@ -59,4 +73,4 @@ asked (command ∷ words) = task_of command >>= task_asked words
 
 -- ---- as the code has them
 abbrev pub asked_of : Request → Asked
-asked_of a = record { task = a.task; files = texts_of a.files.items; imports = texts_of a.imports.items }
+asked_of a = record { task = a.task; override_any = a.override_any; files = texts_of a.files.items; imports = texts_of a.imports.items }

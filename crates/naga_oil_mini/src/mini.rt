@@ -2,7 +2,7 @@
 ghost use Rattle.std.specs.Prelude.{◌≡◌, ◌≤◌, None, map, OnOk, IfOk, IfErr};
 ghost use Rattle.std.specs.Io.KnownBytes.{Appends};
 ghost use Rattle.naga_oil_mini.specs.declared.mini.refusal.Refusal.{Refusal};
-ghost use Rattle.naga_oil_front.specs.Names.{texts_of};
+ghost use Rattle.naga_oil_symbols.specs.Names.{texts_of};
 ghost use Rattle.naga_oil_mini.specs.Words.{asked};
 ghost use Rattle.naga_oil_lines.specs.Text.{texts};
 ghost use Rattle.naga_oil_mini.specs.Told.{AppendsFront, IsAsked, Refuses, RefusesFiles, LeavesOut, Tells, TellsFront, Writes, status_of};
@@ -39,7 +39,7 @@ fn answer<'a, F: FnMut(&str) -> Result<Option<Vec<u8>>, AllocError> + Drop, O: W
     let (top, modules) = texts.split_first().ok_or(Refusal::Usage)?;
     let source = match asked.task {
         Task::Preprocess => pre::shown_file(alloc, top.0, top.1.as_str(), definitions)?,
-        Task::Make => make::made(alloc, top, modules, &asked.imports, definitions)?,
+        Task::Make => make::made(alloc, top, modules, &asked, definitions)?,
     };
     match show(out, source.as_str()) {
         Ok(()) => Ok(()),

@@ -12,3 +12,8 @@ pub mod RedirectLemmas
 pub mod SentForm
 pub mod RedirectForm
 pub mod TurnForm
+pub mod ChainNames
+pub mod ChainLemmas
+pub mod TurnNames
+pub mod TurnCalls
+pub mod NamedCalls

@@ -71,7 +71,7 @@ linked_below c [] h k = All-nil (λ x. x < c)
 linked_below c (l ∷ ls) h zero = All-head (All (λ x. x < c)) l ls h
 linked_below c (l ∷ ls) h (suc k) = linked_below c ls (All-tail (All (λ x. x < c)) l ls h) k
 
-callees_below : (c n : ℕ) (ts : Tokens) → All (IsTokenFine c n) ts → All (λ x. x < c) (callees_of ts)
+pub callees_below : (c n : ℕ) (ts : Tokens) → All (IsTokenFine c n) ts → All (λ x. x < c) (callees_of ts)
 callees_below c n [] h = All-nil (λ x. x < c)
 callees_below c n (Callee f ∷ ts) h =
     All-cons (λ x. x < c) f (callees_of ts) (All-head (IsTokenFine c n) (Callee f) ts h) (callees_below c n ts (All-tail (IsTokenFine c n) (Callee f) ts h))

@@ -7,3 +7,6 @@ pub mod Ordered
 pub mod Redirectable
 pub mod PutInOrder
 pub mod PutInOrderRows
+pub mod Chain
+pub mod ChainLaw
+pub mod ChainRows

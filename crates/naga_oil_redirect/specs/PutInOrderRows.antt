@@ -14,11 +14,11 @@ use Rattle.naga_oil_derive.specs.Equal.{parts_eq}
 use Rattle.naga_oil_redirect.specs.Level.{level_below}
 use Rattle.naga_oil_redirect.specs.PutInOrder.{in_turn, put_in_order}
 
-abbrev undefined : Span
+abbrev pub undefined : Span
 undefined = record { start = 0; end = 0 }
 
 -- a function of a name, with its expressions and body
-abbrev function_of : List ℕ → List Expression → Tokens → FunctionValue
+abbrev pub function_of : List ℕ → List Expression → Tokens → FunctionValue
 function_of name es body = record {
   name = Some name;
   arguments = [];
@@ -31,14 +31,14 @@ function_of name es body = record {
 }
 
 -- one that calls the function at a place
-abbrev calling : List ℕ → ℕ → FunctionValue
+abbrev pub calling : List ℕ → ℕ → FunctionValue
 calling name k = function_of name (CallResult k ∷ []) (Head 16 ∷ Callee k ∷ GiveCall k 0 ∷ [])
 
-abbrev empty : List ℕ → FunctionValue
+abbrev pub empty : List ℕ → FunctionValue
 empty name = function_of name [] []
 
 -- a module of functions, with an entry point
-abbrev module_of : List FunctionValue → FunctionValue → ModuleValue
+abbrev pub module_of : List FunctionValue → FunctionValue → ModuleValue
 module_of fs main = record no_items {
   functions = map (λ f. (f, undefined)) fs;
   entry_points = record {

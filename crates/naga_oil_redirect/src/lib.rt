@@ -5,6 +5,7 @@
 //! that order into a derived module.
 #![tactic(auto)]
 
+pub mod laws;
 pub mod order;
 pub mod redirect;
 mod sent_calls;

@@ -11,6 +11,7 @@ ghost use Rattle.naga_oil_redirect.specs.Ordered.{calls_of, ordered};
 ghost use Rattle.naga_oil_derive.specs.World.{value_of};
 ghost use Rattle.naga_oil_derive.specs.DerivedEntries.{CanCopyEntries};
 ghost use Rattle.naga_oil_derive.specs.DerivedValue.{set_source};
+ghost use Rattle.naga_oil_redirect.specs.ChainLaw.{SendsOn, SendsApart, KeepsSent};
 ghost use Rattle.naga_oil_redirect.specs.PutInOrder.{import_in_turn, in_turn, put_in_order};
 ghost use Rattle.naga_oil_redirect.specs.Redirected.{function_values, is_named, same_results, found, matched, send_at, send_entry, redirected};
 
@@ -169,6 +170,9 @@ impl Redirector {
     /// Sends the calls of one function, by name, to another one, its replacement: in all entry points, and in all functions
     /// but the replacement and the omitted ones. It answers the handles of both.
     ///
+    /// Where calls of a base went down a chain of replacements, of which the original is the last and which are omitted, they go
+    /// down the chain of these and the new one then; those of a base whose chain doesn't have the original stay where they went.
+    ///
     /// # Errors
     /// Where the original isn't found, else the replacement, else where their arguments differ in number or types, else
     /// where their results do, or there is no memory. Refused, it changes nothing.
@@ -180,6 +184,9 @@ impl Redirector {
     ) -> Result<Pair, RedirectError>
         ensures handles { Gives (λ pair. (pair.0, pair.1)) result (matched self.old.functions original.now replacement.now) }
         ensures redirected { IfOk result (λ pair. self.new ≡ redirected self.old pair.0 pair.1 (contains_text omit.now)) }
+        ensures chain { let sends = SendsOn original.now replacement.now (contains_text omit.now) in
+            OnOk result (sends self.old self.new) }
+        ensures apart { OnOk result (SendsApart original.now self.old self.new) }
         ensures err { OnErr result (self.new ≡ self.old) }
     {
         let (from, to) = self.matched(original, replacement)?;
@@ -189,12 +196,13 @@ impl Redirector {
     }
 
     /// The module with its functions in an order in which each stands behind what it calls: by their levels, then by place.
-    /// Items are there that functions, entry points or special types reach.
+    /// Items are there that functions, entry points or special types reach. Calls that went down a chain of replacements do so still.
     ///
     /// # Errors
     /// Where functions call each other in a circle, or there is no memory. The module is dropped then.
     pub fn into_module(self) -> Result<Module, RedirectError>
         ensures order { Gives module_value result (put_in_order self) }
+        ensures chain { IfOk result (λ m. KeepsSent self (module_value m)) }
         ensures cycle { IsErr (ordered self.functions) ↔ HasCycle (calls_of self.functions) }
     {
         let order = ordered(self.module.functions.as_slice(), self.alloc)?;

@@ -1,6 +1,7 @@
 // The faults of whole shaders by their variants, and where their texts begin.
 use naga_oil::compose::{
     ComposableModuleDescriptor, Composer, ComposerError, ImportDefinition, NagaModuleDescriptor,
+    ShaderDefValue,
 };
 use naga_oil_front::Mini;
 use std::alloc::{AllocError, Global};
@@ -14,6 +15,22 @@ fn adds<'a>(
 ) -> Result<(), AllocError> {
     let mut desc = ComposableModuleDescriptor::new(rt.alloc());
     desc.source = source;
+    assert!(rt; composer.add_composable_module(desc).is_ok());
+    Ok(())
+}
+
+// A module of this name with a definition of another name.
+fn adds_bound<'a>(
+    rt: &(impl Abort + AllocGlobal),
+    composer: &mut Composer<Mini>,
+    name: &'a str,
+    bound: &'a str,
+) -> Result<(), AllocError> {
+    let mut desc = ComposableModuleDescriptor::new(rt.alloc());
+    desc.source = "fn g() = 1";
+    desc.as_name = Some(String::from_str(rt.alloc(), name)?);
+    let bound = String::from_str(rt.alloc(), bound)?;
+    desc.shader_defs.insert(bound, ShaderDefValue::Int(1))?;
     assert!(rt; composer.add_composable_module(desc).is_ok());
     Ok(())
 }
@@ -89,6 +106,31 @@ fn refuses_wrong_calls(rt: HostRuntime) -> Result<(), Fail> {
     let top = "#import m\nentry main = m::g(2)";
     let want =
         "ShaderValidationError(ValidFault { message: \"wrong number of arguments\", spans: [(Span { start: 36, end: 72 }, \"call of gX_naga_oil_mod_XNUX\")], notes: [] }) from 26";
+    is_refused(&rt, &mut composer, top, &[], want)?;
+    Ok(())
+}
+
+// The value of a name brings an import that its module doesn't record.
+#[test]
+fn refuses_what_a_module_does_not_record(rt: HostRuntime) -> Result<(), Fail> {
+    let mut composer = Composer::new(rt.alloc(), Mini);
+    adds(&rt, &mut composer, "#define_import_path a\nfn f() = 1")?;
+    adds(&rt, &mut composer, "#define_import_path m\nfn g() = a::#X")?;
+    let top = "#define X 5\nentry main = m::g()";
+    let want = "ImportNotFound(\"a\", 0) from 0";
+    is_refused(&rt, &mut composer, top, &[], want)?;
+    Ok(())
+}
+
+// What only the second reading imports isn't registered, or has a definition that the first one didn't merge.
+#[test]
+fn refuses_what_the_second_reading_may_not_import(rt: HostRuntime) -> Result<(), Fail> {
+    let mut composer = Composer::new(rt.alloc(), Mini);
+    adds_bound(&rt, &mut composer, "b", "K")?;
+    let top = "entry main = b::g()\n#ifdef K\nentry two = c::g()\n#endif";
+    let want = "ImportNotFound(\"c\", 41) from 0";
+    is_refused(&rt, &mut composer, top, &[], want)?;
+    adds_bound(&rt, &mut composer, "c", "L")?;
     is_refused(&rt, &mut composer, top, &[], want)?;
     Ok(())
 }

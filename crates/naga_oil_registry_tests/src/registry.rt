@@ -6,6 +6,7 @@ use naga_oil::compose::{
     OwnedShaderDefs, ShaderDefValue, ShaderLanguage, ShaderType,
 };
 use naga_oil_front::Mini;
+use naga_oil_registry::sanitize::read_source;
 use std::alloc::{AllocError, Global};
 use std::collections::BTreeMap;
 use std::process::Abort;
@@ -58,6 +59,27 @@ fn reads_line_ends_and_bindings(rt: HostRuntime) -> Result<(), Fail> {
         "m \"x\\ny\\nz @binding(0)\"",
     )?;
     assert_eq!(rt; composer.binding_counter(), 1);
+    Ok(())
+}
+
+// A source as it is read, with the counter behind it, or why it isn't read.
+fn read(alloc: Global, source: &str, counter: u32) -> Result<String, AllocError> {
+    let read = read_source(alloc, source, counter);
+    format!(in alloc; "{read:?}")
+}
+
+#[test]
+fn gives_the_last_binding(rt: HostRuntime) -> Result<(), Fail> {
+    let last = 4_294_967_294;
+    for (source, want) in [
+        (
+            "@binding(auto)",
+            "Ok((\"@binding(4294967294)\\n\", 4294967295))",
+        ),
+        ("@binding(auto)@binding(auto)", "Err(BindingsExhausted)"),
+    ] {
+        assert_eq!(rt; read(rt.alloc(), source, last)?.as_str(), want);
+    }
     Ok(())
 }
 
@@ -159,11 +181,31 @@ fn settings_are_those_given(rt: HostRuntime) -> Result<(), Fail> {
     let mut composer = Composer::new(rt.alloc(), Mini);
     assert!(rt; composer.validate());
     assert_eq!(rt; composer.capabilities().0, 0);
+    assert!(rt; !composer.override_any());
     add_three(&rt, &mut composer)?;
     let bare = composer.with_capabilities(Capabilities(3));
     assert_eq!(rt; bare.capabilities().0, 3);
     assert!(rt; bare.validate());
+    assert!(rt; !bare.override_any());
     contains(&rt, &bare, false);
+    Ok(())
+}
+
+// Each setting keeps the others.
+#[test]
+fn settings_keep_one_another(rt: HostRuntime) -> Result<(), Fail> {
+    let mut composer = Composer::non_validating(rt.alloc(), Mini).with_capabilities(Capabilities(
+        3,
+    ));
+    add_three(&rt, &mut composer)?;
+    let any = composer.with_override_any(true);
+    assert!(rt; any.override_any());
+    assert!(rt; !any.validate());
+    assert_eq!(rt; any.capabilities().0, 3);
+    contains(&rt, &any, false);
+    let capable = any.with_capabilities(Capabilities(4));
+    assert!(rt; capable.override_any());
+    assert!(rt; !capable.with_override_any(false).override_any());
     Ok(())
 }
 

@@ -1,6 +1,6 @@
 //! Expressions and bodies, made anew with their handles renamed.
 ghost use Rattle.std.specs.Prelude.{◌≡◌, ℕ, IfOk, map, option_map};
-ghost use Rattle.naga_oil_ir.specs.Parts.{parts, level_code, level_x, level_y, query_code, query_level};
+ghost use Rattle.naga_oil_ir.specs.Parts.{parts, sample_parts, load_parts, math_parts, level_code, level_x, level_y, query_code, query_level};
 ghost use Rattle.naga_oil_ir.specs.Body.{used, given, given_by, block_tokens, statement_tokens, case_tokens, ray_query_tokens};
 ghost use Rattle.naga_oil_ir.specs.declared.names.ItemPlace.{ItemPlace};
 ghost use Rattle.naga_oil_rename.specs.Renames.{Renames, rename, rename_place, rename_token, rename_tokens};
@@ -87,6 +87,51 @@ fn renamed_query<R: Renaming>(names: &R, query: &ImageQuery) -> ImageQuery
     }
 }
 
+/// A sample of an image with its operands renamed.
+fn renamed_sample<R: Renaming>(names: &R, sample: &ImageSample) -> ImageSample
+    ensures { let r = R.renames names.now in
+        sample_parts result ≡ rename r (sample_parts sample.now) }
+{
+    ImageSample {
+        image: names.expression(sample.image),
+        sampler: names.expression(sample.sampler),
+        gather: sample.gather,
+        coordinate: names.expression(sample.coordinate),
+        array_index: renamed_option(names, sample.array_index),
+        offset: renamed_option(names, sample.offset),
+        level: renamed_level(names, &sample.level),
+        depth_ref: renamed_option(names, sample.depth_ref),
+    }
+}
+
+/// A texel of an image with its operands renamed.
+fn renamed_load<R: Renaming>(names: &R, load: &ImageLoad) -> ImageLoad
+    ensures { let r = R.renames names.now in
+        load_parts result ≡ rename r (load_parts load.now) }
+{
+    ImageLoad {
+        image: names.expression(load.image),
+        coordinate: names.expression(load.coordinate),
+        array_index: renamed_option(names, load.array_index),
+        sample: renamed_option(names, load.sample),
+        level: renamed_option(names, load.level),
+    }
+}
+
+/// A mathematical function with its arguments renamed.
+fn renamed_math<R: Renaming>(names: &R, math: &Math) -> Math
+    ensures { let r = R.renames names.now in
+        math_parts result ≡ rename r (math_parts math.now) }
+{
+    Math {
+        fun: math.fun,
+        arg: names.expression(math.arg),
+        arg1: renamed_option(names, math.arg1),
+        arg2: renamed_option(names, math.arg2),
+        arg3: renamed_option(names, math.arg3),
+    }
+}
+
 /// Renames a value of an enum: first the kinds whose patterns are given, then those that hold one plain value, then a table of
 /// the others, each made again from its plain values, its operands and those that may be absent.
 macro_rules! rename_kind {
@@ -129,13 +174,9 @@ pub fn renamed_expression<R: Renaming>(names: &R, expression: &Expression, alloc
             Expression::SubgroupOperationResult { ty: names.ty(*ty) };
         Expression::Compose { ty, components } =>
             Expression::Compose { ty: names.ty(*ty), components: renamed_list(names, components, alloc)? };
-        Expression::ImageSample { image, sampler, gather, coordinate, array_index, offset, level, depth_ref } =>
-            Expression::ImageSample {
-                image: names.expression(*image), sampler: names.expression(*sampler), gather: *gather,
-                coordinate: names.expression(*coordinate), array_index: renamed_option(names, *array_index),
-                offset: renamed_option(names, *offset), level: renamed_level(names, level),
-                depth_ref: renamed_option(names, *depth_ref),
-            };
+        Expression::ImageSample(x) => Expression::ImageSample(Box::new(alloc, renamed_sample(names, x))?);
+        Expression::ImageLoad(x) => Expression::ImageLoad(Box::new(alloc, renamed_load(names, x))?);
+        Expression::Math(x) => Expression::Math(Box::new(alloc, renamed_math(names, x))?);
         Expression::ImageQuery { image, query } =>
             Expression::ImageQuery { image: names.expression(*image), query: renamed_query(names, query) };
         Expression::ArrayLength(x) => Expression::ArrayLength(names.expression(*x));
@@ -146,13 +187,11 @@ pub fn renamed_expression<R: Renaming>(names: &R, expression: &Expression, alloc
         Splat { size; value; }
         Swizzle { size pattern; vector; }
         Load { ; pointer; }
-        ImageLoad { ; image coordinate; array_index sample level }
         Unary { op; expr; }
         Binary { op; left right; }
         Select { ; condition accept reject; }
         Derivative { axis; expr; }
         Relational { fun; argument; }
-        Math { fun; arg; arg1 arg2 arg3 }
         As { kind convert; expr; }
         RayQueryGetIntersection { committed; query; }
         RayQueryVertexPositions { committed; query; }

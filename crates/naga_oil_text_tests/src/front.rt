@@ -40,6 +40,9 @@ fn writes_what_it_reads(rt: HostRuntime) {
         "fn f(x)\nentry main = f(f(1) + 2) + f(3)\n",
         "fn f(x, y) = x\nfn g(x) = f(f(x, 1), f(2 + 3, x) + 4) + x + f(5, 6)\n",
         "const N = 2147483647\n",
+        LOCALS,
+        "const N = 1\nvar G = 2\nfn f(x, y) = x + y + x + G + G + N + N\nentry e with V = N + 1 = V + f(V, V)\n",
+        "fn with(with) with fn = 1 = with + fn\nentry with with with = 1 = with(with)\n",
         "const const = 1\nfn fn(entry) = entry + const\nentry entry = fn(const)\n",
         "",
     ] {
@@ -49,6 +52,15 @@ fn writes_what_it_reads(rt: HostRuntime) {
         (
             "#version 450\n  // x\n\t\n\u{3000}\n\t# x\nenable f16;\n requires x;\ndiagnostic(off, x);\n  fn  f ( x ,y )=x+ 007 \r\nfn fn(with) = with\nentry e=f( 1,2)",
             "fn f(x, y) = x + 7\nfn fn(with) = with\nentry e = f(1, 2)\n",
+        ),
+        (
+            "var  G=007\nfn f( x )  with V=1 ,W = 02+3=V+W+G\nconst N = 1\nentry e with  V = N=V",
+            "const N = 1\nvar G = 7\nfn f(x) with V = 1, W = 2 + 3 = V + W + G\nentry e with V = N = V\n",
+        ),
+        // An initialiser names constants alone, whatever else has the name.
+        (
+            "const N = 1\nvar N = 2\nfn f(N) with N = N = N\n",
+            "const N = 1\nvar N = 2\nfn f(N) with N = N = N\n",
         ),
         // A name means the last item before it.
         (
@@ -66,6 +78,9 @@ type Said = (&'static str, u64, u64);
 fn said(expression: &Expression) -> Said {
     match expression {
         Expression::FunctionArgument(place) => ("argument", u64::from(*place), 0),
+        Expression::LocalVariable(local) => ("local", local.index() as u64, 0),
+        Expression::GlobalVariable(global) => ("global", global.index() as u64, 0),
+        Expression::Load { pointer } => ("load", pointer.index() as u64, 0),
         Expression::Literal { kind, bits } => ("literal", *kind, *bits),
         Expression::Constant(constant) => ("constant", constant.index() as u64, 0),
         Expression::CallResult(callee) => ("result", callee.index() as u64, 0),
@@ -101,15 +116,24 @@ fn says(rt: &impl Abort, function: &Function, expressions: &[Said], statements: 
     }
 }
 
-// What the first expression of a text's last function is.
-fn first_of_last(of: &Module) -> Option<Said> {
+// What a text's last function returns; of a variable's load the variable.
+fn returned_by_last(of: &Module) -> Option<Said> {
     let (function, _) = of.functions.as_slice().last()?;
-    let (expression, _) = function.expressions.as_slice().first()?;
-    Some(said(expression))
+    let Statement::Return { value: Some(value) } = function.body.body.last()?.0 else {
+        return None;
+    };
+    match function.expressions.try_get(value)? {
+        Expression::Load { pointer } => Some(said(function.expressions.try_get(*pointer)?)),
+        expression => Some(said(expression)),
+    }
 }
 
-fn names_first(rt: &(impl Abort + AllocGlobal), text: &str, wanted: Said) {
-    assert_eq!(rt; first_of_last(&read(rt, text)), Some(wanted), "in {text}");
+fn returns(rt: &(impl Abort + AllocGlobal), text: &str, wanted: Said) {
+    assert_eq!(rt;
+        returned_by_last(&read(rt, text)),
+        Some(wanted),
+        "in {text}"
+    );
 }
 
 #[test]
@@ -125,8 +149,15 @@ fn a_name_means_the_last_before_it(rt: HostRuntime) {
             ("result", 1, 0),
         ),
         ("const N = 1\nfn f(x, N) = N\n", ("argument", 1, 0)),
+        // A parameter, else a local, else a global, else a constant.
+        ("fn f(V) with V = 1 = V\n", ("argument", 0, 0)),
+        ("fn f() with V = 1, V = 2 = V\n", ("local", 1, 0)),
+        ("var G = 1\nfn f() with G = 1 = G\n", ("local", 0, 0)),
+        ("var G = 1\nvar G = 2\nfn f() = G\n", ("global", 1, 0)),
+        ("var N = 1\nconst N = 2\nfn f() = N\n", ("global", 0, 0)),
+        ("const N = 2\nfn f() = N\nvar N = 1\n", ("constant", 0, 0)),
     ] {
-        names_first(&rt, text, wanted);
+        returns(&rt, text, wanted);
     }
 }
 
@@ -179,6 +210,70 @@ fn is_example(rt: &impl Abort, read: &Module) {
         &[("call", 1, 1), ("return", 1, 0)],
         Span::new(53, 70),
     );
+}
+
+// A function with a global and equal initialisers, whose parameter no term names.
+const LOCALS: &str = "var G = 3\nfn f(x) with V = 1 + 2, W = 1 + 2 = G + V + W\n";
+
+// A global is of space 1 and has the span of its line, and its number too.
+fn has_global(rt: &impl Abort, read: &Module, at: Span) {
+    assert_eq!(rt; read.global_variables.len(), 1);
+    let (global, span) = &read.global_variables.as_slice()[0];
+    assert_eq!(rt;
+        (global.space, global.binding, global.ty.index()),
+        (1, None, 0)
+    );
+    assert_eq!(rt; global.init.map(|init| init.index()), Some(0));
+    assert_eq!(rt; *span, at);
+    assert_eq!(rt; read.global_expressions.get_span(Index::new(0)), at);
+}
+
+// Locals have these names and initialisers.
+fn has_locals(rt: &impl Abort, function: &Function, wanted: &[(&str, usize)]) {
+    assert_eq!(rt; function.local_variables.len(), wanted.len());
+    for (found, wanted) in function.local_variables.as_slice().iter().zip(wanted) {
+        let name = found.0.name.as_ref().map_or("", |name| name.as_str());
+        assert_eq!(rt; name, wanted.0);
+        assert_eq!(rt; found.0.init.map(|init| init.index()), Some(wanted.1));
+        assert_eq!(rt; found.0.ty.index(), 0);
+    }
+}
+
+#[test]
+fn reads_globals_and_locals(rt: HostRuntime) {
+    let read = read(&rt, LOCALS);
+    has_global(&rt, &read, Span::new(0, 9));
+    let f = &read.functions.as_slice()[0].0;
+    has_locals(&rt, f, &[("V", 3), ("W", 6)]);
+    let expressions = [
+        ("argument", 0, 0),
+        ("literal", 1, 1),
+        ("literal", 1, 2),
+        ("sum", 1, 2),
+        ("literal", 1, 1),
+        ("literal", 1, 2),
+        ("sum", 4, 5),
+        ("global", 0, 0),
+        ("load", 7, 0),
+        ("local", 0, 0),
+        ("load", 9, 0),
+        ("sum", 8, 10),
+        ("local", 1, 0),
+        ("load", 12, 0),
+        ("sum", 11, 13),
+    ];
+    let statements = [
+        ("emit", 3, 4),
+        ("emit", 6, 7),
+        ("emit", 8, 9),
+        ("emit", 10, 11),
+        ("emit", 11, 12),
+        ("emit", 13, 14),
+        ("emit", 14, 15),
+        ("return", 14, 0),
+    ];
+    says(&rt, f, &expressions, &statements, Span::new(10, 55));
+    assert_eq!(rt; read.check_form(rt.alloc(), "", LOCALS.len()), Ok(()));
 }
 
 // A stub, and an entry point that calls it.

@@ -1,6 +1,7 @@
 //! Tests of `naga_oil_pre`.
 mod directives;
 mod fault;
+mod fronts;
 mod line_kind;
 mod metadata;
 mod preprocess;

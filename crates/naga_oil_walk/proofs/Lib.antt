@@ -5,3 +5,4 @@ pub mod WalkNotes
 pub mod FunctionWalk
 pub mod NamingLemmas
 pub mod ReachSteps
+pub mod WaitingLemmas

@@ -54,10 +54,6 @@ pub Adds-append : (s t u xs ys : List Request) → Adds s xs t → Adds t ys u �
 Adds-append s t u xs ys a b =
     (a.0 ++ b.0, b.1 ∙ ap (λ q. q ++ b.0) a.1 ∙ append_assoc s a.0 b.0, Thins-append ys b.0 a.2 (subst (λ q. Thins q ys b.0) a.1 b.2))
 
--- what was among them stays
-pub Adds-keeps : (s t xs : List Request) (x : Request) → Adds s xs t → IsAmong s x → IsAmong t x
-Adds-keeps s t xs x a i = subst (λ q. IsAmong q x) (sym a.1) (among_left s a.0 x i)
-
 -- ---- what places name
 
 -- the items that the places of an order name are among requests
@@ -114,10 +110,6 @@ request_among s t o p e f = subst (λ q. IsAmong q (Item p)) (sym (e ∙ ap (λ 
 pub Adds-more : {X : Type 0} (f : X → List Request) (s t u : List Request) (xs : List X) (i : ℕ) (x : X) → i < length xs → x ≡ get_or xs i x → Adds s (flat_map f (take i xs)) t → Adds t (f x) u → Adds s (flat_map f (take (i + 1) xs)) u
 Adds-more f s t u xs i x h is a b =
     subst (λ ys. Adds s ys u) (sym (ap (flat_map f) (take_more xs i x h ∙ ap (λ y. take i xs ++ y ∷ []) (sym is)) ∙ flat_map-append f (take i xs) (x ∷ []) ∙ ap (λ ys. flat_map f (take i xs) ++ ys) (append-nil (f x)))) (Adds-append s t u (flat_map f (take i xs)) (f x) a b)
-
-pub Adds-more_at : (f : ℕ → List Request) (s t u : List Request) (xs : List ℕ) (i : ℕ) → i < length xs → Adds s (flat_map f (take i xs)) t → Adds t (f (get_or xs i 0)) u → Adds s (flat_map f (take (i + 1) xs)) u
-Adds-more_at f s t u xs i h a b =
-    subst (λ ys. Adds s ys u) (sym (ap (flat_map f) (take_more xs i 0 h) ∙ flat_map-append f (take i xs) (get_or xs i 0 ∷ []) ∙ ap (λ ys. flat_map f (take i xs) ++ ys) (append-nil (f (get_or xs i 0))))) (Adds-append s t u (flat_map f (take i xs)) (f (get_or xs i 0)) a b)
 
 -- names of joined places
 pub Adds-places : (f : ℕ → List Request) (s t u : List Request) (xs ys zs : List ℕ) → zs ≡ xs ++ ys → Adds s (flat_map f xs) t → Adds t (flat_map f ys) u → Adds s (flat_map f zs) u

@@ -3,7 +3,7 @@ use Rattle.std.proofs.Common.{◌≡◌, ℕ, ◌+◌, ◌-◌, ◌<◌, ◌≤�
 use Rattle.std.specs.List.{flat_map}
 use Rattle.std.proofs.lemmas.List.{append-nil, take_more}
 use Rattle.std.proofs.lemmas.List.Elements.{filter-append}
-use Rattle.naga_oil_ir.specs.Links.{Links, linked, lists, has, added, AreEarlier}
+use Rattle.naga_oil_ir.specs.Links.{Links, linked, lists, has, added}
 use Rattle.naga_oil_ir.specs.BodyForm.{run, is_external, kinds, named_of, operand_links, IsReading}
 use Rattle.naga_oil_ir.specs.Body.{Tokens, block_tokens}
 use Rattle.naga_oil_ir.specs.declared.expression.Expression.{Expression}
@@ -17,12 +17,12 @@ use Rattle.naga_oil_ir.specs.declared.tokens.Token.{Token}
 use Rattle.naga_oil_ir.specs.declared.tokens.Token.TheVariants.{At, Head, Plain, Flag, Absent, Open, Close, Use, Give, GiveCall, Emitted, Callee}
 use Rattle.naga_oil_walk.specs.Walk.{Notes, externals, brief, notes_of}
 use Rattle.naga_oil_walk.specs.Walks.{IsOver}
-use Rattle.naga_oil_walk.specs.Naming.{item_of, requested, requests_at, names_from, local_names, token_names, signature_names, function_names, IsAmong, Thins, Adds}
+use Rattle.naga_oil_walk.specs.Naming.{item_of, requested, requests_at, local_names, token_names, signature_names, function_names, IsAmong, Thins, Adds}
 use Rattle.naga_oil_walk.specs.declared.walk.Request.{Request}
 use Rattle.naga_oil_walk.specs.declared.walk.Request.TheVariants.{Item}
 use Rattle.naga_oil_walk.specs.declared.walk.Walk.{Walk}
 use Rattle.naga_oil_walk.proofs.WalkLemmas.{run-next, flat_run}
-use Rattle.naga_oil_walk.proofs.NamingLemmas.{among_left, covers_add, request_among, Adds-none, Adds-all, Adds-append, Adds-keeps, Adds-places, names-step}
+use Rattle.naga_oil_walk.proofs.NamingLemmas.{among_left, covers_add, request_among, Adds-none, Adds-all, Adds-append, Adds-places}
 
 pub ok_then : {A B : Type 0} (r : Result A B) (P Q : Type 0) → (P → Q) → OnOk r P → OnOk r Q
 ok_then (Ok x) P Q f h = f h
@@ -59,16 +59,6 @@ over_add of v w k o p m q = record {
 
 pub adds_all : (s t xs : List Request) → t ≡ s ++ xs → Adds s xs t
 adds_all s t xs e = subst (λ (q : List Request). Adds s xs q) (sym e) (Adds-all s xs)
-
--- a place is asked, then what it links, and it is listed
-pub reach_requests : (ns : List Named) (ls : Links) → AreEarlier ls → (k : ℕ) (s t u w : List Request) (xs : List ℕ) (i : ℕ) → t ≡ s ++ requests_at ns k → take i xs ≡ linked ls k → Adds t (flat_map (names_from ns ls) (take i xs)) u → w ≡ u → Adds s (names_from ns ls k) w
-reach_requests ns ls a k s t u w xs i e all b f =
-    let rest : Adds t (flat_map (names_from ns ls) (linked ls k)) u = subst (λ ys. Adds t (flat_map (names_from ns ls) ys) u) all b in
-    subst (λ (q : List Request). Adds s (names_from ns ls k) q) (sym f) (subst (λ (rs : List Request). Adds s rs u) (sym (names-step ns ls a k)) (Adds-append s t u (requests_at ns k) (flat_map (names_from ns ls) (linked ls k)) (adds_all s t (requests_at ns k) e) rest))
-
--- the item of a place that was asked is still among the requests
-pub asked_before : (ns : List Named) (k : ℕ) (s t u xs : List Request) → t ≡ s ++ requests_at ns k → Adds t xs u → (x : ItemPlace) → item_of (slice_get ns k) ≡ Some x → IsAmong u (Item x)
-asked_before ns k s t u xs e a x i = Adds-keeps t u xs (Item x) a (request_among s t (item_of (slice_get ns k)) x e i)
 
 -- ---- external places
 

@@ -42,12 +42,6 @@ added-keeps o xs = λ x h. has-added o xs x ∙ or_left (has o x) (has xs x) h
 pub added-holds : (o xs : List ℕ) → Holds (added o xs) xs
 added-holds o xs = λ x h. has-added o xs x ∙ or_right (has o x) (has xs x) h
 
--- one more element of a list
-pub added-more : (f : ℕ → List ℕ) (o xs : List ℕ) (i : ℕ) → i < length xs → added (added o (flat_map f (take i xs))) (f (get_or xs i 0)) ≡ added o (flat_map f (take (i + 1) xs))
-added-more f o xs i h =
-    let x = get_or xs i 0 in
-    sym (added-append o (flat_map f (take i xs)) (f x)) ∙ ap (added o) (sym (ap (flat_map f) (take_more xs i 0 h) ∙ flat_map-append f (take i xs) (x ∷ []) ∙ ap (λ t. flat_map f (take i xs) ++ t) (append-nil (f x))))
-
 pub added-token : (f : Token → List ℕ) (o : List ℕ) (ts : Tokens) (i : ℕ) (t : Token) → i < length ts → t ≡ get_or ts i t → added (added o (flat_map f (take i ts))) (f t) ≡ added o (flat_map f (take (i + 1) ts))
 added-token f o ts i t h is =
     sym (added-append o (flat_map f (take i ts)) (f t)) ∙ ap (added o) (sym (ap (flat_map f) (take_more ts i t h ∙ ap (λ y. take i ts ++ y ∷ []) (sym is)) ∙ flat_map-append f (take i ts) (t ∷ []) ∙ ap (λ u. flat_map f (take i ts) ++ u) (append-nil (f t))))

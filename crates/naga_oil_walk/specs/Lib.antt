@@ -2,3 +2,4 @@
 pub mod Walk
 pub mod Naming
 pub mod Walks
+pub mod Waiting

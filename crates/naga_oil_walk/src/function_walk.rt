@@ -1,10 +1,11 @@
 //! The walk over a function, in the order of copying.
-ghost use Rattle.std.specs.Prelude.{◌≡◌, ◌<◌, ◌≤◌, ◌∷◌, ◌++◌, ℕ, [], length, OnOk, All, IfOk, option_to_list};
-ghost use Rattle.std.specs.List.{flat_map};
+ghost use Rattle.std.specs.Prelude.{◌≡◌, ◌<◌, ◌≤◌, ◌+◌, ◌∷◌, ◌++◌, ℕ, [], length, OnOk, All, IfOk, option_to_list};
+ghost use Rattle.std.specs.List.{flat_map, sum_by};
 ghost use Rattle.naga_oil_ir.specs.Links.{lists, linked, added, trail};
 ghost use Rattle.naga_oil_ir.specs.BodyForm.{places, kinds, callees, operand_links, MayStand};
 ghost use Rattle.naga_oil_walk.specs.Walk.{IsReachOrder, externals, brief, IsWithin, notes_of, notes_after};
 ghost use Rattle.naga_oil_walk.specs.Walks.{IsOver, Walks};
+ghost use Rattle.naga_oil_walk.specs.Waiting.{AreWaiting, AsksOn, Awaits, finish, finish_all, names_left, steps};
 ghost use Rattle.naga_oil_walk.specs.Naming.{names_from, requests_at, asked, token_names, Adds, local_names, signature_names};
 ghost use Rattle.naga_oil_ir.specs.Body.{block_tokens};
 ghost use Rattle.naga_oil_ir.specs.WellFormed.{initialisers, initialisers_of};
@@ -34,8 +35,89 @@ fn request(of: &Reading, place: usize, requests: &mut Vec<Request>) -> Tried
     }
 }
 
+/// A place that is listed once what it names is.
+#[derive(Clone, Copy)]
+pub struct Waiting {
+    pub place: usize,
+    /// How many of its operands are reached.
+    pub done: usize,
+}
+
+/// What reaching a place asks for: it waits, with what it names requested, unless it is listed.
+fn awaited(of: &Reading, place: usize, walk: &mut Walk) -> Tried<Option<Waiting>>
+    ensures places { walk.new.places ≡ walk.old.places }
+    ensures marks { walk.new.marks ≡ walk.old.marks }
+    ensures emitted { walk.new.emitted ≡ walk.old.emitted }
+    ensures waits { let ns = of.now.named.items in
+        let asked = walk.old.requests.items in
+        let asks = walk.new.requests.items in
+        IfOk result (Awaits ns walk.old.places.items asked asks place) }
+{
+    if walk.has(place) {
+        return Ok(None);
+    }
+    request(of, place, &mut walk.requests)?;
+    Ok(Some(Waiting { place, done: 0 }))
+}
+
+/// Goes on to the next operand of a place, or lists the place if none is left.
+fn list_next(of: &Reading, mut top: Waiting, waiting: &mut Vec<Waiting>, walk: &mut Walk) -> Tried
+    requires over { IsOver of.now walk.old }
+    requires ready { IsReachOrder (lists of.now.links.items) walk.old.places.items }
+    requires waiting { let ws = waiting.old.items ++ top ∷ [] in
+        AreWaiting of.now walk.old.places.items walk.old.requests.items ws }
+    ensures order { let ls = lists of.now.links.items in
+        let made = finish_all ls (finish ls walk.old.places.items top) waiting.old.items in
+        OnOk result (finish_all ls walk.new.places.items waiting.new.items ≡ made) }
+    ensures emitted { walk.new.emitted ≡ walk.old.emitted }
+    ensures ready { OnOk result (IsReachOrder (lists of.now.links.items) walk.new.places.items) }
+    ensures requests { let ws = waiting.old.items ++ top ∷ [] in
+        let asks = AsksOn of.now.named.items (lists of.now.links.items) in
+        let vs = waiting.new.items in
+        OnOk result (asks walk.old.requests.items ws walk.new.requests.items vs) }
+    ensures over { OnOk result (IsOver of.now walk.new) }
+    ensures waiting { let vs = waiting.new.items in
+        OnOk result (AreWaiting of.now walk.new.places.items walk.new.requests.items vs) }
+    ensures fewer { let f = steps (lists of.now.links.items) in
+        let old = sum_by f waiting.old.items in
+        OnOk result (sum_by f waiting.new.items < old + f top) }
+{
+    let Some(operand) = of.links[top.place].get(top.done) else {
+        return walk.list(top.place);
+    };
+    let behind = awaited(of, *operand, walk)?;
+    top.done += 1;
+    waiting.push(top)?;
+    if let Some(behind) = behind {
+        waiting.push(behind)?;
+    }
+    Ok(())
+}
+
+/// Lists the places that wait, the last one first, each behind all that it reaches.
+fn list_waiting(of: &Reading, mut waiting: Vec<Waiting>, walk: &mut Walk) -> Tried
+    requires over { IsOver of.now walk.old }
+    requires ready { IsReachOrder (lists of.now.links.items) walk.old.places.items }
+    requires waiting { let ws = waiting.items in
+        AreWaiting of.now walk.old.places.items walk.old.requests.items ws }
+    ensures order { let ls = lists of.now.links.items in
+        let made = finish_all ls walk.old.places.items waiting.items in
+        OnOk result (walk.new.places.items ≡ made) }
+    ensures emitted { walk.new.emitted ≡ walk.old.emitted }
+    ensures ready { OnOk result (IsReachOrder (lists of.now.links.items) walk.new.places.items) }
+    ensures requests { let ls = lists of.now.links.items in
+        let asks = names_left of.now.named.items ls waiting.items in
+        OnOk result (Adds walk.old.requests.items asks walk.new.requests.items) }
+    ensures over { OnOk result (IsOver of.now walk.new) }
+{
+    while let Some(top) = waiting.pop() {
+        list_next(of, top, &mut waiting, walk)?;
+    }
+    Ok(())
+}
+
 /// Lists a place behind all that it reaches.
-pub fn reach(of: &Reading, place: usize, walk: &mut Walk) -> Tried
+pub fn reach(of: &Reading, place: usize, walk: &mut Walk, alloc: Global) -> Tried
     requires in_range { place < length of.now.links.items }
     requires over { IsOver of.now walk.old }
     requires ready { IsReachOrder (lists of.now.links.items) walk.old.places.items }
@@ -50,15 +132,12 @@ pub fn reach(of: &Reading, place: usize, walk: &mut Walk) -> Tried
         OnOk result (Adds walk.old.requests.items asks walk.new.requests.items) }
     ensures over { OnOk result (IsOver of.now walk.new) }
 {
-    if walk.has(place) {
+    let Some(first) = awaited(of, place, walk)? else {
         return Ok(());
-    }
-    request(of, place, &mut walk.requests)?;
-    for operand in &of.links[place] {
-        reach(of, *operand, walk)?;
-    }
-    walk.list(place)?;
-    Ok(())
+    };
+    let mut waiting = Vec::new(alloc);
+    waiting.push(first)?;
+    list_waiting(of, waiting, walk)
 }
 
 /// Lists a place and what it names, unless it is there.
@@ -222,7 +301,12 @@ fn request_types(function: &Function, requests: &mut Vec<Request>) -> Tried
 }
 
 /// Requests the types of local variables and lists what their initialisers reach.
-fn reach_locals(of: &Reading, locals: &[(LocalVariable, Span)], walk: &mut Walk) -> Tried
+fn reach_locals(
+    of: &Reading,
+    locals: &[(LocalVariable, Span)],
+    walk: &mut Walk,
+    alloc: Global,
+) -> Tried
     requires there { All (λ h. h < length of.now.links.items) (initialisers_of locals.now) }
     requires over { IsOver of.now walk.old }
     requires ready { IsReachOrder (lists of.now.links.items) walk.old.places.items }
@@ -241,7 +325,7 @@ fn reach_locals(of: &Reading, locals: &[(LocalVariable, Span)], walk: &mut Walk)
         let ty = ItemPlace::TypeItem(local.0.ty);
         walk.requests.push(Request::Item(ty))?;
         if let Some(init) = local.0.init {
-            reach(of, init.index(), walk)?;
+            reach(of, init.index(), walk, alloc)?;
         }
     }
     Ok(())
@@ -259,7 +343,7 @@ pub fn walk_function(function: &Function, alloc: Global) -> Tried<Walk>
     let read = read(function.expressions.as_slice(), alloc)?;
     let mut walk = Walk::new(function.expressions.len(), alloc)?;
     request_types(function, &mut walk.requests)?;
-    reach_locals(&read, function.local_variables.as_slice(), &mut walk)?;
+    reach_locals(&read, function.local_variables.as_slice(), &mut walk, alloc)?;
     let began = walk.places.len();
     let mut tokens = Vec::new(alloc);
     push_block(&function.body, &mut tokens)?;

@@ -154,7 +154,7 @@ def parse(text):
     """The module that a text says, or the fault of its first faulty line."""
     module, start = Module(), 0
     for line in text.split("\n"):
-        shown = line.strip(WHITE)
+        shown = line.lstrip(WHITE)
         if shown and not shown.startswith(SKIPPED):
             try:
                 read_line(line, start, module)

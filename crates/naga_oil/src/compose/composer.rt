@@ -20,6 +20,7 @@ pub struct Composer<B: Backend> {
     front: B,
     validate: bool,
     capabilities: Capabilities,
+    override_any: bool,
     // The newest first.
     modules: Vec<Definition>,
     // The number of the next binding.
@@ -40,9 +41,9 @@ impl<B: Backend> Model for Composer<B> {
 
     ghost Value = { State B };
 
-    ghost view = { λ c. record { front = c.front; validate = c.validate; capabilities = c.capabilities; registry = map definition_of c.modules.items; counter = c.counter; kept = kept_of c.store; builds = c.count } };
+    ghost view = { λ c. record { front = c.front; validate = c.validate; capabilities = c.capabilities; override_any = c.override_any; registry = map definition_of c.modules.items; counter = c.counter; kept = kept_of c.store; builds = c.count } };
 
-    ghost invariant = { λ c. IsRegistry (map definition_of c.modules.items) × IsStore (settings (B.front c.front) c.capabilities c.validate) (map definition_of c.modules.items) (kept_of c.store) };
+    ghost invariant = { λ c. IsRegistry (map definition_of c.modules.items) × IsStore (settings (B.front c.front) c.capabilities c.validate c.override_any) (map definition_of c.modules.items) (kept_of c.store) };
 }
 
 impl<B: Backend> Composer<B> {
@@ -58,14 +59,21 @@ impl<B: Backend> Composer<B> {
     ghost use Rattle.naga_oil.specs.State.{nothing_registered, Adds, Removes};
 
     // A composer with nothing registered or kept and the counter at 0.
-    fn empty(alloc: Global, front: B, validate: bool, capabilities: Capabilities) -> Self
-        ensures { result ≡ nothing_registered front validate capabilities }
+    fn empty(
+        alloc: Global,
+        front: B,
+        validate: bool,
+        capabilities: Capabilities,
+        override_any: bool,
+    ) -> Self
+        ensures { result ≡ nothing_registered front validate capabilities override_any }
     {
         Composer {
             alloc,
             front,
             validate,
             capabilities,
+            override_any,
             modules: Vec::new(alloc),
             counter: 0,
             store: Store::new(alloc),
@@ -73,25 +81,38 @@ impl<B: Backend> Composer<B> {
         }
     }
 
-    /// A composer with nothing registered, no capabilities and the counter at 0. It validates what it makes.
+    /// A composer with nothing registered, no capabilities and the counter at 0. It validates what it makes, and lets functions
+    /// be overridden only where they are virtual.
     pub fn new(alloc: Global, front: B) -> Self
-        ensures { result ≡ nothing_registered front true (record { 0 = 0 }) }
+        ensures { result ≡ nothing_registered front true (record { 0 = 0 }) false }
     {
-        Composer::empty(alloc, front, true, Capabilities(0))
+        Composer::empty(alloc, front, true, Capabilities(0), false)
     }
 
     /// The same, but it doesn't validate.
     pub fn non_validating(alloc: Global, front: B) -> Self
-        ensures { result ≡ nothing_registered front false (record { 0 = 0 }) }
+        ensures { result ≡ nothing_registered front false (record { 0 = 0 }) false }
     {
-        Composer::empty(alloc, front, false, Capabilities(0))
+        Composer::empty(alloc, front, false, Capabilities(0), false)
     }
 
-    /// The same front end, and it validates as before, with these capabilities, nothing registered and the counter at 0.
+    /// The same front end and settings, but for these capabilities, with nothing registered or kept and the counter at 0.
     pub fn with_capabilities(self, capabilities: Capabilities) -> Self
-        ensures { result ≡ nothing_registered self.front self.validate capabilities }
+        ensures { let bare = nothing_registered self.front self.validate in
+            result ≡ bare capabilities self.override_any }
     {
-        Composer::empty(self.alloc, self.front, self.validate, capabilities)
+        let (alloc, validate) = (self.alloc, self.validate);
+        Composer::empty(alloc, self.front, validate, capabilities, self.override_any)
+    }
+
+    /// The same front end and settings, but that any function of what is imported may be overridden or, where that isn't allowed,
+    /// only virtual ones, with nothing registered or kept and the counter at 0.
+    pub fn with_override_any(self, allow: bool) -> Self
+        ensures { let bare = nothing_registered self.front self.validate in
+            result ≡ bare self.capabilities allow }
+    {
+        let (alloc, validate) = (self.alloc, self.validate);
+        Composer::empty(alloc, self.front, validate, self.capabilities, allow)
     }
 
     /// The name of an item of a module, as it stands in what is made. With no module it is the item.
@@ -117,6 +138,13 @@ impl<B: Backend> Composer<B> {
         ensures { result ≡ self.now.capabilities }
     {
         self.capabilities
+    }
+
+    /// Whether any function of what is imported may be overridden, and not only those that are virtual.
+    pub fn override_any(&self) -> bool
+        ensures { result ≡ self.now.override_any }
+    {
+        self.override_any
     }
 
     /// The number of the next binding that asks for one.
@@ -257,6 +285,7 @@ impl<B: Backend> Composer<B> {
             front: &self.front,
             validate: self.validate,
             capabilities: self.capabilities,
+            override_any: self.override_any,
             builds: Builds::new(alloc),
         };
         let before = self.store.len();

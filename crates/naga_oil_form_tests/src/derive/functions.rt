@@ -5,11 +5,10 @@ ghost use Rattle.naga_oil_ir.specs.ModuleValue.{function_value};
 ghost use Rattle.naga_oil_derive.specs.DerivedFunctions.{CanImport, CanCall};
 
 use crate::derive::{holds, set};
-use indexmap::IndexMap;
 use naga_oil_derive::DerivedModule;
 use naga_oil_ir::{
     Arena, Block, EntryPoint, Expression, FormFault, Function, FunctionArgument, Handle, Index,
-    LocalVariable, Module, Range, Span, Statement, Type, TypeInner,
+    LocalVariable, Module, NamedExpressions, Range, Span, Statement, Type, TypeInner,
 };
 use std::alloc::{AllocError, Global};
 use std::test::Fail;
@@ -182,7 +181,7 @@ fn function(name: &str, alloc: Global) -> Result<Function, AllocError> {
         result: None,
         local_variables: Arena::new(alloc),
         expressions: Arena::new(alloc),
-        named_expressions: IndexMap::new(alloc),
+        named_expressions: NamedExpressions::new(),
         body: Block {
             body: Vec::new(alloc),
         },
@@ -235,7 +234,7 @@ fn add_local(function: &mut Function, init: Option<usize>) -> Result<(), AllocEr
 
 fn add_name(f: &mut Function, place: usize, name: &str, alloc: Global) -> Result<(), AllocError> {
     let name = String::from_str(alloc, name)?;
-    f.named_expressions.insert(Index::new(place), name)?;
+    f.named_expressions.insert(alloc, Index::new(place), name)?;
     Ok(())
 }
 
@@ -481,7 +480,7 @@ fn emits(f: &Function, start: usize, end: usize) -> bool {
 }
 
 fn names_so(f: &Function, at: usize, wanted: &str) -> bool {
-    match f.named_expressions.get(&Index::new(at)) {
+    match f.named_expressions.get(Index::new(at)) {
         Some(name) => name.as_str() == wanted,
         None => false,
     }

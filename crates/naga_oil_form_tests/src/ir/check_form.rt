@@ -2,7 +2,6 @@ mod every_kind;
 mod refused;
 
 use every_kind::{EVERY, expression_of, statement_of};
-use indexmap::IndexMap;
 use naga_oil_ir::*;
 use std::alloc::{AllocError, Global};
 use std::process::Abort;
@@ -175,13 +174,13 @@ fn add_local(
 }
 
 fn add_name(
-    list: &mut IndexMap<Handle<Expression>, String>,
+    list: &mut NamedExpressions,
     named: Option<usize>,
     alloc: Global,
 ) -> Result<(), AllocError> {
     if let Some(place) = named {
         let text = String::from_str(alloc, "x")?;
-        list.insert(Index::new(place), text)?;
+        list.insert(alloc, Index::new(place), text)?;
     }
     Ok(())
 }
@@ -259,7 +258,7 @@ fn nothing_of(alloc: Global) -> Function {
         result: None,
         local_variables: Arena::new(alloc),
         expressions: Arena::new(alloc),
-        named_expressions: IndexMap::new(alloc),
+        named_expressions: NamedExpressions::new(),
         body: Block {
             body: Vec::new(alloc),
         },

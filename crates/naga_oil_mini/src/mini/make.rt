@@ -6,6 +6,7 @@ ghost use Rattle.naga_oil_front.specs.Writer.{module_text};
 
 use super::definitions::Definitions;
 use super::refusal::Refusal;
+use super::words::Request;
 use naga_oil::compose::{
     ComposableModuleDescriptor, Composer, ComposerError, NagaModuleDescriptor, ShaderType,
 };
@@ -59,6 +60,7 @@ fn bare_imports(alloc: Global, names: &[&str]) -> Result<Vec<ImportDefinition>, 
 // The text of a module.
 fn written<'a>(alloc: Global, of: &Module) -> Result<String, Refusal<'a>>
     ensures ok { IfOk result (λ t. module_text (module_value of.now) ≡ Some (string_bytes t)) }
+    ensures shown { IfOk result (λ t. IsWritten (string_bytes t)) }
     ensures err { IfErr result IsOfMaking }
 {
     match module_text(alloc, of) {
@@ -68,20 +70,19 @@ fn written<'a>(alloc: Global, of: &Module) -> Result<String, Refusal<'a>>
     }
 }
 
-/// The shader of a file with the modules of others, under definitions, as Mini writes it.
-pub fn made<'a>(
+// The module of a file with those of others, under definitions. What stands for the others goes before it is written.
+fn make_module<'a>(
     alloc: Global,
     top: &(&'a str, String),
     modules: &[(&'a str, String)],
-    imports: &[&str],
+    asked: &Request<'_>,
     definitions: Definitions,
-) -> Result<String, Refusal<'a>>
-    ensures ok { IfOk result (λ t. IsWritten (string_bytes t)) }
-    ensures err { IfErr result IsOfMaking }
+) -> Result<Module, Refusal<'a>>
+    ensures { IfErr result IsOfMaking }
 {
-    let mut composer = Composer::new(alloc, Mini);
+    let mut composer = Composer::new(alloc, Mini).with_override_any(asked.override_any);
     add_modules(alloc, &mut composer, modules)?;
-    let imports = bare_imports(alloc, imports)?;
+    let imports = bare_imports(alloc, &asked.imports)?;
     let desc = NagaModuleDescriptor {
         source: top.1.as_str(),
         file_path: top.0,
@@ -90,7 +91,23 @@ pub fn made<'a>(
         additional_imports: imports.as_slice(),
     };
     match composer.make_naga_module(desc) {
-        Ok(made) => written(alloc, &made),
+        Ok(made) => Ok(made),
         Err(error) => Err(told(&composer, error)),
     }
+}
+
+/// The shader of a file with the modules of others, under definitions, as Mini writes it. What is imported besides, and whether any
+/// function may be overridden, is asked for.
+pub fn made<'a>(
+    alloc: Global,
+    top: &(&'a str, String),
+    modules: &[(&'a str, String)],
+    asked: &Request<'_>,
+    definitions: Definitions,
+) -> Result<String, Refusal<'a>>
+    ensures ok { IfOk result (λ t. IsWritten (string_bytes t)) }
+    ensures err { IfErr result IsOfMaking }
+{
+    let module_ = make_module(alloc, top, modules, asked, definitions)?;
+    written(alloc, &module_)
 }

@@ -3,7 +3,7 @@ use std::alloc::AllocError;
 use std::fmt;
 
 const USAGE: &str =
-    "usage: oil pre FILE [NAME=VALUE..] | oil make TOP [MODULE..] [+NAME..] [NAME=VALUE..]\n";
+    "usage: oil pre FILE [NAME=VALUE..] | oil make [--override-any] TOP [MODULE..] [+NAME..] [NAME=VALUE..]\n";
 
 #[derive(Debug, Drop)]
 pub enum Refusal<'a> {

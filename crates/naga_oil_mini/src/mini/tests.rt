@@ -92,7 +92,7 @@ fn answers(
 }
 
 const USAGE: &str =
-    "usage: oil pre FILE [NAME=VALUE..] | oil make TOP [MODULE..] [+NAME..] [NAME=VALUE..]\n";
+    "usage: oil pre FILE [NAME=VALUE..] | oil make [--override-any] TOP [MODULE..] [+NAME..] [NAME=VALUE..]\n";
 
 #[test]
 fn prints_the_text(rt: HostRuntime) -> Result<(), Fail> {

@@ -1,7 +1,7 @@
 // What the words behind the program's name ask for.
 ghost use Rattle.std.specs.Prelude.{◌≡◌, ◌<◌, IfOk, IfErr, Some, option_map, length, drop};
-ghost use Rattle.naga_oil_front.specs.Names.{texts_of};
-ghost use Rattle.naga_oil_mini.specs.Words.{is_definition, import_of, task_of, files, imports, takes, asked, asked_of};
+ghost use Rattle.naga_oil_symbols.specs.Names.{texts_of};
+ghost use Rattle.naga_oil_mini.specs.Words.{is_definition, import_of, task_of, with_option, files, imports, takes, asked, asked_of};
 ghost use Rattle.naga_oil_lines.specs.Text.{texts};
 ghost use Rattle.naga_oil_mini.specs.Told.{RefusesWords};
 
@@ -33,6 +33,8 @@ pub enum Task {
 #[derive(Drop)]
 pub struct Request<'a> {
     pub task: Task,
+    /// Whether any function of what is imported may be overridden, and not only those that are virtual.
+    pub override_any: bool,
     /// The first one is the shader's.
     pub files: Vec<&'a str>,
     /// The modules that the shader imports besides what its text uses.
@@ -41,6 +43,9 @@ pub struct Request<'a> {
     pub words: &'a [String],
 }
 
+// The option of `make`, which stands right behind it.
+const OVERRIDE_ANY: &str = "--override-any";
+
 fn task_of(command: &str) -> Option<Task>
     ensures { result ≡ task_of command.now }
 {
@@ -48,6 +53,16 @@ fn task_of(command: &str) -> Option<Task>
         "pre" => Some(Task::Preprocess),
         "make" => Some(Task::Make),
         _ => None,
+    }
+}
+
+// Whether words begin with the option of a task, and the words behind it.
+fn with_option(task: Task, words: &[String]) -> (bool, &[String])
+    ensures { (result.0, texts result.1.now) ≡ with_option task (texts words.now) }
+{
+    match (task, words.split_first()) {
+        (Task::Make, Some((word, rest))) if word.as_str() == OVERRIDE_ANY => (true, rest),
+        _ => (false, words),
     }
 }
 
@@ -108,13 +123,15 @@ pub fn asked(alloc: Global, words: &[String]) -> Result<Request<'_>, Refusal<'_>
 {
     let (command, words) = words.split_first().ok_or(Refusal::Usage)?;
     let task = task_of(command.as_str()).ok_or(Refusal::Usage)?;
-    let (files, imports) = counts(words);
+    let (override_any, behind) = with_option(task, words);
+    let (files, imports) = counts(behind);
     if !takes(task, files, imports) {
         return Err(Refusal::Usage);
     }
-    let (files, imports) = sorted(alloc, words)?;
+    let (files, imports) = sorted(alloc, behind)?;
     Ok(Request {
         task,
+        override_any,
         files,
         imports,
         words,

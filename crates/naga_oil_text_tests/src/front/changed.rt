@@ -1,8 +1,8 @@
 // Modules that no parse gives: they are written if another text says them, up to what doesn't count.
 use super::{is_written, read};
 use naga_oil_ir::{
-    Arena, Constant, EntryPoint, Expression, Function, Index, Module, Places, Span, Statement,
-    UniqueArena,
+    Arena, Constant, EntryPoint, Expression, Function, Index, LocalVariable, Module, Places, Span,
+    Statement, UniqueArena,
 };
 use std::alloc::{AllocError, Global};
 use std::mem;
@@ -12,11 +12,15 @@ const AT: Span = Span { start: 0, end: 1 };
 
 const NOT_IN_MINI: &str = "not in Mini";
 
-// An expression of a sum.
+// An expression of a sum or an initialiser.
 #[derive(Clone, Copy)]
 enum Term {
     Number(u64),
     Sum(usize, usize),
+    Parameter(u32),
+    Local(usize),
+    Global(usize),
+    Load(usize),
 }
 
 fn expression(term: Term) -> Expression {
@@ -26,6 +30,12 @@ fn expression(term: Term) -> Expression {
             let (left, right) = (Index::new(left), Index::new(right));
             Expression::Binary { op: 1, left, right }
         }
+        Term::Parameter(number) => Expression::FunctionArgument(number),
+        Term::Local(local) => Expression::LocalVariable(Index::new(local)),
+        Term::Global(global) => Expression::GlobalVariable(Index::new(global)),
+        Term::Load(pointer) => Expression::Load {
+            pointer: Index::new(pointer),
+        },
     }
 }
 
@@ -54,6 +64,8 @@ enum Change<'a> {
     NoTypes,
     /// What a stub's body is: expressions, the places that it emits, and what it returns.
     Body(&'a [Term], &'a [(usize, usize)], usize),
+    /// Locals of these names and initialisers.
+    Locals(&'a [(&'a str, Option<usize>)]),
     Name(Option<&'a str>),
     /// A constant more, of the first initialiser.
     ConstantMore(&'a str),
@@ -65,6 +77,22 @@ enum Change<'a> {
     NoResult,
 }
 
+fn add_locals(
+    alloc: Global,
+    function: &mut Function,
+    locals: &[(&str, Option<usize>)],
+) -> Result<(), AllocError> {
+    for (name, init) in locals {
+        let local = LocalVariable {
+            name: Some(String::from_str(alloc, *name)?),
+            ty: Index::new(0),
+            init: init.map(|place| Index::new(place)),
+        };
+        function.local_variables.append(local, AT)?;
+    }
+    Ok(())
+}
+
 fn change_function(
     alloc: Global,
     function: &mut Function,
@@ -72,6 +100,7 @@ fn change_function(
 ) -> Result<(), AllocError> {
     match change {
         Change::Body(terms, emitted, returned) => fill(function, terms, emitted, returned)?,
+        Change::Locals(locals) => add_locals(alloc, function, locals)?,
         Change::Name(Some(name)) => function.name = Some(String::from_str(alloc, name)?),
         Change::Name(None) => function.name = None,
         _ => {}
@@ -125,7 +154,9 @@ fn make_change(
     let alloc = rt.alloc();
     match change {
         Change::NoTypes => of.types = UniqueArena::new(alloc),
-        Change::Body(..) | Change::Name(_) => return change_functions(alloc, of, change),
+        Change::Body(..) | Change::Locals(_) | Change::Name(_) => return change_functions(
+            alloc, of, change,
+        ),
         Change::ConstantMore(name) => return add_constant(alloc, of, name),
         Change::EntryPointsOf(text) => return add_entry_points(rt, of, text),
         _ => {
@@ -189,6 +220,112 @@ fn writes_each_order_of_expressions(rt: HostRuntime) {
     }
 }
 
+// Parameters are one expression each; a variable is named by a load of its own, which is emitted alone.
+#[test]
+fn writes_parameters_and_loads(rt: HostRuntime) {
+    let x = Term::Parameter(0);
+    let loads = [
+        Term::Global(0),
+        Term::Load(0),
+        Term::Load(0),
+        Term::Sum(1, 2),
+    ];
+    let stub = "var G = 3\nfn f(x)\n";
+    for (change, wanted) in [
+        (
+            Change::Body(&[x, Term::Sum(0, 0)], &[(1, 2)], 1),
+            "var G = 3\nfn f(x) = x + x\n",
+        ),
+        (
+            Change::Body(&[x, x, Term::Sum(0, 1)], &[(2, 3)], 2),
+            NOT_IN_MINI,
+        ),
+        (
+            Change::Body(&[x, x, Term::Sum(1, 1)], &[(2, 3)], 2),
+            "var G = 3\nfn f(x) = x + x\n",
+        ),
+        (Change::Body(&[Term::Parameter(1)], &[], 0), NOT_IN_MINI),
+        (
+            Change::Body(&[Term::Global(0), Term::Load(0)], &[(1, 2)], 1),
+            "var G = 3\nfn f(x) = G\n",
+        ),
+        (
+            Change::Body(&[Term::Global(0), Term::Load(0)], &[], 1),
+            NOT_IN_MINI,
+        ),
+        (Change::Body(&[Term::Global(0)], &[], 0), NOT_IN_MINI),
+        (
+            Change::Body(&loads, &[(1, 2), (2, 3), (3, 4)], 3),
+            NOT_IN_MINI,
+        ),
+        (
+            Change::Body(&[Term::Global(1), Term::Load(0)], &[(1, 2)], 1),
+            NOT_IN_MINI,
+        ),
+    ] {
+        is_changed(&rt, stub, &[change], wanted);
+    }
+}
+
+// Equal expressions of initialisers may be one, and what was emitted of them may be nothing.
+#[test]
+fn writes_merged_initialisers(rt: HostRuntime) {
+    let (one, two) = (Term::Number(1), Term::Number(2));
+    let sum = [one, two, Term::Sum(0, 1), Term::Local(0), Term::Load(3)];
+    let both = &[("V", Some(2)), ("W", Some(2))];
+    let merged = "fn f() with V = 1 + 2, W = 1 + 2 = V\n";
+    for (locals, emitted, wanted) in [
+        (both, &[(3, 3), (3, 3), (4, 5)], merged),
+        (both, &[(2, 3), (5, 5), (4, 5)], merged),
+        (both, &[(2, 3), (2, 3), (4, 5)], merged),
+        // A range whose end stands before its start covers nothing.
+        (both, &[(3, 1), (3, 3), (4, 5)], merged),
+        (both, &[(3, 3), (1, 2), (4, 5)], NOT_IN_MINI),
+        (both, &[(3, 3), (4, 5), (3, 3)], NOT_IN_MINI),
+        (
+            &[("V", Some(0)), ("W", Some(1))],
+            &[(3, 3), (3, 3), (4, 5)],
+            NOT_IN_MINI,
+        ),
+        (
+            &[("V", None), ("W", Some(2))],
+            &[(3, 3), (3, 3), (4, 5)],
+            NOT_IN_MINI,
+        ),
+    ] {
+        let changes = [Change::Locals(locals), Change::Body(&sum, emitted, 4)];
+        is_changed(&rt, "fn f()\n", &changes, wanted);
+    }
+}
+
+// An initialiser has nothing in common with a sum, and a stub has no locals.
+#[test]
+fn writes_initialisers_alone(rt: HostRuntime) {
+    let locals = Change::Locals(&[("V", Some(0))]);
+    let one = Term::Number(1);
+    for (changes, wanted) in [
+        ([locals, Change::Body(&[one], &[], 0)], NOT_IN_MINI),
+        (
+            [locals, Change::Body(&[one, one], &[], 1)],
+            "fn f(x) with V = 1 = 1\n",
+        ),
+        (
+            [locals, Change::Body(&[Term::Parameter(0)], &[], 0)],
+            NOT_IN_MINI,
+        ),
+        ([locals, Change::Name(Some("f"))], NOT_IN_MINI),
+        (
+            [
+                Change::Locals(&[("x", Some(0))]),
+                Change::Body(&[one, Term::Local(0), Term::Load(1)], &[(2, 3)], 2),
+            ],
+            NOT_IN_MINI,
+        ),
+    ] {
+        is_changed(&rt, "fn f(x)\n", &changes, wanted);
+    }
+}
+
 // A name has to mean its item where the lines can stand.
 #[test]
 fn writes_names_that_have_an_order(rt: HostRuntime) {
@@ -197,6 +334,7 @@ fn writes_names_that_have_an_order(rt: HostRuntime) {
     let first = Change::EntryPointsOf("fn f()\nentry a = f()\n");
     let second = Change::EntryPointsOf("fn f()\nfn f()\nentry b = f()\n");
     let of_constant = Change::EntryPointsOf("const N = 1\nentry e = N\n");
+    let of_global = Change::EntryPointsOf("var N = 2\nentry g = N\n");
     let of_both = Change::EntryPointsOf("const N = 1\nfn f()\nentry e = N + f()\n");
     for (text, changes, wanted) in [
         (
@@ -211,6 +349,17 @@ fn writes_names_that_have_an_order(rt: HostRuntime) {
             "fn f() = 1\nfn f() = 2\nentry a = f()\nentry b = f()\n",
         ),
         (functions, [second, first], NOT_IN_MINI),
+        // A constant is meant before each global of its name.
+        (
+            "const N = 1\nfn f() = N\nvar N = 2\n",
+            [of_constant, of_global],
+            "const N = 1\nvar N = 2\nfn f() = N\nentry e = N\nentry g = N\n",
+        ),
+        (
+            "const N = 1\nfn f() = N\nvar N = 2\n",
+            [of_global, of_constant],
+            NOT_IN_MINI,
+        ),
     ] {
         is_changed(&rt, text, &changes, wanted);
     }

@@ -45,6 +45,8 @@ fn is_faulty(alloc: Global, text: &str, message: &str) -> bool {
 #[test]
 fn a_refused_text_says_no_other_module(rt: HostRuntime) {
     assert!(rt; is_read(rt.alloc(), EXAMPLE, true));
+    let locals = "var G = 3\nfn f(x) with V = 1 + 2, W = 1 + 2 = G + V + W\n";
+    assert!(rt; is_read(rt.alloc(), locals, true));
     let wrong = "fn f(x)\nentry main = f(f(1), 2) + f()\n";
     assert!(rt; is_read(rt.alloc(), wrong, false));
 }

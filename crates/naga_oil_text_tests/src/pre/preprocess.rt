@@ -25,6 +25,8 @@ static SEVEN: &[Definition] = &[("T", ShaderDefValue::Int(7))];
 
 static TWO: &[Definition] = &[("T", ShaderDefValue::Int(2))];
 
+static Z: &[Definition] = &[("Z", ShaderDefValue::Bool(true))];
+
 static FIRST: &[Definition] = &[("TEXTURE", ShaderDefValue::Bool(true))];
 
 static THIRD: &[Definition] = &[("THIRD", ShaderDefValue::Bool(true))];
@@ -127,16 +129,18 @@ static UNDER_A: &[Row] = &[
         "#ifdef A\n#ifdef B\na\n#else\n#ifdef B\nb\n#else ifdef A\nc\n#endif\n#endif\n#endif",
         "~~~~~~~~\n~~~~~~~~\n~\n~~~~~\n~~~~~~~~\n~\n~~~~~~~~~~~~~\nc\n~~~~~~\n~~~~~~\n~~~~~~\n",
     ),
-    (
-        "#ifdef A\n#import a::{\"\n#if XX == 1\n#endif\n\"}\n#endif",
-        "~~~~~~~~\n~~~~~~~~~~~~~\n~~~~~~~~~~~\n~~~~~~\n~~\n~~~~~~\n",
-    ),
 ];
+
+static UNDER_Z: &[Row] = &[(
+    "#ifdef Z\n#import a::{\"\n#if XX == 1\n#endif\n\"}\n#endif",
+    "~~~~~~~~\n~~~~~~~~~~~~~\n~~~~~~~~~~~\n~~~~~~\n~~\n~~~~~~\n",
+)];
 
 #[test]
 fn shows_the_arms_that_hold(rt: HostRuntime) -> Result<(), Fail> {
     tells(rt.alloc(), NONE, PLAIN)?;
-    tells(rt.alloc(), A, UNDER_A)
+    tells(rt.alloc(), A, UNDER_A)?;
+    tells(rt.alloc(), Z, UNDER_Z)
 }
 
 const TEXTURES: &str =
@@ -296,6 +300,31 @@ fn substitutes_what_imports_declare(rt: HostRuntime) -> Result<(), Fail> {
     for (source, text, uses) in IMPORTS {
         if !substitutes(rt.alloc(), source, text, uses) {
             return Err(Fail::from(*source));
+        }
+    }
+    Ok(())
+}
+
+// A text of so many calls of an imported function, what it becomes, and what it uses.
+fn many_calls(alloc: Global, calls: usize) -> Result<(String, String, String), AllocError> {
+    let source = "f()\n".repeat(alloc, calls)?;
+    let text = "fX_naga_oil_mod_XMEX()\n".repeat(alloc, calls)?;
+    let items = "\"f\", ".repeat(alloc, calls.saturating_sub(1))?;
+    Ok((
+        format!(in alloc; "#import a::f\n{source}")?,
+        format!(in alloc; "            \n{text}")?,
+        format!(in alloc;
+            "[ImportDefWithOffset {{ definition: ImportDefinition {{ import: \"a\", items: [{items}\"f\"] }}, offset: 13 }}]"
+        )?,
+    ))
+}
+
+#[test]
+fn substitutes_many_calls(rt: HostRuntime) -> Result<(), Fail> {
+    for calls in [1, 10, 100, 1000] {
+        let (source, text, uses) = many_calls(rt.alloc(), calls)?;
+        if !substitutes(rt.alloc(), source.as_str(), text.as_str(), uses.as_str()) {
+            return Err(Fail::from("many calls"));
         }
     }
     Ok(())

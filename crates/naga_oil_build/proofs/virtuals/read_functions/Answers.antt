@@ -17,6 +17,7 @@ use Rattle.naga_oil_build.proofs.virtuals.read_functions.Goals as goal
 
 pub returns : goal.returns
 returns c =
+    let any = c.args.over.override_any in
     let builds = builds_of c.args.over.builds.now in
     let imports = map import_of c.args.over.imports.now in
     let decoration = c.args.over.decoration.now in
@@ -35,15 +36,16 @@ returns c =
     let is_shown : shown ≡ with_edits edits covered = c.in_ok-shown.ensures ∙ ap (with_edits edits) c.as_str-2.ensures.value in
     let are_marked : fs ≡ marked_in (codes "override") shown = c.in_ok-functions.ensures ∙ ap (marked_in (codes "override")) c.as_str-3.ensures.value in
     let before : Overrides = record { edits = edits; overriding = overriding; fault = None } in
-    let same : with_overrides builds imports decoration before fs ≡ with_overrides builds imports decoration before (map marked_of c.deref-3.result.now) = ap (λ ms. with_overrides builds imports decoration before (map marked_of ms)) (sym c.deref-3.ensures.value) in
+    let same : with_overrides any builds imports decoration before fs ≡ with_overrides any builds imports decoration before (map marked_of c.deref-3.result.now) = ap (λ ms. with_overrides any builds imports decoration before (map marked_of ms)) (sym c.deref-3.ensures.value) in
     let next = get nat_cmp c.read_overrides.new.edits in
     let more = overriding_of c.read_overrides.new.overriding in
     let names : texts c.in_ok-names.names.keys ≡ names_of vs = c.in_ok-names.ensures ∙ ap (λ ms. names_of (map marked_of ms)) c.deref.ensures.value in
-    functions_ok builds imports decoration overriding text covered shown vs fs none edits is_covered are_virtual is_none are_edits is_shown are_marked next more (ap unless_fault_in same ∙ c.in_ok-read_overrides.ensures)
+    functions_ok any builds imports decoration overriding text covered shown vs fs none edits is_covered are_virtual is_none are_edits is_shown are_marked next more (ap unless_fault_in same ∙ c.in_ok-read_overrides.ensures)
     ∙ ap (λ ns. read_ok ns more (with_edits next text)) (sym names) ∙ ap (read_ok (texts c.in_ok-names.names.keys) more) (sym c.in_ok-text.ensures)
 
 pub returns-in_err-read_overrides : goal.returns-in_err-read_overrides
 returns-in_err-read_overrides c =
+    let any = c.args.over.override_any in
     let builds = builds_of c.args.over.builds.now in
     let imports = map import_of c.args.over.imports.now in
     let decoration = c.args.over.decoration.now in
@@ -62,6 +64,6 @@ returns-in_err-read_overrides c =
     let is_shown : shown ≡ with_edits edits covered = c.in_ok-shown.ensures ∙ ap (with_edits edits) c.as_str-2.ensures.value in
     let are_marked : fs ≡ marked_in (codes "override") shown = c.in_ok-functions.ensures ∙ ap (marked_in (codes "override")) c.as_str-3.ensures.value in
     let before : Overrides = record { edits = edits; overriding = overriding; fault = None } in
-    let same : with_overrides builds imports decoration before fs ≡ with_overrides builds imports decoration before (map marked_of c.deref-3.result.now) = ap (λ ms. with_overrides builds imports decoration before (map marked_of ms)) (sym c.deref-3.ensures.value) in
+    let same : with_overrides any builds imports decoration before fs ≡ with_overrides any builds imports decoration before (map marked_of c.deref-3.result.now) = ap (λ ms. with_overrides any builds imports decoration before (map marked_of ms)) (sym c.deref-3.ensures.value) in
     let p = err_from_is_err_and c.from_residual-in_err-read_overrides.result c.from_residual-in_err-read_overrides.ensures.1 in
-    rw (p.1, p.2) (fault_then c.in_err-read_overrides.field-0.0 _ _ (λ f e. functions_refused builds imports decoration overriding text covered shown vs fs none edits is_covered are_virtual is_none are_edits is_shown are_marked f (ap unless_fault_in same ∙ e)) c.in_err-read_overrides.ensures)
+    rw (p.1, p.2) (fault_then c.in_err-read_overrides.field-0.0 _ _ (λ f e. functions_refused any builds imports decoration overriding text covered shown vs fs none edits is_covered are_virtual is_none are_edits is_shown are_marked f (ap unless_fault_in same ∙ e)) c.in_err-read_overrides.ensures)

@@ -14,6 +14,7 @@ use Rattle.naga_oil_build.proofs.virtuals.read_override.Goals as goal
 
 pub returns : goal.returns
 returns c =
+    let any = c.args.over.override_any in
     let builds = builds_of c.args.over.builds.now in
     let imports = map import_of c.args.over.imports.now in
     let decoration = c.args.over.decoration.now in
@@ -25,7 +26,7 @@ returns c =
     let item = c.in-Some.item.now in
     let module_name = string_bytes c.in-Some-2.module_name in
     let parts : item_and_module f.name ≡ Some (item, c.in-Some.code.now, module_name) = parts_known f.name item c.in-Some.code.now module_name c.in-Some.ensures.value (ap (option_map string_bytes) (sym c.in-Some-2.is) ∙ c.in_ok-module_name.ensures) in
-    let told : Option Fault = override_fault builds imports module_name item f.place in
+    let told : Option Fault = override_fault any builds imports module_name item f.place in
     let P : Option Fault → Type 0 = λ told. (before : Option Fault)
-    → ◌≡◌ {A = Overrides} (record { edits = next; overriding = more; fault = option_or told before }) (with_override builds imports decoration (record { edits = edits; overriding = known; fault = before }) f) in
-    read_so c.override_fault.result told P (one_noted builds imports decoration edits next known more f item c.in-Some.code.now module_name parts c.in_ok-note_override.ensures.edits c.in_ok-note_override.ensures.overriding) c.override_fault.ensures
+    → ◌≡◌ {A = Overrides} (record { edits = next; overriding = more; fault = option_or told before }) (with_override any builds imports decoration (record { edits = edits; overriding = known; fault = before }) f) in
+    read_so c.override_fault.result told P (one_noted any builds imports decoration edits next known more f item c.in-Some.code.now module_name parts c.in_ok-note_override.ensures.edits c.in_ok-note_override.ensures.overriding) c.override_fault.ensures

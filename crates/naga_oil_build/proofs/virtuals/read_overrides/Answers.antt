@@ -26,9 +26,9 @@ loop-function-preserved c =
     let before : Overrides = record { edits = get nat_cmp c.loop-function.edits; overriding = overriding_of c.loop-function.overriding; fault = known.0 } in (
       option_or one.0 known.0,
       ap (option_map fault_of) c.or-last.ensures ∙ or_told c.in_ok-read_override.field-0 c.loop-function.last one.0 known.0 one.1 known.1,
-      ap (λ (o : Overrides). with_overrides builds imports decoration o rest) (one.2 known.0)
-          ∙ ap (λ x. with_overrides builds imports decoration before (map marked_of (x ∷ drop (i + 1) functions))) c.function-item.is
-          ∙ sym (at_drop_more (λ fs. with_overrides builds imports decoration before (map marked_of fs)) functions i c.function-item.result (omega arith)) ∙ known.2,
+      ap (λ (o : Overrides). with_overrides c.args.over.override_any builds imports decoration o rest) (one.2 known.0)
+          ∙ ap (λ x. with_overrides c.args.over.override_any builds imports decoration before (map marked_of (x ∷ drop (i + 1) functions))) c.function-item.is
+          ∙ sym (at_drop_more (λ fs. with_overrides c.args.over.override_any builds imports decoration before (map marked_of fs)) functions i c.function-item.result (omega arith)) ∙ known.2,
     )
 
 pub returns-in-None : goal.returns-in-None
@@ -38,7 +38,7 @@ returns-in-None c =
     let decoration = c.args.over.decoration.now in
     let known = c.loop-function.invariant in
     let before : Overrides = record { edits = get nat_cmp c.loop-function.edits; overriding = overriding_of c.loop-function.overriding; fault = known.0 } in
-    let all : before ≡ _ = sym (at_drop_all (λ fs. with_overrides builds imports decoration before (map marked_of fs)) c.args.functions.now c.loop-function.function-index (omega arith)) ∙ known.2 in
+    let all : before ≡ _ = sym (at_drop_all (λ fs. with_overrides c.args.over.override_any builds imports decoration before (map marked_of fs)) c.args.functions.now c.loop-function.function-index (omega arith)) ∙ known.2 in
     none_told _ before.edits before.overriding known.0 (ap (option_map fault_of) (sym c.in-None.is) ∙ known.1) all
 
 pub returns-in-Some : goal.returns-in-Some
@@ -48,5 +48,5 @@ returns-in-Some c =
     let decoration = c.args.over.decoration.now in
     let known = c.loop-function.invariant in
     let before : Overrides = record { edits = get nat_cmp c.loop-function.edits; overriding = overriding_of c.loop-function.overriding; fault = known.0 } in
-    let all : before ≡ _ = sym (at_drop_all (λ fs. with_overrides builds imports decoration before (map marked_of fs)) c.args.functions.now c.loop-function.function-index (omega arith)) ∙ known.2 in
+    let all : before ≡ _ = sym (at_drop_all (λ fs. with_overrides c.args.over.override_any builds imports decoration before (map marked_of fs)) c.args.functions.now c.loop-function.function-index (omega arith)) ∙ known.2 in
     some_told _ before.edits before.overriding c.in-Some.fault known.0 (ap (option_map fault_of) (sym c.in-Some.is) ∙ known.1) all

@@ -13,5 +13,5 @@ use Rattle.naga_oil_build.proofs.virtuals.read_overrides.Given as goal
 abbrev pub invariant-loop-function : goal.invariant-loop-function
 invariant-loop-function l =
     (known : Option Fault) × (option_map fault_of l.last ≡ option_map (λ f. Some f) known)
-    × (with_overrides (builds_of l.over.builds.now) (map import_of l.over.imports.now) l.over.decoration.now (record { edits = get nat_cmp l.edits; overriding = overriding_of l.overriding; fault = known }) (map marked_of (drop l.function-index l.functions))
-    ≡ with_overrides (builds_of l.over.builds.now) (map import_of l.over.imports.now) l.over.decoration.now (record { edits = get nat_cmp l.fn.edits; overriding = overriding_of l.fn.overriding; fault = None }) (map marked_of l.functions))
+    × (with_overrides l.over.override_any (builds_of l.over.builds.now) (map import_of l.over.imports.now) l.over.decoration.now (record { edits = get nat_cmp l.edits; overriding = overriding_of l.overriding; fault = known }) (map marked_of (drop l.function-index l.functions))
+    ≡ with_overrides l.over.override_any (builds_of l.over.builds.now) (map import_of l.over.imports.now) l.over.decoration.now (record { edits = get nat_cmp l.fn.edits; overriding = overriding_of l.fn.overriding; fault = None }) (map marked_of l.functions))

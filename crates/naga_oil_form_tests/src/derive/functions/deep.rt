@@ -11,7 +11,7 @@ fn caller(place: usize, alloc: Global) -> Result<Function, AllocError> {
         result: None,
         local_variables: Arena::new(alloc),
         expressions: Arena::new(alloc),
-        named_expressions: IndexMap::new(alloc),
+        named_expressions: NamedExpressions::new(),
         body: Block {
             body: Vec::new(alloc),
         },

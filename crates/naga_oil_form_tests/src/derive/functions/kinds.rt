@@ -4,8 +4,9 @@ use crate::derive::{holds, set};
 use naga_oil_derive::DerivedModule;
 use naga_oil_ir::{
     Block, Constant, Expression, FormFault, Function, FunctionArgument, FunctionResult,
-    GlobalVariable, Handle, ImageQuery, Index, LocalVariable, Module, Operand, Override, Range,
-    RayQueryFunction, SampleLevel, Span, Statement, SwitchCase, Token, Type, TypeInner, push_block,
+    GlobalVariable, Handle, ImageLoad, ImageQuery, ImageSample, Index, LocalVariable, Math, Module,
+    Operand, Override, Range, RayQueryFunction, SampleLevel, Span, Statement, SwitchCase, Token,
+    Type, TypeInner, push_block,
 };
 use std::alloc::{AllocError, Global};
 use std::test::Fail;
@@ -75,42 +76,48 @@ impl Maker {
         }
     }
 
-    fn image(self, kind: usize) -> Expression {
-        match kind {
+    fn image(self, kind: usize) -> Result<Expression, AllocError> {
+        Ok(match kind {
             18 => Expression::Load {
                 pointer: self.at(5),
             },
-            19 => Expression::ImageSample {
-                image: self.at(6),
-                sampler: self.at(4),
-                gather: 1,
-                coordinate: self.at(0),
-                array_index: self.some(1),
-                offset: self.some(2),
-                level: SampleLevel::Gradient {
-                    x: self.at(3),
-                    y: self.at(0),
+            19 => Expression::ImageSample(Box::new(
+                self.alloc,
+                ImageSample {
+                    image: self.at(6),
+                    sampler: self.at(4),
+                    gather: 1,
+                    coordinate: self.at(0),
+                    array_index: self.some(1),
+                    offset: self.some(2),
+                    level: SampleLevel::Gradient {
+                        x: self.at(3),
+                        y: self.at(0),
+                    },
+                    depth_ref: self.some(6),
                 },
-                depth_ref: self.some(6),
-            },
-            20 => Expression::ImageLoad {
-                image: self.at(6),
-                coordinate: self.at(0),
-                array_index: self.some(1),
-                sample: self.some(2),
-                level: self.some(3),
-            },
+            )?),
+            20 => Expression::ImageLoad(Box::new(
+                self.alloc,
+                ImageLoad {
+                    image: self.at(6),
+                    coordinate: self.at(0),
+                    array_index: self.some(1),
+                    sample: self.some(2),
+                    level: self.some(3),
+                },
+            )?),
             _ => Expression::ImageQuery {
                 image: self.at(6),
                 query: ImageQuery::Size {
                     level: self.some(0),
                 },
             },
-        }
+        })
     }
 
-    fn operation(self, kind: usize) -> Expression {
-        match kind {
+    fn operation(self, kind: usize) -> Result<Expression, AllocError> {
+        Ok(match kind {
             14 => Expression::Access {
                 base: self.at(6),
                 index: self.at(0),
@@ -150,13 +157,16 @@ impl Maker {
                 fun: 4,
                 argument: self.at(3),
             },
-            27 => Expression::Math {
-                fun: 5,
-                arg: self.at(0),
-                arg1: self.some(1),
-                arg2: self.some(2),
-                arg3: self.some(3),
-            },
+            27 => Expression::Math(Box::new(
+                self.alloc,
+                Math {
+                    fun: 5,
+                    arg: self.at(0),
+                    arg1: self.some(1),
+                    arg2: self.some(2),
+                    arg3: self.some(3),
+                },
+            )?),
             28 => Expression::As {
                 expr: self.at(7),
                 kind: 6,
@@ -171,7 +181,7 @@ impl Maker {
                 query: self.at(5),
                 committed: 0,
             },
-        }
+        })
     }
 
     fn expression(self, kind: usize) -> Result<Expression, AllocError> {
@@ -182,12 +192,12 @@ impl Maker {
                 components,
             });
         }
-        Ok(match kind {
-            0..=6 => self.external(kind),
-            7..=12 | 32 => self.outcome(kind),
+        match kind {
+            0..=6 => Ok(self.external(kind)),
+            7..=12 | 32 => Ok(self.outcome(kind)),
             18..=21 => self.image(kind),
             _ => self.operation(kind),
-        })
+        }
     }
 
     fn none(self) -> Block {

@@ -63,35 +63,41 @@ fn part_of(kind: u64, at: Operand) -> Expression {
 }
 
 /// What is read of images.
-fn image_of(kind: u64, at: Operand) -> Expression {
-    match kind {
-        19 => Expression::ImageSample {
-            image: at,
-            sampler: at,
-            gather: 0,
-            coordinate: at,
-            array_index: Some(at),
-            offset: None,
-            level: SampleLevel::Gradient { x: at, y: at },
-            depth_ref: Some(at),
-        },
-        20 => Expression::ImageLoad {
-            image: at,
-            coordinate: at,
-            array_index: None,
-            sample: Some(at),
-            level: None,
-        },
+fn image_of(kind: u64, at: Operand, alloc: Global) -> Result<Expression, AllocError> {
+    Ok(match kind {
+        19 => Expression::ImageSample(Box::new(
+            alloc,
+            ImageSample {
+                image: at,
+                sampler: at,
+                gather: 0,
+                coordinate: at,
+                array_index: Some(at),
+                offset: None,
+                level: SampleLevel::Gradient { x: at, y: at },
+                depth_ref: Some(at),
+            },
+        )?),
+        20 => Expression::ImageLoad(Box::new(
+            alloc,
+            ImageLoad {
+                image: at,
+                coordinate: at,
+                array_index: None,
+                sample: Some(at),
+                level: None,
+            },
+        )?),
         _ => Expression::ImageQuery {
             image: at,
             query: ImageQuery::Size { level: Some(at) },
         },
-    }
+    })
 }
 
 /// Operators.
-fn operator_of(kind: u64, at: Operand) -> Expression {
-    match kind {
+fn operator_of(kind: u64, at: Operand, alloc: Global) -> Result<Expression, AllocError> {
+    Ok(match kind {
         22 => Expression::Unary { op: 0, expr: at },
         23 => Expression::Binary {
             op: 0,
@@ -108,14 +114,17 @@ fn operator_of(kind: u64, at: Operand) -> Expression {
             fun: 0,
             argument: at,
         },
-        _ => Expression::Math {
-            fun: 0,
-            arg: at,
-            arg1: Some(at),
-            arg2: None,
-            arg3: None,
-        },
-    }
+        _ => Expression::Math(Box::new(
+            alloc,
+            Math {
+                fun: 0,
+                arg: at,
+                arg1: Some(at),
+                arg2: None,
+                arg3: None,
+            },
+        )?),
+    })
 }
 
 /// The last kinds.
@@ -144,8 +153,8 @@ pub fn expression_of(kind: u64, place: usize, alloc: Global) -> Result<Expressio
         0..=12 => Ok(leaf_of(kind, place)),
         13 => composed(alloc),
         14..=18 => Ok(part_of(kind, Index::new(place))),
-        19..=21 => Ok(image_of(kind, Index::new(place))),
-        22..=27 => Ok(operator_of(kind, Index::new(place))),
+        19..=21 => image_of(kind, Index::new(place), alloc),
+        22..=27 => operator_of(kind, Index::new(place), alloc),
         _ => Ok(other_of(kind, Index::new(place))),
     }
 }

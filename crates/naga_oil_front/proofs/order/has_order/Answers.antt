@@ -8,8 +8,8 @@ use Rattle.naga_oil_front.proofs.order.has_order.Goals as goal
 pub loop-preserved : goal.loop-preserved
 loop-preserved c =
     let functions = c.take_last.new.functions.items in
-    fit_taken (c.len.result + c.len-2.result) c.loop.counter c.loop.constants c.min-constants.result c.len-in-loop.result (reverse c.loop.functions.items) (reverse c.loop.entry_points.items) c.in-Some.line
-    (reverse functions) (reverse c.take_last.new.entry_points.items) _ _ c.loop-test.true (sym c.in-Some.ensures) c.min-constants.ensures (grind (arith, common_steps, length-reverse)) (sym c.if-not-fits.ensures) c.loop.invariant
+    fit_taken (c.len.result + c.len-2.result) c.loop.counter c.loop.constants c.loop.globals c.min-constants.result c.min-globals.result c.len-in-loop.result (reverse c.loop.functions.items) (reverse c.loop.entry_points.items) c.in-Some.line
+    (reverse functions) (reverse c.take_last.new.entry_points.items) _ _ c.loop-test.true (sym c.in-Some.ensures) c.min-constants.ensures c.min-globals.ensures (grind (arith, common_steps, length-reverse)) (sym c.if-not-fits.ensures) c.loop.invariant
 
 pub returns-in_default : goal.returns-in_default
 unfolding has_order
@@ -20,8 +20,8 @@ unfolding has_order
 returns-then-not-fits c =
     let functions = c.take_last.new.functions.items in
     let whole =
-    fit_taken (c.len.result + c.len-2.result) c.loop.counter c.loop.constants c.min-constants.result c.len-in-loop.result (reverse c.loop.functions.items) (reverse c.loop.entry_points.items) c.in-Some.line
-    (reverse functions) (reverse c.take_last.new.entry_points.items) _ _ c.loop-test.true (sym c.in-Some.ensures) c.min-constants.ensures (grind (arith, common_steps, length-reverse)) (sym c.if-not-fits.ensures) c.loop.invariant in
+    fit_taken (c.len.result + c.len-2.result) c.loop.counter c.loop.constants c.loop.globals c.min-constants.result c.min-globals.result c.len-in-loop.result (reverse c.loop.functions.items) (reverse c.loop.entry_points.items) c.in-Some.line
+    (reverse functions) (reverse c.take_last.new.entry_points.items) _ _ c.loop-test.true (sym c.in-Some.ensures) c.min-constants.ensures c.min-globals.ensures (grind (arith, common_steps, length-reverse)) (sym c.if-not-fits.ensures) c.loop.invariant in
     grind (arith, common_steps, length-reverse)
 
 pub returns : goal.returns

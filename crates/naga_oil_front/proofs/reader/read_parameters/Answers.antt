@@ -1,5 +1,5 @@
 use Rattle.std.proofs.Common.{◌++◌, Ok, rules, ap, sym, ◌∙◌}
-use Rattle.naga_oil_front.specs.Refused.{◌>>◌}
+use Rattle.naga_oil_symbols.specs.Refused.{◌>>◌}
 use Rattle.naga_oil_front.proofs.ReaderLemmas.{parameters_unclosed, parameters_unfinished, same_then}
 use Rattle.naga_oil_front.proofs.reader.read_parameters.Goals as goal
 use Rattle.naga_oil_front.proofs.reader.read_parameters.Goals.{then-symbols-lt1, else-symbols-lt1+in-Name-1, in_default-rest, in_default-rest-2, in_default-rest-3, in_default-rest-2-via-then-rest-lt2-2, in_default-rest-2-via-else-rest-lt2-2+in-Name+in-Name-rest-offset24-2, in_default-rest-2-via-else-rest-lt2-2+in-Opens-1}

@@ -1,6 +1,6 @@
 use Rattle.std.proofs.Common.{◌≡◌, ◌++◌, length, Ok}
-use Rattle.naga_oil_front.specs.Symbols.{line_of}
-use Rattle.naga_oil_front.specs.Refused.{◌>>◌}
+use Rattle.naga_oil_symbols.specs.Symbols.{line_of}
+use Rattle.naga_oil_symbols.specs.Refused.{◌>>◌}
 use Rattle.naga_oil_front.specs.Reader.{read_parameters, parameters_from}
 use Rattle.naga_oil_front.proofs.reader.read_parameters.Given as goal
 

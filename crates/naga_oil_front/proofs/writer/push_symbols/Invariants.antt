@@ -1,5 +1,5 @@
 use Rattle.std.proofs.Common.{◌≡◌, ◌++◌, reverse, string_bytes, vec_len}
-use Rattle.naga_oil_front.specs.Symbols.{line_of}
+use Rattle.naga_oil_symbols.specs.Symbols.{line_of}
 use Rattle.naga_oil_front.specs.Writer.{symbols_text}
 use Rattle.naga_oil_front.proofs.writer.push_symbols.Given as goal
 

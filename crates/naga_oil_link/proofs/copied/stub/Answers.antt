@@ -9,7 +9,7 @@ returns c = λ i. record {
   result = c.args.function.now.result;
   local_variables = map (λ l. (local_value l.0, l.1)) (c.new-local_variables.ensures i);
   expressions = expression_values (c.new-expressions.ensures i);
-  named_expressions = map (λ e. (e.0, string_bytes e.1)) (c.new-named_expressions.ensures.empty i);
+  named_expressions = map (λ e. (e.0, string_bytes e.1)) (c.new-named_expressions.ensures i);
   body = c.no_body-body.ensures i;
   diagnostic_filter_leaf = None;
 }

@@ -39,6 +39,8 @@ const TEN: &str = "#define_import_path b\n#import a\noverride fn a::f(x) = a::f(
 
 const HUNDRED: &str = "#define_import_path c\n#import a\noverride fn a::f(x) = a::f(x) + 100";
 
+const THOUSAND: &str = "#define_import_path d\n#import a\noverride fn a::f(x) = a::f(x) + 1000";
+
 const CALLS: &str = "#import a\nentry main = a::f(5)";
 
 #[test]
@@ -73,6 +75,79 @@ entry main = fX_naga_oil_mod_XMEX(5)
         ),
     ] {
         answers(&rt, line, &files, (0, made, ""))?;
+    }
+    Ok(())
+}
+
+// The first that overrides calls the base, each other one the one before it, and the entry point the last.
+#[test]
+fn sends_calls_down_in_the_order_of_imports(rt: HostRuntime) -> Result<(), Fail> {
+    let files = [
+        ("top.txt", CALLS),
+        ("a.txt", BASE),
+        ("b.txt", TEN),
+        ("c.txt", HUNDRED),
+        ("d.txt", THOUSAND),
+    ];
+    for (line, made) in [
+        (
+            "make top.txt a.txt b.txt c.txt d.txt +b +c +d",
+            "fn fX_naga_oil_mod_XMEX(x) = x + 1
+fn fX_naga_oil_vrt_XMEXX_naga_oil_mod_XMIX(x) = fX_naga_oil_mod_XMEX(x) + 10
+fn fX_naga_oil_vrt_XMEXX_naga_oil_mod_XMMX(x) = fX_naga_oil_vrt_XMEXX_naga_oil_mod_XMIX(x) + 100
+fn fX_naga_oil_vrt_XMEXX_naga_oil_mod_XMQX(x) = fX_naga_oil_vrt_XMEXX_naga_oil_mod_XMMX(x) + 1000
+entry main = fX_naga_oil_vrt_XMEXX_naga_oil_mod_XMQX(5)
+",
+        ),
+        (
+            "make top.txt a.txt b.txt c.txt d.txt +d +c +b",
+            "fn fX_naga_oil_mod_XMEX(x) = x + 1
+fn fX_naga_oil_vrt_XMEXX_naga_oil_mod_XMQX(x) = fX_naga_oil_mod_XMEX(x) + 1000
+fn fX_naga_oil_vrt_XMEXX_naga_oil_mod_XMMX(x) = fX_naga_oil_vrt_XMEXX_naga_oil_mod_XMQX(x) + 100
+fn fX_naga_oil_vrt_XMEXX_naga_oil_mod_XMIX(x) = fX_naga_oil_vrt_XMEXX_naga_oil_mod_XMMX(x) + 10
+entry main = fX_naga_oil_vrt_XMEXX_naga_oil_mod_XMIX(5)
+",
+        ),
+    ] {
+        answers(&rt, line, &files, (0, made, ""))?;
+    }
+    Ok(())
+}
+
+// With the option any function of what is imported may be overridden, if there is one of that name.
+#[test]
+fn overrides_functions_that_are_not_virtual(rt: HostRuntime) -> Result<(), Fail> {
+    let line = "make --override-any top.txt a.txt b.txt +b";
+    let plain = "#define_import_path a\nfn f(x) = x + 1";
+    let files = [("top.txt", CALLS), ("a.txt", plain), ("b.txt", TEN)];
+    let out = "fn fX_naga_oil_mod_XMEX(x) = x + 1
+fn fX_naga_oil_vrt_XMEXX_naga_oil_mod_XMIX(x) = fX_naga_oil_mod_XMEX(x) + 10
+entry main = fX_naga_oil_vrt_XMEXX_naga_oil_mod_XMIX(5)
+";
+    answers(&rt, line, &files, (0, out, ""))?;
+    let missing = "#define_import_path b\n#import a\noverride fn a::nope(x) = 1";
+    let files = [("top.txt", CALLS), ("a.txt", plain), ("b.txt", missing)];
+    let err = "error: invalid override :can't find function a::nope for redirection
+  at top.txt:1:1
+  note: override error
+";
+    answers(&rt, line, &files, (1, "", err))?;
+    Ok(())
+}
+
+// Behind a file the option is the name of a file, as for `pre`.
+#[test]
+fn takes_the_option_right_behind_make(rt: HostRuntime) -> Result<(), Fail> {
+    let unread = "cannot read --override-any\n";
+    for (line, err) in [
+        ("make top.txt --override-any", unread),
+        ("make --override-any --override-any top.txt", unread),
+        ("pre --override-any", unread),
+        ("make --override-any", USAGE),
+        ("make --override-any +a", USAGE),
+        ("--override-any make top.txt", USAGE),
+    ] {
+        answers(&rt, line, &[("top.txt", CALLS)], (2, "", err))?;
     }
     Ok(())
 }
@@ -317,6 +392,27 @@ entry main = fX_naga_oil_mod_XNUX() + AX_naga_oil_mod_XNUX
     Ok(())
 }
 
+// A global's name is decorated; those of locals stay.
+#[test]
+fn makes_globals_and_locals(rt: HostRuntime) -> Result<(), Fail> {
+    let files = [
+        (
+            "top.txt",
+            "#import m\nentry main with G = 4 = m::f(G) + m::G",
+        ),
+        (
+            "m.txt",
+            "#define_import_path m\nvar G = 3\nfn f(x) with V = 1 + 2, W = 1 + 2 = G + V + W",
+        ),
+    ];
+    let made = "var GX_naga_oil_mod_XNUX = 3
+fn fX_naga_oil_mod_XNUX(x) with V = 1 + 2, W = 1 + 2 = GX_naga_oil_mod_XNUX + V + W
+entry main with G = 4 = fX_naga_oil_mod_XNUX(G) + GX_naga_oil_mod_XNUX
+";
+    answers(&rt, "make top.txt m.txt", &files, (0, made, ""))?;
+    Ok(())
+}
+
 #[test]
 fn says_which_words_and_files_are_wrong(rt: HostRuntime) -> Result<(), Fail> {
     let files = [("top.txt", "entry main = 1"), ("m.txt", "oops")];
@@ -326,10 +422,6 @@ fn says_which_words_and_files_are_wrong(rt: HostRuntime) -> Result<(), Fail> {
         ("make top.txt A=x1", "bad definition A=x1\n"),
         ("make top.txt +a=1 no.txt", "bad definition +a=1\n"),
         ("make top.txt m.txt no.txt", "cannot read no.txt\n"),
-        (
-            "make --override-any top.txt",
-            "cannot read --override-any\n",
-        ),
     ] {
         answers(&rt, line, &files, (2, "", err))?;
     }

@@ -10,7 +10,7 @@ use Rattle.naga_oil_build.proofs.builder.Builder.begun.Goals as goal
 
 pub returns-in_err-whole : goal.returns-in_err-whole
 returns-in_err-whole g c =
-    let s = settings (g.B.Backend.front c.args.self.now.front.now) c.args.self.now.capabilities c.args.self.now.validate in
+    let s = settings (g.B.Backend.front c.args.self.now.front.now) c.args.self.now.capabilities c.args.self.now.validate c.args.self.now.override_any in
     let d = definition_of c.args.of.now in
     let builds = builds_of c.args.self.now.builds in
     let out = output_of c.args.output.now in

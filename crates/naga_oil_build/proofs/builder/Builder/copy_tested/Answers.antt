@@ -9,7 +9,7 @@ use Rattle.naga_oil_build.proofs.builder.Builder.copy_tested.Goals as goal
 pub returns-then-index_of-self : goal.returns-then-index_of-self
 returns-then-index_of-self g c =
     let front = g.B.Backend.front c.args.self.now.front.now in
-    let s = settings front c.args.self.now.capabilities c.args.self.now.validate in
+    let s = settings front c.args.self.now.capabilities c.args.self.now.validate c.args.self.now.override_any in
     let m = module_value c.args.source.now in
     let own = own_of c.args.own.now in
     let b = built_of c.args.built.now in
@@ -21,7 +21,7 @@ returns-then-index_of-self g c =
 pub returns : goal.returns
 returns g c =
     let front = g.B.Backend.front c.args.self.now.front.now in
-    let s = settings front c.args.self.now.capabilities c.args.self.now.validate in
+    let s = settings front c.args.self.now.capabilities c.args.self.now.validate c.args.self.now.override_any in
     let m = module_value c.args.source.now in
     let own = own_of c.args.own.now in
     let b = built_of c.args.built.now in

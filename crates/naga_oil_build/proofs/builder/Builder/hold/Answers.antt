@@ -12,7 +12,7 @@ use Rattle.naga_oil_build.proofs.builder.Builder.hold.Goals as goal
 pub returns-in_err-source : goal.returns-in_err-source
 returns-in_err-source g c =
     let front = g.B.Backend.front c.args.self.now.front.now in
-    let s = settings front c.args.self.now.capabilities c.args.self.now.validate in
+    let s = settings front c.args.self.now.capabilities c.args.self.now.validate c.args.self.now.override_any in
     let b = built_of c.args.built.now in
     let text = c.args.text.now in
     let language = c.args.language in
@@ -29,7 +29,7 @@ copy_tested-requires g c =
 pub returns : goal.returns
 returns g c =
     let front = g.B.Backend.front c.args.self.now.front.now in
-    let s = settings front c.args.self.now.capabilities c.args.self.now.validate in
+    let s = settings front c.args.self.now.capabilities c.args.self.now.validate c.args.self.now.override_any in
     let b = built_of c.args.built.now in
     let text = c.args.text.now in
     let language = c.args.language in

@@ -7,7 +7,7 @@ use Rattle.indexmap.specs.IndexMap.{insert_entry}
 use Rattle.naga_oil_derive.proofs.localized.Copied.named.Goals as goal
 
 pub loop-handle-init : goal.loop-handle-init
-loop-handle-init c = ap named_values c.new-copies.ensures.empty
+loop-handle-init c = ap named_values c.new-copies.ensures
 
 pub loop-handle-preserved : goal.loop-handle-preserved
 loop-handle-preserved c =
@@ -32,6 +32,6 @@ loop-handle-preserved-in_ok-insert-2 c =
 
 pub returns : goal.returns
 returns c =
-    let rest = YieldsList-from_rest c.args.names.now.entries c.iter-handle-items.ensures.rest in
+    let rest = YieldsList-from_rest c.args.names.now.entries c.iter-handle-items.ensures in
     let all = YieldsList-end (YieldsList-at c.into_iter-handle-iterator.ensures.into_iter_gives rest) c.loop-handle.yielded _ c.loop-handle.yielded_by _ _ c.in-None.is c.next.ensures.steps in
     c.loop-handle.invariant ∙ ap (λ (es : List (ℕ × String Global)). names_under c.args.self.now.table.now [] (named_values es)) all.0

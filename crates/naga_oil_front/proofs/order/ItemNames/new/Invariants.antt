@@ -1,5 +1,5 @@
 use Rattle.std.proofs.Common.{◌≡◌, take}
-use Rattle.naga_oil_front.specs.Names.{texts_of}
+use Rattle.naga_oil_symbols.specs.Names.{texts_of}
 use Rattle.naga_oil_front.specs.Order.{next_places}
 use Rattle.naga_oil_front.proofs.order.ItemNames.new.Given as goal
 

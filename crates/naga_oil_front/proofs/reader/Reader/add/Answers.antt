@@ -9,7 +9,7 @@ returns-in_default-clause-value c =
     let m = module_value c.args.self.now.module_ in
     let at = c.args.self.now.span in
     symbols_other c.args.symbols.now at m (λ k rest e. elim c.in_default.branch [
-      | in_default-via-then-symbols-lt1 w ↦ (search rules, search rules, search rules)
-      | in_default-via-else-symbols-lt1+in-Name+in_default w ↦ (search rules, search rules, search rules)
-      | in_default-via-else-symbols-lt1+in-Opens-1 w ↦ (search rules, search rules, search rules)
+      | in_default-via-then-symbols-lt1 w ↦ (search rules, search rules, search rules, search rules)
+      | in_default-via-else-symbols-lt1+in-Name+in_default w ↦ (search rules, search rules, search rules, search rules)
+      | in_default-via-else-symbols-lt1+in-Opens-1 w ↦ (search rules, search rules, search rules, search rules)
     ])

@@ -1,10 +1,10 @@
 use Rattle.std.proofs.Common.{◌≡◌, ◌∷◌, ◌-◌, [], length, take, drop, get_or, map, rules, Ok, ap, sym, ◌∙◌}
 use Rattle.std.proofs.lemmas.List.{map-append}
 use Rattle.naga_oil_ir.specs.ModuleValue.{entry_value, function_value, module_value}
-use Rattle.naga_oil_front.specs.Symbols.{line_of}
-use Rattle.naga_oil_front.specs.Refused.{◌>>◌}
+use Rattle.naga_oil_symbols.specs.Symbols.{line_of}
+use Rattle.naga_oil_symbols.specs.Refused.{◌>>◌}
 use Rattle.naga_oil_front.specs.Reader.{function, entry_line, with_entry_point, entry_of}
-use Rattle.naga_oil_front.specs.declared.symbol.Symbol.TheVariants.{Name}
+use Rattle.naga_oil_symbols.specs.declared.symbol.Symbol.TheVariants.{Name}
 use Rattle.naga_oil_front.proofs.SliceLemmas.{first_and_more}
 use Rattle.naga_oil_front.proofs.reader.Reader.add_entry_point.Goals as goal
 

@@ -1,6 +1,6 @@
 use Rattle.naga_oil_ir.specs.ModuleValue.{module_value, function_value}
-use Rattle.naga_oil_front.specs.Symbols.{line_of}
-use Rattle.naga_oil_front.specs.Making.{body}
+use Rattle.naga_oil_symbols.specs.Symbols.{line_of}
+use Rattle.naga_oil_front.specs.Making.{made}
 use Rattle.naga_oil_front.specs.Reader.{scope}
 use Rattle.naga_oil_front.proofs.ReaderLemmas.{function_named, names_with_function}
 use Rattle.naga_oil_front.proofs.reader.Reader.add_function.Goals as goal
@@ -11,5 +11,5 @@ returns-clause-known c =
     let at = c.args.self.now.span in
     let m = module_value c.args.self.now.module_ in
     let ps = c.in_ok-parameters.parameters in
-    let named = function_named n ps (body (scope m ps) at (line_of c.in_ok-parameters.body.now)) (function_value c.in_ok-function.function) c.in_ok-function.ensures in
-    (c.requires.known.0, names_with_function c.args.self.now.module_.functions c.append.new.self c.in_ok-function.function at n _ _ c.requires.known.1 c.in_ok-push.ensures c.in_ok-append.ensures.appended named)
+    let named = function_named n ps (made (scope m ps) at (line_of c.in_ok-parameters.body.now)) (function_value c.in_ok-function.function) c.in_ok-function.ensures in
+    (c.requires.known.0, c.requires.known.1, names_with_function c.args.self.now.module_.functions c.append.new.self c.in_ok-function.function at n _ _ c.requires.known.2 c.in_ok-push.ensures c.in_ok-append.ensures.appended named)

@@ -10,7 +10,7 @@ use Rattle.naga_oil.proofs.compose.composer.Composer.empty.Goals as goal
 
 pub invariant_of-result : goal.invariant_of-result
 invariant_of-result g c =
-    let s = settings (g.B.Backend.front c.args.front) c.args.capabilities c.args.validate in
+    let s = settings (g.B.Backend.front c.args.front) c.args.capabilities c.args.validate c.args.override_any in
     let none : map definition_of c.new.result.items ≡ [] = ap (map definition_of) c.new.ensures.items in
     let kept : kept_of c.new-2.result ≡ [] = search rules in
     subst (λ (ds : List Definition). IsRegistry ds × IsStore s ds (kept_of c.new-2.result)) (sym none) (tt, subst (λ (k : Kept). IsStore s [] k) (sym kept) (store_nothing s []))

@@ -22,14 +22,14 @@ use Rattle.naga_oil.proofs.compose.composer.Composer.make_naga_module.Goals as g
 pub returns-in-Err : goal.returns-in-Err
 returns-in-Err g c =
     let inside = c.self.inside in
-    let old : State _ = record { front = inside.front; validate = inside.validate; capabilities = inside.capabilities; registry = map definition_of inside.modules.items; counter = inside.counter; kept = kept_of inside.store; builds = inside.count } in
+    let old : State _ = record { front = inside.front; validate = inside.validate; capabilities = inside.capabilities; override_any = inside.override_any; registry = map definition_of inside.modules.items; counter = inside.counter; kept = kept_of inside.store; builds = inside.count } in
     let m = shader_source c.args.desc in
     subst (λ (v : State _). Makes g.B.Backend.front v m (Err c.refused.result) v) c.self.view_is (makes_unread g.B.Backend.front old m c.in-Err.inner c.refused.result (omega arith) c.refused.ensures c.in-Err.ensures)
 
 pub returns : goal.returns
 returns g c =
     let inside = c.self.inside in
-    let old : State _ = record { front = inside.front; validate = inside.validate; capabilities = inside.capabilities; registry = map definition_of inside.modules.items; counter = inside.counter; kept = kept_of inside.store; builds = inside.count } in
+    let old : State _ = record { front = inside.front; validate = inside.validate; capabilities = inside.capabilities; override_any = inside.override_any; registry = map definition_of inside.modules.items; counter = inside.counter; kept = kept_of inside.store; builds = inside.count } in
     let front = g.B.Backend.front in
     let m = shader_source c.args.desc in
     let text = string_bytes c.in-Ok.found.0 in

@@ -25,7 +25,7 @@ invariant_of-self-2 g c =
     let inside = c.self.inside in
     let name = c.args.module_name.now in
     let ds = map definition_of inside.modules.items in
-    let s = settings (g.B.Backend.front inside.front) inside.capabilities inside.validate in
+    let s = settings (g.B.Backend.front inside.front) inside.capabilities inside.validate inside.override_any in
     let stays : Kept = forget (λ other. reaches ds other name) (kept_of inside.store) in
     let left : kept_of c.forget.new.store ≡ stays = c.forget.ensures ∙ forget_same (contains_text c.in_ok-gone.gone) (λ other. reaches ds other name) c.in_ok-gone.ensures.gone (kept_of inside.store) in (
       after_removal c.remove.result name ds (map definition_of c.remove.new.modules.items) c.remove.ensures.ok (on_err_weaker c.remove.result (λ e. ap (map definition_of) e) c.remove.ensures.err) c.self.invariant.0,

@@ -34,7 +34,7 @@ use Rattle.naga_oil.proofs.compose.reach.Maker.+ensure.Goals as goal
 pub ensure-returns-then-contains_key-clause-reached : goal.ensure-returns-then-contains_key-clause-reached
 ensure-returns-then-contains_key-clause-reached g t c =
     let m = c.args.self.now in
-    let s = settings (g.B.Backend.front m.builder.front.now) m.builder.capabilities m.builder.validate in
+    let s = settings (g.B.Backend.front m.builder.front.now) m.builder.capabilities m.builder.validate m.builder.override_any in
     let defs = defs_of m.defs in
     let ds = map definition_of m.modules.now in
     let bs = builds_of m.builder.builds in
@@ -45,7 +45,7 @@ ensure-returns-then-contains_key-clause-reached g t c =
 pub ensure-returns-in_default-clause-reached : goal.ensure-returns-in_default-clause-reached
 ensure-returns-in_default-clause-reached g t c =
     let m = c.args.self.now in
-    let s = settings (g.B.Backend.front m.builder.front.now) m.builder.capabilities m.builder.validate in
+    let s = settings (g.B.Backend.front m.builder.front.now) m.builder.capabilities m.builder.validate m.builder.override_any in
     let defs = defs_of m.defs in
     let ds = map definition_of m.modules.now in
     let bs = builds_of m.builder.builds in
@@ -60,7 +60,7 @@ ensure-returns-in_default-clause-reached g t c =
 pub ensure-returns-in-Some-2-clause-reached : goal.ensure-returns-in-Some-2-clause-reached
 ensure-returns-in-Some-2-clause-reached g t c =
     let m = c.args.self.now in
-    let s = settings (g.B.Backend.front m.builder.front.now) m.builder.capabilities m.builder.validate in
+    let s = settings (g.B.Backend.front m.builder.front.now) m.builder.capabilities m.builder.validate m.builder.override_any in
     let defs = defs_of m.defs in
     let ds = map definition_of m.modules.now in
     let bs = builds_of m.builder.builds in
@@ -77,7 +77,7 @@ ensure-returns-in-Some-2-clause-reached g t c =
 pub ensure-returns-in-None-clause-reached : goal.ensure-returns-in-None-clause-reached
 ensure-returns-in-None-clause-reached g t c =
     let m = c.args.self.now in
-    let s = settings (g.B.Backend.front m.builder.front.now) m.builder.capabilities m.builder.validate in
+    let s = settings (g.B.Backend.front m.builder.front.now) m.builder.capabilities m.builder.validate m.builder.override_any in
     let defs = defs_of m.defs in
     let ds = map definition_of m.modules.now in
     let bs = builds_of m.builder.builds in
@@ -94,7 +94,7 @@ ensure-returns-in-None-clause-reached g t c =
 pub ensure_each-loop-import-preserved : goal.ensure_each-loop-import-preserved
 ensure_each-loop-import-preserved g t c =
     let m = c.args.self.now in
-    let s = settings (g.B.Backend.front m.builder.front.now) m.builder.capabilities m.builder.validate in
+    let s = settings (g.B.Backend.front m.builder.front.now) m.builder.capabilities m.builder.validate m.builder.override_any in
     let defs = defs_of m.defs in
     let ds = map definition_of m.modules.now in
     let bs = builds_of m.builder.builds in
@@ -115,18 +115,18 @@ ensure_each-loop-import-preserved g t c =
     let called : name ≡ (use_of x).import.import = c.as_str.ensures.value ∙ ap (λ i. i.import) c.definition.ensures in
     let new = builds_of c.ensure.new.self.builder.builds in
     let newkept = kept_of c.ensure.new.self.store in
-    let alike = ap (λ (n : Maker _). unless_built (reach (settings (g.B.Backend.front n.builder.front.now) n.builder.capabilities n.builder.validate) (defs_of n.defs) (drop c.args.from (map definition_of n.modules.now))) name mid) (sym inv.rest) in
+    let alike = ap (λ (n : Maker _). unless_built (reach (settings (g.B.Backend.front n.builder.front.now) n.builder.capabilities n.builder.validate n.builder.override_any) (defs_of n.defs) (drop c.args.from (map definition_of n.modules.now))) name mid) (sym inv.rest) in
     record {
       rest = c.ensure.ensures.rest ∙ ap (λ (n : Maker _). record n { builder = record n.builder { builds = c.ensure.new.self.builder.builds }; store = c.ensure.new.self.store }) inv.rest;
       reached = sym (next_reached rule reaching x (drop i us) (drop (i + 1) us) next mid name called new may (alike ∙ c.in_ok-ensure.ensures.reached)) ∙ inv.reached;
       keeps = keeps_on s ds defs unreached_of bs kept mid midkept inv.keeps (nothing_wrong CodeUnreached) new newkept
-          (subst (λ (n : Maker _). Keeps (settings (g.B.Backend.front n.builder.front.now) n.builder.capabilities n.builder.validate) (map definition_of n.modules.now) (defs_of n.defs) unreached_of (nothing_wrong CodeUnreached) mid midkept new newkept) inv.rest c.in_ok-ensure.ensures.keeps);
+          (subst (λ (n : Maker _). Keeps (settings (g.B.Backend.front n.builder.front.now) n.builder.capabilities n.builder.validate n.builder.override_any) (map definition_of n.modules.now) (defs_of n.defs) unreached_of (nothing_wrong CodeUnreached) mid midkept new newkept) inv.rest c.in_ok-ensure.ensures.keeps);
     }
 
 pub ensure_each-returns-in-Some-clause-reached : goal.ensure_each-returns-in-Some-clause-reached
 ensure_each-returns-in-Some-clause-reached g t c =
     let m = c.args.self.now in
-    let s = settings (g.B.Backend.front m.builder.front.now) m.builder.capabilities m.builder.validate in
+    let s = settings (g.B.Backend.front m.builder.front.now) m.builder.capabilities m.builder.validate m.builder.override_any in
     let defs = defs_of m.defs in
     let ds = map definition_of m.modules.now in
     let bs = builds_of m.builder.builds in
@@ -147,7 +147,7 @@ ensure_each-returns-in-Some-clause-reached g t c =
 pub ensure_each-returns-in_err-ensure-clause-reached : goal.ensure_each-returns-in_err-ensure-clause-reached
 ensure_each-returns-in_err-ensure-clause-reached g t c =
     let m = c.args.self.now in
-    let s = settings (g.B.Backend.front m.builder.front.now) m.builder.capabilities m.builder.validate in
+    let s = settings (g.B.Backend.front m.builder.front.now) m.builder.capabilities m.builder.validate m.builder.override_any in
     let defs = defs_of m.defs in
     let ds = map definition_of m.modules.now in
     let bs = builds_of m.builder.builds in
@@ -168,13 +168,13 @@ ensure_each-returns-in_err-ensure-clause-reached g t c =
     let called : name ≡ (use_of x).import.import = c.as_str.ensures.value ∙ ap (λ i. i.import) c.definition.ensures in
     let new = builds_of c.ensure.new.self.builder.builds in
     let newkept = kept_of c.ensure.new.self.store in
-    let alike = ap (λ (n : Maker _). unless_built (reach (settings (g.B.Backend.front n.builder.front.now) n.builder.capabilities n.builder.validate) (defs_of n.defs) (drop c.args.from (map definition_of n.modules.now))) name mid) (sym inv.rest) in
+    let alike = ap (λ (n : Maker _). unless_built (reach (settings (g.B.Backend.front n.builder.front.now) n.builder.capabilities n.builder.validate n.builder.override_any) (defs_of n.defs) (drop c.args.from (map definition_of n.modules.now))) name mid) (sym inv.rest) in
     ends (λ done. done) (λ done. done) unreached_of c.in_err-ensure.field-0.0 c.from_residual.result new _ _ (λ w h. sym inv.reached ∙ next_ended rule reaching x (drop i us) (drop (i + 1) us) next mid name called new may w (alike ∙ h)) c.in_err-ensure.ensures.reached c.from_residual.ensures.1
 
 pub ensure_each-returns-clause-reached : goal.ensure_each-returns-clause-reached
 ensure_each-returns-clause-reached g t c =
     let m = c.args.self.now in
-    let s = settings (g.B.Backend.front m.builder.front.now) m.builder.capabilities m.builder.validate in
+    let s = settings (g.B.Backend.front m.builder.front.now) m.builder.capabilities m.builder.validate m.builder.override_any in
     let defs = defs_of m.defs in
     let ds = map definition_of m.modules.now in
     let bs = builds_of m.builder.builds in
@@ -188,7 +188,7 @@ ensure_each-returns-clause-reached g t c =
 pub ensure_built-returns-in_err-output-clause-reached : goal.ensure_built-returns-in_err-output-clause-reached
 ensure_built-returns-in_err-output-clause-reached g t c =
     let m = c.args.self.now in
-    let s = settings (g.B.Backend.front m.builder.front.now) m.builder.capabilities m.builder.validate in
+    let s = settings (g.B.Backend.front m.builder.front.now) m.builder.capabilities m.builder.validate m.builder.override_any in
     let defs = defs_of m.defs in
     let ds = map definition_of m.modules.now in
     let bs = builds_of m.builder.builds in
@@ -202,7 +202,7 @@ ensure_built-returns-in_err-output-clause-reached g t c =
 pub ensure_built-returns-in_err-ensure_each-clause-reached : goal.ensure_built-returns-in_err-ensure_each-clause-reached
 ensure_built-returns-in_err-ensure_each-clause-reached g t c =
     let m = c.args.self.now in
-    let s = settings (g.B.Backend.front m.builder.front.now) m.builder.capabilities m.builder.validate in
+    let s = settings (g.B.Backend.front m.builder.front.now) m.builder.capabilities m.builder.validate m.builder.override_any in
     let defs = defs_of m.defs in
     let ds = map definition_of m.modules.now in
     let bs = builds_of m.builder.builds in
@@ -222,7 +222,7 @@ ensure_built-returns-in_err-ensure_each-clause-reached g t c =
 pub ensure_built-enter_build-requires : goal.ensure_built-enter_build-requires
 ensure_built-enter_build-requires g t c =
     let m = c.args.self.now in
-    let s = settings (g.B.Backend.front m.builder.front.now) m.builder.capabilities m.builder.validate in
+    let s = settings (g.B.Backend.front m.builder.front.now) m.builder.capabilities m.builder.validate m.builder.override_any in
     let defs = defs_of m.defs in
     let ds = map definition_of m.modules.now in
     let bs = builds_of m.builder.builds in
@@ -236,7 +236,7 @@ ensure_built-enter_build-requires g t c =
 pub ensure_built-returns-clause-reached : goal.ensure_built-returns-clause-reached
 ensure_built-returns-clause-reached g t c =
     let m = c.args.self.now in
-    let s = settings (g.B.Backend.front m.builder.front.now) m.builder.capabilities m.builder.validate in
+    let s = settings (g.B.Backend.front m.builder.front.now) m.builder.capabilities m.builder.validate m.builder.override_any in
     let defs = defs_of m.defs in
     let ds = map definition_of m.modules.now in
     let bs = builds_of m.builder.builds in
@@ -251,7 +251,7 @@ ensure_built-returns-clause-reached g t c =
     let mid = builds_of n.builder.builds in
     let midkept = kept_of n.store in
     let each = ap (λ us. reach_each (as_recorded d) reaching us bs) (sym uses) in
-    let alike = ap (λ (z : Maker _). settings (g.B.Backend.front z.builder.front.now) z.builder.capabilities z.builder.validate) c.ensure_each.ensures.rest in
+    let alike = ap (λ (z : Maker _). settings (g.B.Backend.front z.builder.front.now) z.builder.capabilities z.builder.validate z.builder.override_any) c.ensure_each.ensures.rest in
     let used = each ∙ c.in_ok-ensure_each.ensures.reached in
     let last = c.enter_build.new.self in
     let newer = builds_of last.builder.builds in
@@ -261,7 +261,7 @@ ensure_built-returns-clause-reached g t c =
 pub ensure_built-returns-clause-keeps : goal.ensure_built-returns-clause-keeps
 ensure_built-returns-clause-keeps g t c =
     let m = c.args.self.now in
-    let s = settings (g.B.Backend.front m.builder.front.now) m.builder.capabilities m.builder.validate in
+    let s = settings (g.B.Backend.front m.builder.front.now) m.builder.capabilities m.builder.validate m.builder.override_any in
     let defs = defs_of m.defs in
     let ds = map definition_of m.modules.now in
     let bs = builds_of m.builder.builds in
@@ -276,7 +276,7 @@ ensure_built-returns-clause-keeps g t c =
     let mid = builds_of n.builder.builds in
     let midkept = kept_of n.store in
     let each = ap (λ us. reach_each (as_recorded d) reaching us bs) (sym uses) in
-    let alike = ap (λ (z : Maker _). settings (g.B.Backend.front z.builder.front.now) z.builder.capabilities z.builder.validate) c.ensure_each.ensures.rest in
+    let alike = ap (λ (z : Maker _). settings (g.B.Backend.front z.builder.front.now) z.builder.capabilities z.builder.validate z.builder.override_any) c.ensure_each.ensures.rest in
     let used = each ∙ c.in_ok-ensure_each.ensures.reached in
     let last = c.enter_build.new.self in
     let newer = builds_of last.builder.builds in
@@ -289,7 +289,7 @@ ensure_built-returns-clause-keeps g t c =
 pub ensure_kept-loop-import-preserved : goal.ensure_kept-loop-import-preserved
 ensure_kept-loop-import-preserved g t c =
     let m = c.args.self.now in
-    let s = settings (g.B.Backend.front m.builder.front.now) m.builder.capabilities m.builder.validate in
+    let s = settings (g.B.Backend.front m.builder.front.now) m.builder.capabilities m.builder.validate m.builder.override_any in
     let defs = defs_of m.defs in
     let ds = map definition_of m.modules.now in
     let bs = builds_of m.builder.builds in
@@ -310,19 +310,19 @@ ensure_kept-loop-import-preserved g t c =
     let called : name ≡ (import_of x).import = c.as_str.ensures.value in
     let new = builds_of c.ensure.new.self.builder.builds in
     let newkept = kept_of c.ensure.new.self.store in
-    let alike = ap (λ (n : Maker _). unless_built (reach (settings (g.B.Backend.front n.builder.front.now) n.builder.capabilities n.builder.validate) (defs_of n.defs) (drop (place + 1) (map definition_of n.modules.now))) name mid) (sym inv.rest) in
+    let alike = ap (λ (n : Maker _). unless_built (reach (settings (g.B.Backend.front n.builder.front.now) n.builder.capabilities n.builder.validate n.builder.override_any) (defs_of n.defs) (drop (place + 1) (map definition_of n.modules.now))) name mid) (sym inv.rest) in
     let first = ap (λ (js : List ImportDefinition). reach_imports reaching (map import_of js) mid) next in
     record {
       rest = c.ensure.ensures.rest ∙ ap (λ (n : Maker _). record n { builder = record n.builder { builds = c.ensure.new.self.builder.builds }; store = c.ensure.new.self.store }) inv.rest;
       reached = sym (first ∙ imports_more reaching (import_of x) (map import_of (drop (i + 1) us)) mid new (ap (λ n. reaching n mid) (sym called) ∙ alike ∙ c.in_ok-ensure.ensures.reached)) ∙ inv.reached;
       keeps = keeps_on s ds defs unreached_of bs kept mid midkept inv.keeps (nothing_wrong CodeUnreached) new newkept
-          (subst (λ (n : Maker _). Keeps (settings (g.B.Backend.front n.builder.front.now) n.builder.capabilities n.builder.validate) (map definition_of n.modules.now) (defs_of n.defs) unreached_of (nothing_wrong CodeUnreached) mid midkept new newkept) inv.rest c.in_ok-ensure.ensures.keeps);
+          (subst (λ (n : Maker _). Keeps (settings (g.B.Backend.front n.builder.front.now) n.builder.capabilities n.builder.validate n.builder.override_any) (map definition_of n.modules.now) (defs_of n.defs) unreached_of (nothing_wrong CodeUnreached) mid midkept new newkept) inv.rest c.in_ok-ensure.ensures.keeps);
     }
 
 pub ensure_kept-returns-in_err-ensure-clause-reached : goal.ensure_kept-returns-in_err-ensure-clause-reached
 ensure_kept-returns-in_err-ensure-clause-reached g t c =
     let m = c.args.self.now in
-    let s = settings (g.B.Backend.front m.builder.front.now) m.builder.capabilities m.builder.validate in
+    let s = settings (g.B.Backend.front m.builder.front.now) m.builder.capabilities m.builder.validate m.builder.override_any in
     let defs = defs_of m.defs in
     let ds = map definition_of m.modules.now in
     let bs = builds_of m.builder.builds in
@@ -343,7 +343,7 @@ ensure_kept-returns-in_err-ensure-clause-reached g t c =
     let called : name ≡ (import_of x).import = c.as_str.ensures.value in
     let new = builds_of c.ensure.new.self.builder.builds in
     let newkept = kept_of c.ensure.new.self.store in
-    let alike = ap (λ (n : Maker _). unless_built (reach (settings (g.B.Backend.front n.builder.front.now) n.builder.capabilities n.builder.validate) (defs_of n.defs) (drop (place + 1) (map definition_of n.modules.now))) name mid) (sym inv.rest) in
+    let alike = ap (λ (n : Maker _). unless_built (reach (settings (g.B.Backend.front n.builder.front.now) n.builder.capabilities n.builder.validate n.builder.override_any) (defs_of n.defs) (drop (place + 1) (map definition_of n.modules.now))) name mid) (sym inv.rest) in
     let first = ap (λ (js : List ImportDefinition). reach_imports reaching (map import_of js) mid) next in
     let law = kept_law s ds defs place d b bs kept c.requires.ready.registry c.requires.at c.requires.ready.stand c.requires.found in
     let whole = subst (λ n. reach_module s defs d (unless_built (reach s defs (drop n ds))) bs ≡ reach_kept (unless_built (reach s defs (drop n ds))) d.name b bs) (sym (add-one place)) law in
@@ -354,7 +354,7 @@ ensure_kept-returns-in_err-ensure-clause-reached g t c =
 pub ensure_kept-returns-clause-reached : goal.ensure_kept-returns-clause-reached
 ensure_kept-returns-clause-reached g t c =
     let m = c.args.self.now in
-    let s = settings (g.B.Backend.front m.builder.front.now) m.builder.capabilities m.builder.validate in
+    let s = settings (g.B.Backend.front m.builder.front.now) m.builder.capabilities m.builder.validate m.builder.override_any in
     let defs = defs_of m.defs in
     let ds = map definition_of m.modules.now in
     let bs = builds_of m.builder.builds in
@@ -380,7 +380,7 @@ ensure_kept-returns-clause-reached g t c =
 pub ensure_kept-returns-clause-keeps : goal.ensure_kept-returns-clause-keeps
 ensure_kept-returns-clause-keeps g t c =
     let m = c.args.self.now in
-    let s = settings (g.B.Backend.front m.builder.front.now) m.builder.capabilities m.builder.validate in
+    let s = settings (g.B.Backend.front m.builder.front.now) m.builder.capabilities m.builder.validate m.builder.override_any in
     let defs = defs_of m.defs in
     let ds = map definition_of m.modules.now in
     let bs = builds_of m.builder.builds in

@@ -26,7 +26,7 @@ decreases-ensure_built g l = 3 * (length l.self.now.modules.now - (l.place + 1))
 abbrev pub invariant-ensure_each-loop-import : goal.invariant-ensure_each-loop-import
 invariant-ensure_each-loop-import g l =
     let m = l.fn.self in
-    let s = settings (g.B.Backend.front m.builder.front.now) m.builder.capabilities m.builder.validate in
+    let s = settings (g.B.Backend.front m.builder.front.now) m.builder.capabilities m.builder.validate m.builder.override_any in
     let ds = map definition_of m.modules.now in
     let rule = rule_of ds (defs_of m.defs) l.rule in
     let reaching = unless_built (reach s (defs_of m.defs) (drop l.from ds)) in
@@ -39,7 +39,7 @@ invariant-ensure_each-loop-import g l =
 abbrev pub invariant-ensure_kept-loop-import : goal.invariant-ensure_kept-loop-import
 invariant-ensure_kept-loop-import g l =
     let m = l.fn.self in
-    let s = settings (g.B.Backend.front m.builder.front.now) m.builder.capabilities m.builder.validate in
+    let s = settings (g.B.Backend.front m.builder.front.now) m.builder.capabilities m.builder.validate m.builder.override_any in
     let ds = map definition_of m.modules.now in
     let reaching = unless_built (reach s (defs_of m.defs) (drop (l.place + 1) ds)) in
     record {

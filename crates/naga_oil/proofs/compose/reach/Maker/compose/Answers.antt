@@ -15,7 +15,7 @@ pub returns-in_err-made : goal.returns-in_err-made
 unfolding compose
 returns-in_err-made g c =
     let m = c.args.self.now in
-    let s = settings (g.B.Backend.front m.builder.front.now) m.builder.capabilities m.builder.validate in
+    let s = settings (g.B.Backend.front m.builder.front.now) m.builder.capabilities m.builder.validate m.builder.override_any in
     let bs = builds_of m.builder.builds in
     let b = built_of c.args.built.now in
     let text = c.args.text.now in
@@ -31,7 +31,7 @@ pub returns : goal.returns
 unfolding compose
 returns g c =
     let m = c.args.self.now in
-    let s = settings (g.B.Backend.front m.builder.front.now) m.builder.capabilities m.builder.validate in
+    let s = settings (g.B.Backend.front m.builder.front.now) m.builder.capabilities m.builder.validate m.builder.override_any in
     let bs = builds_of m.builder.builds in
     let b = built_of c.args.built.now in
     let text = c.args.text.now in

@@ -20,5 +20,5 @@ returns-in-Err-clause-entered g c =
 pub returns-in-Err-clause-kept : goal.returns-in-Err-clause-kept
 returns-in-Err-clause-kept g c =
     let m = c.args.self.now in
-    let s = settings (g.B.Backend.front m.builder.front.now) m.builder.capabilities m.builder.validate in
+    let s = settings (g.B.Backend.front m.builder.front.now) m.builder.capabilities m.builder.validate m.builder.override_any in
     keeps_nothing c.unbuilt.result (key_of c.args.key) (build s (definition_of c.args.of.now) (output_of c.args.output.now) (builds_of m.builder.builds)) (kept_of m.store)

@@ -14,7 +14,7 @@ pub returns-in_err-built : goal.returns-in_err-built
 unfolding finish
 returns-in_err-built g c =
     let m = c.args.self.now in
-    let s = settings (g.B.Backend.front m.builder.front.now) m.builder.capabilities m.builder.validate in
+    let s = settings (g.B.Backend.front m.builder.front.now) m.builder.capabilities m.builder.validate m.builder.override_any in
     let bs = builds_of m.builder.builds in
     let d = definition_of c.args.of.now in
     let out = output_of c.args.output.now in
@@ -25,7 +25,7 @@ pub returns : goal.returns
 unfolding finish
 returns g c =
     let m = c.args.self.now in
-    let s = settings (g.B.Backend.front m.builder.front.now) m.builder.capabilities m.builder.validate in
+    let s = settings (g.B.Backend.front m.builder.front.now) m.builder.capabilities m.builder.validate m.builder.override_any in
     let bs = builds_of m.builder.builds in
     let d = definition_of c.args.of.now in
     let out = output_of c.args.output.now in

@@ -25,7 +25,7 @@ use Rattle.naga_oil.proofs.compose.reach.Maker.make.Goals as goal
 pub returns-in_err-shader-clause-made : goal.returns-in_err-shader-clause-made
 returns-in_err-shader-clause-made g c =
     let m = c.args.self.now in
-    let s = settings (g.B.Backend.front m.builder.front.now) m.builder.capabilities m.builder.validate in
+    let s = settings (g.B.Backend.front m.builder.front.now) m.builder.capabilities m.builder.validate m.builder.override_any in
     let desc = shader_source c.args.desc in
     let text = c.args.text.now in
     let e = c.in_err-shader.field-0.0 in
@@ -35,7 +35,7 @@ returns-in_err-shader-clause-made g c =
 pub returns-in_err-read_first-clause-made : goal.returns-in_err-read_first-clause-made
 returns-in_err-read_first-clause-made g c =
     let m = c.args.self.now in
-    let s = settings (g.B.Backend.front m.builder.front.now) m.builder.capabilities m.builder.validate in
+    let s = settings (g.B.Backend.front m.builder.front.now) m.builder.capabilities m.builder.validate m.builder.override_any in
     let ds = map definition_of c.args.self.now.modules.now in
     let desc = shader_source c.args.desc in
     let text = c.args.text.now in
@@ -51,7 +51,7 @@ returns-in_err-read_first-clause-made g c =
 pub returns-in_err-output-clause-made : goal.returns-in_err-output-clause-made
 returns-in_err-output-clause-made g c =
     let m = c.args.self.now in
-    let s = settings (g.B.Backend.front m.builder.front.now) m.builder.capabilities m.builder.validate in
+    let s = settings (g.B.Backend.front m.builder.front.now) m.builder.capabilities m.builder.validate m.builder.override_any in
     let ds = map definition_of c.args.self.now.modules.now in
     let desc = shader_source c.args.desc in
     let text = c.args.text.now in
@@ -62,11 +62,11 @@ returns-in_err-output-clause-made g c =
     let defs = defs_of c.read_first.new.self.defs in
     let mid = builds_of c.read_first.new.self.builder.builds in
     let first = ap (λ (x : Defs). read_first s ds text d x bs) own ∙ c.in_ok-read_first.ensures.read in
-    let alike = ap (λ (x : Maker _). settings (g.B.Backend.front x.builder.front.now) x.builder.capabilities x.builder.validate) c.read_first.ensures.rest in
+    let alike = ap (λ (x : Maker _). settings (g.B.Backend.front x.builder.front.now) x.builder.capabilities x.builder.validate x.builder.override_any) c.read_first.ensures.rest in
     let e = c.in_err-output.field-0.0 in
     let new = builds_of c.read_second.new.self.builder.builds in
     make_not_second s ds desc text bs d read defs mid first module_value e c.from_residual-in_err-output.result new c.from_residual-in_err-output.ensures.1
-    (subst (λ (z : Maker _). Ends e new (read_second (settings (g.B.Backend.front z.builder.front.now) z.builder.capabilities z.builder.validate) (map definition_of z.modules.now) text d defs mid)) c.read_first.ensures.rest c.in_err-output.ensures.read)
+    (subst (λ (z : Maker _). Ends e new (read_second (settings (g.B.Backend.front z.builder.front.now) z.builder.capabilities z.builder.validate z.builder.override_any) (map definition_of z.modules.now) text d defs mid)) c.read_first.ensures.rest c.in_err-output.ensures.read)
 
 pub finish-requires : goal.finish-requires
 finish-requires g c =
@@ -78,7 +78,7 @@ finish-requires g c =
 pub returns-clause-made : goal.returns-clause-made
 returns-clause-made g c =
     let m = c.args.self.now in
-    let s = settings (g.B.Backend.front m.builder.front.now) m.builder.capabilities m.builder.validate in
+    let s = settings (g.B.Backend.front m.builder.front.now) m.builder.capabilities m.builder.validate m.builder.override_any in
     let ds = map definition_of c.args.self.now.modules.now in
     let desc = shader_source c.args.desc in
     let text = c.args.text.now in
@@ -89,22 +89,22 @@ returns-clause-made g c =
     let defs = defs_of c.read_first.new.self.defs in
     let mid = builds_of c.read_first.new.self.builder.builds in
     let first = ap (λ (x : Defs). read_first s ds text d x bs) own ∙ c.in_ok-read_first.ensures.read in
-    let alike = ap (λ (x : Maker _). settings (g.B.Backend.front x.builder.front.now) x.builder.capabilities x.builder.validate) c.read_first.ensures.rest in
-    let again = ap (λ (x : Maker _). settings (g.B.Backend.front x.builder.front.now) x.builder.capabilities x.builder.validate) c.read_second.ensures.rest in
+    let alike = ap (λ (x : Maker _). settings (g.B.Backend.front x.builder.front.now) x.builder.capabilities x.builder.validate x.builder.override_any) c.read_first.ensures.rest in
+    let again = ap (λ (x : Maker _). settings (g.B.Backend.front x.builder.front.now) x.builder.capabilities x.builder.validate x.builder.override_any) c.read_second.ensures.rest in
     let kept = ap (λ (x : Maker _). defs_of x.defs) c.read_second.ensures.rest in
     let last = c.read_second.new.self in
     let new = builds_of last.builder.builds in
     let out = output_of c.in_ok-output.output in
-    let z = settings (g.B.Backend.front last.builder.front.now) last.builder.capabilities last.builder.validate in
+    let z = settings (g.B.Backend.front last.builder.front.now) last.builder.capabilities last.builder.validate last.builder.override_any in
     make_finished s ds desc text bs d read defs mid first module_value c.finish.result out new
-    (subst (λ (z : Maker _). read_second (settings (g.B.Backend.front z.builder.front.now) z.builder.capabilities z.builder.validate) (map definition_of z.modules.now) text d defs mid ≡ record { builds = new; result = Ok out }) c.read_first.ensures.rest c.in_ok-output.ensures.read)
+    (subst (λ (z : Maker _). read_second (settings (g.B.Backend.front z.builder.front.now) z.builder.capabilities z.builder.validate z.builder.override_any) (map definition_of z.modules.now) text d defs mid ≡ record { builds = new; result = Ok out }) c.read_first.ensures.rest c.in_ok-output.ensures.read)
     (answers_same module_value c.finish.result (finish z (defs_of last.defs) new d out desc.shader_type) (finish s defs new d out desc.shader_type)
     (λ i. finish (sym (again ∙ alike) i) (sym kept i) new d out desc.shader_type) c.finish.ensures)
 
 pub returns-in_err-shader-clause-keeps : goal.returns-in_err-shader-clause-keeps
 returns-in_err-shader-clause-keeps g c =
     let m = c.args.self.now in
-    let s = settings (g.B.Backend.front m.builder.front.now) m.builder.capabilities m.builder.validate in
+    let s = settings (g.B.Backend.front m.builder.front.now) m.builder.capabilities m.builder.validate m.builder.override_any in
     let ds = map definition_of m.modules.now in
     let desc = shader_source c.args.desc in
     let text = c.args.text.now in
@@ -116,7 +116,7 @@ returns-in_err-shader-clause-keeps g c =
 pub returns-in_err-self-clause-keeps : goal.returns-in_err-self-clause-keeps
 returns-in_err-self-clause-keeps g c =
     let m = c.args.self.now in
-    let s = settings (g.B.Backend.front m.builder.front.now) m.builder.capabilities m.builder.validate in
+    let s = settings (g.B.Backend.front m.builder.front.now) m.builder.capabilities m.builder.validate m.builder.override_any in
     let ds = map definition_of m.modules.now in
     let desc = shader_source c.args.desc in
     let text = c.args.text.now in
@@ -128,7 +128,7 @@ returns-in_err-self-clause-keeps g c =
 pub returns-in_err-read_first-clause-keeps : goal.returns-in_err-read_first-clause-keeps
 returns-in_err-read_first-clause-keeps g c =
     let m = c.args.self.now in
-    let s = settings (g.B.Backend.front m.builder.front.now) m.builder.capabilities m.builder.validate in
+    let s = settings (g.B.Backend.front m.builder.front.now) m.builder.capabilities m.builder.validate m.builder.override_any in
     let ds = map definition_of m.modules.now in
     let desc = shader_source c.args.desc in
     let text = c.args.text.now in
@@ -150,7 +150,7 @@ read_second-requires g c =
 pub returns-in_err-output-clause-keeps : goal.returns-in_err-output-clause-keeps
 returns-in_err-output-clause-keeps g c =
     let m = c.args.self.now in
-    let s = settings (g.B.Backend.front m.builder.front.now) m.builder.capabilities m.builder.validate in
+    let s = settings (g.B.Backend.front m.builder.front.now) m.builder.capabilities m.builder.validate m.builder.override_any in
     let ds = map definition_of m.modules.now in
     let desc = shader_source c.args.desc in
     let text = c.args.text.now in
@@ -167,7 +167,7 @@ returns-in_err-output-clause-keeps g c =
     let under : defs_of z.defs ≡ defs_of n.defs = ap (λ (x : Maker _). defs_of x.defs) c.read_second.ensures.rest in
     let e = c.in_err-output.field-0.0 in
     let r = c.from_residual-in_err-output.result in
-    let second = subst (λ (x : Maker _). Keeps {X = PreprocessOutput} (settings (g.B.Backend.front x.builder.front.now) x.builder.capabilities x.builder.validate) (map definition_of x.modules.now) (defs_of x.defs) refused_of (Err e) (builds_of x.builder.builds) (kept_of x.store) newer more) c.read_first.ensures.rest c.in_err-output.ensures.keeps in
+    let second = subst (λ (x : Maker _). Keeps {X = PreprocessOutput} (settings (g.B.Backend.front x.builder.front.now) x.builder.capabilities x.builder.validate x.builder.override_any) (map definition_of x.modules.now) (defs_of x.defs) refused_of (Err e) (builds_of x.builder.builds) (kept_of x.store) newer more) c.read_first.ensures.rest c.in_err-output.ensures.keeps in
     let both = first_then s ds refused_of kept tt (Err e) comes (defs_of n.defs) (builds_of n.builder.builds) newer (kept_of n.store) more c.in_ok-read_first.ensures.keeps second in
     subst (λ (v : Result Defs Fault). KeepsFirst s ds refused_of v r kept (defs_of z.defs) newer more) (sym same)
     (subst (λ (u : Defs). KeepsFirst s ds refused_of comes r kept u newer more) (sym under) (first_ended s ds refused_of kept e r comes (defs_of n.defs) newer more c.from_residual-in_err-output.ensures.1 both))
@@ -175,7 +175,7 @@ returns-in_err-output-clause-keeps g c =
 pub returns-clause-keeps : goal.returns-clause-keeps
 returns-clause-keeps g c =
     let m = c.args.self.now in
-    let s = settings (g.B.Backend.front m.builder.front.now) m.builder.capabilities m.builder.validate in
+    let s = settings (g.B.Backend.front m.builder.front.now) m.builder.capabilities m.builder.validate m.builder.override_any in
     let ds = map definition_of m.modules.now in
     let desc = shader_source c.args.desc in
     let text = c.args.text.now in
@@ -191,7 +191,7 @@ returns-clause-keeps g c =
     let more = kept_of z.store in
     let under : defs_of z.defs ≡ defs_of n.defs = ap (λ (x : Maker _). defs_of x.defs) c.read_second.ensures.rest in
     let r = c.finish.result in
-    let second = subst (λ (x : Maker _). Keeps {X = PreprocessOutput} (settings (g.B.Backend.front x.builder.front.now) x.builder.capabilities x.builder.validate) (map definition_of x.modules.now) (defs_of x.defs) refused_of (Ok c.in_ok-output.output) (builds_of x.builder.builds) (kept_of x.store) newer more) c.read_first.ensures.rest c.in_ok-output.ensures.keeps in
+    let second = subst (λ (x : Maker _). Keeps {X = PreprocessOutput} (settings (g.B.Backend.front x.builder.front.now) x.builder.capabilities x.builder.validate x.builder.override_any) (map definition_of x.modules.now) (defs_of x.defs) refused_of (Ok c.in_ok-output.output) (builds_of x.builder.builds) (kept_of x.store) newer more) c.read_first.ensures.rest c.in_ok-output.ensures.keeps in
     let last = keeps_whatever s ds (defs_of n.defs) (builds_of n.builder.builds) (kept_of n.store) newer more refused_of c.in_ok-output.output r second in
     let both = first_then s ds refused_of kept tt r comes (defs_of n.defs) (builds_of n.builder.builds) newer (kept_of n.store) more c.in_ok-read_first.ensures.keeps last in
     subst (λ (v : Result Defs Fault). KeepsFirst s ds refused_of v r kept (defs_of z.defs) newer more) (sym same)

@@ -15,7 +15,7 @@ use Rattle.naga_oil.proofs.compose.reach.Maker.reach_uses.Goals as goal
 pub returns-in-Ok-clause-reached : goal.returns-in-Ok-clause-reached
 returns-in-Ok-clause-reached g c =
     let m = c.args.self.now in
-    let s = settings (g.B.Backend.front m.builder.front.now) m.builder.capabilities m.builder.validate in
+    let s = settings (g.B.Backend.front m.builder.front.now) m.builder.capabilities m.builder.validate m.builder.override_any in
     let ds = map definition_of c.args.self.now.modules.now in
     let defs = defs_of m.defs in
     reaches_ok (string_bytes c.args.shader.now.file_path) c.args.text.now defs (reach_uses s ds defs (rule_of ds defs c.args.rule) (map use_of c.args.uses.now)) (builds_of m.builder.builds) (builds_of c.ensure_each.new.self.builder.builds) c.in-Ok.ensures.reached
@@ -23,7 +23,7 @@ returns-in-Ok-clause-reached g c =
 pub returns-in-Err-clause-reached : goal.returns-in-Err-clause-reached
 returns-in-Err-clause-reached g c =
     let m = c.args.self.now in
-    let s = settings (g.B.Backend.front m.builder.front.now) m.builder.capabilities m.builder.validate in
+    let s = settings (g.B.Backend.front m.builder.front.now) m.builder.capabilities m.builder.validate m.builder.override_any in
     let ds = map definition_of c.args.self.now.modules.now in
     let defs = defs_of m.defs in
     let path = string_bytes c.args.shader.now.file_path in
@@ -36,14 +36,14 @@ pub returns-in-Ok-clause-keeps : goal.returns-in-Ok-clause-keeps
 returns-in-Ok-clause-keeps g c =
     let m = c.args.self.now in
     let n = c.ensure_each.new.self in
-    let s = settings (g.B.Backend.front m.builder.front.now) m.builder.capabilities m.builder.validate in
+    let s = settings (g.B.Backend.front m.builder.front.now) m.builder.capabilities m.builder.validate m.builder.override_any in
     keeps_ok s (map definition_of m.modules.now) (defs_of m.defs) (builds_of m.builder.builds) (kept_of m.store) (builds_of n.builder.builds) (kept_of n.store) unreached_of refused_of tt tt c.in-Ok.ensures.keeps
 
 pub returns-in-Err-clause-keeps : goal.returns-in-Err-clause-keeps
 returns-in-Err-clause-keeps g c =
     let m = c.args.self.now in
     let n = c.ensure_each.new.self in
-    let s = settings (g.B.Backend.front m.builder.front.now) m.builder.capabilities m.builder.validate in
+    let s = settings (g.B.Backend.front m.builder.front.now) m.builder.capabilities m.builder.validate m.builder.override_any in
     let path = string_bytes c.args.shader.now.file_path in
     let text = c.args.text.now in
     let same = ap (λ (x : Maker _). defs_of x.defs) c.ensure_each.ensures.rest in

@@ -25,13 +25,13 @@ use Rattle.naga_oil.proofs.compose.reach.Maker.read_first.Goals as goal
 pub returns-in_err-output-clause-read : goal.returns-in_err-output-clause-read
 returns-in_err-output-clause-read g c =
     let m = c.args.self.now in
-    let s = settings (g.B.Backend.front m.builder.front.now) m.builder.capabilities m.builder.validate in
+    let s = settings (g.B.Backend.front m.builder.front.now) m.builder.capabilities m.builder.validate m.builder.override_any in
     first_unread s (map definition_of c.args.self.now.modules.now) c.args.text.now (definition_of c.args.shader.now) (defs_of m.defs) (builds_of m.builder.builds) c.in_err-output.field-0.0 c.from_residual.result c.from_residual.ensures.1 _ c.in_err-output.ensures
 
 pub returns-in_err-in_text-clause-read : goal.returns-in_err-in_text-clause-read
 returns-in_err-in_text-clause-read g c =
     let m = c.args.self.now in
-    let s = settings (g.B.Backend.front m.builder.front.now) m.builder.capabilities m.builder.validate in
+    let s = settings (g.B.Backend.front m.builder.front.now) m.builder.capabilities m.builder.validate m.builder.override_any in
     let ds = map definition_of c.args.self.now.modules.now in
     let text = c.args.text.now in
     let d = definition_of c.args.shader.now in
@@ -48,7 +48,7 @@ returns-in_err-in_text-clause-read g c =
 pub returns-clause-read : goal.returns-clause-read
 returns-clause-read g c =
     let m = c.args.self.now in
-    let s = settings (g.B.Backend.front m.builder.front.now) m.builder.capabilities m.builder.validate in
+    let s = settings (g.B.Backend.front m.builder.front.now) m.builder.capabilities m.builder.validate m.builder.override_any in
     let ds = map definition_of c.args.self.now.modules.now in
     let text = c.args.text.now in
     let d = definition_of c.args.shader.now in
@@ -72,7 +72,7 @@ returns-clause-read g c =
 pub returns-in_err-output-clause-keeps : goal.returns-in_err-output-clause-keeps
 returns-in_err-output-clause-keeps g c =
     let m = c.args.self.now in
-    let s = settings (g.B.Backend.front m.builder.front.now) m.builder.capabilities m.builder.validate in
+    let s = settings (g.B.Backend.front m.builder.front.now) m.builder.capabilities m.builder.validate m.builder.override_any in
     let ds = map definition_of m.modules.now in
     let d = definition_of c.args.shader.now in
     let own = defs_of m.defs in
@@ -84,7 +84,7 @@ returns-in_err-output-clause-keeps g c =
 pub returns-in_err-in_text-clause-keeps : goal.returns-in_err-in_text-clause-keeps
 returns-in_err-in_text-clause-keeps g c =
     let m = c.args.self.now in
-    let s = settings (g.B.Backend.front m.builder.front.now) m.builder.capabilities m.builder.validate in
+    let s = settings (g.B.Backend.front m.builder.front.now) m.builder.capabilities m.builder.validate m.builder.override_any in
     let ds = map definition_of m.modules.now in
     let d = definition_of c.args.shader.now in
     let own = defs_of m.defs in
@@ -97,7 +97,7 @@ returns-in_err-in_text-clause-keeps g c =
 pub reach_uses-requires : goal.reach_uses-requires
 reach_uses-requires g c =
     let m = c.args.self.now in
-    let s = settings (g.B.Backend.front m.builder.front.now) m.builder.capabilities m.builder.validate in
+    let s = settings (g.B.Backend.front m.builder.front.now) m.builder.capabilities m.builder.validate m.builder.override_any in
     let ds = map definition_of m.modules.now in
     let d = definition_of c.args.shader.now in
     let own = defs_of m.defs in
@@ -108,7 +108,7 @@ reach_uses-requires g c =
 pub returns-clause-keeps : goal.returns-clause-keeps
 returns-clause-keeps g c =
     let m = c.args.self.now in
-    let s = settings (g.B.Backend.front m.builder.front.now) m.builder.capabilities m.builder.validate in
+    let s = settings (g.B.Backend.front m.builder.front.now) m.builder.capabilities m.builder.validate m.builder.override_any in
     let ds = map definition_of m.modules.now in
     let d = definition_of c.args.shader.now in
     let own = defs_of m.defs in

@@ -17,13 +17,13 @@ use Rattle.naga_oil.proofs.compose.reach.Maker.read_second.Goals as goal
 pub returns-in_err-output-clause-read : goal.returns-in_err-output-clause-read
 returns-in_err-output-clause-read g c =
     let m = c.args.self.now in
-    let s = settings (g.B.Backend.front m.builder.front.now) m.builder.capabilities m.builder.validate in
+    let s = settings (g.B.Backend.front m.builder.front.now) m.builder.capabilities m.builder.validate m.builder.override_any in
     second_unread s (map definition_of c.args.self.now.modules.now) c.args.text.now (definition_of c.args.shader.now) (defs_of m.defs) (builds_of m.builder.builds) c.in_err-output.field-0.0 c.from_residual.result c.from_residual.ensures.1 output_of c.in_err-output.ensures
 
 pub returns-in_err-reach_uses-clause-read : goal.returns-in_err-reach_uses-clause-read
 returns-in_err-reach_uses-clause-read g c =
     let m = c.args.self.now in
-    let s = settings (g.B.Backend.front m.builder.front.now) m.builder.capabilities m.builder.validate in
+    let s = settings (g.B.Backend.front m.builder.front.now) m.builder.capabilities m.builder.validate m.builder.override_any in
     let ds = map definition_of c.args.self.now.modules.now in
     let text = c.args.text.now in
     let d = definition_of c.args.shader.now in
@@ -39,7 +39,7 @@ returns-in_err-reach_uses-clause-read g c =
 pub returns-clause-read : goal.returns-clause-read
 returns-clause-read g c =
     let m = c.args.self.now in
-    let s = settings (g.B.Backend.front m.builder.front.now) m.builder.capabilities m.builder.validate in
+    let s = settings (g.B.Backend.front m.builder.front.now) m.builder.capabilities m.builder.validate m.builder.override_any in
     let ds = map definition_of c.args.self.now.modules.now in
     let text = c.args.text.now in
     let d = definition_of c.args.shader.now in
@@ -54,14 +54,14 @@ returns-clause-read g c =
 pub returns-in_err-output-clause-keeps : goal.returns-in_err-output-clause-keeps
 returns-in_err-output-clause-keeps g c =
     let m = c.args.self.now in
-    let s = settings (g.B.Backend.front m.builder.front.now) m.builder.capabilities m.builder.validate in
+    let s = settings (g.B.Backend.front m.builder.front.now) m.builder.capabilities m.builder.validate m.builder.override_any in
     keeps_same s (map definition_of m.modules.now) (defs_of m.defs) refused_of (builds_of m.builder.builds) (kept_of m.store) c.from_residual.result c.requires.stand
 
 pub returns-in_err-reach_uses-clause-keeps : goal.returns-in_err-reach_uses-clause-keeps
 returns-in_err-reach_uses-clause-keeps g c =
     let m = c.args.self.now in
     let n = c.reach_uses.new.self in
-    let s = settings (g.B.Backend.front m.builder.front.now) m.builder.capabilities m.builder.validate in
+    let s = settings (g.B.Backend.front m.builder.front.now) m.builder.capabilities m.builder.validate m.builder.override_any in
     let ds = map definition_of m.modules.now in
     let bs = builds_of m.builder.builds in
     let kept = kept_of m.store in
@@ -71,5 +71,5 @@ pub returns-clause-keeps : goal.returns-clause-keeps
 returns-clause-keeps g c =
     let m = c.args.self.now in
     let n = c.reach_uses.new.self in
-    let s = settings (g.B.Backend.front m.builder.front.now) m.builder.capabilities m.builder.validate in
+    let s = settings (g.B.Backend.front m.builder.front.now) m.builder.capabilities m.builder.validate m.builder.override_any in
     keeps_ok s (map definition_of m.modules.now) (defs_of m.defs) (builds_of m.builder.builds) (kept_of m.store) (builds_of n.builder.builds) (kept_of n.store) refused_of refused_of tt c.in_ok-output.output c.in_ok-reach_uses.ensures.keeps

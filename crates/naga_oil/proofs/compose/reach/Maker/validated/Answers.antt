@@ -12,7 +12,7 @@ use Rattle.naga_oil.proofs.compose.reach.Maker.validated.Goals as goal
 pub returns-in_err-in_text : goal.returns-in_err-in_text
 returns-in_err-in_text g c =
     let m = c.args.self.now in
-    let s = settings (g.B.Backend.front m.builder.front.now) m.builder.capabilities m.builder.validate in
+    let s = settings (g.B.Backend.front m.builder.front.now) m.builder.capabilities m.builder.validate m.builder.override_any in
     let place = in_text c.as_str-path.result.now c.args.text.now c.args.offset in
     let e = c.in_err-in_text.field-0.0 in
     unvalidated module_value place c.validate-valid.result e c.from_residual.result

@@ -1,0 +1,176 @@
+-- How builds of a make come of texts.
+use Rattle.std.proofs.Common.{◌≡◌, ℕ, ◌<◌, ◌≤◌, nat_lt, if◌then◌else◌, Bool, true, false, List, ◌++◌, length, Result, Ok, Err, refl, ap, sym, ◌∙◌, subst, arith}
+use Rattle.std.proofs.lemmas.Bool.{ltb-true}
+use Rattle.naga_oil_ir.specs.Backend.{FrontEnd, FaultValue}
+use Rattle.naga_oil_ir.specs.ModuleValue.{ModuleValue}
+use Rattle.naga_oil_ir.specs.declared.language.ShaderLanguage.{ShaderLanguage}
+use Rattle.naga_oil_derive.specs.CopiedEntry.{make_module}
+use Rattle.naga_oil_derive.specs.World.{value_of}
+use Rattle.naga_oil_pre.specs.Fault.{Fault, text_too_large, wrong_form}
+use Rattle.naga_oil_pre.specs.Preprocessed.{Output}
+use Rattle.naga_oil_registry.specs.Added.{◌>>=◌}
+use Rattle.naga_oil_registry.specs.Definition.{Definition, Defs}
+use Rattle.naga_oil_form_laws.specs.EntryForm.{IsModuleFormed}
+use Rattle.naga_oil_form_laws.proofs.ParsedFunctions.{parsed_module}
+use Rattle.naga_oil_link.specs.BuiltModule.{BuiltModule, Builds}
+use Rattle.naga_oil_link.specs.CopiedBuild.{copy_build, copy_whole}
+use Rattle.naga_oil_link.specs.Form.{is_formed}
+use Rattle.naga_oil_link.specs.OwnPlaces.{OwnPlaces}
+use Rattle.naga_oil_link.specs.Owned.{own_places, owned_module, owned_build, owning, owning_demoted, demotable, decorated_items}
+use Rattle.naga_oil_link.proofs.FormLawLemmas.{module_tested}
+use Rattle.naga_oil_link.proofs.OwnedFormLemmas.{owned_formed}
+use Rattle.naga_oil_copies.specs.ThroughBuilds.{Holds}
+use Rattle.naga_oil_build.specs.Build.{WholeText, begin_build, write_heading, write_whole, from_offset, build}
+use Rattle.naga_oil_build.specs.Virtuals.{Functions, functions_in}
+use Rattle.naga_oil_build.specs.Built.{told, parse_fault, parsed_text, preprocessed_of}
+use Rattle.naga_oil_build.specs.Held.{Settings, parse_whole, copy_tested, hold}
+use Rattle.naga_oil.specs.Faithful.{ParsesModules, IsBuiltOf, owned_parse}
+use Rattle.naga_oil.specs.Reach.{defined}
+
+-- ---- what a whole text says
+
+told_back : {Y : Type 0} (tell : FaultValue → Fault) (r : Result Y FaultValue) (y : Y) → told tell r ≡ Ok y → r ≡ Ok y
+told_back tell (Ok x) y e = cc
+told_back tell (Err f) y e = absurd cc
+
+small_back : (b : Bool) → (let r : Result (Unit {0}) Fault = if b then Ok tt else Err text_too_large in r) ≡ Ok tt → b ≡ true
+small_back true e = refl
+small_back false e = absurd cc
+
+formed_back : (b : Bool) (m p : ModuleValue) → (let r : Result ModuleValue Fault = if b then Ok m else Err wrong_form in r) ≡ Ok p → (b ≡ true) × (m ≡ p)
+formed_back true m p e = (refl, cc)
+formed_back false m p e = absurd cc
+
+-- a text that was parsed is short, and its parse passes the test
+pub record IsParse (front : FrontEnd) (in_language : ShaderLanguage) (text decoration : List ℕ) (m : ModuleValue) : Type 0 where
+  pub short : length text < 2097152
+  pub parse : front.parse in_language text ≡ Ok m
+  pub formed : is_formed m decoration (length text) ≡ true
+
+pub parse_back : (front : FrontEnd) (l : ShaderLanguage) (text decoration : List ℕ) (m : ModuleValue) → parse_whole front l text decoration ≡ Ok m → IsParse front l text decoration m
+unfolding parse_whole
+parse_back front l text decoration m e = one (nat_lt (length text) 2097152) refl (parsed_text front l text) refl e
+  where
+    one : (b : Bool) → nat_lt (length text) 2097152 ≡ b → (r : Result ModuleValue Fault) → parsed_text front l text ≡ r → ((let u : Result (Unit {0}) Fault = if b then Ok tt else Err text_too_large in u) >>= λ fits. (r >>= λ p. (let v : Result ModuleValue Fault = if is_formed p decoration (length text) then Ok p else Err wrong_form in v))) ≡ Ok m → IsParse front l text decoration m
+    one true s (Ok p) t e =
+        let f = formed_back (is_formed p decoration (length text)) p m e in
+        record { short = ltb-true (length text) 2097152 s; parse = told_back (parse_fault l) (front.parse l text) m (t ∙ ap (λ (q : ModuleValue). Ok q) f.1); formed = ap (λ q. is_formed q decoration (length text)) (sym f.1) ∙ f.0 }
+    one true s (Err f) t e = absurd cc
+    one false s r t e = absurd cc
+
+-- its own items decorated, it is of good form
+pub owned_is_formed : (front : FrontEnd) (l : ShaderLanguage) (text decoration : List ℕ) (m : ModuleValue) (index : ℕ) → ParsesModules front → IsParse front l text decoration m → IsModuleFormed (owned_module index decoration m)
+unfolding value_of
+owned_is_formed front l text decoration m index modules p =
+    let x = modules l text m p.parse in
+    let n = length text in
+    let short = p.short in
+    let l : n ≤ 4294967295 = omega (arith, short) in
+    let form = (module_tested x.of decoration n).0 (ap (λ q. is_formed q decoration n) x.value ∙ p.formed) in
+    subst (λ q. IsModuleFormed (owned_module index decoration q)) x.value (owned_formed x.of index decoration n (λ d k i f. parsed_module x.of k i d f x.keys) l form)
+
+-- ---- what is held of it
+
+done_back : (r : Result (Unit {0}) Fault) (c b : BuiltModule) → (r >>= λ done. (let k : Result BuiltModule Fault = Ok c in k)) ≡ Ok b → c ≡ b
+done_back (Ok x) c b e = cc
+done_back (Err f) c b e = absurd cc
+
+-- a build that holds a parse
+pub record HoldsParse (s : Settings) (l : ShaderLanguage) (text : List ℕ) (before b : BuiltModule) : Type 0 where
+  pub parse : ModuleValue
+  pub parsed : parse_whole s.front l text before.decoration ≡ Ok parse
+  pub copies : copy_build (owned_module before.index before.decoration parse) (own_places parse) (owned_build before.index parse before) ≡ b
+
+hold_back : (s : Settings) (l : ShaderLanguage) (text : List ℕ) (before b : BuiltModule) → hold s l text before ≡ Ok b → HoldsParse s l text before b
+unfolding hold
+hold_back s l text before b e = one (parse_whole s.front l text before.decoration) refl e
+  where
+    one : (r : Result ModuleValue Fault) → parse_whole s.front l text before.decoration ≡ r → (r >>= λ p. copy_tested s (owned_module before.index before.decoration p) (own_places p) (owned_build before.index p before) (length p.functions)) ≡ Ok b → HoldsParse s l text before b
+    one (Ok p) t e = record { parse = p; parsed = t; copies = done_back _ _ b e }
+    one (Err f) t e = absurd cc
+
+-- what a build is called stays
+abbrev Same : BuiltModule → BuiltModule → Type 0
+Same b c = (c.decoration ≡ b.decoration) × (c.index ≡ b.index)
+
+owned_same : (index : ℕ) (m : ModuleValue) (b : BuiltModule) → Same b (owned_build index m b)
+owned_same index m b = one (nat_lt 0 index)
+  where
+    one : (k : Bool) → Same b (if k then owning_demoted (demotable b.decoration (decorated_items b.decoration m)) (owning m b) else owning m b)
+    one true = (refl, refl)
+    one false = (refl, refl)
+
+copy_same : (m : ModuleValue) (own : OwnPlaces) (b : BuiltModule) → Same b (copy_build m own b) × ((copy_build m own b).value ≡ make_module (copy_whole m own b.decoration b.functions).derived)
+unfolding copy_build
+copy_same m own b = ((refl, refl), refl)
+
+-- a build that holds a parse holds it with its own items decorated
+pub holds : (s : Settings) (l : ShaderLanguage) (text : List ℕ) (before b : BuiltModule) → ParsesModules s.front → (h : HoldsParse s l text before b) → (b.decoration ≡ before.decoration) × Holds b (owned_parse b h.parse) (own_places h.parse) × (b.index ≡ before.index)
+holds s l text before b modules h =
+    let p = h.parse in
+    let own = own_places p in
+    let c = owned_build before.index p before in
+    let m = owned_module before.index before.decoration p in
+    let same = owned_same before.index p before in
+    let copy = copy_same m own c in
+    let decoration : b.decoration ≡ before.decoration = ap (λ (x : BuiltModule). x.decoration) (sym h.copies) ∙ copy.0.0 ∙ same.0 in
+    let index : b.index ≡ before.index = ap (λ (x : BuiltModule). x.index) (sym h.copies) ∙ copy.0.1 ∙ same.1 in
+    let module_same : owned_parse b p ≡ m = ap (λ k. owned_module k b.decoration p) index ∙ ap (λ d. owned_module before.index d p) decoration in
+    let value : b.value ≡ make_module (copy_whole m own c.decoration c.functions).derived = ap (λ (x : BuiltModule). x.value) (sym h.copies) ∙ copy.1 in
+    let named : make_module (copy_whole m own c.decoration c.functions).derived ≡ make_module (copy_whole (owned_parse b p) own b.decoration c.functions).derived = ap (λ d. make_module (copy_whole m own d c.functions).derived) (same.0 ∙ sym decoration) ∙ ap (λ x. make_module (copy_whole x own b.decoration c.functions).derived) (sym module_same) in (
+      decoration,
+      record {
+        form = subst IsModuleFormed (sym module_same) (owned_is_formed s.front l text before.decoration p before.index modules (parse_back s.front l text before.decoration p h.parsed));
+        functions = c.functions;
+        value = value ∙ named;
+      },
+      index,
+    )
+
+-- ---- a build
+
+offset_back : {Y : Type 0} (offset : ℕ) (r : Result Y Fault) (y : Y) → from_offset offset r ≡ Ok y → r ≡ Ok y
+offset_back offset (Ok x) y e = cc
+offset_back offset (Err f) y e = absurd cc
+
+-- the text that is put together is of the build that begins it
+written_index : (s : Settings) (d : Definition) (builds : Builds) (text : List ℕ) (b : BuiltModule) (whole : WholeText) → write_whole s d builds text b ≡ Ok whole → whole.built.index ≡ b.index
+unfolding write_whole
+written_index s d builds text b whole e = one (functions_in s.override_any builds b.imports b.decoration b.overriding text) (write_heading s d builds b.imports) e
+  where
+    one : (f : Result Functions Fault) (h : Result (List ℕ) Fault) → (f >>= λ functions. (h >>= λ heading. (let r : Result WholeText Fault = Ok (record { text = heading ++ functions.text; built = record b { virtuals = functions.virtuals; overriding = functions.overriding; offset = length heading } }) in r))) ≡ Ok whole → whole.built.index ≡ b.index
+    one (Ok f) (Ok h) q = let same : (record { text = h ++ f.text; built = record b { virtuals = f.virtuals; overriding = f.overriding; offset = length h } }) ≡ whole = cc in ap (λ (w : WholeText). w.built.index) (sym same)
+    one (Ok f) (Err x) q = absurd cc
+    one (Err x) h q = absurd cc
+
+-- a build that is answered, the text that it is of, and what it holds of that
+pub record Comes (s : Settings) (d : Definition) (out : Output) (before : Builds) (b : BuiltModule) : Type 0 where
+  pub whole : WholeText
+  pub written : write_whole s d before out.text (begin_build before d out.uses) ≡ Ok whole
+  pub holding : HoldsParse s d.language whole.text whole.built b
+
+pub build_back : (s : Settings) (d : Definition) (out : Output) (before : Builds) (b : BuiltModule) → build s d out before ≡ Ok b → Comes s d out before b
+unfolding build
+build_back s d out before b e = one (write_whole s d before out.text (begin_build before d out.uses)) refl e
+  where
+    one : (r : Result WholeText Fault) → write_whole s d before out.text (begin_build before d out.uses) ≡ r → (from_offset 0 r >>= λ whole. from_offset whole.built.offset (hold s d.language whole.text whole.built)) ≡ Ok b → Comes s d out before b
+    one (Ok whole) t e = record { whole = whole; written = t; holding = hold_back s d.language whole.text whole.built b (offset_back whole.built.offset (hold s d.language whole.text whole.built) b e) }
+    one (Err f) t e = absurd cc
+
+-- the build with its parse
+pub record BuiltOf (s : Settings) (defs : Defs) (d : Definition) (before : Builds) (b : BuiltModule) : Type 0 where
+  pub parse : ModuleValue
+  pub is : IsBuiltOf s defs d before b parse
+  pub holding : Holds b (owned_parse b parse) (own_places parse)
+
+pub built_of : (s : Settings) (defs : Defs) (d : Definition) (out : Output) (before : Builds) (b : BuiltModule) → ParsesModules s.front → preprocessed_of (defined defs) d ≡ Ok out → build s d out before ≡ Ok b → BuiltOf s defs d before b × (b.index ≡ d.index)
+built_of s defs d out before b modules p e =
+    let c = build_back s d out before b e in
+    let h = holds s d.language c.whole.text c.whole.built b modules c.holding in (
+      record {
+        parse = c.holding.parse;
+        is = record { output = out; preprocessed = p; built = e; whole = c.whole; written = c.written; parsed = ap (parse_whole s.front d.language c.whole.text) h.0 ∙ c.holding.parsed };
+        holding = h.1;
+      },
+      h.2 ∙ written_index s d before out.text (begin_build before d out.uses) c.whole c.written,
+    )

@@ -1,0 +1,133 @@
+-- What a made module is: functions, items and entry points of what front ends parsed.
+use Rattle.std.specs.Prelude.{ℕ, ◌≡◌, ◌*◌, ◌⊎◌, nat_eq, List, map, take, slice_get, Some, None, Ok}
+use Rattle.std.specs.List.{IsDistinct}
+use Rattle.naga_oil_ir.specs.Backend.{FrontEnd}
+use Rattle.naga_oil_ir.specs.ModuleValue.{ModuleValue, FunctionValue, EntryValue, module_value}
+use Rattle.naga_oil_ir.specs.Rows.{Row, Text}
+use Rattle.naga_oil_ir.specs.declared.language.ShaderLanguage.{ShaderLanguage}
+use Rattle.naga_oil_ir.specs.declared.module.Module.{Module}
+use Rattle.naga_oil_ir.specs.declared.names.ItemPlace.{ItemPlace}
+use Rattle.naga_oil_ir.specs.declared.span.Span.{Span}
+use Rattle.naga_oil_derive.specs.CopiedLaw.{HasAt}
+use Rattle.naga_oil_derive.specs.Tree.{World}
+use Rattle.naga_oil_derive.specs.World.{world, shifted}
+use Rattle.naga_oil_pre.specs.Preprocessed.{Output}
+use Rattle.naga_oil_registry.specs.Added.{read_source}
+use Rattle.naga_oil_registry.specs.Definition.{Definition, Defs}
+use Rattle.naga_oil_registry.specs.Descriptor.{ShaderSource}
+use Rattle.naga_oil_link.specs.BuiltModule.{BuiltModule, Builds}
+use Rattle.naga_oil_link.specs.Owned.{own_places, owned_module}
+use Rattle.naga_oil_faith.specs.Scope.{ReadAlike, scope_of}
+use Rattle.naga_oil_faith.specs.ByTree.{CopiesByTree}
+use Rattle.naga_oil_copies.specs.HeldBuild.{DecoratesTypes}
+use Rattle.naga_oil_copies.specs.KeptAlike.{scope_alike}
+use Rattle.naga_oil_build.specs.Built.{preprocessed_of}
+use Rattle.naga_oil_build.specs.Build.{WholeText, begin_build, write_whole, build}
+use Rattle.naga_oil_build.specs.Held.{Settings, parse_whole}
+use Rattle.naga_oil.specs.Answer.{answer}
+use Rattle.naga_oil.specs.CallsSent.{call_goes}
+use Rattle.naga_oil.specs.MakeDefs.{make_defs}
+use Rattle.naga_oil.specs.Reach.{defined}
+use Rattle.naga_oil.specs.Shader.{read_shader}
+
+-- plain data is that of a module, whose predeclared types have a key each
+pub record IsOfModule (m : ModuleValue) : Type 0 where
+  pub of : Module
+  pub value : module_value of ≡ m
+  pub keys : IsDistinct nat_eq (map (λ e. e.0) of.special_types.predeclared_types.entries)
+
+-- what a front end parses are modules
+abbrev pub ParsesModules : FrontEnd → Type 0
+ParsesModules front = (in_language : ShaderLanguage) (text : List ℕ) (m : ModuleValue) →
+    front.parse in_language text ≡ Ok m → IsOfModule m
+
+-- ---- parses
+
+-- b is what building a text under definitions over builds gives, and this is the parse of its whole text
+pub record IsBuiltOf (s : Settings) (defs : Defs) (d : Definition) (before : Builds) (b : BuiltModule) (parse : ModuleValue) : Type 0 where
+  pub output : Output
+  pub preprocessed : preprocessed_of (defined defs) d ≡ Ok output
+  pub built : build s d output before ≡ Ok b
+  pub whole : WholeText
+  pub written : write_whole s d before output.text (begin_build before d output.uses) ≡ Ok whole
+  pub parsed : parse_whole s.front d.language whole.text b.decoration ≡ Ok parse
+
+-- one of some builds is that of a registered module, over those before it
+pub record IsBuiltModule (s : Settings) (ds : List Definition) (defs : Defs) (builds : Builds) (b : BuiltModule) (parse : ModuleValue) : Type 0 where
+  pub place : ℕ
+  pub registered : ℕ
+  pub definition : Definition
+  pub known : slice_get ds registered ≡ Some definition
+  pub at : slice_get builds place ≡ Some (definition.name, b)
+  pub is : IsBuiltOf s defs definition (take place builds) b parse
+
+-- the parse of a build with what the build owns decorated, and entry points of a module as functions
+abbrev pub owned_parse : BuiltModule → ModuleValue → ModuleValue
+owned_parse b parse = owned_module b.index b.decoration parse
+
+-- ---- copies
+
+-- g, in made, copies f, over the handles of the parse of a build; own types may have their decorated names, special types read as
+-- those of made of their keys, spans are those of all texts one behind another, and calls go to what stands for what they called
+pub record CopiesParsed (b : BuiltModule) (parse : ModuleValue) (sends : Text → Text) (made : ModuleValue) (f g : FunctionValue) : Type 0 where
+  pub reads : World
+  pub decorated : DecoratesTypes (owned_parse b parse) (own_places parse) b.decoration reads
+  pub copies : CopiesByTree (shifted (b.index * 2097152)) sends (scope_alike reads (owned_parse b parse) made) f (scope_of made) g
+
+-- the function of y copies that of the entry point at i of a shader's parse, with its calls sent down
+pub record EntryComes (shader : BuiltModule) (parse made : ModuleValue) (i : ℕ) (y : EntryValue) : Type 0 where
+  pub entry : EntryValue
+  pub at : slice_get (owned_parse shader parse).entry_points i ≡ Some entry
+  pub copies : CopiesParsed shader parse (call_goes shader.overriding None) made entry.function y.function
+
+-- ---- the whole
+
+module _ (s : Settings) (ds : List Definition) (counter : ℕ) (m : ShaderSource) where
+  -- the builds of a make
+  abbrev pub made_builds : Builds
+  made_builds = (answer s ds counter m).builds
+
+  -- b is the build of its shader over these, with its parse
+  pub record IsBuiltShader (b : BuiltModule) (parse : ModuleValue) : Type 0 where
+    pub read : List ℕ × ℕ
+    pub source : read_source counter m.source ≡ Ok read
+    pub definition : Definition
+    pub described : read_shader m read.0 ≡ Ok definition
+    pub is : IsBuiltOf s (make_defs ds counter m) definition made_builds b parse
+
+  -- the parse of a module that was reached, or of the shader
+  pub record ParseOf : Type 0 where
+    pub b : BuiltModule
+    pub parse : ModuleValue
+    pub is : IsBuiltModule s ds (make_defs ds counter m) made_builds b parse ⊎ IsBuiltShader b parse
+
+  -- g copies a function of a parse, with its calls sent down
+  pub record FunctionComes (shader : BuiltModule) (made : ModuleValue) (g : FunctionValue) : Type 0 where
+    pub of : ParseOf
+    pub place : ℕ
+    pub function : FunctionValue × Span
+    pub at : slice_get (owned_parse of.b of.parse).functions place ≡ Some function
+    pub copies : CopiesParsed of.b of.parse (call_goes shader.overriding function.0.name) made function.0 g
+
+  -- the item at q reads as one of a parse
+  pub record ItemComes (made : ModuleValue) (q : ItemPlace) : Type 0 where
+    pub of : ParseOf
+    pub reads : World
+    pub decorated : DecoratesTypes (owned_parse of.b of.parse) (own_places of.parse) of.b.decoration reads
+    pub place : ItemPlace
+    pub stands : HasAt (owned_parse of.b of.parse) place
+    pub alike : ReadAlike (scope_alike reads (owned_parse of.b of.parse) made) (scope_of made) place q
+
+  -- all that a made module says is of the parses of what was reached, or of the shader's
+  pub record IsFaithful (made : ModuleValue) : Type 0 where
+    pub shader : BuiltModule
+    pub parse : ModuleValue
+    pub is : IsBuiltShader shader parse
+    pub functions : (k : ℕ) (g : FunctionValue × Span) → slice_get made.functions k ≡ Some g → FunctionComes shader made g.0
+    pub items : (q : ItemPlace) (r : Row) → world made q ≡ Some r → ItemComes made q
+    pub entry_points : (i : ℕ) (y : EntryValue) → slice_get made.entry_points i ≡ Some y → EntryComes shader parse made i y
+
+-- LAW: so is each module that a make answers
+abbrev pub FaithfulLaw : Type 0
+FaithfulLaw = (s : Settings) (ds : List Definition) (counter : ℕ) (m : ShaderSource) (made : ModuleValue) → ParsesModules s.front →
+    (answer s ds counter m).result ≡ Ok made → IsFaithful s ds counter m made

@@ -1,0 +1,280 @@
+-- What is linked of builds copies what they hold.
+use Rattle.std.proofs.Common.{◌≡◌, ⊎_elim, ◌⊎◌, ℕ, zero, suc, ◌*◌, ◌≤◌, if◌then◌else◌, List, [], ◌∷◌, length, fold, reverse, Some, Bool, true, false, slice_get, bytes_eq, All, inl, inr, refl, ap, sym, ◌∙◌, subst, arith, zero-le}
+use mathlib.Core.List.{reverse_aux}
+use Rattle.std.specs.List.{filter}
+use Rattle.std.proofs.lemmas.List.Elements.{All-cons, All-nil, All-head, All-tail, All-filter}
+use Rattle.std.proofs.lemmas.Option.{none-some, same_Some}
+use Rattle.naga_oil_ir.specs.ModuleValue.{ModuleValue, FunctionValue}
+use Rattle.naga_oil_ir.specs.Rows.{Row}
+use Rattle.naga_oil_ir.specs.declared.names.ItemPlace.{ItemPlace}
+use Rattle.naga_oil_ir.specs.declared.names.ItemPlace.TheVariants.{TypeItem, ConstantItem, OverrideItem, GlobalItem, ExpressionItem}
+use Rattle.naga_oil_ir.specs.declared.span.Span.{Span}
+use Rattle.naga_oil_lines.specs.Text.{is_among}
+use Rattle.naga_oil_lines.specs.Uses.{Import}
+use Rattle.naga_oil_derive.specs.CopiedLaw.{HasAt}
+use Rattle.naga_oil_derive.specs.Derived.{Source, Derived, nothing}
+use Rattle.naga_oil_derive.specs.DerivedLaw.{IsDerivation, IsSourceOf}
+use Rattle.naga_oil_derive.specs.DerivedValue.{import_item, set_source}
+use Rattle.naga_oil_derive.specs.Tree.{World, Kept}
+use Rattle.naga_oil_derive.specs.World.{goes, world, shifted}
+use Rattle.naga_oil_derive.proofs.DerivedLaws.{placed_law}
+use Rattle.naga_oil_derive.proofs.WorldLemmas.{named_names}
+use Rattle.naga_oil_form_laws.specs.EntryForm.{IsModuleFormed}
+use Rattle.naga_oil_form_laws.proofs.RequestLemmas.{from_at}
+use Rattle.naga_oil_link.specs.BuiltModule.{BuiltModule, Builds}
+use Rattle.naga_oil_link.specs.Linked.{LinkState, Asked, links_place, links_function, link_function, link_source, link_items, link_asked, asked_of, enter, link_within, link_import, link_imports, nothing_linked}
+use Rattle.naga_oil_link.specs.LinkView.{IsLinkFormed}
+use Rattle.naga_oil_link.specs.OwnPlaces.{OwnPlaces}
+use Rattle.naga_oil_link.specs.Places.{places_of}
+use Rattle.naga_oil_link.proofs.GoodFormLemmas.{has_places, nothing_formed_yet, source_formed}
+use Rattle.naga_oil_faith.specs.Scope.{ReadAlike, scope_of, scope_from}
+use Rattle.naga_oil_faith.specs.ByTree.{CopiesByTree}
+use Rattle.naga_oil_faith.specs.ByTreeLaw.{HasEarlierOperands}
+use Rattle.naga_oil_faith.specs.CopiedByTree.{AreTrueIn, IsMade}
+use Rattle.naga_oil_faith.specs.Frame.{HasMore, IsAllThere}
+use Rattle.naga_oil_faith.specs.HeldCopies.{IsCopyableFunction}
+use Rattle.naga_oil_faith.specs.InTurn.{CanCopyModule}
+use Rattle.naga_oil_faith.proofs.FrameLaws.{alike, target, tree_stays, item_alike}
+use Rattle.naga_oil_faith.proofs.HeldLemmas.{comes_there}
+use Rattle.naga_oil_faith.proofs.ThereLaws.{all_there}
+use Rattle.naga_oil_faith.proofs.TreeCopies.{made}
+use Rattle.naga_oil_faith.proofs.TurnLaws.{nowhere, no_meaning}
+use Rattle.naga_oil_copies.specs.ReadIn.{scope_in}
+use Rattle.naga_oil_copies.specs.LinkedCopies.{CopiesOfBuild, ReadsAsItemOf}
+use Rattle.naga_oil_copies.proofs.FormedSources.{can_copy}
+use Rattle.naga_oil_copies.proofs.Stages.{HasKeysOf, keys_stay, Setting, Stage, Stages, behind, read_behind, stage_begins, stage_same, stage_then, stage_item, stage_new, stage_made}
+use Rattle.naga_oil_copies.proofs.Scopes.{alike_same, behind_alike, in_alike}
+
+-- ---- copies in what is linked so far
+
+-- g copies a function of a build, in a module where all that it names is there, and the keys of the build's special types
+pub record LinkCopy (P : BuiltModule → Type 0) (t : ModuleValue) (g : FunctionValue) : Type 0 where
+  pub build : BuiltModule
+  pub among : P build
+  pub place : ℕ
+  pub function : FunctionValue × Span
+  pub at : slice_get build.value.functions place ≡ Some function
+  pub source_earlier : HasEarlierOperands function.0
+  pub copies : CopiesOfBuild build t function.0 g
+  pub there : IsAllThere t g
+  pub keys : HasKeysOf build.value t
+
+-- an item reads as one of a build
+pub record LinkItem (P : BuiltModule → Type 0) (t : ModuleValue) (q : ItemPlace) : Type 0 where
+  pub build : BuiltModule
+  pub among : P build
+  pub item : ReadsAsItemOf build t q
+  pub keys : HasKeysOf build.value t
+
+-- all that was linked so far
+pub record Linked (P : BuiltModule → Type 0) (d : Derived) : Type 0 where
+  pub formed : IsLinkFormed d
+  pub are_true : AreTrueIn d.target d.function_names
+  pub functions : (k : ℕ) (g : FunctionValue × Span) → slice_get d.target.functions k ≡ Some g → LinkCopy P d.target g.0
+  pub items : (q : ItemPlace) (r : Row) → world d.target q ≡ Some r → LinkItem P d.target q
+
+pub derived_of : (d : Derived) → IsLinkFormed d → (first : Kept) → IsDerivation first d
+unfolding IsLinkFormed
+derived_of d l first = (l first).items.derivation
+
+-- ---- where more is linked
+
+module _ (P : BuiltModule → Type 0) (first : Kept) (d : Derived) (i : IsDerivation first d) (u : ModuleValue) (more : HasMore d.target u) where
+  abbrev t : ModuleValue
+  t = d.target
+
+  copy_stays : (g : FunctionValue) → LinkCopy P t g → LinkCopy P u g
+  copy_stays g c =
+      let m = c.build.value in
+      let shift = shifted (c.build.index * 2097152) in
+      let more_there = target shift (λ n. n) (scope_in m t) c.function.0 g t u c.source_earlier c.copies.earlier i.sound.whole more c.there c.copies.copies in
+      let now = alike shift (λ n. n) (scope_in m t) (scope_of u) (scope_in m u) (scope_of u) c.function.0 g (in_alike m t u i.sound.whole i.special c.keys more) (alike_same (scope_of u)) more_there.0 in
+      record {
+        build = c.build;
+        among = c.among;
+        place = c.place;
+        function = c.function;
+        at = c.at;
+        source_earlier = c.source_earlier;
+        copies = record { copies = now; earlier = c.copies.earlier };
+        there = more_there.1;
+        keys = keys_stay m t u more c.keys;
+      }
+
+  item_stays : (q : ItemPlace) → HasAt t q → LinkItem P t q → LinkItem P u q
+  item_stays q h c =
+      let m = c.build.value in
+      let same = in_alike m t u i.sound.whole i.special c.keys more in
+      record {
+        build = c.build;
+        among = c.among;
+        item = (c.item.0, c.item.1, λ n. tree_stays t u i.sound.whole more q h n ∙ c.item.2 n ∙ sym (same.reads c.item.0 n));
+        keys = keys_stay m t u more c.keys;
+      }
+
+at_or_behind : (fs : List (FunctionValue × Span)) (k : ℕ) → ((x : FunctionValue × Span) × (slice_get fs k ≡ Some x)) ⊎ (length fs ≤ k)
+at_or_behind [] k = inr zero-le
+at_or_behind (x ∷ fs) zero = inl (x, refl)
+at_or_behind (x ∷ fs) (suc k) = ⊎_elim inl (λ l. inr (omega (arith, l))) (at_or_behind fs k)
+
+-- what went somewhere stands in the source
+pub source_there : (first : Kept) (d : Derived) (s : Source) (m : ModuleValue) (p q : ItemPlace) → IsDerivation first d → d.source ≡ Some s → s.value ≡ m → goes s.places p ≡ Some q → HasAt m p
+source_there first d s m p q i at is e =
+    let own = comes_there d.source s (λ y. IsSourceOf first y d.target) at i.source in
+    let k = own.midway.copied.known p q e in
+    let r = named_names (world s.value) (world d.target) (goes s.places) p k.0 k.1 in
+    (r.0, ap (λ (v : ModuleValue). world v p) (sym is) ∙ r.1)
+
+-- ---- one source
+
+-- a function of a build that is linked, or comes with the entry points, behind what was linked
+module _ (P : BuiltModule → Type 0) (b : BuiltModule) (among : P b) (form : IsModuleFormed b.value) (before : Derived) (l : Linked P before) (shift : ℕ) (moved : shift ≡ b.index * 2097152) where
+  abbrev m : ModuleValue
+  m = b.value
+
+  abbrev x : Setting
+  x = behind before m shift
+
+  abbrev w : World
+  w = read_behind before m
+
+  pub can : CanCopyModule m
+  can = can_copy m form
+
+  pub source_begins : Stage x w (set_source before m shift)
+  source_begins = stage_begins nowhere before m shift can (derived_of before l.formed nowhere) l.are_true
+
+  module _ (d : Derived) (t : Stage x w d) where
+    pub made_copies : (f g : FunctionValue) → IsCopyableFunction f → IsMade t.source d.target f g → CopiesOfBuild b d.target f g
+    made_copies f g c h =
+        let k = made x.first d t.source f g t.derivation t.is c.may h in
+        let now = alike (shifted t.source.offset) (λ n. n) (scope_from t.source d.target) (scope_of d.target) (scope_in m d.target) (scope_of d.target) f g (behind_alike before m shift d t) (alike_same (scope_of d.target)) k.0 in
+        record { copies = subst (λ o. CopiesByTree (shifted o) (λ n. n) (scope_in m d.target) f (scope_of d.target) g) (t.offset ∙ moved) now; earlier = k.1 }
+
+    new_function : (k : ℕ) (g : FunctionValue × Span) → length before.target.functions ≤ k → slice_get d.target.functions k ≡ Some g → LinkCopy P d.target g.0
+    new_function k g n at =
+        let h = stage_made x can w d t k g n at in
+        let c = (can.functions h.place h.function h.at).0.copyable in
+        record {
+          build = b;
+          among = among;
+          place = h.place;
+          function = h.function;
+          at = h.at;
+          source_earlier = c.may.form.earlier;
+          copies = made_copies h.function.0 g.0 c h.made;
+          there = all_there x.first d t.source h.function.0 g.0 t.derivation t.is c.may h.made;
+          keys = t.keys;
+        }
+
+    pub each_function : (k : ℕ) (g : FunctionValue × Span) → slice_get d.target.functions k ≡ Some g → LinkCopy P d.target g.0
+    each_function k g at =
+        ⊎_elim
+        (λ (o : (y : FunctionValue × Span) × (slice_get before.target.functions k ≡ Some y)). let same : o.0 ≡ g = same_Some o.0 g (sym (t.more.functions k o.0 o.1) ∙ at) in copy_stays P nowhere before (derived_of before l.formed nowhere) d.target t.more g.0 (l.functions k g (o.1 ∙ ap Some same)))
+        (λ n. new_function k g n at)
+        (at_or_behind before.target.functions k)
+
+    pub each_item : (q : ItemPlace) (r : Row) → world d.target q ≡ Some r → LinkItem P d.target q
+    each_item q r at =
+        ⊎_elim
+        (λ (o : world before.target q ≡ Some r). item_stays P nowhere before (derived_of before l.formed nowhere) d.target t.more q (r, o) (l.items q r o))
+        (λ (o : (p : ItemPlace) × (goes t.source.places p ≡ Some q)).
+        let reads : ReadAlike (scope_from t.source d.target) (scope_of d.target) o.0 q = (placed_law x.first d t.source o.0 q t.derivation t.is o.1).now in
+        record { build = b; among = among; item = (o.0, source_there x.first d t.source m o.0 q t.derivation t.is t.value o.1, item_alike (scope_from t.source d.target) (scope_of d.target) (scope_in m d.target) (scope_of d.target) o.0 q (behind_alike before m shift d t) (alike_same (scope_of d.target)) reads); keys = t.keys })
+        (t.items q r at)
+
+  -- items and functions one after another
+  places_linked : (ps : List ItemPlace) (d : Derived) (t : Stage x w d) → All (HasAt m) ps → Stages x w d (fold import_item d ps) t.source
+  places_linked [] d t a = stage_same x can w d t
+  places_linked (p ∷ ps) d t a =
+      let e = import_item d p in
+      let one = stage_item x can w d p t (All-head (HasAt m) p ps a) in
+      stage_then x can w w w d e (fold import_item e ps) t one (places_linked ps e one.stage (All-tail (HasAt m) p ps a))
+
+  -- a function stands in the module
+  abbrev StandsIn : FunctionValue × Span → Type 0
+  StandsIn y = (k : ℕ) × (slice_get m.functions k ≡ Some y)
+
+  functions_linked : (fs : List (FunctionValue × Span)) (d : Derived) (t : Stage x w d) → All StandsIn fs → Stages x w d (fold link_function d fs) t.source
+  functions_linked [] d t a = stage_same x can w d t
+  functions_linked (y ∷ fs) d t a =
+      let e = link_function d y in
+      let at = All-head StandsIn y fs a in
+      let one = stage_new x can w d at.0 y t at.1 in
+      stage_then x can w w w d e (fold link_function e fs) t one (functions_linked fs e one.stage (All-tail StandsIn y fs a))
+
+-- what is linked of a build
+source_linked : (P : BuiltModule → Type 0) (b : BuiltModule) (own : OwnPlaces) (asked : Asked) (d : Derived) → P b → IsModuleFormed b.value → Linked P d → Linked P (link_source b own b.value asked d)
+source_linked P b own asked d among form l =
+    let m = b.value in
+    let shift = b.index * 2097152 in
+    let x = behind d m shift in
+    let e = set_source d m shift in
+    let ps = filter (links_place own m asked) (places_of m) in
+    let fs = filter (links_function b asked) m.functions in
+    let Stands = λ (y : FunctionValue × Span). (k : ℕ) × (slice_get m.functions k ≡ Some y) in
+    let t = source_begins P b among form d l shift refl in
+    let a = places_linked P b among form d l shift refl ps e t (All-filter (links_place own m asked) (HasAt m) (places_of m) (has_places m)) in
+    let f = functions_linked P b among form d l shift refl fs (fold import_item e ps) a.stage (All-filter (links_function b asked) Stands m.functions (from_at Stands m.functions (λ k y at. (k, at)))) in
+    let u = fold link_function (fold import_item e ps) fs in
+    record {
+      formed = source_formed b own m asked d form l.formed;
+      are_true = f.stage.holds.are_true;
+      functions = each_function P b among form d l shift refl u f.stage;
+      items = each_item P b among form d l shift refl u f.stage;
+    }
+
+pub items_linked : (P : BuiltModule → Type 0) (b : BuiltModule) (asked : Asked) (d : Derived) → P b → IsModuleFormed b.value → Linked P d → Linked P (link_items false b asked d)
+unfolding link_items
+items_linked P b asked d among form l = source_linked P b b.own_in_value asked d among form l
+
+-- ---- imports
+
+-- a build may be linked
+abbrev MayLink : (BuiltModule → Type 0) → List ℕ × BuiltModule → Type 0
+MayLink P e = P e.1 × IsModuleFormed e.1.value
+
+fold_linked : (P : BuiltModule → Type 0) (f : LinkState → Import → LinkState) → ((s : LinkState) (i : Import) → Linked P s.derived → Linked P (f s i).derived) → (is : List Import) (s : LinkState) → Linked P s.derived → Linked P (fold f s is).derived
+fold_linked P f h [] s l = l
+fold_linked P f h (i ∷ is) s l = fold_linked P f h is (f s i) (h s i l)
+
+within_linked : (P : BuiltModule → Type 0) (f : LinkState → Import → LinkState) → ((s : LinkState) (i : Import) → Linked P s.derived → Linked P (f s i).derived) → (e : List ℕ × BuiltModule) (s : LinkState) → Linked P s.derived → (b : Bool) → Linked P (let r : LinkState = if b then s else fold f (enter e.0 s) e.1.imports in r.derived)
+within_linked P f h e s l true = l
+within_linked P f h e s l false = fold_linked P f h e.1.imports (enter e.0 s) l
+
+import_linked : (P : BuiltModule → Type 0) (bs : Builds) → All (MayLink P) bs → (s : LinkState) (i : Import) → Linked P s.derived → Linked P (link_import false bs s i).derived
+unfolding link_import
+import_linked P [] a s i l = l
+import_linked P (e ∷ bs) a s i l = one (import_linked P bs (All-tail (MayLink P) e bs a)) (bytes_eq i.import e.0)
+  where
+    own : MayLink P e
+    own = All-head (MayLink P) e bs a
+
+    one : ((s : LinkState) (i : Import) → Linked P s.derived → Linked P (link_import false bs s i).derived) → (b : Bool) → Linked P (let r : LinkState = if b then link_asked false i e.1 (link_within (link_import false bs) e s) else link_import false bs s i in r.derived)
+    one rest true = items_linked P e.1 (asked_of i e.1) (link_within (link_import false bs) e s).derived own.0 own.1 (within_linked P (link_import false bs) rest e s l (is_among s.entered e.0))
+    one rest false = rest s i l
+
+all_reversed : {X : Type 0} (Q : X → Type 0) (xs ys : List X) → All Q xs → All Q ys → All Q (reverse_aux xs ys)
+all_reversed Q [] ys a b = b
+all_reversed Q (x ∷ xs) ys a b = all_reversed Q xs (x ∷ ys) (All-tail Q x xs a) (All-cons Q x ys (All-head Q x xs a) b)
+
+nothing_there : (q : ItemPlace) (r : Row) → world nothing.target q ≡ Some r → ⊥
+unfolding world
+nothing_there (TypeItem k) r e = none-some r e
+nothing_there (ConstantItem k) r e = none-some r e
+nothing_there (OverrideItem k) r e = none-some r e
+nothing_there (GlobalItem k) r e = none-some r e
+nothing_there (ExpressionItem k) r e = none-some r e
+
+nothing_is_linked : (P : BuiltModule → Type 0) → Linked P nothing
+nothing_is_linked P = record {
+  formed = nothing_formed_yet;
+  are_true = λ n h e. absurd (no_meaning n h e);
+  functions = λ k g at. absurd (none-some g at);
+  items = λ q r at. absurd (nothing_there q r at);
+}
+
+-- behind what imports ask for
+pub imports_linked : (P : BuiltModule → Type 0) (bs : Builds) (is : List Import) → All (MayLink P) bs → Linked P (link_imports false bs is nothing_linked).derived
+imports_linked P bs is a =
+    fold_linked P (link_import false (reverse bs)) (import_linked P (reverse bs) (all_reversed (MayLink P) bs [] a (All-nil (MayLink P)))) is nothing_linked (nothing_is_linked P)

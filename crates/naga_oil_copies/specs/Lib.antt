@@ -1,0 +1,8 @@
+-- The definitions that the contracts of this crate cite.
+pub mod ReadIn
+pub mod KeptAlike
+pub mod LinkedCopies
+pub mod HeldBuild
+pub mod ThroughBuilds
+pub mod OrderedCopies
+mod CopiesRows

@@ -1,0 +1,4 @@
+//! What is copied into builds, and linked of them, told without handles.
+#![tactic(auto)]
+
+pub mod laws;

@@ -1,0 +1,4 @@
+pub mod Names
+pub mod Symbols
+pub mod SymbolSplits
+pub mod Refused

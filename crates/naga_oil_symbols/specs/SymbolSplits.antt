@@ -1,0 +1,21 @@
+-- How a line is cut into symbols, from its front.
+use Rattle.std.specs.Prelude.{◌≡◌, ◌≢◌, ℕ, ◌<◌, true, false, List, ◌++◌, length, slice_index, Option, Some, None, MatchOption}
+use Rattle.std.specs.List.{list_all}
+use Rattle.std.specs.Borrow.{Bor}
+use Rattle.naga_oil_symbols.specs.Symbols.{Piece, is_name_char, begins_with_name_char, symbol_before, symbols_of, pieces, symbol_of}
+use Rattle.naga_oil_symbols.specs.declared.symbol.Symbol.{Symbol as SymbolOfCode}
+
+-- the rest stands behind the characters of names that the text begins with
+pub record StandsBehindRun (text rest : List ℕ) : Type 0 where
+  pub front : List ℕ
+  pub bytes : text ≡ front ++ rest
+  pub passing : list_all is_name_char front ≡ true
+  pub ends : begins_with_name_char rest ≡ false
+
+-- the text begins with no space
+abbrev pub BeginsWithoutSpace : List ℕ → Type 0
+BeginsWithoutSpace text = slice_index text 0 ≢ 32
+
+-- a symbol stands before what a rest of so many bytes has, or the pieces are no symbols
+abbrev pub Begins : List Piece → ℕ → Option (SymbolOfCode × Bor (List ℕ)) → Type 0
+Begins ps len found = MatchOption found (symbols_of ps ≡ None) (λ r. (symbols_of ps ≡ symbol_before (Some (symbol_of r.0)) (symbols_of (pieces r.1.now))) × (length r.1.now < len))

@@ -1,0 +1,133 @@
+// The symbols of a line.
+ghost use Rattle.std.specs.Prelude.{◌≡◌, ◌<◌, ◌≤◌, length, option_map};
+ghost use Rattle.naga_oil_symbols.specs.Symbols.{pieces, symbol_of, line_of, symbols as symbols_in, word as word_of, is_name as is_name_text};
+ghost use Rattle.naga_oil_symbols.specs.SymbolSplits.{StandsBehindRun, BeginsWithoutSpace, Begins};
+ghost use Rattle.naga_oil_symbols.specs.Refused.{understood, Gives};
+
+use naga_oil_lines::text::{split_first_char, text_before};
+use std::alloc::{AllocError, AllocFailed, Global};
+
+/// The greatest number of a text.
+pub const GREATEST: u64 = 2147483647;
+
+#[derive(Clone, Copy)]
+pub enum Symbol<'a> {
+    Name(&'a str),
+    /// A name and the `(` behind it.
+    Opens(&'a str),
+    Number(u64),
+    Equals,
+    Plus,
+    Comma,
+    Closes,
+}
+
+/// Why a line isn't read.
+#[derive(Clone, Copy)]
+pub enum Refusal<'a> {
+    NotUnderstood,
+    Unknown(&'a str),
+    Memory,
+}
+
+impl From<AllocError> for Refusal<'_> {
+    ghost use Rattle.std.specs.Prelude.{◌≡◌};
+    ghost use Rattle.naga_oil_symbols.specs.declared.symbol.Refusal.TheVariants.{Memory};
+
+    ghost from_gives = { λ _ refusal. refusal ≡ Memory };
+
+    fn from(_: AllocError) -> Self {
+        Refusal::Memory
+    }
+}
+
+impl<T: Drop> From<AllocFailed<T>> for Refusal<'_> {
+    ghost use Rattle.std.specs.Prelude.{◌≡◌};
+    ghost use Rattle.naga_oil_symbols.specs.declared.symbol.Refusal.TheVariants.{Memory};
+
+    ghost from_gives = { λ _ refusal. refusal ≡ Memory };
+
+    fn from(_: AllocFailed<T>) -> Self {
+        Refusal::Memory
+    }
+}
+
+// What is left behind the characters of names that a text begins with.
+fn behind_run(text: &str) -> &str
+    ensures { StandsBehindRun text.now result.now }
+{
+    text.trim_start_matches(|c: char| c.is_ascii_alphanumeric() || c == '_')
+}
+
+// What is left behind the spaces that a text begins with.
+fn behind_spaces(text: &str) -> &str
+    ensures pieces { pieces result.now ≡ pieces text.now }
+    ensures bound { length result.now ≤ length text.now }
+    ensures begins { BeginsWithoutSpace result.now }
+{
+    text.trim_start_matches(' ')
+}
+
+/// Whether a text is a name.
+pub fn is_name(text: &str) -> bool
+    ensures { result ≡ is_name_text text.now }
+{
+    match text.as_bytes() {
+        [] | [b'0'..=b'9', ..] => false,
+        _ => behind_run(text).is_empty(),
+    }
+}
+
+#[tactic(auto, using(naga_oil_pre::proofs::ValueLemmas::parses_u32))]
+fn word(run: &str) -> Option<Symbol<'_>>
+    ensures { option_map symbol_of result ≡ word_of run.now }
+{
+    if is_name(run) {
+        return Some(Symbol::Name(run));
+    }
+    match run.parse::<u32>() {
+        Ok(value) if u64::from(value) <= GREATEST => Some(Symbol::Number(u64::from(value))),
+        _ => None,
+    }
+}
+
+// The symbol that a text begins with, and what follows.
+fn symbol_at(text: &str) -> Option<(Symbol<'_>, &str)>
+    requires begins { BeginsWithoutSpace text.now }
+    requires some { 0 < length text.now }
+    ensures { Begins (pieces text.now) (length text.now) result }
+{
+    let rest = behind_run(text);
+    let run = text_before(text, rest);
+    if run.is_empty() {
+        let (first, more) = split_first_char(text)?;
+        let sign = match first {
+            '=' => Symbol::Equals,
+            '+' => Symbol::Plus,
+            ',' => Symbol::Comma,
+            ')' => Symbol::Closes,
+            _ => return None,
+        };
+        return Some((sign, more));
+    }
+    let behind = behind_spaces(rest);
+    match behind.strip_prefix('(') {
+        None => Some((word(run)?, behind)),
+        Some(more) if is_name(run) => Some((Symbol::Opens(run), more)),
+        Some(_) => None,
+    }
+}
+
+/// The symbols of a line.
+pub fn symbols(alloc: Global, line: &str) -> Result<Vec<Symbol<'_>>, Refusal<'_>>
+    ensures { Gives (λ v. line_of v.items) result (understood (symbols_in line.now)) }
+{
+    let mut symbols = Vec::new(alloc);
+    let mut rest = behind_spaces(line);
+    while !rest.is_empty() {
+        let (symbol, more) = symbol_at(rest).ok_or(Refusal::NotUnderstood)?;
+        symbols.push(symbol)?;
+        rest = behind_spaces(more);
+    }
+    Ok(symbols)
+}
