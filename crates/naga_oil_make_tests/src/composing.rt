@@ -327,6 +327,27 @@ fn is_merged(function: &Function) -> bool {
         )
 }
 
+// A sum of ten thousand terms initialises a local: it is reached, copied and written without the machine's stack.
+#[test]
+fn makes_a_long_initialiser(rt: HostRuntime) -> Result<(), Fail> {
+    let alloc = rt.alloc();
+    let ones = "1 + ".repeat(alloc, 9_999)?;
+    let source = format!(in alloc; "fn f() with V = {ones}1 = V")?;
+    let made = format!(in alloc;
+        "fn fX_naga_oil_mod_XNUX() with V = {ones}1 = V\nentry main = fX_naga_oil_mod_XNUX()\n"
+    )?;
+    let mut composer = Composer::new(alloc, Mini);
+    adds(&rt, &mut composer, "m", source.as_str(), &[])?;
+    makes(
+        &rt,
+        &mut composer,
+        "entry main = m::f()",
+        &[],
+        made.as_str(),
+    )?;
+    Ok(())
+}
+
 // Many entry points over one function.
 #[test]
 fn makes_many_entry_points(rt: HostRuntime) -> Result<(), Fail> {
