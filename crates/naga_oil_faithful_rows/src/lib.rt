@@ -1,0 +1,4 @@
+//! A whole small make, and what its definition refuses.
+#![tactic(auto)]
+
+pub mod laws;
