@@ -243,6 +243,7 @@ fn has_locals(rt: &impl Abort, function: &Function, wanted: &[(&str, usize)]) {
 fn reads_globals_and_locals(rt: HostRuntime) {
     let read = read(&rt, LOCALS);
     has_global(&rt, &read, Span::new(0, 9));
+    assert_eq!(&rt; read.functions.len(), 1);
     let f = &read.functions.as_slice()[0].0;
     has_locals(&rt, f, &[("V", 3), ("W", 6)]);
     let expressions = [
