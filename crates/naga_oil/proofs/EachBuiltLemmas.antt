@@ -224,7 +224,7 @@ record MadeOf (s : Settings) (ds : List Definition) (m : ShaderSource) (text : L
   output : Output
   preprocessed : preprocessed_of (defined defs) definition ≡ Ok output
   all : AllBuilt s ds defs bs
-  shader : Finished s bs definition output made
+  shader : Finished s bs definition output m.shader_type made
 
 make_made : (s : Settings) (ds : List Definition) (m : ShaderSource) (text : List ℕ) (made : ModuleValue) → (make s ds m text []).result ≡ Ok made → MadeOf s ds m text (make s ds m text []).builds made
 unfolding make
@@ -272,7 +272,7 @@ pub record Made (s : Settings) (ds : List Definition) (counter : ℕ) (m : Shade
   pub output : Output
   pub preprocessed : preprocessed_of (defined (make_defs ds counter m)) definition ≡ Ok output
   pub all : AllBuilt s ds (make_defs ds counter m) bs
-  pub shader : Finished s bs definition output made
+  pub shader : Finished s bs definition output m.shader_type made
 
 pub answer_made : (s : Settings) (ds : List Definition) (counter : ℕ) (m : ShaderSource) (made : ModuleValue) → (answer s ds counter m).result ≡ Ok made → Made s ds counter m (answer s ds counter m).builds made
 unfolding answer

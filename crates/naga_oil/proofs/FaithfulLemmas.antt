@@ -1,4 +1,4 @@
--- Each module that a make answers is faithful to what was parsed.
+-- Each module that a make answers is faithful to what was parsed, and its calls go down its chains.
 use Rattle.std.proofs.Common.{◌≡◌, inl, inr, ℕ, ◌+◌, ◌*◌, ◌⊎◌, List, take, [], ◌∷◌, Option, Some, None, Ok, Err, Result, option_map, slice_get, refl, ap, sym, ◌∙◌, subst, arith}
 use Rattle.std.proofs.lemmas.Option.{none-some, same_Some, slice_get-map}
 use Rattle.naga_oil_ir.specs.ModuleValue.{ModuleValue, FunctionValue, EntryValue}
@@ -40,10 +40,12 @@ use Rattle.naga_oil_copies.proofs.Wholes.{linked_copies}
 use Rattle.naga_oil_build.specs.Held.{Settings}
 use Rattle.naga_oil.specs.CallsSent.{call_goes}
 use Rattle.naga_oil.specs.Chain.{all_sent_down, staged, with_stages, put_in_order_as, chain_all, chain}
+use Rattle.naga_oil.specs.ChainsLaw.{GoDownChains, CallsGoDownLaw}
 use Rattle.naga_oil.specs.Faithful.{ParsesModules, owned_parse, IsBuiltModule, IsBuiltShader, made_builds, CopiesParsed, FunctionComes, ItemComes, EntryComes, IsFaithful, FaithfulLaw}
 use Rattle.naga_oil.specs.MakeDefs.{make_defs}
 use Rattle.naga_oil.specs.Shader.{read_shader}
 use Rattle.naga_oil.proofs.BuiltOfLemmas.{BuiltOf, built_of}
+use Rattle.naga_oil.proofs.ChainsLaws.{chains_law}
 use Rattle.naga_oil.proofs.EachBuiltLemmas.{AllBuilt, answer_made}
 use Rattle.naga_oil.proofs.FinishedLemmas.{shader_index}
 use Rattle.naga_oil.proofs.SentDownLemmas.{IsSent, AllAsCopied, all_down_sent}
@@ -300,9 +302,25 @@ module _ (s : Settings) (ds : List Definition) (counter : ℕ) (source : ShaderS
     pub faithful_over : (k : ShaderType) (made : ModuleValue) → chain b.overriding (with_stages k t) ≡ Ok made → IsFaithful s ds counter source made
     faithful_over k made e = all_comes made (chained t linked.1 start b.overriding k made e)
 
+    pub chains_over : (k : ShaderType) (made : ModuleValue) → chain b.overriding (with_stages k t) ≡ Ok made → GoDownChains b.overriding (with_stages k t) made
+    chains_over k made e = chains_law b.overriding (with_stages k t) made (stages_formed k t linked.1) e
+
 pub faithful : FaithfulLaw
 faithful s ds counter m made modules e =
     let a = answer_made s ds counter m made e in
     let f = a.shader in
     let own = built_of s (make_defs ds counter m) a.definition a.output (made_builds s ds counter m) f.shader modules a.preprocessed f.built in
-    faithful_over s ds counter m modules a.all a.read a.source a.definition a.described f.shader own.0 (own.1 ∙ shader_index m a.read.0 a.definition a.described) f.shader_type made f.chained
+    faithful_over s ds counter m modules a.all a.read a.source a.definition a.described f.shader own.0 (own.1 ∙ shader_index m a.read.0 a.definition a.described) m.shader_type made f.chained
+
+pub calls_go_down : CallsGoDownLaw
+calls_go_down s ds counter m made modules e =
+    let a = answer_made s ds counter m made e in
+    let f = a.shader in
+    let own = built_of s (make_defs ds counter m) a.definition a.output (made_builds s ds counter m) f.shader modules a.preprocessed f.built in
+    let first = own.1 ∙ shader_index m a.read.0 a.definition a.described in
+    record {
+      shader = f.shader;
+      parse = own.0.parse;
+      is = shader_is s ds counter m modules a.all a.read a.source a.definition a.described f.shader own.0 first;
+      chains = chains_over s ds counter m modules a.all a.read a.source a.definition a.described f.shader own.0 first m.shader_type made f.chained;
+    }

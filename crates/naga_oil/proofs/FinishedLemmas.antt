@@ -66,8 +66,7 @@ made_defs ds counter m read defs e h = sym (ap (λ (r : Result (List ℕ × ℕ)
 -- ---- what is made of it
 
 -- a module that is made of a shader's build over others
-pub record Finished (s : Settings) (builds : Builds) (d : Definition) (out : Output) (made : ModuleValue) : Type 0 where
-  pub shader_type : ShaderType
+pub record Finished (s : Settings) (builds : Builds) (d : Definition) (out : Output) (shader_type : ShaderType) (made : ModuleValue) : Type 0 where
   pub shader : BuiltModule
   pub built : build s d out builds ≡ Ok shader
   pub chained : chain shader.overriding (with_stages shader_type (link_whole builds shader)) ≡ Ok made
@@ -80,10 +79,10 @@ composed s defs bs b t place made e = one (chain b.overriding (with_stages t (li
     one (Ok m) at q = at ∙ ap (λ (x : ModuleValue). Ok x) (valid_back s bs defs place m made q)
     one (Err f) at q = absurd cc
 
-pub finished : (s : Settings) (defs : Defs) (bs : Builds) (d : Definition) (out : Output) (t : ShaderType) (made : ModuleValue) → finish s defs bs d out t ≡ Ok made → Finished s bs d out made
+pub finished : (s : Settings) (defs : Defs) (bs : Builds) (d : Definition) (out : Output) (t : ShaderType) (made : ModuleValue) → finish s defs bs d out t ≡ Ok made → Finished s bs d out t made
 unfolding finish
 finished s defs bs d out t made e = one (built_in_text d.file_path out.text (build s d out bs)) refl e
   where
-    one : (r : Result BuiltModule Refused) → built_in_text d.file_path out.text (build s d out bs) ≡ r → (r >>= λ b. compose s defs bs b t (in_text d.file_path out.text b.offset)) ≡ Ok made → Finished s bs d out made
-    one (Ok b) at q = record { shader_type = t; shader = b; built = text_back d.file_path out.text (build s d out bs) b at; chained = composed s defs bs b t (in_text d.file_path out.text b.offset) made q }
+    one : (r : Result BuiltModule Refused) → built_in_text d.file_path out.text (build s d out bs) ≡ r → (r >>= λ b. compose s defs bs b t (in_text d.file_path out.text b.offset)) ≡ Ok made → Finished s bs d out t made
+    one (Ok b) at q = record { shader = b; built = text_back d.file_path out.text (build s d out bs) b at; chained = composed s defs bs b t (in_text d.file_path out.text b.offset) made q }
     one (Err f) at q = absurd cc

@@ -34,4 +34,5 @@ pub mod FinishedLemmas
 pub mod EachBuiltLemmas
 pub mod SentDownLemmas
 pub mod FaithfulLemmas
+pub mod CallsLaws
 pub mod ChainsLaws

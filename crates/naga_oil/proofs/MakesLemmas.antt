@@ -13,6 +13,7 @@ use Rattle.naga_oil_registry.specs.Descriptor.{ShaderSource}
 use Rattle.naga_oil_link.specs.BuiltModule.{Builds}
 use Rattle.naga_oil_build.specs.Held.{Settings}
 use Rattle.naga_oil.specs.Answer.{make, answer}
+use Rattle.naga_oil.specs.ChainsLaw.{CallsGoDown}
 use Rattle.naga_oil.specs.Faithful.{ParsesModules, IsFaithful}
 use Rattle.naga_oil.specs.MakeDefs.{defs_of_text, defs_or_none, make_defs}
 use Rattle.naga_oil.specs.MakeView.{KeepsFirst, memory_nowhere}
@@ -24,7 +25,7 @@ use Rattle.naga_oil.specs.Store.{Kept, keep_builds, count_kept}
 use Rattle.naga_oil.specs.declared.compose.error.ComposerError.{ComposerError}
 use Rattle.naga_oil.proofs.AddsLemmas.{IsRefusal, failed, unless_memory}
 use Rattle.naga_oil.proofs.DoesLemmas.{does_answers}
-use Rattle.naga_oil.proofs.FaithfulLemmas.{faithful}
+use Rattle.naga_oil.proofs.FaithfulLemmas.{faithful, calls_go_down}
 use Rattle.naga_oil.proofs.KeepsLemmas.{always}
 use Rattle.naga_oil.proofs.StoreKeyLemmas.{keeps_none}
 use Rattle.naga_oil.proofs.PlacedLemmas.{tells_on, tells_placed, answers_same}
@@ -66,6 +67,11 @@ module _ {B : Type 0} (front : B → FrontEnd) (old : State B) (m : ShaderSource
   made_faithful (Ok made) modules e = faithful (settings_of front old) old.registry old.counter m (module_value made) modules e
   made_faithful (Err e) modules h = tt
 
+  -- its calls go down its chains
+  made_chained : (result : Result Module ComposerError) → ParsesModules (front old.front) → Answers module_value result (answer (settings_of front old) old.registry old.counter m).result → IfOk result (λ made. CallsGoDown (settings_of front old) old.registry old.counter m (module_value made))
+  made_chained (Ok made) modules e = calls_go_down (settings_of front old) old.registry old.counter m (module_value made) modules e
+  made_chained (Err e) modules h = tt
+
   -- the source isn't read
   pub makes_unread : (inner : ComposerErrorInner) (e : ComposerError) → old.builds ≤ 18446744073709551615 → IsRefusal inner e source_place → Fails inner (read_source old.counter m.source) → Makes front old m (Err e) old
   unfolding answer
@@ -81,6 +87,7 @@ module _ {B : Type 0} (front : B → FrontEnd) (old : State B) (m : ShaderSource
     more = keeps_none old.kept;
     builds = counted_none old.builds old.kept fits;
     faithful = λ modules. tt;
+    chains = λ modules. tt;
     rest = refl;
   }
     where
@@ -105,6 +112,7 @@ module _ {B : Type 0} (front : B → FrontEnd) (old : State B) (m : ShaderSource
         more = first.all;
         builds = counts;
         faithful = λ modules. made_faithful result modules replies;
+        chains = λ modules. made_chained result modules replies;
         rest = refl;
       }
 

@@ -2,14 +2,19 @@
 use Rattle.std.specs.Prelude.{ℕ, ◌≡◌, true, false, List, slice_get, Some, Ok}
 use Rattle.naga_oil_form_laws.specs.EntryForm.{IsModuleFormed}
 use Rattle.naga_oil_ir.specs.ModuleValue.{ModuleValue}
+use Rattle.naga_oil_ir.specs.Rows.{Text}
 use Rattle.naga_oil_link.specs.BuiltModule.{BuiltModule, Builds, Overriding}
 use Rattle.naga_oil_link.specs.Linked.{link_whole}
 use Rattle.naga_oil_build.specs.Held.{Settings}
-use Rattle.naga_oil_redirect.specs.Chain.{IsSentDown}
+use Rattle.naga_oil_redirect.specs.Chain.{destination, IsSentDown}
 use Rattle.naga_oil_redirect.specs.ChainLaw.{is_in_chain}
-use Rattle.naga_oil_registry.specs.Definition.{Defs}
+use Rattle.naga_oil_registry.specs.Definition.{Definition, Defs}
+use Rattle.naga_oil_registry.specs.Descriptor.{ShaderSource}
 use Rattle.naga_oil_registry.specs.declared.descriptor.ShaderType.{ShaderType}
+use Rattle.naga_oil.specs.Answer.{answer}
+use Rattle.naga_oil.specs.CallsSent.{call_goes}
 use Rattle.naga_oil.specs.Chain.{chain, with_stages}
+use Rattle.naga_oil.specs.Faithful.{ParsesModules, made_builds, IsBuiltShader}
 use Rattle.naga_oil.specs.Finish.{compose}
 use Rattle.naga_oil.specs.Refused.{Place}
 
@@ -37,3 +42,27 @@ abbrev pub ComposedLaw : Type 0
 ComposedLaw = (s : Settings) (defs : Defs) (builds : Builds) (b : BuiltModule) (shader_type : ShaderType) (place : Place) (made : ModuleValue) →
     IsModuleFormed (link_whole builds b) → compose s defs builds b shader_type place ≡ Ok made →
     GoDownChains b.overriding (with_stages shader_type (link_whole builds b)) made
+
+-- LAW: and so with what a caller calls in place of such a function
+abbrev pub CallsLaw : Type 0
+CallsLaw = (all : Overriding) (i : ℕ) (a : List ℕ × List (List ℕ)) (caller : Text) →
+    slice_get all i ≡ Some a → StandsApart all i a → call_goes all caller (Some a.0) ≡ Some (destination a.1 caller a.0)
+
+-- ---- a make
+
+module _ (s : Settings) (ds : List Definition) (counter : ℕ) (m : ShaderSource) where
+  -- a shader's build as it is linked behind what it imports, with its entry points' stage
+  abbrev pub linked_shader : BuiltModule → ModuleValue
+  linked_shader shader = with_stages m.shader_type (link_whole (made_builds s ds counter m) shader)
+
+  -- made has the functions and entry points of the linked shader, with each call of a function that is overridden at its destination
+  pub record CallsGoDown (made : ModuleValue) : Type 0 where
+    pub shader : BuiltModule
+    pub parse : ModuleValue
+    pub is : IsBuiltShader s ds counter m shader parse
+    pub chains : GoDownChains shader.overriding (linked_shader shader) made
+
+-- LAW: so it is with each module that a make answers
+abbrev pub CallsGoDownLaw : Type 0
+CallsGoDownLaw = (s : Settings) (ds : List Definition) (counter : ℕ) (m : ShaderSource) (made : ModuleValue) →
+    ParsesModules s.front → (answer s ds counter m).result ≡ Ok made → CallsGoDown s ds counter m made

@@ -7,6 +7,7 @@ use Rattle.naga_oil_pre.specs.View.{fault_of}
 use Rattle.naga_oil_registry.specs.Descriptor.{ShaderSource}
 use Rattle.naga_oil_build.specs.Held.{Settings, settings}
 use Rattle.naga_oil.specs.Answer.{answer}
+use Rattle.naga_oil.specs.ChainsLaw.{CallsGoDown}
 use Rattle.naga_oil.specs.Faithful.{ParsesModules, IsFaithful}
 use Rattle.naga_oil.specs.MakeDefs.{make_defs}
 use Rattle.naga_oil.specs.Refused.{Answers, UnlessMemory, refused_of}
@@ -19,8 +20,8 @@ abbrev pub settings_of : {B : Type 0} → (front : B → FrontEnd) → State B �
 settings_of front c = settings (front c.front) c.capabilities c.validate c.override_any
 
 -- A make replies its answer, and changes the counter by the bindings that were read, and what is kept. No kept build is lost; unless
--- memory ran out, just the builds of its answer are kept that weren't; and those newly kept are counted. What the module says is of
--- what was parsed, where the front end parses modules.
+-- memory ran out, just the builds of its answer are kept that weren't; and those newly kept are counted. Where the front end parses
+-- modules, what the module says is of what was parsed; and however many functions override one, each call of it goes to its destination.
 pub record Makes {B : Type 0} (front : B → FrontEnd) (old : State B) (m : ShaderSource) (result : Result Module ComposerError) (new : State B) : Type 0 where
   pub reply : Answers module_value result (answer (settings_of front old) old.registry old.counter m).result
   pub counter : Counts (λ e. fault_of e.inner) result m.source old.counter new.counter
@@ -28,4 +29,5 @@ pub record Makes {B : Type 0} (front : B → FrontEnd) (old : State B) (m : Shad
   pub more : KeepsAll old.kept new.kept
   pub builds : new.builds ≡ count_kept old.builds old.kept new.kept
   pub faithful : ParsesModules (front old.front) → IfOk result (λ made. IsFaithful (settings_of front old) old.registry old.counter m (module_value made))
+  pub chains : ParsesModules (front old.front) → IfOk result (λ made. CallsGoDown (settings_of front old) old.registry old.counter m (module_value made))
   pub rest : new ≡ record old { counter = new.counter; kept = new.kept; builds = new.builds }

@@ -1,6 +1,6 @@
 //! What the builds of a make depend on.
 ghost use Rattle.naga_oil.specs.AfreshLaw.{AfreshLaw, ReadingLaw};
-ghost use Rattle.naga_oil.specs.ChainsLaw.{ChainsLaw, ComposedLaw};
+ghost use Rattle.naga_oil.specs.ChainsLaw.{CallsLaw, ChainsLaw, ComposedLaw};
 ghost use Rattle.naga_oil.specs.LocalLaw.{BuildLaw, FinishLaw, ImportLaw, LinkLaw};
 ghost use Rattle.naga_oil.specs.NewlyKeptLaw.{NewlyKeptLaw};
 ghost use Rattle.naga_oil.specs.ReachLaw.{ProjectionLaw, RegistryLaw};
@@ -55,7 +55,11 @@ pub fn builds_are_kept_once()
 
 /// Of the functions that override one, each calls the one before it, the first one the function itself, and all others, with
 /// the entry points, call the last, however many there are.
+///
+/// What a made shader's functions call is told of their sources by `call_goes`, which is that destination for a function
+/// that is overridden.
 pub fn calls_go_down_chains()
     ensures chain { ChainsLaw }
     ensures compose { ComposedLaw }
+    ensures call { CallsLaw }
 {}
