@@ -113,6 +113,7 @@ build() {
     (cd "$folder" && cargo build --release --offline --quiet) > "$folder/log" 2>&1
 }
 
+rm -f "$folder/peer"
 command -v cargo > /dev/null || give_up 'there is no cargo'
 source_of preprocess > /dev/null || give_up "$upstream has no src/compose/preprocess.rs"
 manifest > "$folder/Cargo.toml"
