@@ -1,2 +1,4 @@
 pub mod OverwriteLemmas
 pub mod WordLemmas
+pub mod ListingLemmas
+pub mod ProgramLemmas

@@ -33,7 +33,7 @@ all_named : (P : String Global → Type 0) (Q : List ℕ → Type 0) → ((s : S
 all_named P Q f [] h = h
 all_named P Q f (e ∷ es) h = (f e.0 h.0, all_named P Q f es h.1)
 
-sorted_named : (es : Entries) → IsStrictlySortedBy string_cmp (keys_of es) → IsStrictlySortedBy (slice_cmp nat_cmp) (keys_of (named es))
+pub sorted_named : (es : Entries) → IsStrictlySortedBy string_cmp (keys_of es) → IsStrictlySortedBy (slice_cmp nat_cmp) (keys_of (named es))
 unfolding IsStrictlySortedBy
 sorted_named [] h = h
 sorted_named (e ∷ es) h = (all_named _ _ (λ s below. below) es h.0, sorted_named es h.1)

@@ -3,3 +3,7 @@ pub mod Defined
 pub mod Told
 pub mod Printed
 pub mod WordRows
+pub mod Help
+pub mod Listing
+pub mod Extra
+pub mod ExtraRows

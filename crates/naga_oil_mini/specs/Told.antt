@@ -51,7 +51,7 @@ abbrev pub Tells : Refusal → (old new : Option (List ℕ)) → Type 0
 Tells refusal old new = Appends old new (message_of refusal)
 
 -- what is told of a text that has no value: the report of its fault, or that there is no memory
-abbrev pub Reports : (path text : List ℕ) → Result (List ℕ) FaultOfText → Refusal → Type 0
+abbrev pub Reports : {Y : Type 0} → (path text : List ℕ) → Result Y FaultOfText → Refusal → Type 0
 Reports path text value (Fault report) = (f : FaultOfText) × (value ≡ Err f) × (string_bytes report ≡ written.report path text 0 (Some f))
 Reports path text value Memory = ⊤
 Reports path text value e = ⊥

@@ -8,13 +8,17 @@ ghost use Rattle.naga_oil_lines.specs.Text.{texts};
 ghost use Rattle.naga_oil_mini.specs.Told.{AppendsFront, IsAsked, Refuses, RefusesFiles, LeavesOut, Tells, TellsFront, Writes, status_of};
 
 mod definitions;
+mod help;
+mod listing;
 mod make;
 mod pre;
+mod program;
 mod refusal;
 #[cfg(test)]
 mod tests;
 mod words;
 
+pub use program::program;
 pub use refusal::Refusal;
 use std::alloc::{AllocError, Global};
 use std::io::{self, ErrorKind, Write};
@@ -41,7 +45,7 @@ fn answer<'a, F: FnMut(&str) -> Result<Option<Vec<u8>>, AllocError> + Drop, O: W
         Task::Preprocess => pre::shown_file(alloc, top.0, top.1.as_str(), definitions)?,
         Task::Make => make::made(alloc, top, modules, &asked, definitions)?,
     };
-    match show(out, source.as_str()) {
+    match show(out, source.as_bytes()) {
         Ok(()) => Ok(()),
         Err(_) => Err(Refusal::Write),
     }
@@ -87,11 +91,11 @@ fn put<W: Write>(to: &mut W, bytes: &[u8]) -> io::Result<()>
     Err(io::Error::from(ErrorKind::Interrupted))
 }
 
-// Writes a text and hands it on.
-fn show<O: Write>(out: &mut O, text: &str) -> io::Result<()>
-    ensures { OnOk result (Appends (O.contents out.old) (O.contents out.new) text.now) }
+// Writes the bytes and hands them on.
+fn show<O: Write>(out: &mut O, bytes: &[u8]) -> io::Result<()>
+    ensures { OnOk result (Appends (O.contents out.old) (O.contents out.new) bytes.now) }
 {
-    put(out, text.as_bytes())?;
+    put(out, bytes)?;
     out.flush()
 }
 

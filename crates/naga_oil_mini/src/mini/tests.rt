@@ -1,5 +1,6 @@
 // Each answer of `oil`, at a reader and writers over memory.
 mod examples;
+mod program;
 mod projects;
 
 use super::oil;

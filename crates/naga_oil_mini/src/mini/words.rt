@@ -1,7 +1,7 @@
 // What the words behind the program's name ask for.
 ghost use Rattle.std.specs.Prelude.{◌≡◌, ◌<◌, IfOk, IfErr, Some, option_map, length, drop};
 ghost use Rattle.naga_oil_symbols.specs.Names.{texts_of};
-ghost use Rattle.naga_oil_mini.specs.Words.{is_definition, import_of, task_of, with_option, files, imports, takes, asked, asked_of};
+ghost use Rattle.naga_oil_mini.specs.Words.{is_definition, import_of, is_file, task_of, with_option, files, imports, takes, asked, asked_of};
 ghost use Rattle.naga_oil_lines.specs.Text.{texts};
 ghost use Rattle.naga_oil_mini.specs.Told.{RefusesWords};
 
@@ -20,6 +20,13 @@ fn import_of(word: &str) -> Option<&str>
     ensures { option_map (λ r. r.now) result ≡ import_of word.now }
 {
     word.strip_prefix('+')
+}
+
+/// Whether the word is a file.
+pub fn is_file(word: &str) -> bool
+    ensures { result ≡ is_file word.now }
+{
+    !is_definition(word) && import_of(word).is_none()
 }
 
 /// What `oil` is asked to do with files.

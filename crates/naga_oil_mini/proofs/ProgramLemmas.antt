@@ -1,0 +1,79 @@
+-- What the program does beside `oil`.
+use Rattle.std.proofs.Common.{◌≡◌, ℕ, suc, zero, Bool, true, false, cond, List, [], ◌∷◌, length, refl, sym, ap, subst, Option, Some, None, arith}
+use Rattle.std.specs.Prelude.{◌&&◌, Contains, codes, bytes_eq}
+use Rattle.std.proofs.lemmas.Slice.Eq.{bytes_eq-Decides}
+use Rattle.naga_oil_pre.specs.Metadata.{metadata}
+use Rattle.naga_oil_mini.specs.Extra.{Extra, help, version, metadata_of_file, extra, extra_of_word, extra_of_file, RefusesExtra, WritesExtra, WritesBy, RefusesBy, WritesAny, RefusesAny}
+use Rattle.naga_oil_mini.specs.Told.{Reports, RefusesFiles}
+use Rattle.naga_oil_mini.specs.Words.{asked, imports, is_file, takes}
+use Rattle.naga_oil_mini.specs.declared.mini.words.Task.TheVariants.{Preprocess}
+use Rattle.naga_oil_mini.specs.declared.mini.refusal.Refusal.{Refusal}
+use Rattle.naga_oil_mini.specs.declared.mini.refusal.Refusal.TheVariants.{Usage, BadDefinition, CannotRead, Fault, Memory, NotInMini, Write}
+
+-- what is told of a file's text
+pub refused_text : (file source : List ℕ) (e : Refusal) → Reports file source (metadata true source) e → RefusesExtra (metadata_of_file file) e
+refused_text file source (Fault report) h = (source, h)
+refused_text file source Memory h = h
+refused_text file source Usage h = absurd h
+refused_text file source (BadDefinition word) h = absurd h
+refused_text file source (CannotRead read) h = absurd h
+refused_text file source NotInMini h = absurd h
+refused_text file source Write h = absurd h
+
+-- among one file stands that file
+one_file : (file read : List ℕ) → Contains (file ∷ []) read → read ≡ file
+one_file file read (zero, below, is) = sym is
+one_file file read (suc n, below, is) = absurd (omega (arith, below))
+
+-- why the one file isn't read
+pub refused_file : (file : List ℕ) (e : Refusal) → RefusesFiles (file ∷ []) e → RefusesExtra (metadata_of_file file) e
+refused_file file (CannotRead read) h = one_file file read.now h
+refused_file file Memory h = h
+refused_file file Usage h = absurd h
+refused_file file (BadDefinition word) h = absurd h
+refused_file file (Fault report) h = absurd h
+refused_file file NotInMini h = absurd h
+refused_file file Write h = absurd h
+
+-- what is asked for decides what is written, and why it isn't
+pub writes_any : (words : List (List ℕ)) (o : Option Extra) (old new : Option (List ℕ)) → o ≡ extra words → WritesBy o words old new → WritesAny words old new
+writes_any words o old new e h = subst (λ o. WritesBy o words old new) e h
+
+pub refuses_any : (words : List (List ℕ)) (o : Option Extra) (r : Refusal) → o ≡ extra words → RefusesBy o words r → RefusesAny words r
+refuses_any words o r e h = subst (λ o. RefusesBy o words r) e h
+
+-- ---- what is asked for beside `oil` asks `oil` for nothing
+
+is_text : (word text : List ℕ) → bytes_eq word text ≡ true → word ≡ text
+is_text word text same = (bytes_eq-Decides word text).0 same
+
+word_apart : (word : List ℕ) (e : Extra) → extra_of_word word ≡ Some e → asked (word ∷ []) ≡ None
+word_apart word e = by (bytes_eq word (codes "--help")) (bytes_eq word (codes "--version")) refl refl
+  where
+    by : (a b : Bool) → bytes_eq word (codes "--help") ≡ a → bytes_eq word (codes "--version") ≡ b → cond a (Some help) (cond b (Some version) None) ≡ Some e → asked (word ∷ []) ≡ None
+    by true b p q h = subst (λ w. asked (w ∷ []) ≡ None) (sym (is_text word _ p)) refl
+    by false true p q h = subst (λ w. asked (w ∷ []) ≡ None) (sym (is_text word _ q)) refl
+    by false false p q h = absurd cc
+
+-- `pre` of two files
+two_files : (file : List ℕ) → is_file file ≡ true → asked (codes "pre" ∷ codes "--metadata" ∷ file ∷ []) ≡ None
+two_files file is =
+    ap (λ b. let fs = codes "--metadata" ∷ cond b (file ∷ []) [] in
+        let is = imports (codes "--metadata" ∷ file ∷ []) in
+        cond (takes Preprocess (length fs) (length is)) (Some (record { task = Preprocess; override_any = false; files = fs; imports = is })) None) is
+
+file_apart : (command option file : List ℕ) (e : Extra) → extra_of_file command option file ≡ Some e → asked (command ∷ option ∷ file ∷ []) ≡ None
+file_apart command option file e = by (bytes_eq command (codes "pre")) (bytes_eq option (codes "--metadata")) (is_file file) refl refl refl
+  where
+    by : (a b c : Bool) → bytes_eq command (codes "pre") ≡ a → bytes_eq option (codes "--metadata") ≡ b → is_file file ≡ c → cond (a && b && c) (Some (metadata_of_file file)) None ≡ Some e → asked (command ∷ option ∷ file ∷ []) ≡ None
+    by true true true p q r h = subst (λ w. asked (w ∷ option ∷ file ∷ []) ≡ None) (sym (is_text command _ p)) (subst (λ o. asked (codes "pre" ∷ o ∷ file ∷ []) ≡ None) (sym (is_text option _ q)) (two_files file r))
+    by true true false p q r h = absurd cc
+    by true false c p q r h = absurd cc
+    by false b c p q r h = absurd cc
+
+pub extra_apart : (words : List (List ℕ)) (e : Extra) → extra words ≡ Some e → asked words ≡ None
+extra_apart [] e h = absurd cc
+extra_apart (word ∷ []) e h = word_apart word e h
+extra_apart (command ∷ option ∷ []) e h = absurd cc
+extra_apart (command ∷ option ∷ file ∷ []) e h = file_apart command option file e h
+extra_apart (command ∷ option ∷ file ∷ word ∷ words) e h = absurd cc

@@ -1,0 +1,7 @@
+use Rattle.std.proofs.Common.{◌≡◌, ◌++◌}
+use Rattle.naga_oil_lines.specs.Text.{texts}
+use Rattle.naga_oil_mini.specs.Listing.{name_lines}
+use Rattle.naga_oil_mini.proofs.mini.listing.push_names.Given as goal
+
+abbrev pub invariant-loop-name : goal.invariant-loop-name
+invariant-loop-name l = l.out.items ++ name_lines (texts l.name-iterator) ≡ l.fn.out.items ++ name_lines (texts l.names.keys)

@@ -1,0 +1,158 @@
+// What a text tells before any build, as lines.
+ghost use Rattle.std.specs.Prelude.{◌≡◌, ◌++◌, OnOk, IfOk, IfErr, map, string_bytes, option_map};
+ghost use Rattle.naga_oil_lines.specs.Uses.{import_of, use_of};
+ghost use Rattle.naga_oil_pre.specs.Metadata.{metadata};
+ghost use Rattle.naga_oil_pre.specs.MetadataView.{metadata_of};
+ghost use Rattle.naga_oil_pre.specs.Replaced.{value_text};
+ghost use Rattle.naga_oil_pre.specs.View.{Fails};
+ghost use Rattle.naga_oil_registry.specs.Definition.{defs_of};
+ghost use Rattle.naga_oil_lines.specs.Text.{texts};
+ghost use Rattle.naga_oil_symbols.specs.Names.{texts_of};
+ghost use Rattle.std.specs.List.{flat_map};
+ghost use Rattle.naga_oil_mini.specs.Listing.{escaped_byte, field, line, path_lines, import_line, define_lines, name_lines, IsListing, IsListed};
+ghost use Rattle.naga_oil_mini.specs.Told.{Reports};
+
+use super::definitions::Definitions;
+use super::refusal::Refusal;
+use naga_oil::compose::report::report;
+use naga_oil_lines::{ImportDefWithOffset, ImportDefinition};
+use naga_oil_pre::{ComposerErrorInner, Preprocessor, PreprocessorMetaData, ShaderDefValue};
+use std::alloc::{AllocError, Global};
+use std::collections::BTreeSet;
+
+type Tried<T = ()> = Result<T, AllocError>;
+
+// Writes a byte of a field. Tabs, line ends and backslashes are written as a backslash and a character.
+fn push_byte(out: &mut Vec<u8>, byte: u8) -> Tried
+    ensures { OnOk result (out.new.items ≡ out.old.items ++ escaped_byte byte) }
+{
+    match byte {
+        b'\t' => out.extend_from_slice(b"\\t"),
+        b'\n' => out.extend_from_slice(b"\\n"),
+        b'\r' => out.extend_from_slice(b"\\r"),
+        b'\\' => out.extend_from_slice(b"\\\\"),
+        _ => out.extend_from_slice(&[byte]),
+    }
+}
+
+// Writes a field behind a tab.
+fn push_field(out: &mut Vec<u8>, text: &str) -> Tried
+    ensures { OnOk result (out.new.items ≡ out.old.items ++ field text.now) }
+{
+    out.extend_from_slice(b"\t")?;
+    for byte in text.as_bytes() {
+        push_byte(out, *byte)?;
+    }
+    Ok(())
+}
+
+// Writes a line of a kind with fields.
+fn push_line(out: &mut Vec<u8>, kind: &str, fields: &[&str]) -> Tried
+    ensures { OnOk result (out.new.items ≡ out.old.items ++ line kind.now (texts_of fields.now)) }
+{
+    out.extend_from_slice(kind.as_bytes())?;
+    for text in fields {
+        push_field(out, *text)?;
+    }
+    out.extend_from_slice(b"\n")
+}
+
+// Writes the import path, if there is one.
+fn push_path(out: &mut Vec<u8>, path: &Option<String>) -> Tried
+    ensures { OnOk result (out.new.items ≡ out.old.items ++ path_lines (option_map string_bytes path.now)) }
+{
+    match path {
+        Some(name) => push_line(out, "path", &[name.as_str()]),
+        None => Ok(()),
+    }
+}
+
+// Writes what is used of a module.
+fn push_import(out: &mut Vec<u8>, import: &ImportDefinition) -> Tried
+    ensures { OnOk result (out.new.items ≡ out.old.items ++ import_line (import_of import.now)) }
+{
+    out.extend_from_slice(b"import")?;
+    push_field(out, import.import.as_str())?;
+    for item in &import.items {
+        push_field(out, item.as_str())?;
+    }
+    out.extend_from_slice(b"\n")
+}
+
+// Writes what is used of modules.
+fn push_imports(out: &mut Vec<u8>, imports: &[ImportDefWithOffset]) -> Tried
+    ensures { OnOk result (out.new.items ≡ out.old.items ++ flat_map import_line (map (λ u. u.import) (map use_of imports.now))) }
+{
+    for import in imports {
+        push_import(out, import.definition())?;
+    }
+    Ok(())
+}
+
+// Writes a value.
+fn push_value(out: &mut String, value: ShaderDefValue) -> Tried
+    ensures { OnOk result (string_bytes out.new ≡ string_bytes out.old ++ value_text value) }
+{
+    match value {
+        ShaderDefValue::Bool(b) => write!(out, "{b}"),
+        ShaderDefValue::Int(n) => write!(out, "{n}"),
+        ShaderDefValue::UInt(n) => write!(out, "{n}"),
+    }
+}
+
+// Writes defines, in the order of their names.
+fn push_defines(alloc: Global, out: &mut Vec<u8>, defines: &Definitions) -> Tried
+    ensures { OnOk result (out.new.items ≡ out.old.items ++ define_lines (defs_of defines.now)) }
+{
+    for (name, value) in defines {
+        let mut text = String::new(alloc);
+        push_value(&mut text, *value)?;
+        push_line(out, "define", &[name.as_str(), text.as_str()])?;
+    }
+    Ok(())
+}
+
+// Writes names, in their order.
+fn push_names(out: &mut Vec<u8>, names: &BTreeSet<String>) -> Tried
+    ensures { OnOk result (out.new.items ≡ out.old.items ++ name_lines (texts names.now.keys)) }
+{
+    for name in names {
+        push_line(out, "name", &[name.as_str()])?;
+    }
+    Ok(())
+}
+
+/// The lines of metadata.
+pub fn listing(alloc: Global, of: &PreprocessorMetaData) -> Tried<Vec<u8>>
+    ensures { IfOk result (λ t. IsListing (metadata_of of.now) t.items) }
+{
+    // The lengths of a map and of a set tell that their names are in order, so each comes once.
+    let (_defines, _names) = (of.defines.len(), of.effective_defs.len());
+    let mut out = Vec::new(alloc);
+    push_path(&mut out, &of.name)?;
+    push_imports(&mut out, of.imports.as_slice())?;
+    push_defines(alloc, &mut out, &of.defines)?;
+    push_names(&mut out, &of.effective_defs)?;
+    Ok(out)
+}
+
+// The lines of a text's metadata.
+fn listed(alloc: Global, text: &str) -> Result<Vec<u8>, ComposerErrorInner>
+    ensures ok { IfOk result (λ t. IsListed text.now t.items) }
+    ensures err { IfErr result (λ e. Fails e (metadata true text.now)) }
+{
+    let of = Preprocessor.get_preprocessor_metadata(alloc, text, true)?;
+    Ok(listing(alloc, &of)?)
+}
+
+/// The lines of a file's metadata; of a fault what is told of the file.
+pub fn listed_file<'a>(alloc: Global, file: &str, text: &str) -> Result<Vec<u8>, Refusal<'a>>
+    ensures ok { IfOk result (λ t. IsListed text.now t.items) }
+    ensures err { IfErr result (Reports file.now text.now (metadata true text.now)) }
+{
+    match listed(alloc, text) {
+        Ok(lines) => Ok(lines),
+        Err(inner) if inner.is_memory() => Err(Refusal::Memory),
+        Err(inner) => Err(Refusal::Fault(report(alloc, file, text, 0, &inner)?)),
+    }
+}

@@ -1,0 +1,127 @@
+// What the program does with the words behind its name.
+ghost use Rattle.std.specs.Prelude.{◌≡◌, ◌≤◌, ℕ, List, None, IsSome, OnOk, IfOk, IfErr, option_map};
+ghost use Rattle.naga_oil_lines.specs.Text.{texts};
+ghost use Rattle.naga_oil_mini.specs.declared.mini.refusal.Refusal.{Refusal};
+ghost use Rattle.naga_oil_mini.specs.Extra.{extra, extra_of, extra_of_word, extra_of_file, metadata_of_file, WritesExtra, RefusesExtra, WritesAny, RefusesAny};
+ghost use Rattle.naga_oil_mini.specs.Listing.{IsListed};
+ghost use Rattle.naga_oil_mini.specs.Told.{LeavesOut, Tells, TellsFront, status_of};
+ghost use Rattle.naga_oil_mini.specs.Words.{asked};
+
+use super::help::{HELP, VERSION};
+use super::listing::listed_file;
+use super::refusal::Refusal;
+use super::words::is_file;
+use super::{oil, read_files, show, tell};
+use std::alloc::{AllocError, Global};
+use std::io::Write;
+
+/// What is asked for by words that ask `oil` for nothing.
+#[derive(Clone, Copy)]
+pub enum Extra<'a> {
+    Help,
+    Version,
+    /// The metadata of a file.
+    Metadata(&'a str),
+}
+
+// A word alone.
+fn extra_of_word(word: &str) -> Option<Extra<'_>>
+    ensures { option_map extra_of result ≡ extra_of_word word.now }
+{
+    match word {
+        "--help" => Some(Extra::Help),
+        "--version" => Some(Extra::Version),
+        _ => None,
+    }
+}
+
+// `pre` with its option and a file.
+fn extra_of_file<'a>(command: &str, option: &str, file: &'a str) -> Option<Extra<'a>>
+    ensures { option_map extra_of result ≡ extra_of_file command.now option.now file.now }
+{
+    if command == "pre" && option == "--metadata" && is_file(file) {
+        Some(Extra::Metadata(file))
+    } else {
+        None
+    }
+}
+
+/// What the words ask for beside what they ask `oil`.
+pub fn extra_asked(words: &[String]) -> Option<Extra<'_>>
+    ensures value { option_map extra_of result ≡ extra (texts words.now) }
+    ensures apart { IsSome result → asked (texts words.now) ≡ None }
+{
+    match words {
+        [word] => extra_of_word(word.as_str()),
+        [command, option, file] => {
+            extra_of_file(command.as_str(), option.as_str(), file.as_str())
+        }
+        _ => None,
+    }
+}
+
+// The lines of the metadata of a file.
+fn listed<'a, F: FnMut(&str) -> Result<Option<Vec<u8>>, AllocError> + Drop>(
+    alloc: Global,
+    file: &'a str,
+    read: F,
+) -> Result<Vec<u8>, Refusal<'a>>
+    requires { F.IsAlwaysCallable read }
+    ensures ok { IfOk result (λ t. (source : List ℕ) × IsListed source t.items) }
+    ensures err { IfErr result (RefusesExtra (metadata_of_file file.now)) }
+{
+    let texts = read_files(alloc, &[file], read)?;
+    let (first, _) = texts.split_first().ok_or(Refusal::CannotRead(file))?;
+    listed_file(alloc, file, first.1.as_str())
+}
+
+// Writes what is asked for.
+fn answer_extra<'a, F: FnMut(&str) -> Result<Option<Vec<u8>>, AllocError> + Drop, O: Write>(
+    alloc: Global,
+    asked: Extra<'a>,
+    read: F,
+    out: &mut O,
+) -> Result<(), Refusal<'a>>
+    requires { F.IsAlwaysCallable read }
+    ensures written { OnOk result (WritesExtra (extra_of asked.entry) (O.contents out.old) (O.contents out.new)) }
+    ensures err { IfErr result (RefusesExtra (extra_of asked.entry)) }
+    ensures untouched { IfErr result (λ e. LeavesOut e out.old out.new) }
+{
+    let shown = match asked {
+        Extra::Help => show(out, HELP.as_bytes()),
+        Extra::Version => show(out, VERSION.as_bytes()),
+        Extra::Metadata(file) => show(out, listed(alloc, file, read)?.as_slice()),
+    };
+    match shown {
+        Ok(()) => Ok(()),
+        Err(_) => Err(Refusal::Write),
+    }
+}
+
+/// What the program does with the words behind its name, and its status: what `oil` does, and besides it answers
+/// `--help`, `--version` and `pre --metadata FILE`, which ask `oil` for nothing. Statuses, `read` and the streams are those of `oil`.
+pub fn program<F: FnMut(&str) -> Result<Option<Vec<u8>>, AllocError> + Drop, O: Write, E: Write>(
+    alloc: Global,
+    words: &[String],
+    read: F,
+    out: &mut O,
+    err: &mut E,
+) -> u8
+    requires { F.IsAlwaysCallable read }
+    ensures statuses { result ≤ 2 }
+    ensures written { result ≡ 0 → WritesAny (texts words.now) (O.contents out.old) (O.contents out.new) × (err.new ≡ err.old) }
+    ensures refused { 1 ≤ result → (e : Refusal) × RefusesAny (texts words.now) e × LeavesOut e out.old out.new × TellsFront e (E.contents err.old) (E.contents err.new) }
+    ensures told { result ≡ 2 → (e : Refusal) × RefusesAny (texts words.now) e × (status_of e ≡ 2) × Tells e (E.contents err.old) (E.contents err.new) × LeavesOut e out.old out.new }
+{
+    let Some(asked) = extra_asked(words) else {
+        return oil(alloc, words, read, out, err);
+    };
+    let Err(refusal) = answer_extra(alloc, asked, read, out) else {
+        return 0;
+    };
+    let status = refusal.status();
+    match tell(refusal, err) {
+        Ok(()) => status,
+        Err(_) => 1,
+    }
+}
