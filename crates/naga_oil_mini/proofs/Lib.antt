@@ -2,3 +2,4 @@ pub mod OverwriteLemmas
 pub mod WordLemmas
 pub mod ListingLemmas
 pub mod ProgramLemmas
+pub mod ReportLemmas

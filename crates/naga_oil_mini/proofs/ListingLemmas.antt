@@ -12,11 +12,12 @@ use Rattle.std.specs.declared.alloc.Global.{Global}
 use Rattle.std.proofs.lemmas.Map.Text.{is_eq-slice_cmp}
 use Rattle.naga_oil_lines.specs.Text.{texts}
 use Rattle.naga_oil_lines.specs.Uses.{use_of}
+use Rattle.naga_oil_lines.specs.declared.import_definition.ImportDefWithOffset.{ImportDefWithOffset}
 use Rattle.naga_oil_pre.specs.MetadataView.{metadata_of}
 use Rattle.naga_oil_pre.specs.declared.metadata.PreprocessorMetaData.{PreprocessorMetaData}
 use Rattle.naga_oil_registry.proofs.NamesLemmas.{sorted_texts, among_texts}
 use Rattle.naga_oil_registry.specs.Definition.{defs_of}
-use Rattle.naga_oil_mini.specs.Listing.{Listed, Tells, IsListing, listing}
+use Rattle.naga_oil_mini.specs.Listing.{Listed, Tells, IsListing, listing, path_lines, import_line, define_lines, name_lines}
 use Rattle.naga_oil_mini.proofs.OverwriteLemmas.{Entries, named, sorted_named}
 
 -- a name is found among entries by its bytes
@@ -46,5 +47,18 @@ tells m defines names = record {
 }
 
 -- what was written in turn is the listing
-pub listing_of : (m : PreprocessorMetaData) (text : List ℕ) → MapIsOrdered string_cmp m.defines → SetIsOrdered string_cmp m.effective_defs → text ≡ listing (listed_of m) → IsListing (metadata_of m) text
-listing_of m text defines names is = (listed_of m, tells m defines names, is)
+pub listing_of : (m : PreprocessorMetaData) (start paths imports defines names : List ℕ) (uses : List ImportDefWithOffset) → MapIsOrdered string_cmp m.defines → SetIsOrdered string_cmp m.effective_defs
+    → start ≡ [] → paths ≡ start ++ path_lines (option_map string_bytes m.name)
+    → uses ≡ m.imports.items → imports ≡ paths ++ flat_map import_line (map (λ u. u.import) (map use_of uses))
+    → defines ≡ imports ++ define_lines (defs_of m.defines) → names ≡ defines ++ name_lines (texts m.effective_defs.keys)
+    → IsListing (metadata_of m) names
+unfolding listing
+listing_of m start paths imports defines names uses defines_ordered names_ordered none is_path is_uses is_imports is_defines is_names =
+    let P = path_lines (option_map string_bytes m.name) in
+    let I = flat_map import_line (map (λ u. u.import) (map use_of m.imports.items)) in
+    let D = define_lines (defs_of m.defines) in
+    let N = name_lines (texts m.effective_defs.keys) in
+    let to_paths : paths ≡ P = is_path ∙ ap (λ o. o ++ P) none in
+    let to_imports : imports ≡ P ++ I = is_imports ∙ ap (λ us. paths ++ flat_map import_line (map (λ u. u.import) (map use_of us))) is_uses ∙ ap (λ o. o ++ I) to_paths in
+    let to_defines : defines ≡ (P ++ I) ++ D = is_defines ∙ ap (λ o. o ++ D) to_imports in
+    (listed_of m, tells m defines_ordered names_ordered, is_names ∙ ap (λ o. o ++ N) to_defines ∙ append_assoc (P ++ I) D N ∙ append_assoc P I (D ++ N))

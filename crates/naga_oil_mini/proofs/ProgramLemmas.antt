@@ -1,6 +1,7 @@
 -- What the program does beside `oil`.
 use Rattle.std.proofs.Common.{◌≡◌, ℕ, suc, zero, Bool, true, false, cond, List, [], ◌∷◌, length, refl, sym, ap, subst, Option, Some, None, arith}
-use Rattle.std.specs.Prelude.{◌&&◌, Contains, codes, bytes_eq}
+use Rattle.std.specs.Prelude.{◌&&◌, Contains, IsSome, codes, bytes_eq}
+use Rattle.std.proofs.lemmas.Bool.{false≢true}
 use Rattle.std.proofs.lemmas.Slice.Eq.{bytes_eq-Decides}
 use Rattle.naga_oil_pre.specs.Metadata.{metadata}
 use Rattle.naga_oil_mini.specs.Extra.{Extra, help, version, metadata_of_file, extra, extra_of_word, extra_of_file, RefusesExtra, WritesExtra, WritesBy, RefusesBy, WritesAny, RefusesAny}
@@ -59,8 +60,8 @@ word_apart word e = by (bytes_eq word (codes "--help")) (bytes_eq word (codes "-
 two_files : (file : List ℕ) → is_file file ≡ true → asked (codes "pre" ∷ codes "--metadata" ∷ file ∷ []) ≡ None
 two_files file is =
     ap (λ b. let fs = codes "--metadata" ∷ cond b (file ∷ []) [] in
-        let is = imports (codes "--metadata" ∷ file ∷ []) in
-        cond (takes Preprocess (length fs) (length is)) (Some (record { task = Preprocess; override_any = false; files = fs; imports = is })) None) is
+    let is = imports (codes "--metadata" ∷ file ∷ []) in
+    cond (takes Preprocess (length fs) (length is)) (Some (record { task = Preprocess; override_any = false; files = fs; imports = is })) None) is
 
 file_apart : (command option file : List ℕ) (e : Extra) → extra_of_file command option file ≡ Some e → asked (command ∷ option ∷ file ∷ []) ≡ None
 file_apart command option file e = by (bytes_eq command (codes "pre")) (bytes_eq option (codes "--metadata")) (is_file file) refl refl refl
@@ -71,9 +72,16 @@ file_apart command option file e = by (bytes_eq command (codes "pre")) (bytes_eq
     by true false c p q r h = absurd cc
     by false b c p q r h = absurd cc
 
-pub extra_apart : (words : List (List ℕ)) (e : Extra) → extra words ≡ Some e → asked words ≡ None
+extra_apart : (words : List (List ℕ)) (e : Extra) → extra words ≡ Some e → asked words ≡ None
 extra_apart [] e h = absurd cc
 extra_apart (word ∷ []) e h = word_apart word e h
 extra_apart (command ∷ option ∷ []) e h = absurd cc
 extra_apart (command ∷ option ∷ file ∷ []) e h = file_apart command option file e h
 extra_apart (command ∷ option ∷ file ∷ word ∷ words) e h = absurd cc
+
+pub is_apart : (words : List (List ℕ)) → IsSome (extra words) → asked words ≡ None
+is_apart words = by (extra words) refl
+  where
+    by : (o : Option Extra) → extra words ≡ o → IsSome o → asked words ≡ None
+    by (Some e) is some = extra_apart words e is
+    by None is some = absurd (false≢true some)

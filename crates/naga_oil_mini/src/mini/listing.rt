@@ -1,5 +1,5 @@
 // What a text tells before any build, as lines.
-ghost use Rattle.std.specs.Prelude.{◌≡◌, ◌++◌, OnOk, IfOk, IfErr, map, string_bytes, option_map};
+ghost use Rattle.std.specs.Prelude.{◌≡◌, ◌++◌, true, OnOk, IfOk, IfErr, map, string_bytes, option_map};
 ghost use Rattle.naga_oil_lines.specs.Uses.{import_of, use_of};
 ghost use Rattle.naga_oil_pre.specs.Metadata.{metadata};
 ghost use Rattle.naga_oil_pre.specs.MetadataView.{metadata_of};
@@ -59,7 +59,8 @@ fn push_line(out: &mut Vec<u8>, kind: &str, fields: &[&str]) -> Tried
 
 // Writes the import path, if there is one.
 fn push_path(out: &mut Vec<u8>, path: &Option<String>) -> Tried
-    ensures { OnOk result (out.new.items ≡ out.old.items ++ path_lines (option_map string_bytes path.now)) }
+    ensures { let lines = path_lines (option_map string_bytes path.now) in
+        OnOk result (out.new.items ≡ out.old.items ++ lines) }
 {
     match path {
         Some(name) => push_line(out, "path", &[name.as_str()]),
@@ -81,7 +82,8 @@ fn push_import(out: &mut Vec<u8>, import: &ImportDefinition) -> Tried
 
 // Writes what is used of modules.
 fn push_imports(out: &mut Vec<u8>, imports: &[ImportDefWithOffset]) -> Tried
-    ensures { OnOk result (out.new.items ≡ out.old.items ++ flat_map import_line (map (λ u. u.import) (map use_of imports.now))) }
+    ensures { let used = map (λ u. u.import) (map use_of imports.now) in
+        OnOk result (out.new.items ≡ out.old.items ++ flat_map import_line used) }
 {
     for import in imports {
         push_import(out, import.definition())?;

@@ -48,8 +48,7 @@ fn extra_of_file<'a>(command: &str, option: &str, file: &'a str) -> Option<Extra
 
 /// What the words ask for beside what they ask `oil`.
 pub fn extra_asked(words: &[String]) -> Option<Extra<'_>>
-    ensures value { option_map extra_of result ≡ extra (texts words.now) }
-    ensures apart { IsSome result → asked (texts words.now) ≡ None }
+    ensures { option_map extra_of result ≡ extra (texts words.now) }
 {
     match words {
         [word] => extra_of_word(word.as_str()),
@@ -83,7 +82,8 @@ fn answer_extra<'a, F: FnMut(&str) -> Result<Option<Vec<u8>>, AllocError> + Drop
     out: &mut O,
 ) -> Result<(), Refusal<'a>>
     requires { F.IsAlwaysCallable read }
-    ensures written { OnOk result (WritesExtra (extra_of asked.entry) (O.contents out.old) (O.contents out.new)) }
+    ensures written { let is_written = WritesExtra (extra_of asked.entry) in
+        OnOk result (is_written (O.contents out.old) (O.contents out.new)) }
     ensures err { IfErr result (RefusesExtra (extra_of asked.entry)) }
     ensures untouched { IfErr result (λ e. LeavesOut e out.old out.new) }
 {
@@ -100,6 +100,7 @@ fn answer_extra<'a, F: FnMut(&str) -> Result<Option<Vec<u8>>, AllocError> + Drop
 
 /// What the program does with the words behind its name, and its status: what `oil` does, and besides it answers
 /// `--help`, `--version` and `pre --metadata FILE`, which ask `oil` for nothing. Statuses, `read` and the streams are those of `oil`.
+#[tactic(auto, using(crate::proofs::ProgramLemmas::is_apart))]
 pub fn program<F: FnMut(&str) -> Result<Option<Vec<u8>>, AllocError> + Drop, O: Write, E: Write>(
     alloc: Global,
     words: &[String],
@@ -108,10 +109,15 @@ pub fn program<F: FnMut(&str) -> Result<Option<Vec<u8>>, AllocError> + Drop, O: 
     err: &mut E,
 ) -> u8
     requires { F.IsAlwaysCallable read }
+    ensures apart { IsSome (extra (texts words.now)) → asked (texts words.now) ≡ None }
     ensures statuses { result ≤ 2 }
-    ensures written { result ≡ 0 → WritesAny (texts words.now) (O.contents out.old) (O.contents out.new) × (err.new ≡ err.old) }
-    ensures refused { 1 ≤ result → (e : Refusal) × RefusesAny (texts words.now) e × LeavesOut e out.old out.new × TellsFront e (E.contents err.old) (E.contents err.new) }
-    ensures told { result ≡ 2 → (e : Refusal) × RefusesAny (texts words.now) e × (status_of e ≡ 2) × Tells e (E.contents err.old) (E.contents err.new) × LeavesOut e out.old out.new }
+    ensures written { let is_written = WritesAny (texts words.now) in
+        result ≡ 0 → is_written (O.contents out.old) (O.contents out.new) × (err.new ≡ err.old) }
+    ensures refused { 1 ≤ result → (e : Refusal) × RefusesAny (texts words.now) e
+        × LeavesOut e out.old out.new × TellsFront e (E.contents err.old) (E.contents err.new) }
+    // The words and the files are refused by a line.
+    ensures told { result ≡ 2 → (e : Refusal) × RefusesAny (texts words.now) e × (status_of e ≡ 2)
+        × Tells e (E.contents err.old) (E.contents err.new) × LeavesOut e out.old out.new }
 {
     let Some(asked) = extra_asked(words) else {
         return oil(alloc, words, read, out, err);
