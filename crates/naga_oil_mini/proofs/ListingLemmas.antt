@@ -1,5 +1,5 @@
 -- What is listed of metadata, as the code has it.
-use Rattle.std.proofs.Common.{◌≡◌, ℕ, Bool, cond, List, [], ◌∷◌, ◌++◌, map, refl, sym, ap, ◌∙◌, Some, option_map, string_bytes, String, append_assoc}
+use Rattle.std.proofs.Common.{◌≡◌, ℕ, Bool, cond, List, [], ◌∷◌, ◌++◌, map, refl, sym, ap, ◌∙◌, Some, option_map, string_bytes, String}
 use Rattle.std.specs.Prelude.{bytes_eq}
 use Rattle.std.specs.BTreeMap.{BTreeMap, get_by_text, IsOrdered as MapIsOrdered}
 use Rattle.std.specs.BTreeSet.{BTreeSet, IsOrdered as SetIsOrdered}
@@ -61,4 +61,4 @@ listing_of m start paths imports defines names uses defines_ordered names_ordere
     let to_paths : paths ≡ P = is_path ∙ ap (λ o. o ++ P) none in
     let to_imports : imports ≡ P ++ I = is_imports ∙ ap (λ us. paths ++ flat_map import_line (map (λ u. u.import) (map use_of us))) is_uses ∙ ap (λ o. o ++ I) to_paths in
     let to_defines : defines ≡ (P ++ I) ++ D = is_defines ∙ ap (λ o. o ++ D) to_imports in
-    (listed_of m, tells m defines_ordered names_ordered, is_names ∙ ap (λ o. o ++ N) to_defines ∙ append_assoc (P ++ I) D N ∙ append_assoc P I (D ++ N))
+    (listed_of m, tells m defines_ordered names_ordered, is_names ∙ ap (λ o. o ++ N) to_defines)

@@ -36,8 +36,8 @@ option_behind_its_file = refl
 pub listed_row : listing (record {
   path = Some (codes "water");
   imports = record { import = codes "noise"; items = codes "ripple" ∷ codes "swell" ∷ [] } ∷ record { import = codes "\"a\tb\""; items = [] } ∷ [];
-  defines = (codes "LAYERS", def.UInt 3) ∷ (codes "ON", def.Bool true) ∷ [];
+  defines = (codes "OFF", def.Bool false) ∷ (codes "ON", def.Bool true) ∷ [];
   names = codes "CALM" ∷ codes "LAYERS" ∷ [];
-}) ≡ codes "path\twater\nimport\tnoise\tripple\tswell\nimport\t\"a\\tb\"\ndefine\tLAYERS\t3\ndefine\tON\ttrue\nname\tCALM\nname\tLAYERS\n"
+}) ≡ codes "path\twater\nimport\tnoise\tripple\tswell\nimport\t\"a\\tb\"\ndefine\tOFF\tfalse\ndefine\tON\ttrue\nname\tCALM\nname\tLAYERS\n"
 unfolding listing
 listed_row = refl

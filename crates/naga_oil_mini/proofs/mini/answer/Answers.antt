@@ -19,8 +19,8 @@ shown_by words a defs shown asks defines h =
 pub returns-in-Ok-clause-written : goal.returns-in-Ok-clause-written
 returns-in-Ok-clause-written g c =
     let defines : defined_by none_defined (drop 1 (texts c.args.words.now)) ≡ Ok (get_by_text c.in_ok-definitions.definitions) = search rules in
-    let shows : Shows c.in_ok-asked.asked.task (get_by_text c.in_ok-definitions.definitions) c.as_str-2.result.now = elim c.match-asked.branch [
+    let shows : Shows c.in_ok-asked.asked.task (get_by_text c.in_ok-definitions.definitions) c.as_bytes.result.now = elim c.match-asked.branch [
       | in-Preprocess+in_ok-source-in-Preprocess w ↦ search rules
       | in-Make+in_ok-source-in-Make w ↦ search rules
     ] in
-    (c.as_str-2.result.now, shown_by (texts c.args.words.now) _ (get_by_text c.in_ok-definitions.definitions) c.as_str-2.result.now c.in_ok-asked.ensures.value defines shows, c.in-Ok.ensures)
+    (c.as_bytes.result.now, shown_by (texts c.args.words.now) _ (get_by_text c.in_ok-definitions.definitions) c.as_bytes.result.now c.in_ok-asked.ensures.value defines shows, c.in-Ok.ensures)

@@ -8,5 +8,5 @@ use Rattle.naga_oil_mini.proofs.mini.listing.listed_file.Goals as goal
 pub returns-in_ok-report-in-Err-2 : goal.returns-in_ok-report-in-Err-2
 returns-in_ok-report-in-Err-2 c = record {
   ok = tt;
-  err = told (fault_of c.in-Err.inner) (report c.args.file.now c.args.text.now 0) (metadata true c.args.text.now) (string_bytes c.in_ok-report-in-Err-2.field-0) (sym c.is_memory.ensures ∙ c.if-is_memory.false) c.in-Err.ensures c.in_ok-report-in-Err-2.ensures;
+  err = told (fault_of c.in-Err.inner) (report c.args.file.now c.args.text.now 0) (metadata true c.args.text.now) (string_bytes c.in_ok-report-in-Err-2.field-0) (sym c.is_memory.ensures ∙ c.if-is_memory.false) c.in-Err.ensures.err c.in_ok-report-in-Err-2.ensures;
 }
