@@ -28,11 +28,11 @@ fn written(alloc: Global, made: &Module) -> Result<String, AllocError> {
 }
 
 // Adds a module, or tells why it isn't added.
-fn add(
+fn add<'a>(
     alloc: Global,
     composer: &mut Composer<Mini>,
-    path: &str,
-    source: &str,
+    path: &'a str,
+    source: &'a str,
 ) -> Result<String, AllocError> {
     let mut desc = ComposableModuleDescriptor::new(alloc);
     desc.file_path = path;
