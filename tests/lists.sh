@@ -85,7 +85,7 @@ awk '/^### /{ gsub("[#` ]", ""); name = $0; part = "" }
                 grep -rqwF --include='*.rt' -e "$word" crates/*/src ||
                     echo "docs/CRATES.md names $word of $name, which isn't there" >> "$found" ;;
             'Stands on')
-                grep -qE "^$name: (.* )?$word( |\$)" crates.txt ||
+                grep -qE "^$name( staticlib)?: (.* )?$word( |\$)" crates.txt ||
                     echo "docs/CRATES.md says that $name stands on $word, and crates.txt doesn't" >> "$found" ;;
         esac
     done

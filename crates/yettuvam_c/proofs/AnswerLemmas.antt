@@ -1,0 +1,81 @@
+-- What stands on a page for each status, and what is told of a fault.
+use Rattle.std.proofs.Common.{◌≡◌, ℕ, ◌≤◌, List, Bool, true, false, refl, sym, ap, ◌∙◌, arith, Option, Some, None, MatchOption, Result, Ok, Err}
+use mathlib.Core.Logic.{⊎_elim, inl, inr}
+use Rattle.std.specs.Prelude.{◌⊎◌, IfOk, IfErr, MatchResult}
+use Rattle.naga_oil_pre.specs.Fault.{Fault}
+use Rattle.naga_oil_pre.specs.Metadata.{Metadata}
+use Rattle.naga_oil_pre.specs.MetadataView.{metadata_of}
+use Rattle.naga_oil_pre.specs.Preprocessed.{Output}
+use Rattle.naga_oil_pre.specs.declared.metadata.PreprocessorMetaData.{PreprocessorMetaData}
+use Rattle.yettuvam_c.specs.Answer.{Told, output_told, value_told, fault_told, told_of, IsToldPut, IsPut, Tells, TellsRoom, IsUnwritten}
+use Rattle.yettuvam_c.specs.Told.{metadata_parts}
+use Rattle.yettuvam_c.specs.declared.given.Refusal.{Refusal}
+use Rattle.yettuvam_c.specs.declared.given.Refusal.TheVariants.{Memory, NotUtf8, BadDefinition}
+use Rattle.yettuvam_c.specs.declared.page.Page.{Page}
+use Rattle.yettuvam_c.specs.declared.sheet.Sheet.{Sheet}
+
+-- a text that has a fault is told by it
+pub fault_is_told : (path text : List ℕ) (value : Result Output Fault) (o : Option Fault) (told : Told) → MatchOption o (Unit {0}) (λ f. value ≡ Err f) → MatchOption o ⊥ (λ f. told ≡ fault_told path text f) → told ≡ output_told path text value
+fault_is_told path text value None told fails is = absurd is
+fault_is_told path text value (Some f) told fails is = is ∙ sym (ap (output_told path text) fails)
+
+-- the same of metadata
+pub metadata_fault_is_told : (path text : List ℕ) (value : Result Metadata Fault) (o : Option Fault) (told : Told) → MatchOption o (Unit {0}) (λ f. value ≡ Err f) → MatchOption o ⊥ (λ f. told ≡ fault_told path text f)
+    → MatchResult value (λ m. (found : PreprocessorMetaData) × (m ≡ metadata_of found) × (told ≡ value_told (metadata_parts found))) (λ f. told ≡ fault_told path text f)
+metadata_fault_is_told path text value None told fails is = absurd is
+metadata_fault_is_told path text value (Some f) told fails is = rw fails is
+
+-- an answer on a page, whose statuses are 0 and 1, or a refusal
+module _ (IsAnswer : Told → Type 0) (R : Refusal → Type 0) (low : (told : Told) → IsAnswer told → told.0 ≤ 1) (status : ℕ) (old new : Page) where
+  told_put : (told : Told) (room : Bool) → IsAnswer told → IsToldPut told room status old new → status ≤ 1 → Tells IsAnswer status old new
+  told_put told true is put h = (told, is, put.1.0, put.1.1)
+  told_put told false is put h = absurd (omega (arith, put.1.0, h))
+
+  no_room_put : (told : Told) (room : Bool) → IsAnswer told → IsToldPut told room status old new → status ≡ 5 → TellsRoom IsAnswer old new
+  no_room_put told true is put h = absurd (omega (arith, put.1.0, h, low told is))
+  no_room_put told false is put h = (told, is, sym put.0, put.1.1)
+
+  unwritten_put : (told : Told) (room : Bool) → IsAnswer told → IsToldPut told room status old new → 2 ≤ status → IsUnwritten old new
+  unwritten_put told true is put h = absurd (omega (arith, put.1.0, h, low told is))
+  unwritten_put told false is put h = put.1.1.1
+
+  status_put : (told : Told) (room : Bool) → IsAnswer told → IsToldPut told room status old new → (status ≤ 1) ⊎ (status ≡ 5)
+  status_put told true is put = inl (omega (arith, put.1.0, low told is))
+  status_put told false is put = inr put.1.0
+
+  -- ---- for each answer
+  pub known : (a : Result (ℕ × Sheet) Refusal) → IfOk a (λ s. IsAnswer (told_of s)) → IsPut a status old new → status ≤ 5
+  known (Ok s) is put = ⊎_elim (λ h. omega (arith, h)) (λ h. omega (arith, h)) (status_put (told_of s) put.0 is put.1)
+  known (Err Memory) is put = omega (arith, put.0)
+  known (Err NotUtf8) is put = omega (arith, put.0)
+  known (Err (BadDefinition index)) is put = omega (arith, put.0)
+
+  pub told : (a : Result (ℕ × Sheet) Refusal) → IfOk a (λ s. IsAnswer (told_of s)) → IsPut a status old new → status ≤ 1 → Tells IsAnswer status old new
+  told (Ok s) is put h = told_put (told_of s) put.0 is put.1 h
+  told (Err Memory) is put h = absurd (omega (arith, put.0, h))
+  told (Err NotUtf8) is put h = absurd (omega (arith, put.0, h))
+  told (Err (BadDefinition index)) is put h = absurd (omega (arith, put.0, h))
+
+  pub no_room : (a : Result (ℕ × Sheet) Refusal) → IfOk a (λ s. IsAnswer (told_of s)) → IsPut a status old new → status ≡ 5 → TellsRoom IsAnswer old new
+  no_room (Ok s) is put h = no_room_put (told_of s) put.0 is put.1 h
+  no_room (Err Memory) is put h = absurd (omega (arith, put.0, h))
+  no_room (Err NotUtf8) is put h = absurd (omega (arith, put.0, h))
+  no_room (Err (BadDefinition index)) is put h = absurd (omega (arith, put.0, h))
+
+  pub unwritten : (a : Result (ℕ × Sheet) Refusal) → IfOk a (λ s. IsAnswer (told_of s)) → IsPut a status old new → 2 ≤ status → IsUnwritten old new
+  unwritten (Ok s) is put h = unwritten_put (told_of s) put.0 is put.1 h
+  unwritten (Err Memory) is put h = put.1
+  unwritten (Err NotUtf8) is put h = put.1
+  unwritten (Err (BadDefinition index)) is put h = put.1.1
+
+  pub not_utf8 : (a : Result (ℕ × Sheet) Refusal) → IfOk a (λ s. IsAnswer (told_of s)) → IfErr a R → IsPut a status old new → status ≡ 3 → R NotUtf8
+  not_utf8 (Ok s) is why put h = ⊎_elim (λ l. absurd (omega (arith, h, l))) (λ l. absurd (omega (arith, h, l))) (status_put (told_of s) put.0 is put.1)
+  not_utf8 (Err Memory) is why put h = absurd (omega (arith, put.0, h))
+  not_utf8 (Err NotUtf8) is why put h = why
+  not_utf8 (Err (BadDefinition index)) is why put h = absurd (omega (arith, put.0, h))
+
+  pub bad : (a : Result (ℕ × Sheet) Refusal) → IfOk a (λ s. IsAnswer (told_of s)) → IfErr a R → IsPut a status old new → status ≡ 4 → R (BadDefinition new.count)
+  bad (Ok s) is why put h = ⊎_elim (λ l. absurd (omega (arith, h, l))) (λ l. absurd (omega (arith, h, l))) (status_put (told_of s) put.0 is put.1)
+  bad (Err Memory) is why put h = absurd (omega (arith, put.0, h))
+  bad (Err NotUtf8) is why put h = absurd (omega (arith, put.0, h))
+  bad (Err (BadDefinition index)) is why put h = rw put.1.0 why

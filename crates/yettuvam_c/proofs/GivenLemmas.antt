@@ -1,0 +1,26 @@
+-- Why definitions are refused, where one of them is.
+use Rattle.std.proofs.Common.{◌≡◌, ℕ, zero, suc, ◌+◌, ◌<◌, List, [], ◌∷◌, length, get_or, drop, refl, sym, ap, ◌∙◌, arith, None, Err}
+use mathlib.Core.Logic.{inl, inr}
+use Rattle.std.specs.Str.{IsUtf8}
+use Rattle.std.proofs.lemmas.List.{drop_more}
+use Rattle.naga_oil_pre.specs.Fault.{Definitions}
+use Rattle.naga_oil_pre.specs.Metadata.{none_defined}
+use Rattle.yettuvam_c.specs.Given.{given_value, defined_by, HasOther, RefusesOne, RefusesGiven}
+use Rattle.yettuvam_c.specs.declared.page.Definition.{Definition}
+use Rattle.yettuvam_c.specs.declared.given.Refusal.{Refusal}
+use Rattle.yettuvam_c.specs.declared.given.Refusal.TheVariants.{Memory, NotUtf8, BadDefinition}
+
+other_at : (ds : List Definition) (i : ℕ) (d : Definition) → i < length ds → (IsUtf8 (get_or ds i d).name.now → ⊥) → HasOther ds
+other_at [] i d h other = absurd (omega (arith, h))
+other_at (x ∷ ds) zero d h other = inl other
+other_at (x ∷ ds) (suc i) d h other = inr (other_at ds i d (omega (arith, h)) other)
+
+-- definitions stop at one that has no value
+stops : (i k : ℕ) (defs : Definitions) (d : Definition) (more : List Definition) → k ≡ i → given_value d.kind d.value ≡ None → defined_by i defs (d ∷ more) ≡ Err k
+stops i k defs d more same none = rw (same, none) refl
+
+-- why one of the definitions is refused is why all are
+pub refused_at : (ds : List Definition) (i : ℕ) (d : Definition) (defs : Definitions) (e : Refusal) → i < length ds → defined_by 0 none_defined ds ≡ defined_by i defs (drop i ds) → RefusesOne i (get_or ds i d) e → RefusesGiven ds e
+refused_at ds i d defs Memory h so_far why = absurd why
+refused_at ds i d defs NotUtf8 h so_far why = other_at ds i d h why
+refused_at ds i d defs (BadDefinition k) h so_far why = so_far ∙ ap (defined_by i defs) (drop_more ds i d h) ∙ stops i k defs (get_or ds i d) (drop (i + 1) ds) why.0 why.1

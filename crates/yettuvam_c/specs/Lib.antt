@@ -1,0 +1,4 @@
+pub mod Laid
+pub mod Given
+pub mod Told
+pub mod Answer

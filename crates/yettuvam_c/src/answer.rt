@@ -1,0 +1,134 @@
+// What the calls answer.
+ghost use Rattle.std.specs.Prelude.{◌≡◌, MatchOption, IfOk, IfErr};
+ghost use Rattle.std.specs.BTreeMap.{get_by_text};
+ghost use Rattle.naga_oil_pre.specs.View.{fault_of};
+ghost use Rattle.yettuvam_c.specs.Given.{RefusesSource, Refuses};
+ghost use Rattle.yettuvam_c.specs.Answer.{told_of, fault_told, preprocess_told, IsMetadataTold, IsPreprocessed, IsMetadata, IsPut};
+
+use super::given::{Definitions, Refusal, given};
+use super::told::{push_fault, push_metadata, push_output};
+use super::*;
+
+pub const TOLD: u32 = 0;
+
+pub const FAULT_TOLD: u32 = 1;
+
+pub const NO_MEMORY: u32 = 2;
+
+pub const NOT_UTF8: u32 = 3;
+
+pub const BAD_DEFINITION: u32 = 4;
+
+pub const NO_ROOM: u32 = 5;
+
+// The path and the text of a source.
+fn texts<'a>(source: &Source<'a>) -> Result<(&'a str, &'a str), Refusal>
+    ensures ok { IfOk result (λ t. (t.0.now ≡ source.now.path.now) × (t.1.now ≡ source.now.text.now)) }
+    ensures err { IfErr result (RefusesSource source.now) }
+{
+    let Ok(path) = str::from_utf8(source.path) else {
+        return Err(Refusal::NotUtf8);
+    };
+    let Ok(text) = str::from_utf8(source.text) else {
+        return Err(Refusal::NotUtf8);
+    };
+    Ok((path, text))
+}
+
+// Tells a fault, unless it is want of memory.
+fn fault(
+    alloc: Global,
+    path: &str,
+    text: &str,
+    inner: ComposerErrorInner,
+) -> Result<(u32, Sheet), AllocError>
+    ensures { IfOk result (λ a. MatchOption (fault_of inner) ⊥ (λ f. told_of a ≡ fault_told path.now text.now f)) }
+{
+    if inner.is_memory() {
+        return Err(AllocError);
+    }
+    let mut sheet = Sheet::new(alloc);
+    push_fault(alloc, &mut sheet, path, text, &inner)?;
+    Ok((FAULT_TOLD, sheet))
+}
+
+// What a text becomes under definitions.
+fn text_told(
+    alloc: Global,
+    path: &str,
+    text: &str,
+    definitions: &Definitions,
+) -> Result<(u32, Sheet), AllocError>
+    ensures { IfOk result (λ a. told_of a ≡ preprocess_told path.now text.now (get_by_text definitions.now)) }
+{
+    let output = match Preprocessor.preprocess(alloc, text, definitions) {
+        Ok(output) => output,
+        Err(inner) => return fault(alloc, path, text, inner),
+    };
+    let mut sheet = Sheet::new(alloc);
+    push_output(&mut sheet, &output)?;
+    Ok((TOLD, sheet))
+}
+
+// What a text tells before any build.
+fn metadata_told(
+    alloc: Global,
+    path: &str,
+    text: &str,
+    allow_defines: bool,
+) -> Result<(u32, Sheet), AllocError>
+    ensures { IfOk result (λ a. IsMetadataTold path.now text.now allow_defines (told_of a)) }
+{
+    let found = match Preprocessor.get_preprocessor_metadata(alloc, text, allow_defines) {
+        Ok(found) => found,
+        Err(inner) => return fault(alloc, path, text, inner),
+    };
+    let mut sheet = Sheet::new(alloc);
+    push_metadata(alloc, &mut sheet, &found)?;
+    Ok((TOLD, sheet))
+}
+
+/// What a source becomes under the definitions.
+pub fn preprocessed(
+    alloc: Global,
+    source: &Source<'_>,
+    definitions: &[Definition<'_>],
+) -> Result<(u32, Sheet), Refusal>
+    ensures ok { IfOk result (λ a. IsPreprocessed source.now definitions.now (told_of a)) }
+    ensures err { IfErr result (Refuses source.now definitions.now) }
+{
+    let (path, text) = texts(source)?;
+    let defs = given(alloc, definitions)?;
+    Ok(text_told(alloc, path, text, &defs)?)
+}
+
+/// What a source tells before any build.
+pub fn metadata(
+    alloc: Global,
+    source: &Source<'_>,
+    allow_defines: bool,
+) -> Result<(u32, Sheet), Refusal>
+    ensures ok { IfOk result (λ a. IsMetadata source.now allow_defines (told_of a)) }
+    ensures err { IfErr result (RefusesSource source.now) }
+{
+    let (path, text) = texts(source)?;
+    Ok(metadata_told(alloc, path, text, allow_defines)?)
+}
+
+/// Puts an answer on a page. Gives the status.
+pub fn put(answer: Result<(u32, Sheet), Refusal>, page: &mut Page<'_>) -> u32
+    ensures { IsPut answer result page.old page.new }
+{
+    page.bytes = 0;
+    page.count = 0;
+    match answer {
+        Ok((status, sheet)) if sheet.put(page) => status,
+        Ok(_) => NO_ROOM,
+        Err(Refusal::Memory) => NO_MEMORY,
+        Err(Refusal::NotUtf8) => NOT_UTF8,
+        Err(Refusal::BadDefinition(index)) => {
+            page.count = index;
+            BAD_DEFINITION
+        }
+    }
+}

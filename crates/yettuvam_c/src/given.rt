@@ -1,0 +1,86 @@
+// The definitions that a caller gives.
+ghost use Rattle.std.specs.Prelude.{◌≡◌, Some, Ok, OnOk, IfOk, IfErr, string_bytes};
+ghost use Rattle.std.specs.BTreeMap.{get_by_text};
+ghost use Rattle.naga_oil_pre.specs.Metadata.{none_defined, with_definition};
+ghost use Rattle.yettuvam_c.specs.Given.{given_value, defined_by, RefusesOne, RefusesGiven};
+
+use super::told::{BOOL, INT, UINT};
+use super::*;
+
+pub type Definitions = BTreeMap<String, ShaderDefValue>;
+
+/// Why nothing is told.
+#[derive(Drop)]
+pub enum Refusal {
+    Memory,
+    /// A text or a name isn't UTF-8.
+    NotUtf8,
+    /// The definition of this index, the first of a kind that isn't known or a value that its kind doesn't have.
+    BadDefinition(usize),
+}
+
+impl From<AllocError> for Refusal {
+    ghost use Rattle.std.specs.Prelude.{◌≡◌};
+    ghost use Rattle.yettuvam_c.specs.declared.given.Refusal.TheVariants.{Memory};
+
+    ghost from_gives = { λ _ e. e ≡ Memory };
+
+    fn from(_: AllocError) -> Self {
+        Refusal::Memory
+    }
+}
+
+// The value of a kind.
+fn value_of(kind: u32, value: i64) -> Option<ShaderDefValue>
+    ensures { result ≡ given_value kind value }
+{
+    match kind {
+        BOOL => Some(ShaderDefValue::Bool(value != 0)),
+        INT => Some(ShaderDefValue::Int(i32::try_from(value).ok()?)),
+        UINT => Some(ShaderDefValue::UInt(u32::try_from(value).ok()?)),
+        _ => None,
+    }
+}
+
+// Defines the name, in place of what it was.
+fn define(
+    definitions: &mut Definitions,
+    name: String,
+    value: ShaderDefValue,
+) -> Result<(), AllocError>
+    ensures { OnOk result (get_by_text definitions.new ≡ with_definition (get_by_text definitions.old) (string_bytes name) value) }
+{
+    definitions.insert(name, value)?;
+    Ok(())
+}
+
+// A definition's name and value, or why it has none.
+fn read<'a>(
+    index: usize,
+    definition: &Definition<'a>,
+) -> Result<(&'a str, ShaderDefValue), Refusal>
+    ensures name { IfOk result (λ r. r.0.now ≡ definition.now.name.now) }
+    ensures value { IfOk result (λ r. given_value definition.now.kind definition.now.value ≡ Some r.1) }
+    ensures err { IfErr result (RefusesOne index definition.now) }
+{
+    let Ok(name) = str::from_utf8(definition.name) else {
+        return Err(Refusal::NotUtf8);
+    };
+    let Some(value) = value_of(definition.kind, definition.value) else {
+        return Err(Refusal::BadDefinition(index));
+    };
+    Ok((name, value))
+}
+
+/// The definitions. Of one name the last counts.
+pub fn given(alloc: Global, definitions: &[Definition<'_>]) -> Result<Definitions, Refusal>
+    ensures ok { IfOk result (λ defs. defined_by 0 none_defined definitions.now ≡ Ok (get_by_text defs)) }
+    ensures err { IfErr result (RefusesGiven definitions.now) }
+{
+    let mut defs = BTreeMap::new(alloc);
+    for (index, definition) in definitions.iter().enumerate() {
+        let (name, value) = read(index, definition)?;
+        define(&mut defs, String::from_str(alloc, name)?, value)?;
+    }
+    Ok(defs)
+}

@@ -1,0 +1,69 @@
+//! The text layer for programs in C and in Rust: a static library of two calls, which `include/yettuvam.h` declares.
+//! What a call reads and what it writes is the caller's memory, so there is nothing to free. A call keeps nothing.
+//!
+//! - `page`: what crosses: texts, definitions, and the caller's page.
+//! - `given`: the definitions that a caller gives.
+//! - `sheet`: what is told, part behind part, and put on a page.
+//! - `told`: the parts that tell a text, its metadata or a fault.
+//! - `answer`: what the calls answer.
+#![tactic(auto)]
+
+ghost use Rattle.std.specs.Prelude.{◌≡◌, ◌≢◌, ◌≤◌, ◌⊎◌, Err};
+ghost use Rattle.yettuvam_c.specs.Answer.{IsPreprocessed, IsMetadata, Tells, TellsRoom, IsUnwritten};
+ghost use Rattle.yettuvam_c.specs.Given.{defined_by, IsNotText, HasOther};
+ghost use Rattle.naga_oil_pre.specs.Metadata.{none_defined};
+
+mod answer;
+mod given;
+mod page;
+mod sheet;
+#[cfg(test)]
+mod tests;
+mod told;
+
+use answer::{metadata, preprocessed, put};
+use naga_oil_lines::ImportDefWithOffset;
+use naga_oil_pre::{
+    ComposerErrorInner, PreprocessOutput, Preprocessor, PreprocessorMetaData, ShaderDefValue,
+};
+use naga_oil_registry::report::report;
+use page::{Definition, Field, Page, Source};
+use sheet::{Part, Sheet};
+use std::alloc::{AllocError, Global};
+use std::collections::{BTreeMap, BTreeSet};
+
+/// What the text becomes under the definitions, and what it imports; or its fault.
+#[unsafe(no_mangle)]
+pub extern "C" fn yettuvam_preprocess(
+    alloc: Global,
+    source: &Source<'_>,
+    definitions: &[Definition<'_>],
+    page: &mut Page<'_>,
+) -> u32
+    ensures known { result ≤ 5 }
+    ensures told { result ≤ 1 → Tells (IsPreprocessed source.now definitions.now) result page.old page.new }
+    ensures not_utf8 { result ≡ 3 → IsNotText source.now ⊎ HasOther definitions.now }
+    ensures bad { result ≡ 4 → defined_by 0 none_defined definitions.now ≡ Err page.new.count }
+    ensures no_room { result ≡ 5 → TellsRoom (IsPreprocessed source.now definitions.now) page.old page.new }
+    ensures unwritten { 2 ≤ result → IsUnwritten page.old page.new }
+{
+    put(preprocessed(alloc, source, definitions), page)
+}
+
+/// What the text tells before any build, with or without defines allowed in it; or its fault.
+#[unsafe(no_mangle)]
+pub extern "C" fn yettuvam_metadata(
+    alloc: Global,
+    source: &Source<'_>,
+    allow_defines: bool,
+    page: &mut Page<'_>,
+) -> u32
+    ensures known { result ≤ 5 }
+    ensures told { result ≤ 1 → Tells (IsMetadata source.now allow_defines) result page.old page.new }
+    ensures not_utf8 { result ≡ 3 → IsNotText source.now }
+    ensures good { result ≢ 4 }
+    ensures no_room { result ≡ 5 → TellsRoom (IsMetadata source.now allow_defines) page.old page.new }
+    ensures unwritten { 2 ≤ result → IsUnwritten page.old page.new }
+{
+    put(metadata(alloc, source, allow_defines), page)
+}

@@ -1,0 +1,168 @@
+// The parts that tell a text, its metadata or a fault.
+ghost use Rattle.std.specs.Prelude.{◌≡◌, ◌++◌, fold, map, flat_map, option_map, string_bytes, OnOk};
+ghost use Rattle.naga_oil_lines.specs.Text.{texts};
+ghost use Rattle.naga_oil_lines.specs.Uses.{use_of};
+ghost use Rattle.naga_oil_pre.specs.KnownView.{output_of};
+ghost use Rattle.naga_oil_pre.specs.View.{fault_of};
+ghost use Rattle.naga_oil_registry.specs.Definition.{defs_of};
+ghost use Rattle.naga_oil_registry.specs.Report.{fault_places};
+ghost use Rattle.yettuvam_c.specs.Laid.{with_part, laid_of, part_of};
+ghost use Rattle.yettuvam_c.specs.Told.{use_parts, output_parts, define_part, recorded_part, path_parts, metadata_parts, fault_kind, fault_place, fault_part};
+
+use super::*;
+
+pub const TEXT: u32 = 1;
+
+pub const IMPORT: u32 = 2;
+
+pub const ITEM: u32 = 3;
+
+pub const PATH: u32 = 4;
+
+pub const BOOL: u32 = 5;
+
+pub const INT: u32 = 6;
+
+pub const UINT: u32 = 7;
+
+pub const RECORDED: u32 = 8;
+
+pub const DIRECTIVES: u32 = 9;
+
+pub const FAULT: u32 = 10;
+
+pub const FAULT_LINE: u32 = 11;
+
+pub const FAULT_WHOLE: u32 = 12;
+
+// Tells what is used of a module: its name, and each item.
+fn push_use(sheet: &mut Sheet, used: &ImportDefWithOffset) -> Result<(), AllocError>
+    ensures { OnOk result (laid_of sheet.new ≡ fold with_part (laid_of sheet.old) (use_parts (use_of used.now))) }
+{
+    let import = used.definition();
+    sheet.push(Part::new(IMPORT, import.import.as_str(), used.offset()))?;
+    for item in import.items.as_slice() {
+        sheet.push(Part::new(ITEM, item.as_str(), 0))?;
+    }
+    Ok(())
+}
+
+// Tells what is used of each module.
+fn push_uses(sheet: &mut Sheet, uses: &[ImportDefWithOffset]) -> Result<(), AllocError>
+    ensures { OnOk result (laid_of sheet.new ≡ fold with_part (laid_of sheet.old) (flat_map use_parts (map use_of uses.now))) }
+{
+    for used in uses {
+        push_use(sheet, used)?;
+    }
+    Ok(())
+}
+
+// A definition.
+fn define_part(name: &str, value: ShaderDefValue) -> Part<'_>
+    ensures { part_of result ≡ define_part (name.now, value) }
+{
+    let (kind, value) = match value {
+        ShaderDefValue::Bool(truth) => (BOOL, i64::from(truth)),
+        ShaderDefValue::Int(number) => (INT, i64::from(number)),
+        ShaderDefValue::UInt(number) => (UINT, i64::from(number)),
+    };
+    Part {
+        kind,
+        text: name,
+        place: 0,
+        value,
+    }
+}
+
+// Tells definitions.
+fn push_defines(
+    sheet: &mut Sheet,
+    defines: &BTreeMap<String, ShaderDefValue>,
+) -> Result<(), AllocError>
+    ensures { OnOk result (laid_of sheet.new ≡ fold with_part (laid_of sheet.old) (map define_part (defs_of defines.now))) }
+{
+    for (name, value) in defines {
+        sheet.push(define_part(name.as_str(), *value))?;
+    }
+    Ok(())
+}
+
+// Tells the names that a text records.
+fn push_names(sheet: &mut Sheet, names: &BTreeSet<String>) -> Result<(), AllocError>
+    ensures { OnOk result (laid_of sheet.new ≡ fold with_part (laid_of sheet.old) (map recorded_part (texts names.now.keys))) }
+{
+    for name in names {
+        sheet.push(Part::new(RECORDED, name.as_str(), 0))?;
+    }
+    Ok(())
+}
+
+// Tells the import path that a text defines, if it does.
+fn push_path(sheet: &mut Sheet, path: &Option<String>) -> Result<(), AllocError>
+    ensures { OnOk result (laid_of sheet.new ≡ fold with_part (laid_of sheet.old) (path_parts (option_map string_bytes path.now))) }
+{
+    match path {
+        Some(path) => sheet.push(Part::new(PATH, path.as_str(), 0)),
+        None => Ok(()),
+    }
+}
+
+/// Tells what a text became, and its imports.
+pub fn push_output(sheet: &mut Sheet, output: &PreprocessOutput) -> Result<(), AllocError>
+    ensures { OnOk result (laid_of sheet.new ≡ fold with_part (laid_of sheet.old) (output_parts (output_of output.now))) }
+{
+    sheet.push(Part::new(TEXT, output.preprocessed_source.as_str(), 0))?;
+    push_uses(sheet, output.imports.as_slice())
+}
+
+/// Tells metadata: the cleaned text, its import path, its imports, its defines, the names that it records, and its directives.
+pub fn push_metadata(
+    alloc: Global,
+    sheet: &mut Sheet,
+    found: &PreprocessorMetaData,
+) -> Result<(), AllocError>
+    ensures { OnOk result (laid_of sheet.new ≡ fold with_part (laid_of sheet.old) (metadata_parts found.now)) }
+{
+    sheet.push(Part::new(TEXT, found.cleaned_source.as_str(), 0))?;
+    push_path(sheet, &found.name)?;
+    push_uses(sheet, found.imports.as_slice())?;
+    push_defines(sheet, &found.defines)?;
+    push_names(sheet, &found.effective_defs)?;
+    let directives = found.wgsl_directives.to_wgsl_string(alloc)?;
+    sheet.push(Part::new(DIRECTIVES, directives.as_str(), 0))
+}
+
+// What the place of a fault is, and the place.
+#[rattlefmt::skip]
+fn fault_place(inner: &ComposerErrorInner) -> (u32, usize)
+    ensures kind { result.0 ≡ fault_kind (fault_places (fault_of inner.now)) }
+    ensures place { result.1 ≡ fault_place (fault_places (fault_of inner.now)) }
+{
+    match inner {
+        ComposerErrorInner::ImportParseError(_, place) | ComposerErrorInner::ImportNotFound(_, place)
+        | ComposerErrorInner::NotEnoughEndIfs(place) | ComposerErrorInner::TooManyEndIfs(place)
+        | ComposerErrorInner::ElseWithoutCondition(place) | ComposerErrorInner::UnknownShaderDefOperator { pos: place, .. }
+        | ComposerErrorInner::UnknownShaderDef { pos: place, .. } | ComposerErrorInner::InvalidShaderDefComparisonValue { pos: place, .. }
+        | ComposerErrorInner::GlslInvalidVersion(place) | ComposerErrorInner::OverrideNotVirtual { pos: place, .. }
+        | ComposerErrorInner::InvalidShaderDefDefinitionValue { pos: place, .. } | ComposerErrorInner::DefineInModule(place) => (FAULT, *place),
+        ComposerErrorInner::DecorationInSource(range) => (FAULT, range.start),
+        ComposerErrorInner::RedirectError(_) => (FAULT, 0),
+        ComposerErrorInner::InvalidWgslDirective { position, .. } => (FAULT_LINE, *position),
+        _ => (FAULT_WHOLE, 0),
+    }
+}
+
+/// Tells a fault by its report.
+pub fn push_fault(
+    alloc: Global,
+    sheet: &mut Sheet,
+    path: &str,
+    text: &str,
+    inner: &ComposerErrorInner,
+) -> Result<(), AllocError>
+    ensures { OnOk result (laid_of sheet.new ≡ with_part (laid_of sheet.old) (fault_part path.now text.now (fault_of inner.now))) }
+{
+    let told = report(alloc, path, text, 0, inner)?;
+    let (kind, place) = fault_place(inner);
+    sheet.push(Part::new(kind, told.as_str(), place))
+}

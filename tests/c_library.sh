@@ -1,0 +1,76 @@
+#!/bin/sh
+# Builds the programs in C and in Rust over the static library, and compares what they print with what stands beside them.
+# The library is built first, by
+#     (cd crates/yettuvam_c && rt lib)
+# It is crates/yettuvam_c/out/libyettuvam_c.a, or LIBRARY of the environment. Needs `cc`, and `rustc` for the second program; what
+# the library asks of the toolchain's C code stands in the folder that `rt doc` names.
+root=$(CDPATH='' cd -- "$(dirname -- "$0")/.." && pwd) || exit 1
+library=${LIBRARY:-$root/crates/yettuvam_c/out/libyettuvam_c.a}
+if [ ! -f "$library" ]; then
+    echo "c_library.sh: there is no $library. Build it: (cd crates/yettuvam_c && rt lib)" >&2
+    exit 1
+fi
+heap=$(dirname "$(rt doc | head -n 1)")/c/liblibc_c.a
+if [ ! -f "$heap" ]; then
+    echo "c_library.sh: the toolchain has no $heap" >&2
+    exit 1
+fi
+folder=$(mktemp -d) || exit 1
+trap 'rm -rf "$folder"' EXIT
+failed=0
+
+# Says that something isn't as it has to be.
+fail() {
+    echo "c_library.sh: $*" >&2
+    failed=1
+}
+
+# Builds a program in C.
+compile() {
+    name=$1
+    shift
+    cc -std=c11 -O2 -Wall -Wextra -Werror -I "$root/crates/yettuvam_c/include" "$@" "$library" "$heap" -o "$folder/$name" || exit 1
+}
+
+# What a program prints, with its status, is what is stored.
+prints() {
+    stored=$1
+    shift
+    { "$@" 2>&1; echo "status $?"; } > "$folder/printed"
+    cmp "$folder/printed" "$root/$stored" || fail "$* doesn't print $stored"
+}
+
+# A preprocessed shader is the one that `oil pre` prints.
+preprocesses() {
+    cd "$root/examples/water" || exit 1
+    "$1" ripple.wgsl WAVES=1 SCALE=4 | cmp - ripple_preprocessed.wgsl || fail "$1: ripple.wgsl"
+    "$1" water.wgsl SCALE=4 | cmp - preprocessed.wgsl || fail "$1: water.wgsl"
+    cd "$root" || exit 1
+}
+
+# The README shows lines of the first program.
+sed -n '/^```c$/,/^```$/{/^```/d;p;}' "$root/README.md" > "$folder/shown.c"
+tail -n "$(wc -l < "$folder/shown.c")" "$root/examples/c/lake.c" | cmp - "$folder/shown.c" || fail 'README shows other code than examples/c/lake.c'
+
+compile lake "$root/examples/c/lake.c"
+prints examples/c/lake.txt "$folder/lake"
+compile pre "$root/examples/c/pre.c"
+prints examples/c/told.txt "$folder/pre"
+preprocesses "$folder/pre"
+printf '#else\n' > "$folder/faulty.wgsl"
+(cd "$folder" && prints examples/c/faulty.txt ./pre faulty.wgsl; exit "$failed") || failed=1
+
+compile scarce "$root/tests/c_library/scarce.c" -Wl,--wrap=malloc,--wrap=realloc,--wrap=free
+prints tests/c_library/scarce.txt "$folder/scarce"
+
+if command -v rustc > /dev/null; then
+    rustc --edition 2024 -O -D warnings "$root/examples/rust/pre.rs" -C "link-arg=$library" -C "link-arg=$heap" -o "$folder/pre_rust" || exit 1
+    prints examples/rust/told.txt "$folder/pre_rust"
+    preprocesses "$folder/pre_rust"
+    (cd "$folder" && prints examples/c/faulty.txt ./pre_rust faulty.wgsl; exit "$failed") || failed=1
+else
+    echo 'c_library.sh: there is no rustc, so the program in Rust was left out'
+fi
+
+[ "$failed" -eq 0 ] || exit 1
+echo 'the programs over the library print what stands beside them'
