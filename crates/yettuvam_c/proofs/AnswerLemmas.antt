@@ -3,15 +3,17 @@ use Rattle.std.proofs.Common.{◌≡◌, ℕ, ◌≤◌, List, Bool, true, false
 use mathlib.Core.Logic.{⊎_elim, inl, inr}
 use Rattle.std.specs.Prelude.{◌⊎◌, IfOk, IfErr, MatchResult}
 use Rattle.naga_oil_pre.specs.Fault.{Fault}
-use Rattle.naga_oil_pre.specs.Metadata.{Metadata}
+use Rattle.naga_oil_pre.specs.Metadata.{Metadata, metadata}
 use Rattle.naga_oil_pre.specs.MetadataView.{metadata_of}
-use Rattle.naga_oil_pre.specs.Preprocessed.{Output}
+use Rattle.naga_oil_pre.specs.Preprocessed.{Output, preprocessed}
 use Rattle.naga_oil_pre.specs.declared.metadata.PreprocessorMetaData.{PreprocessorMetaData}
-use Rattle.yettuvam_c.specs.Answer.{Told, output_told, value_told, fault_told, told_of, IsToldPut, IsPut, Tells, TellsRoom, IsUnwritten}
+use Rattle.yettuvam_c.specs.Answer.{Told, output_told, value_told, fault_told, told_of, IsPreprocessed, IsMetadata, IsToldPut, IsPut, Tells, TellsRoom, IsUnwritten}
 use Rattle.yettuvam_c.specs.Told.{metadata_parts}
 use Rattle.yettuvam_c.specs.declared.given.Refusal.{Refusal}
 use Rattle.yettuvam_c.specs.declared.given.Refusal.TheVariants.{Memory, NotUtf8, BadDefinition}
+use Rattle.yettuvam_c.specs.declared.page.Definition.{Definition}
 use Rattle.yettuvam_c.specs.declared.page.Page.{Page}
+use Rattle.yettuvam_c.specs.declared.page.Source.{Source}
 use Rattle.yettuvam_c.specs.declared.sheet.Sheet.{Sheet}
 
 -- a text that has a fault is told by it
@@ -24,6 +26,21 @@ pub metadata_fault_is_told : (path text : List ℕ) (value : Result Metadata Fau
     → MatchResult value (λ m. (found : PreprocessorMetaData) × (m ≡ metadata_of found) × (told ≡ value_told (metadata_parts found))) (λ f. told ≡ fault_told path text f)
 metadata_fault_is_told path text value None told fails is = absurd is
 metadata_fault_is_told path text value (Some f) told fails is = rw fails is
+
+-- what is told has the status 0 or 1
+output_low : (path text : List ℕ) (value : Result Output Fault) → (output_told path text value).0 ≤ 1
+output_low path text (Ok o) = omega arith
+output_low path text (Err f) = omega arith
+
+pub preprocess_low : (source : Source) (given : List Definition) (told : Told) → IsPreprocessed source given told → told.0 ≤ 1
+preprocess_low source given told is = rw is.1.1 (output_low source.path.now source.text.now (preprocessed is.0 source.text.now))
+
+found_low : (path text : List ℕ) (value : Result Metadata Fault) (told : Told) → MatchResult value (λ m. (found : PreprocessorMetaData) × (m ≡ metadata_of found) × (told ≡ value_told (metadata_parts found))) (λ f. told ≡ fault_told path text f) → told.0 ≤ 1
+found_low path text (Ok m) told is = rw is.1.1 (omega arith)
+found_low path text (Err f) told is = rw is (omega arith)
+
+pub metadata_low : (source : Source) (allow_defines : Bool) (told : Told) → IsMetadata source allow_defines told → told.0 ≤ 1
+metadata_low source allow_defines told is = found_low source.path.now source.text.now (metadata allow_defines source.text.now) told is
 
 -- an answer on a page, whose statuses are 0 and 1, or a refusal
 module _ (IsAnswer : Told → Type 0) (R : Refusal → Type 0) (low : (told : Told) → IsAnswer told → told.0 ≤ 1) (status : ℕ) (old new : Page) where

@@ -5,8 +5,9 @@ use Rattle.std.specs.Str.{IsUtf8}
 use Rattle.std.proofs.lemmas.List.{drop_more}
 use Rattle.naga_oil_pre.specs.Fault.{Definitions}
 use Rattle.naga_oil_pre.specs.Metadata.{none_defined}
-use Rattle.yettuvam_c.specs.Given.{given_value, defined_by, HasOther, RefusesOne, RefusesGiven}
+use Rattle.yettuvam_c.specs.Given.{given_value, defined_by, HasOther, RefusesOne, RefusesGiven, RefusesSource, Refuses}
 use Rattle.yettuvam_c.specs.declared.page.Definition.{Definition}
+use Rattle.yettuvam_c.specs.declared.page.Source.{Source}
 use Rattle.yettuvam_c.specs.declared.given.Refusal.{Refusal}
 use Rattle.yettuvam_c.specs.declared.given.Refusal.TheVariants.{Memory, NotUtf8, BadDefinition}
 
@@ -24,3 +25,13 @@ pub refused_at : (ds : List Definition) (i : ℕ) (d : Definition) (defs : Defin
 refused_at ds i d defs Memory h so_far why = absurd why
 refused_at ds i d defs NotUtf8 h so_far why = other_at ds i d h why
 refused_at ds i d defs (BadDefinition k) h so_far why = so_far ∙ ap (defined_by i defs) (drop_more ds i d h) ∙ stops i k defs (get_or ds i d) (drop (i + 1) ds) why.0 why.1
+
+pub source_refused : (s : Source) (ds : List Definition) (e : Refusal) → RefusesSource s e → Refuses s ds e
+source_refused s ds Memory why = why
+source_refused s ds NotUtf8 why = inl why
+source_refused s ds (BadDefinition k) why = absurd why
+
+pub given_refused : (s : Source) (ds : List Definition) (e : Refusal) → RefusesGiven ds e → Refuses s ds e
+given_refused s ds Memory why = why
+given_refused s ds NotUtf8 why = inr why
+given_refused s ds (BadDefinition k) why = why

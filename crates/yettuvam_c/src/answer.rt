@@ -40,7 +40,7 @@ fn fault(
     alloc: Global,
     path: &str,
     text: &str,
-    inner: ComposerErrorInner,
+    inner: Inner,
 ) -> Result<(u32, Sheet), AllocError>
     ensures { IfOk result (λ a. MatchOption (fault_of inner) ⊥ (λ f. told_of a ≡ fault_told path.now text.now f)) }
 {
@@ -53,6 +53,7 @@ fn fault(
 }
 
 // What a text becomes under definitions.
+#[tactic(auto, using(crate::proofs::AnswerLemmas::fault_is_told))]
 fn text_told(
     alloc: Global,
     path: &str,
@@ -71,6 +72,7 @@ fn text_told(
 }
 
 // What a text tells before any build.
+#[tactic(auto, using(crate::proofs::AnswerLemmas::metadata_fault_is_told))]
 fn metadata_told(
     alloc: Global,
     path: &str,
@@ -89,6 +91,7 @@ fn metadata_told(
 }
 
 /// What a source becomes under the definitions.
+#[tactic(auto, using(crate::proofs::GivenLemmas::source_refused, crate::proofs::GivenLemmas::given_refused))]
 pub fn preprocessed(
     alloc: Global,
     source: &Source<'_>,

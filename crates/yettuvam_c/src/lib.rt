@@ -24,7 +24,8 @@ mod told;
 use answer::{metadata, preprocessed, put};
 use naga_oil_lines::ImportDefWithOffset;
 use naga_oil_pre::{
-    ComposerErrorInner, PreprocessOutput, Preprocessor, PreprocessorMetaData, ShaderDefValue,
+    ComposerErrorInner as Inner, PreprocessOutput, Preprocessor, PreprocessorMetaData,
+    ShaderDefValue,
 };
 use naga_oil_registry::report::report;
 use page::{Definition, Field, Page, Source};

@@ -134,21 +134,25 @@ pub fn push_metadata(
 
 // What the place of a fault is, and the place.
 #[rattlefmt::skip]
-fn fault_place(inner: &ComposerErrorInner) -> (u32, usize)
+fn fault_place(inner: &Inner) -> (u32, usize)
     ensures kind { result.0 ≡ fault_kind (fault_places (fault_of inner.now)) }
     ensures place { result.1 ≡ fault_place (fault_places (fault_of inner.now)) }
 {
     match inner {
-        ComposerErrorInner::ImportParseError(_, place) | ComposerErrorInner::ImportNotFound(_, place)
-        | ComposerErrorInner::NotEnoughEndIfs(place) | ComposerErrorInner::TooManyEndIfs(place)
-        | ComposerErrorInner::ElseWithoutCondition(place) | ComposerErrorInner::UnknownShaderDefOperator { pos: place, .. }
-        | ComposerErrorInner::UnknownShaderDef { pos: place, .. } | ComposerErrorInner::InvalidShaderDefComparisonValue { pos: place, .. }
-        | ComposerErrorInner::GlslInvalidVersion(place) | ComposerErrorInner::OverrideNotVirtual { pos: place, .. }
-        | ComposerErrorInner::InvalidShaderDefDefinitionValue { pos: place, .. } | ComposerErrorInner::DefineInModule(place) => (FAULT, *place),
-        ComposerErrorInner::DecorationInSource(range) => (FAULT, range.start),
-        ComposerErrorInner::RedirectError(_) => (FAULT, 0),
-        ComposerErrorInner::InvalidWgslDirective { position, .. } => (FAULT_LINE, *position),
-        _ => (FAULT_WHOLE, 0),
+        Inner::ImportParseError(_, place) | Inner::ImportNotFound(_, place)
+        | Inner::NotEnoughEndIfs(place) | Inner::TooManyEndIfs(place)
+        | Inner::ElseWithoutCondition(place) | Inner::UnknownShaderDefOperator { pos: place, .. }
+        | Inner::UnknownShaderDef { pos: place, .. } | Inner::InvalidShaderDefComparisonValue { pos: place, .. }
+        | Inner::GlslInvalidVersion(place) | Inner::OverrideNotVirtual { pos: place, .. }
+        | Inner::InvalidShaderDefDefinitionValue { pos: place, .. } | Inner::DefineInModule(place) => (FAULT, *place),
+        Inner::DecorationInSource(range) => (FAULT, range.start),
+        Inner::RedirectError(_) => (FAULT, 0),
+        Inner::InvalidWgslDirective { position, .. } => (FAULT_LINE, *position),
+        Inner::InvalidIdentifier { .. } | Inner::WgslParseError(_) | Inner::GlslParseError(_)
+        | Inner::HeaderValidationError(_) | Inner::ShaderValidationError(_)
+        | Inner::WgslBackError(_) | Inner::GlslBackError(_) | Inner::InconsistentShaderDefValue { .. }
+        | Inner::NoModuleName | Inner::Memory | Inner::TooManyModules
+        | Inner::BindingsExhausted | Inner::TextTooLarge | Inner::WrongForm => (FAULT_WHOLE, 0),
     }
 }
 
@@ -158,7 +162,7 @@ pub fn push_fault(
     sheet: &mut Sheet,
     path: &str,
     text: &str,
-    inner: &ComposerErrorInner,
+    inner: &Inner,
 ) -> Result<(), AllocError>
     ensures { OnOk result (laid_of sheet.new ≡ with_part (laid_of sheet.old) (fault_part path.now text.now (fault_of inner.now))) }
 {
