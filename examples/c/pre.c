@@ -54,7 +54,7 @@ static bool is_told(uint32_t status, const struct yettuvam_page *page) {
 
 /* Prints the fields of a page, a line for each. */
 static void print_fields(const struct yettuvam_page *page) {
-    static const char *names[] = {"", "text", "import", "item", "path", "bool", "int", "uint", "recorded", "directives", "fault"};
+    static const char *names[] = {"", "text", "import", "item", "path", "bool", "int", "uint", "recorded", "directives", "fault", "fault of a line", "fault of the whole"};
     for (size_t i = 0; i < page->count; i++) {
         const struct yettuvam_field *field = &page->fields[i];
         printf("%s at %zu, value %lld: %.*s\n", names[field->kind], field->place, (long long)field->value, (int)field->len, page->out + field->at);

@@ -23,8 +23,9 @@ fn value_of(text: &str) -> Option<Value> {
 fn preprocessed(path: &str, text: &str, words: &[String]) -> Result<Told, Refusal> {
     let told = metadata(path, text, true)?;
     let given = words.iter().filter_map(|word| word.split_once('='));
-    let mut defs: Vec<(String, Value)> =
-        given.filter_map(|(name, value)| Some((name.to_string(), value_of(value)?))).collect();
+    let mut defs: Vec<(String, Value)> = given
+        .filter_map(|(name, value)| Some((name.to_string(), value_of(value)?)))
+        .collect();
     defs.extend(told.defines);
     preprocess(path, &told.text, &defs)
 }
@@ -33,7 +34,10 @@ fn main() -> ExitCode {
     let words: Vec<String> = std::env::args().skip(1).collect();
     let Some(path) = words.first() else {
         println!("{:#?}", metadata("lake.wgsl", SMALL, true));
-        println!("{:#?}", preprocess("lake.wgsl", "#if LAYERS > 2\n#endif", &[]));
+        println!(
+            "{:#?}",
+            preprocess("lake.wgsl", "#if LAYERS > 2\n#endif", &[])
+        );
         println!("{:#?}", metadata("lake.wgsl", "\nenable  ;", true));
         return ExitCode::SUCCESS;
     };

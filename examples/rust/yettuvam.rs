@@ -115,7 +115,12 @@ fn raw(name: &str, value: Value) -> RawDefinition {
         Value::UInt(number) => (7, i64::from(number)),
     };
     let (name, name_len) = (name.as_ptr().cast(), name.len());
-    RawDefinition { name, name_len, kind, value }
+    RawDefinition {
+        name,
+        name_len,
+        kind,
+        value,
+    }
 }
 
 // Calls with a page of some room, and once more where it has to be larger.
@@ -133,7 +138,16 @@ fn told(
     let (mut bytes, mut count) = (1024, 16);
     loop {
         let mut out = vec![0u8; bytes];
-        let mut fields = vec![Field { kind: 0, at: 0, len: 0, place: 0, value: 0 }; count];
+        let mut fields = vec![
+            Field {
+                kind: 0,
+                at: 0,
+                len: 0,
+                place: 0,
+                value: 0
+            };
+            count
+        ];
         let mut page = Page {
             out: out.as_mut_ptr().cast(),
             out_len: out.len(),
@@ -174,7 +188,11 @@ fn read(out: &[u8], fields: &[Field]) -> Told {
         let text = text_of(out, *field);
         match field.kind {
             1 => told.text = text,
-            2 => told.imports.push(Import { module: text, place: field.place, items: Vec::new() }),
+            2 => told.imports.push(Import {
+                module: text,
+                place: field.place,
+                items: Vec::new(),
+            }),
             3 => told.imports.last_mut().unwrap().items.push(text),
             4 => told.path = Some(text),
             5 => told.defines.push((text, Value::Bool(field.value != 0))),

@@ -53,7 +53,7 @@ static uint32_t call(int which, struct yettuvam_page *page) {
     memset(out, 0, sizeof out);
     *page = (struct yettuvam_page){out, sizeof out, fields, 40, 7, 7};
     asked = 0;
-    /* Without the second definition the first call finds no fault, and without the first one it finds one. */
+    /* Without LAYERS there is a fault. */
     switch (which) {
     case 0: return yettuvam_preprocess(&source, definitions, 2, page);
     case 1: return yettuvam_preprocess(&source, definitions + 1, 1, page);

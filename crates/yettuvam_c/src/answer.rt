@@ -36,12 +36,7 @@ fn texts<'a>(source: &Source<'a>) -> Result<(&'a str, &'a str), Refusal>
 }
 
 // Tells a fault, unless it is want of memory.
-fn fault(
-    alloc: Global,
-    path: &str,
-    text: &str,
-    inner: Inner,
-) -> Result<(u32, Sheet), AllocError>
+fn fault(alloc: Global, path: &str, text: &str, inner: Inner) -> Result<(u32, Sheet), AllocError>
     ensures { IfOk result (λ a. MatchOption (fault_of inner) ⊥ (λ f. told_of a ≡ fault_told path.now text.now f)) }
 {
     if inner.is_memory() {

@@ -55,10 +55,7 @@ fn define(
 }
 
 // A definition's name and value, or why it has none.
-fn read<'a>(
-    index: usize,
-    definition: &Definition<'a>,
-) -> Result<(&'a str, ShaderDefValue), Refusal>
+fn read<'a>(index: usize, definition: &Definition<'a>) -> Result<(&'a str, ShaderDefValue), Refusal>
     ensures name { IfOk result (λ r. r.0.now ≡ definition.now.name.now) }
     ensures value { IfOk result (λ r. given_value definition.now.kind definition.now.value ≡ Some r.1) }
     ensures err { IfErr result (RefusesOne index definition.now) }
