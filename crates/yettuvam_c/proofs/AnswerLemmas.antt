@@ -27,16 +27,21 @@ pub metadata_fault_is_told : (path text : List ℕ) (value : Result Metadata Fau
 metadata_fault_is_told path text value None told fails is = absurd is
 metadata_fault_is_told path text value (Some f) told fails is = rw fails is
 
+-- metadata that is found is told
+pub metadata_is_told : (path text : List ℕ) (value : Result Metadata Fault) (found : PreprocessorMetaData) (told : Told) → value ≡ Ok (metadata_of found) → told ≡ value_told (metadata_parts found)
+    → MatchResult value (λ m. (found : PreprocessorMetaData) × (m ≡ metadata_of found) × (told ≡ value_told (metadata_parts found))) (λ f. told ≡ fault_told path text f)
+metadata_is_told path text value found told gives is = rw gives (found, refl, is)
+
 -- what is told has the status 0 or 1
 output_low : (path text : List ℕ) (value : Result Output Fault) → (output_told path text value).0 ≤ 1
 output_low path text (Ok o) = omega arith
 output_low path text (Err f) = omega arith
 
 pub preprocess_low : (source : Source) (given : List Definition) (told : Told) → IsPreprocessed source given told → told.0 ≤ 1
-preprocess_low source given told is = rw is.1.1 (output_low source.path.now source.text.now (preprocessed is.0 source.text.now))
+preprocess_low source given told is = rw is.2 (output_low source.path.now source.text.now (preprocessed is.0 source.text.now))
 
 found_low : (path text : List ℕ) (value : Result Metadata Fault) (told : Told) → MatchResult value (λ m. (found : PreprocessorMetaData) × (m ≡ metadata_of found) × (told ≡ value_told (metadata_parts found))) (λ f. told ≡ fault_told path text f) → told.0 ≤ 1
-found_low path text (Ok m) told is = rw is.1.1 (omega arith)
+found_low path text (Ok m) told is = rw is.2 (omega arith)
 found_low path text (Err f) told is = rw is (omega arith)
 
 pub metadata_low : (source : Source) (allow_defines : Bool) (told : Told) → IsMetadata source allow_defines told → told.0 ≤ 1
@@ -45,20 +50,20 @@ metadata_low source allow_defines told is = found_low source.path.now source.tex
 -- an answer on a page, whose statuses are 0 and 1, or a refusal
 module _ (IsAnswer : Told → Type 0) (R : Refusal → Type 0) (low : (told : Told) → IsAnswer told → told.0 ≤ 1) (status : ℕ) (old new : Page) where
   told_put : (told : Told) (room : Bool) → IsAnswer told → IsToldPut told room status old new → status ≤ 1 → Tells IsAnswer status old new
-  told_put told true is put h = (told, is, put.1.0, put.1.1)
-  told_put told false is put h = absurd (omega (arith, put.1.0, h))
+  told_put told true is put h = (told, is, put.1, put.2)
+  told_put told false is put h = absurd (omega (arith, put.1, h))
 
   no_room_put : (told : Told) (room : Bool) → IsAnswer told → IsToldPut told room status old new → status ≡ 5 → TellsRoom IsAnswer old new
-  no_room_put told true is put h = absurd (omega (arith, put.1.0, h, low told is))
-  no_room_put told false is put h = (told, is, sym put.0, put.1.1)
+  no_room_put told true is put h = absurd (omega (arith, put.1, h, low told is))
+  no_room_put told false is put h = (told, is, sym put.0, put.2)
 
   unwritten_put : (told : Told) (room : Bool) → IsAnswer told → IsToldPut told room status old new → 2 ≤ status → IsUnwritten old new
-  unwritten_put told true is put h = absurd (omega (arith, put.1.0, h, low told is))
-  unwritten_put told false is put h = put.1.1.1
+  unwritten_put told true is put h = absurd (omega (arith, put.1, h, low told is))
+  unwritten_put told false is put h = (put.2.1, put.2.2)
 
   status_put : (told : Told) (room : Bool) → IsAnswer told → IsToldPut told room status old new → (status ≤ 1) ⊎ (status ≡ 5)
-  status_put told true is put = inl (omega (arith, put.1.0, low told is))
-  status_put told false is put = inr put.1.0
+  status_put told true is put = inl (omega (arith, put.1, low told is))
+  status_put told false is put = inr put.1
 
   -- ---- for each answer
   pub known : (a : Result (ℕ × Sheet) Refusal) → IfOk a (λ s. IsAnswer (told_of s)) → IsPut a status old new → status ≤ 5
@@ -83,7 +88,7 @@ module _ (IsAnswer : Told → Type 0) (R : Refusal → Type 0) (low : (told : To
   unwritten (Ok s) is put h = unwritten_put (told_of s) put.0 is put.1 h
   unwritten (Err Memory) is put h = put.1
   unwritten (Err NotUtf8) is put h = put.1
-  unwritten (Err (BadDefinition index)) is put h = put.1.1
+  unwritten (Err (BadDefinition index)) is put h = put.2
 
   pub not_utf8 : (a : Result (ℕ × Sheet) Refusal) → IfOk a (λ s. IsAnswer (told_of s)) → IfErr a R → IsPut a status old new → status ≡ 3 → R NotUtf8
   not_utf8 (Ok s) is why put h = ⊎_elim (λ l. absurd (omega (arith, h, l))) (λ l. absurd (omega (arith, h, l))) (status_put (told_of s) put.0 is put.1)
@@ -95,4 +100,4 @@ module _ (IsAnswer : Told → Type 0) (R : Refusal → Type 0) (low : (told : To
   bad (Ok s) is why put h = ⊎_elim (λ l. absurd (omega (arith, h, l))) (λ l. absurd (omega (arith, h, l))) (status_put (told_of s) put.0 is put.1)
   bad (Err Memory) is why put h = absurd (omega (arith, put.0, h))
   bad (Err NotUtf8) is why put h = absurd (omega (arith, put.0, h))
-  bad (Err (BadDefinition index)) is why put h = rw put.1.0 why
+  bad (Err (BadDefinition index)) is why put h = rw put.1 why

@@ -1,10 +1,11 @@
 -- Why definitions are refused, where one of them is.
-use Rattle.std.proofs.Common.{◌≡◌, ℕ, zero, suc, ◌+◌, ◌<◌, List, [], ◌∷◌, length, get_or, drop, refl, sym, ap, ◌∙◌, arith, None, Err}
+use Rattle.std.proofs.Common.{◌≡◌, ℕ, zero, suc, ◌+◌, ◌<◌, List, [], ◌∷◌, length, get_or, drop, refl, sym, ap, ◌∙◌, arith, Option, None, Some, Result, Err}
 use mathlib.Core.Logic.{inl, inr}
 use Rattle.std.specs.Str.{IsUtf8}
 use Rattle.std.proofs.lemmas.List.{drop_more}
 use Rattle.naga_oil_pre.specs.Fault.{Definitions}
-use Rattle.naga_oil_pre.specs.Metadata.{none_defined}
+use Rattle.naga_oil_pre.specs.Metadata.{none_defined, with_definition}
+use Rattle.naga_oil_pre.specs.declared.shader_def.ShaderDefValue.{ShaderDefValue}
 use Rattle.yettuvam_c.specs.Given.{given_value, defined_by, HasOther, RefusesOne, RefusesGiven, RefusesSource, Refuses}
 use Rattle.yettuvam_c.specs.declared.page.Definition.{Definition}
 use Rattle.yettuvam_c.specs.declared.page.Source.{Source}
@@ -16,9 +17,14 @@ other_at [] i d h other = absurd (omega (arith, h))
 other_at (x ∷ ds) zero d h other = inl other
 other_at (x ∷ ds) (suc i) d h other = inr (other_at ds i d (omega (arith, h)) other)
 
+-- what definitions define, by the value of the first
+abbrev stop_or : ℕ → Definitions → Definition → List Definition → Option ShaderDefValue → Result Definitions ℕ
+stop_or i defs d more None = Err i
+stop_or i defs d more (Some value) = defined_by (i + 1) (with_definition defs d.name.now value) more
+
 -- definitions stop at one that has no value
 stops : (i k : ℕ) (defs : Definitions) (d : Definition) (more : List Definition) → k ≡ i → given_value d.kind d.value ≡ None → defined_by i defs (d ∷ more) ≡ Err k
-stops i k defs d more same none = rw (same, none) refl
+stops i k defs d more same none = ap (stop_or i defs d more) none ∙ ap Err (sym same)
 
 -- why one of the definitions is refused is why all are
 pub refused_at : (ds : List Definition) (i : ℕ) (d : Definition) (defs : Definitions) (e : Refusal) → i < length ds → defined_by 0 none_defined ds ≡ defined_by i defs (drop i ds) → RefusesOne i (get_or ds i d) e → RefusesGiven ds e
