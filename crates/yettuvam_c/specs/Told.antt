@@ -1,5 +1,5 @@
 -- The parts that tell a text, its metadata or a fault. The kinds are those of the header.
-use Rattle.std.specs.Prelude.{ℕ, ℤ, pos, if◌then◌else◌, Bool, List, [], ◌∷◌, ◌++◌, map, flat_map, option_map, string_bytes, Option, Some, None}
+use Rattle.std.specs.Prelude.{ℕ, pos, if◌then◌else◌, List, [], ◌∷◌, ◌++◌, map, flat_map, option_map, string_bytes, Option, Some, None}
 use Rattle.naga_oil_lines.specs.Directives.{directives_of}
 use Rattle.naga_oil_lines.specs.DirectivesText.{directives_text}
 use Rattle.naga_oil_lines.specs.Text.{texts}
