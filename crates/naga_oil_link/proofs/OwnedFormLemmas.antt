@@ -136,7 +136,8 @@ module _ (m : ModuleValue) (d : List ℕ) (f : IsModuleFormed m) where
         (in_append m.functions more j e p);
   }
 
-owned_by : (m : ModuleValue) (d : List ℕ) → IsModuleFormed (decorated_items d m) → (b : Bool) → IsModuleFormed (if b then with_demoted (demotable d (decorated_items d m)) (decorated_items d m) else decorated_items d m)
+-- what a build owns of a module is of good form where the module is with its items decorated
+pub owned_by : (m : ModuleValue) (d : List ℕ) → IsModuleFormed (decorated_items d m) → (b : Bool) → IsModuleFormed (if b then with_demoted (demotable d (decorated_items d m)) (decorated_items d m) else decorated_items d m)
 owned_by m d f true = functions_appended (decorated_items d m) (demotable d (decorated_items d m)) (may_be_appended (decorated_items d m) d f) f
 owned_by m d f false = f
 
