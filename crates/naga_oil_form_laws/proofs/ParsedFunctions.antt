@@ -88,7 +88,7 @@ expressions_long m = length-map m.global_expressions _
 
 -- ---- functions
 
-names_call : (e : Expression) → NamesFunctionAsResult (parts e)
+pub names_call : (e : Expression) → NamesFunctionAsResult (parts e)
 names_call (CallResult f) g h = refl
 names_call _ g h = cc
 

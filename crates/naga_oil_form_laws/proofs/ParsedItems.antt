@@ -97,7 +97,7 @@ member_kinds (x ∷ xs) = All-cons NamedByTypes (member_type x) (map member_type
 sized_kinds : (base : ℕ) (size : ArraySize) → All NamedByTypes (Some (TypeItem base) ∷ size_name size ∷ [])
 sized_kinds base size = All-cons NamedByTypes (Some (TypeItem base)) (size_name size ∷ []) refl (All-cons NamedByTypes (size_name size) [] (size_kind size) (All-nil NamedByTypes))
 
-inner_kinds : (n : Text) (i : TypeInner) → All NamedByTypes (inner_row n i).names
+pub inner_kinds : (n : Text) (i : TypeInner) → All NamedByTypes (inner_row n i).names
 inner_kinds n (Scalar c) = All-nil NamedByTypes
 inner_kinds n (Vector c) = All-nil NamedByTypes
 inner_kinds n (Matrix c) = All-nil NamedByTypes
@@ -146,7 +146,7 @@ no_name : (o : Option (String Global)) → is_none o ≡ true → option_map str
 no_name None h = refl
 no_name (Some x) h = absurd (false≢true h)
 
-names_global : (e : Expression) (g : ℕ) → (parts e).named ≡ GlobalAt g → (parts e).kind ≡ 4
+pub names_global : (e : Expression) (g : ℕ) → (parts e).named ≡ GlobalAt g → (parts e).kind ≡ 4
 names_global (GlobalVariable k) g h = refl
 names_global _ g h = cc
 
