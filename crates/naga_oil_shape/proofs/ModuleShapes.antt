@@ -1,0 +1,2 @@
+-- What a module says has the shape of a module.
+use Rattle.std.proofs.Common.{◌≡◌, ℕ, List, [], ◌∷◌, refl}
