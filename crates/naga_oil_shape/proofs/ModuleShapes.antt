@@ -1,14 +1,12 @@
 -- What a module says has the shape of a module.
-use Rattle.std.proofs.Common.{◌≡◌, ℕ, List, [], ◌∷◌, map, nat_eq, Option, Some, None, option_map, string_bytes, slice_get, refl, All}
-use Rattle.std.specs.List.{IsDistinct}
+use Rattle.std.proofs.Common.{Some, option_map, string_bytes, refl}
 use Rattle.std.proofs.lemmas.List.Elements.{All-map}
-use Rattle.naga_oil_ir.specs.ModuleValue.{ModuleValue, FunctionValue, EntryValue, module_value, function_value, entry_value}
+use Rattle.naga_oil_ir.specs.ModuleValue.{FunctionValue, EntryValue, function_value, entry_value}
 use Rattle.naga_oil_ir.specs.Parts.{Parts, parts}
 use Rattle.naga_oil_ir.specs.Rows.{Row, type_row, constant_row, override_row, global_row}
 use Rattle.naga_oil_ir.specs.declared.expression.Expression.{Expression}
 use Rattle.naga_oil_ir.specs.declared.module.EntryPoint.{EntryPoint}
 use Rattle.naga_oil_ir.specs.declared.module.Function.{Function}
-use Rattle.naga_oil_ir.specs.declared.module.Module.{Module}
 use Rattle.naga_oil_ir.specs.declared.span.Span.{Span}
 use Rattle.naga_oil_ir.specs.declared.types.Type.{«Type» as TypeOfShader}
 use Rattle.naga_oil_ir.specs.declared.types.Constant.{Constant as ConstantItself}
@@ -22,7 +20,7 @@ use Rattle.naga_oil_form_laws.proofs.BodyLemmas.{results_of_calls}
 use Rattle.naga_oil_form_laws.proofs.ParsedFunctions.{names_call}
 use Rattle.naga_oil_form_laws.proofs.ParsedItems.{inner_kinds, names_global}
 use Rattle.naga_oil_form_laws.proofs.RequestLemmas.{from_at}
-use Rattle.naga_oil_shape.specs.Shape.{NamesAsType, NamesTypeAndValue, NamesGlobalAsGlobal, HasFunctionShape, HasModuleShape, ShapeLaw}
+use Rattle.naga_oil_shape.specs.Shape.{NamesAsType, NamesTypeAndValue, NamesGlobalAsGlobal, HasFunctionShape, ShapeLaw}
 
 function_shape : (f : Function) → HasFunctionShape (function_value f)
 function_shape f = record {

@@ -1,12 +1,11 @@
 -- Plain data in the shape of a module: what stands where, and what it may name.
-use Rattle.std.specs.Prelude.{ℕ, ◌≡◌, ◌*◌, true, nat_eq, List, [], ◌∷◌, map, Option, Some, option_map, All, IfSome}
+use Rattle.std.specs.Prelude.{ℕ, ◌≡◌, true, nat_eq, List, [], ◌∷◌, map, Option, Some, option_map, All, IfSome}
 use Rattle.std.specs.List.{IsDistinct}
 use Rattle.naga_oil_ir.specs.ModuleValue.{ModuleValue, FunctionValue, module_value}
 use Rattle.naga_oil_ir.specs.Parts.{Parts}
 use Rattle.naga_oil_ir.specs.declared.module.Module.{Module}
 use Rattle.naga_oil_ir.specs.declared.names.ItemPlace.{ItemPlace}
 use Rattle.naga_oil_ir.specs.declared.names.ItemPlace.TheVariants.{TypeItem, ExpressionItem}
-use Rattle.naga_oil_ir.specs.declared.parts.Named.{Named}
 use Rattle.naga_oil_ir.specs.declared.parts.Named.TheVariants.{GlobalAt}
 use Rattle.naga_oil_derive.specs.CopiedLaw.{place_number, IsKinded}
 use Rattle.naga_oil_derive.specs.CopiedFunctionLaw.{StandAlone}
