@@ -1,0 +1,4 @@
+-- The lemmas of this crate.
+pub mod ShapedFunctions
+pub mod ShapedItems
+pub mod ParsedShapes
