@@ -13,7 +13,7 @@ use Rattle.naga_oil_registry.specs.Definition.{Definition, Defs}
 use Rattle.naga_oil_form_laws.specs.EntryForm.{IsModuleFormed}
 use Rattle.naga_oil_form_laws.proofs.ParsedFunctions.{parsed_module}
 use Rattle.naga_oil_link.specs.BuiltModule.{BuiltModule, Builds}
-use Rattle.naga_oil_link.specs.CopiedBuild.{copy_build, copy_whole}
+use Rattle.naga_oil_link.specs.CopiedBuild.{copy_build, copy_header, copy_whole}
 use Rattle.naga_oil_link.specs.Form.{is_formed}
 use Rattle.naga_oil_link.specs.OwnPlaces.{OwnPlaces}
 use Rattle.naga_oil_link.specs.Owned.{own_places, owned_module, owned_build, owning, owning_demoted, demotable, decorated_items}
@@ -100,9 +100,9 @@ owned_same index m b = one (nat_lt 0 index)
     one true = (refl, refl)
     one false = (refl, refl)
 
-copy_same : (m : ModuleValue) (own : OwnPlaces) (b : BuiltModule) → Same b (copy_build m own b) × ((copy_build m own b).value ≡ make_module (copy_whole m own b.decoration b.functions).derived)
+copy_same : (m : ModuleValue) (own : OwnPlaces) (b : BuiltModule) → Same b (copy_build m own b) × ((copy_build m own b).value ≡ make_module (copy_whole m own b.decoration b.functions).derived) × ((copy_build m own b).header ≡ (copy_header m own b.decoration b.functions).derived.target)
 unfolding copy_build
-copy_same m own b = ((refl, refl), refl)
+copy_same m own b = ((refl, refl), refl, refl)
 
 -- a build that holds a parse holds it with its own items decorated
 pub holds : (s : Settings) (l : ShaderLanguage) (text : List ℕ) (before b : BuiltModule) → ParsesModules s.front → (h : HoldsParse s l text before b) → (b.decoration ≡ before.decoration) × Holds b (owned_parse b h.parse) (own_places h.parse) × (b.index ≡ before.index)
@@ -117,12 +117,15 @@ holds s l text before b modules h =
     let index : b.index ≡ before.index = ap (λ (x : BuiltModule). x.index) (sym h.copies) ∙ copy.0.1 ∙ same.1 in
     let module_same : owned_parse b p ≡ m = ap (λ k. owned_module k b.decoration p) index ∙ ap (λ d. owned_module before.index d p) decoration in
     let value : b.value ≡ make_module (copy_whole m own c.decoration c.functions).derived = ap (λ (x : BuiltModule). x.value) (sym h.copies) ∙ copy.1 in
-    let named : make_module (copy_whole m own c.decoration c.functions).derived ≡ make_module (copy_whole (owned_parse b p) own b.decoration c.functions).derived = ap (λ d. make_module (copy_whole m own d c.functions).derived) (same.0 ∙ sym decoration) ∙ ap (λ x. make_module (copy_whole x own b.decoration c.functions).derived) (sym module_same) in (
+    let named : make_module (copy_whole m own c.decoration c.functions).derived ≡ make_module (copy_whole (owned_parse b p) own b.decoration c.functions).derived = ap (λ d. make_module (copy_whole m own d c.functions).derived) (same.0 ∙ sym decoration) ∙ ap (λ x. make_module (copy_whole x own b.decoration c.functions).derived) (sym module_same) in
+    let header : b.header ≡ (copy_header m own c.decoration c.functions).derived.target = ap (λ (x : BuiltModule). x.header) (sym h.copies) ∙ copy.2 in
+    let declared : (copy_header m own c.decoration c.functions).derived.target ≡ (copy_header (owned_parse b p) own b.decoration c.functions).derived.target = ap (λ d. (copy_header m own d c.functions).derived.target) (same.0 ∙ sym decoration) ∙ ap (λ x. (copy_header x own b.decoration c.functions).derived.target) (sym module_same) in (
       decoration,
       record {
         form = subst IsModuleFormed (sym module_same) (owned_is_formed s.front l text before.decoration p before.index modules (parse_back s.front l text before.decoration p h.parsed));
         functions = c.functions;
         value = value ∙ named;
+        header = header ∙ declared;
       },
       index,
     )

@@ -28,12 +28,13 @@ use Rattle.naga_oil.proofs.FinishedLemmas.{placed_back, defs_back, text_defs, ma
 abbrev Entry : Type 0
 Entry = List ℕ × BuiltModule
 
--- a build of a registered module's text under definitions, over builds
+-- a build of a registered module's text under definitions, over builds, none of which has its name
 pub record IsBuilt (s : Settings) (ds : List Definition) (defs : Defs) (before : Builds) (e : Entry) : Type 0 where
   pub registered : ℕ
   pub definition : Definition
   pub known : slice_get ds registered ≡ Some definition
   pub name : definition.name ≡ e.0
+  pub new : is_built before e.0 ≡ false
   pub output : Output
   pub preprocessed : preprocessed_of (defined defs) definition ≡ Ok output
   pub built : build s definition output before ≡ Ok e.1
@@ -77,12 +78,12 @@ module _ (s : Settings) (all : List Definition) (defs : Defs) where
   abbrev AreBuilt : Builds → Type 0
   AreBuilt bs = AllBuilt s all defs bs
 
-  with_one : (name : List ℕ) (b : BuiltModule) (bs : Builds) → IsBuilt s all defs bs (name, b) → AreBuilt bs → AreBuilt (builds_with bs name b)
+  with_one : (name : List ℕ) (b : BuiltModule) (bs : Builds) → (is_built bs name ≡ false → IsBuilt s all defs bs (name, b)) → AreBuilt bs → AreBuilt (builds_with bs name b)
   with_one name b bs h a = one (is_built bs name) refl
     where
       one : (k : Bool) → is_built bs name ≡ k → AreBuilt (builds_with bs name b)
       one true q = subst AreBuilt (sym (with_there bs name b q)) a
-      one false q = subst AreBuilt (sym (with_last bs name b q)) (all_last (IsBuilt s all defs) bs (name, b) a h)
+      one false q = subst AreBuilt (sym (with_last bs name b q)) (all_last (IsBuilt s all defs) bs (name, b) a (h q))
 
   -- what is done keeps them so
   abbrev KeepsBuilt : {X F : Type 0} → Doing X F → Type 0
@@ -116,7 +117,7 @@ module _ (s : Settings) (all : List Definition) (defs : Defs) where
   IsKnown d = (k : ℕ) × (slice_get all k ≡ Some d)
 
   enter_keeps : (d : Definition) (out : Output) (bs : Builds) → IsKnown d → preprocessed_of (defined defs) d ≡ Ok out → AreBuilt bs → (r : Result BuiltModule Unbuilt) → build s d out bs ≡ r → AreBuilt (enter_build d.name r bs).builds
-  enter_keeps d out bs known p a (Ok b) e = with_one d.name b bs (record { registered = known.0; definition = d; known = known.1; name = refl; output = out; preprocessed = p; built = e }) a
+  enter_keeps d out bs known p a (Ok b) e = with_one d.name b bs (λ new. record { registered = known.0; definition = d; known = known.1; name = refl; new = new; output = out; preprocessed = p; built = e }) a
   enter_keeps d out bs known p a (Err u) e = a
 
   module_keeps : (d : Definition) (reaching : Reaching) → IsKnown d → ((name : List ℕ) → KeepsBuilt (reaching name)) → KeepsBuilt (reach_module s defs d reaching)

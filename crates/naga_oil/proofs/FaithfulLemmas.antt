@@ -1,5 +1,6 @@
 -- Each module that a make answers is faithful to what was parsed, and its calls go down its chains.
-use Rattle.std.proofs.Common.{◌≡◌, inl, inr, ℕ, ◌+◌, ◌*◌, ◌⊎◌, List, take, [], ◌∷◌, Option, Some, None, Ok, Err, Result, option_map, slice_get, refl, ap, sym, ◌∙◌, subst, arith}
+use Rattle.std.proofs.Common.{◌≡◌, inl, inr, ℕ, ◌+◌, ◌*◌, List, take, [], ◌∷◌, Option, Some, None, Ok, Err, Result, option_map, is_some, IsSome, slice_get, refl, ap, sym, ◌∙◌, subst, arith}
+use Rattle.std.proofs.lemmas.List.Elements.{All-weaker}
 use Rattle.std.proofs.lemmas.Option.{none-some, same_Some, slice_get-map}
 use Rattle.naga_oil_ir.specs.ModuleValue.{ModuleValue, FunctionValue, EntryValue}
 use Rattle.naga_oil_ir.specs.RedirectFault.{RedirectFault}
@@ -9,7 +10,8 @@ use Rattle.naga_oil_ir.specs.declared.names.ItemPlace.TheVariants.{TypeItem}
 use Rattle.naga_oil_ir.specs.declared.span.Span.{Span}
 use Rattle.naga_oil_derive.specs.CopiedLaw.{HasAt}
 use Rattle.naga_oil_derive.specs.Tree.{World, tree}
-use Rattle.naga_oil_derive.specs.World.{world, special_at, shifted}
+use Rattle.naga_oil_derive.specs.declared.special.SpecialKey.{SpecialKey}
+use Rattle.naga_oil_derive.specs.World.{world, special_at, special_entries, shifted}
 use Rattle.naga_oil_pre.specs.Fault.{Fault}
 use Rattle.naga_oil_registry.specs.Added.{read_source, ◌>>=◌}
 use Rattle.naga_oil_registry.specs.Definition.{Definition, Defs}
@@ -19,7 +21,7 @@ use Rattle.naga_oil_registry.specs.declared.descriptor.ShaderType.TheVariants as
 use Rattle.naga_oil_form_laws.specs.EntryForm.{IsModuleFormed}
 use Rattle.naga_oil_redirect.specs.PutInOrder.{put_in_order}
 use Rattle.naga_oil_link.specs.BuiltModule.{BuiltModule, Builds, Overriding}
-use Rattle.naga_oil_link.specs.Linked.{link_whole}
+use Rattle.naga_oil_link.specs.Linked.{link_header, link_whole}
 use Rattle.naga_oil_link.specs.Owned.{own_places}
 use Rattle.naga_oil_link.proofs.GoodFormLemmas.{whole_formed}
 use Rattle.naga_oil_faith.specs.Scope.{ReadAlike, scope_of}
@@ -27,10 +29,13 @@ use Rattle.naga_oil_faith.specs.ByTree.{CopiesByTree}
 use Rattle.naga_oil_faith.specs.ByTreeLaw.{HasEarlierOperands, IsAsCopied}
 use Rattle.naga_oil_faith.proofs.ComposeLaws.{reflexive, compose, as_copied}
 use Rattle.naga_oil_faith.proofs.FrameLaws.{alike}
+use Rattle.naga_oil_copies.specs.Headers.{HasNamed}
 use Rattle.naga_oil_copies.specs.KeptAlike.{scope_alike}
-use Rattle.naga_oil_copies.specs.LinkedCopies.{IsOneOrLast, CopiesFunctionOf, CopiesEntryOf, CopiesBuilds}
+use Rattle.naga_oil_copies.specs.ReadIn.{HasKeysOf}
+use Rattle.naga_oil_copies.specs.LinkedCopies.{IsOneOrLast, header_before, CopiesFunctionOf, CopiesEntryOf, CopiesBuilds}
 use Rattle.naga_oil_copies.specs.OrderedCopies.{KeepsSpecialTypes}
 use Rattle.naga_oil_copies.specs.ThroughBuilds.{Holds, CopiesHeld, CopiesHeldFunction, CopiesHeldEntry}
+use Rattle.naga_oil_copies.proofs.Declared.{declarations}
 use Rattle.naga_oil_copies.proofs.KeptScopes.{kept_scope}
 use Rattle.naga_oil_copies.proofs.Orders.{ordered_copies}
 use Rattle.naga_oil_copies.proofs.Scopes.{alike_same, entries_of, entries_world}
@@ -41,7 +46,7 @@ use Rattle.naga_oil_build.specs.Held.{Settings}
 use Rattle.naga_oil.specs.CallsSent.{call_goes}
 use Rattle.naga_oil.specs.Chain.{all_sent_down, staged, with_stages, put_in_order_as, chain_all, chain}
 use Rattle.naga_oil.specs.ChainsLaw.{GoDownChains, CallsGoDownLaw}
-use Rattle.naga_oil.specs.Faithful.{ParsesModules, owned_parse, IsBuiltModule, IsBuiltShader, made_builds, CopiesParsed, FunctionComes, ItemComes, EntryComes, IsFaithful, FaithfulLaw}
+use Rattle.naga_oil.specs.Faithful.{ParsesModules, owned_parse, IsBuilt, IsBuiltShader, header_of, made_builds, CopiesParsed, FunctionComes, ItemComes, EntryComes, IsFaithful, FaithfulLaw}
 use Rattle.naga_oil.specs.MakeDefs.{make_defs}
 use Rattle.naga_oil.specs.Shader.{read_shader}
 use Rattle.naga_oil.proofs.BuiltOfLemmas.{BuiltOf, built_of}
@@ -158,6 +163,10 @@ module _ (t : ModuleValue) (form : IsModuleFormed t) (start : AllAsCopied t) whe
 
 -- ---- from the parse on
 
+mapped_some : (f : ℕ → ℕ) (o : Option ℕ) → IsSome o → IsSome (option_map f o)
+mapped_some f None h = h
+mapped_some f (Some k) h = refl
+
 -- special types stay through what is sent
 special_kept : (t m n : ModuleValue) → world m ≡ world t → m.special_types ≡ t.special_types → KeepsSpecialTypes m n → KeepsSpecialTypes t n
 special_kept t m n same special h = record {
@@ -181,13 +190,14 @@ module _ (s : Settings) (ds : List Definition) (counter : ℕ) (source : ShaderS
     shader_is : IsBuiltShader s ds counter source b own.parse
     shader_is = record { read = read; source = is_read; definition = d; described = described; is = own.is }
 
-    -- a build with its parse
-    record Parsed (c : BuiltModule) : Type 0 where
+    -- a build with its parse, and the header of that
+    record Parsed (c : BuiltModule) (header : ModuleValue) : Type 0 where
       parse : ModuleValue
-      is : IsBuiltModule s ds defs bs c parse ⊎ IsBuiltShader s ds counter source c parse
+      is : IsBuilt s ds counter source c parse
       holding : Holds c (owned_parse c parse) (own_places parse)
+      heading : header_of s ds counter source (record { b = c; parse = parse; is = is }) ≡ header
 
-    entry_parsed : (i : ℕ) (e : List ℕ × BuiltModule) → slice_get bs i ≡ Some e → Parsed e.1
+    entry_parsed : (i : ℕ) (e : List ℕ × BuiltModule) → slice_get bs i ≡ Some e → Parsed e.1 (link_header (take i bs) e.1.imports)
     entry_parsed i e at =
         let h = a i e at in
         let x = (built_of s defs h.definition h.output (take i bs) e.1 modules h.preprocessed h.built).0 in
@@ -195,20 +205,25 @@ module _ (s : Settings) (ds : List Definition) (counter : ℕ) (source : ShaderS
           parse = x.parse;
           is = inl (record { place = i; registered = h.registered; definition = h.definition; known = h.known; at = at ∙ ap (λ (n : List ℕ). Some (n, e.1)) (sym h.name); is = x.is });
           holding = x.holding;
+          heading = refl;
         }
 
-    parsed : (c : BuiltModule) → IsOneOrLast bs b c → Parsed c
-    parsed c (inl x) = subst Parsed x.3 (entry_parsed x.0 x.1 x.2)
-    parsed c (inr e) = subst Parsed (sym e) (record { parse = own.parse; is = inr shader_is; holding = own.holding })
+    parsed : (c : BuiltModule) (among : IsOneOrLast bs b c) → Parsed c (header_before bs b c among)
+    parsed c (inl x) = subst (λ (d : BuiltModule). Parsed d (link_header (take x.0 bs) d.imports)) x.3 (entry_parsed x.0 x.1 x.2)
+    parsed c (inr e) = subst (λ (d : BuiltModule). Parsed d (link_header bs d.imports)) (sym e) (record { parse = own.parse; is = inr shader_is; holding = own.holding; heading = refl })
 
     formed_of : (c : BuiltModule) (p : ModuleValue) → Holds c (owned_parse c p) (own_places p) → IsModuleFormed c.value
     formed_of c p h = subst IsModuleFormed (sym h.value) (whole_formed (owned_parse c p) (own_places p) c.decoration h.functions h.form)
 
-    linked : CopiesBuilds (IsOneOrLast bs b) b t × IsModuleFormed t
-    linked = linked_copies bs b zero_index (λ i e at. let h = entry_parsed i e at in formed_of e.1 h.parse h.holding) (formed_of b own.parse own.holding)
+    linked : CopiesBuilds (IsOneOrLast bs b) (header_before bs b) b t × IsModuleFormed t
+    linked = linked_copies bs b zero_index
+        (λ i e at. let h = entry_parsed i e at in formed_of e.1 h.parse h.holding)
+        (λ i e at. let h = entry_parsed i e at in declarations e.1 (owned_parse e.1 h.parse) (own_places h.parse) h.holding)
+        (λ i e at. (a i e at).new)
+        (formed_of b own.parse own.holding)
 
-    function_held : (c : BuiltModule) (h : Parsed c) (g : FunctionValue) → CopiesFunctionOf c t g → CopiesHeldFunction c (owned_parse c h.parse) (own_places h.parse) t g
-    function_held c h g f = (through_law c (owned_parse c h.parse) (own_places h.parse) t h.holding).function g f
+    function_held : (c : BuiltModule) (header : ModuleValue) (h : Parsed c header) (g : FunctionValue) → CopiesFunctionOf c t g → CopiesHeldFunction c (owned_parse c h.parse) (own_places h.parse) t g
+    function_held c header h g f = (through_law c (owned_parse c h.parse) (own_places h.parse) t h.holding).function g f
 
     entry_held : (i : ℕ) (y : EntryValue) → CopiesEntryOf b t i y → CopiesHeldEntry b (owned_parse b own.parse) (own_places own.parse) t i y
     entry_held i y f = (through_law b (owned_parse b own.parse) (own_places own.parse) t own.holding).entry_point i y f
@@ -220,8 +235,8 @@ module _ (s : Settings) (ds : List Definition) (counter : ℕ) (source : ShaderS
     start = record {
       functions = λ k x at.
           let f = linked.0.functions k x at in
-          let h = function_held f.0 (parsed f.0 f.1) x.0 f.2 in
-          held_as_copied f.0 _ _ h.function.0 x.0 h.copies;
+          let h = function_held f.build (header_before bs b f.build f.among) (parsed f.build f.among) x.0 f.copies in
+          held_as_copied f.build _ _ h.function.0 x.0 h.copies;
       entry_points = λ i x at.
           let h = entry_held i x (linked.0.entry_points i x at) in
           held_as_copied b _ _ h.entry.function x.function h.copies;
@@ -233,6 +248,10 @@ module _ (s : Settings) (ds : List Definition) (counter : ℕ) (source : ShaderS
 
       kept : KeepsSpecialTypes t made
       kept = special_kept t m made c.is.same_world c.is.special c.ends.special
+
+      -- so keys are
+      keys_kept : (v : ModuleValue) → HasKeysOf v t → HasKeysOf v made
+      keys_kept v keys = All-weaker (λ (e : SpecialKey × ℕ). IsSome (special_at t.special_types e.0)) (λ (e : SpecialKey × ℕ). IsSome (special_at made.special_types e.0)) (λ e there. ap is_some (kept.keys e.0) ∙ mapped_some kept.places (special_at t.special_types e.0) there) (special_entries v.special_types) keys
 
       -- a copy of a copy of a copy
       copies_through : (d : BuiltModule) (p : ModuleValue) (f z x g : FunctionValue) (sends : Text → Text) → (h : CopiesHeld d (owned_parse d p) (own_places p) t f z) → CopiesByTree (λ s. s) sends (scope_of t) z (scope_of m) x → HasEarlierOperands x → CopiesByTree c.moves (λ n. n) (scope_of m) x (scope_of made) g → CopiesParsed d p sends made f g
@@ -255,16 +274,20 @@ module _ (s : Settings) (ds : List Definition) (counter : ℕ) (source : ShaderS
           let x = c.ends.functions k g at in
           let z = c.is.functions x.0 x.1 x.2 in
           let f = linked.0.functions x.0 z.0 z.1 in
-          let p = parsed f.0 f.1 in
-          let h = function_held f.0 p z.0.0 f.2 in
+          let d = f.build in
+          let header = header_before bs b d f.among in
+          let p = parsed d f.among in
+          let h = function_held d header p z.0.0 f.copies in
           let name : z.0.0.name ≡ h.function.0.name = h.copies.copies.name in
           let second = subst (λ n. CopiesByTree (λ s. s) (call_goes b.overriding n) (scope_of t) z.0.0 (scope_of m) x.1.0) name z.3 in
           record {
-            of = record { b = f.0; parse = p.parse; is = p.is };
+            of = record { b = d; parse = p.parse; is = p.is };
+            special = keys_kept (owned_parse d p.parse) h.keys;
             place = h.place;
             function = h.function;
             at = h.at;
-            copies = copies_through f.0 p.parse h.function.0 z.0.0 x.1.0 g.0 (call_goes b.overriding h.function.0.name) h.copies second z.4.earlier x.3;
+            undeclared = λ named. f.undeclared (subst (HasNamed header) (sym name) (subst (λ (v : ModuleValue). HasNamed v h.function.0.name) p.heading named));
+            copies = copies_through d p.parse h.function.0 z.0.0 x.1.0 g.0 (call_goes b.overriding h.function.0.name) h.copies second z.4.earlier x.3;
           }
 
       entry_comes : (i : ℕ) (y : EntryValue) → slice_get made.entry_points i ≡ Some y → EntryComes b own.parse made i y
@@ -297,7 +320,7 @@ module _ (s : Settings) (ds : List Definition) (counter : ℕ) (source : ShaderS
           }
 
       all_comes : IsFaithful s ds counter source made
-      all_comes = record { shader = b; parse = own.parse; is = shader_is; functions = function_comes; items = item_comes; entry_points = entry_comes }
+      all_comes = record { shader = b; parse = own.parse; is = shader_is; special = keys_kept (owned_parse b own.parse) ((through_law b (owned_parse b own.parse) (own_places own.parse) t own.holding).keys linked.0.keys); functions = function_comes; items = item_comes; entry_points = entry_comes }
 
     pub faithful_over : (k : ShaderType) (made : ModuleValue) → chain b.overriding (with_stages k t) ≡ Ok made → IsFaithful s ds counter source made
     faithful_over k made e = all_comes made (chained t linked.1 start b.overriding k made e)

@@ -1,4 +1,5 @@
 -- What a made module is: functions, items and entry points of what front ends parsed.
+use mathlib.Core.Logic.{inl, inr}
 use Rattle.std.specs.Prelude.{ℕ, ◌≡◌, ◌*◌, ◌⊎◌, nat_eq, List, map, take, slice_get, Some, None, Ok}
 use Rattle.std.specs.List.{IsDistinct}
 use Rattle.naga_oil_ir.specs.Backend.{FrontEnd}
@@ -16,11 +17,14 @@ use Rattle.naga_oil_registry.specs.Added.{read_source}
 use Rattle.naga_oil_registry.specs.Definition.{Definition, Defs}
 use Rattle.naga_oil_registry.specs.Descriptor.{ShaderSource}
 use Rattle.naga_oil_link.specs.BuiltModule.{BuiltModule, Builds}
+use Rattle.naga_oil_link.specs.Linked.{link_header}
 use Rattle.naga_oil_link.specs.Owned.{own_places, owned_module}
 use Rattle.naga_oil_faith.specs.Scope.{ReadAlike, scope_of}
 use Rattle.naga_oil_faith.specs.ByTree.{CopiesByTree}
+use Rattle.naga_oil_copies.specs.Headers.{HasNamed}
 use Rattle.naga_oil_copies.specs.HeldBuild.{DecoratesTypes}
 use Rattle.naga_oil_copies.specs.KeptAlike.{scope_alike}
+use Rattle.naga_oil_copies.specs.ReadIn.{HasKeysOf}
 use Rattle.naga_oil_build.specs.Built.{preprocessed_of}
 use Rattle.naga_oil_build.specs.Build.{WholeText, begin_build, write_whole, build}
 use Rattle.naga_oil_build.specs.Held.{Settings, parse_whole}
@@ -95,18 +99,34 @@ module _ (s : Settings) (ds : List Definition) (counter : ℕ) (m : ShaderSource
     pub described : read_shader m read.0 ≡ Ok definition
     pub is : IsBuiltOf s (make_defs ds counter m) definition made_builds b parse
 
+  -- b is the build of a module that was reached, or of the shader, with its parse
+  abbrev pub IsBuilt : BuiltModule → ModuleValue → Type 0
+  IsBuilt b parse = IsBuiltModule s ds (make_defs ds counter m) made_builds b parse ⊎ IsBuiltShader b parse
+
+  -- the builds that stood before it
+  abbrev pub builds_before : (b : BuiltModule) (parse : ModuleValue) → IsBuilt b parse → Builds
+  builds_before b parse (inl reached) = take reached.place made_builds
+  builds_before b parse (inr shader) = made_builds
+
   -- the parse of a module that was reached, or of the shader
   pub record ParseOf : Type 0 where
     pub b : BuiltModule
     pub parse : ModuleValue
-    pub is : IsBuiltModule s ds (make_defs ds counter m) made_builds b parse ⊎ IsBuiltShader b parse
+    pub is : IsBuilt b parse
 
-  -- g copies a function of a parse, with its calls sent down
+  -- the header that stood before the source in the text that was parsed: it declares what the source imports
+  abbrev pub header_of : ParseOf → ModuleValue
+  header_of of = link_header (builds_before of.b of.parse of.is) of.b.imports
+
+  -- g copies a function of a parse, with its calls sent down: none of those that the header declares, whose bodies stand elsewhere;
+  -- each special type of the parse has one of its key in made
   pub record FunctionComes (shader : BuiltModule) (made : ModuleValue) (g : FunctionValue) : Type 0 where
     pub of : ParseOf
+    pub special : HasKeysOf (owned_parse of.b of.parse) made
     pub place : ℕ
     pub function : FunctionValue × Span
     pub at : slice_get (owned_parse of.b of.parse).functions place ≡ Some function
+    pub undeclared : HasNamed (header_of of) function.0.name → ⊥
     pub copies : CopiesParsed of.b of.parse (call_goes shader.overriding function.0.name) made function.0 g
 
   -- the item at q reads as one of a parse
@@ -118,11 +138,13 @@ module _ (s : Settings) (ds : List Definition) (counter : ℕ) (m : ShaderSource
     pub stands : HasAt (owned_parse of.b of.parse) place
     pub alike : ReadAlike (scope_alike reads (owned_parse of.b of.parse) made) (scope_of made) place q
 
-  -- all that a made module says is of the parses of what was reached, or of the shader's
+  -- all that a made module says is of the parses of what was reached, or of the shader's, each special type of which has one of its
+  -- key there
   pub record IsFaithful (made : ModuleValue) : Type 0 where
     pub shader : BuiltModule
     pub parse : ModuleValue
     pub is : IsBuiltShader shader parse
+    pub special : HasKeysOf (owned_parse shader parse) made
     pub functions : (k : ℕ) (g : FunctionValue × Span) → slice_get made.functions k ≡ Some g → FunctionComes shader made g.0
     pub items : (q : ItemPlace) (r : Row) → world made q ≡ Some r → ItemComes made q
     pub entry_points : (i : ℕ) (y : EntryValue) → slice_get made.entry_points i ≡ Some y → EntryComes shader parse made i y

@@ -2,7 +2,11 @@
 pub mod FormedSources
 pub mod Stages
 pub mod Scopes
+pub mod Names
+pub mod Asks
 pub mod Links
+pub mod Imports
+pub mod Declared
 pub mod Entries
 pub mod Wholes
 pub mod SpecialTypes

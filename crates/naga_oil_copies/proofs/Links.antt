@@ -1,32 +1,31 @@
 -- What is linked of builds copies what they hold.
-use Rattle.std.proofs.Common.{◌≡◌, ⊎_elim, ◌⊎◌, ℕ, zero, suc, ◌*◌, ◌≤◌, if◌then◌else◌, List, [], ◌∷◌, length, fold, reverse, Some, Bool, true, false, slice_get, bytes_eq, All, inl, inr, refl, ap, sym, ◌∙◌, subst, arith, zero-le}
-use mathlib.Core.List.{reverse_aux}
+use Rattle.std.proofs.Common.{◌≡◌, ⊎_elim, ◌⊎◌, ℕ, zero, suc, ◌*◌, ◌<◌, ◌≤◌, if◌then◌else◌, List, [], ◌∷◌, length, fold, Option, Some, None, option_map, is_some, Bool, true, false, slice_get, All, inl, inr, refl, ap, sym, ◌∙◌, subst, arith, zero-le}
 use Rattle.std.specs.List.{filter}
-use Rattle.std.proofs.lemmas.List.Elements.{All-cons, All-nil, All-head, All-tail, All-filter}
-use Rattle.std.proofs.lemmas.Option.{none-some, same_Some}
+use Rattle.std.specs.Option.{option_flatten}
+use Rattle.std.proofs.lemmas.Bool.{false≢true}
+use Rattle.std.proofs.lemmas.List.Elements.{All-head, All-tail, All-filter}
+use Rattle.std.proofs.lemmas.Option.{none-some, same_Some, slice_get_within}
 use Rattle.naga_oil_ir.specs.ModuleValue.{ModuleValue, FunctionValue}
-use Rattle.naga_oil_ir.specs.Rows.{Row}
+use Rattle.naga_oil_ir.specs.Rows.{Row, Text}
 use Rattle.naga_oil_ir.specs.declared.names.ItemPlace.{ItemPlace}
-use Rattle.naga_oil_ir.specs.declared.names.ItemPlace.TheVariants.{TypeItem, ConstantItem, OverrideItem, GlobalItem, ExpressionItem}
 use Rattle.naga_oil_ir.specs.declared.span.Span.{Span}
-use Rattle.naga_oil_lines.specs.Text.{is_among}
-use Rattle.naga_oil_lines.specs.Uses.{Import}
 use Rattle.naga_oil_derive.specs.CopiedLaw.{HasAt}
-use Rattle.naga_oil_derive.specs.Derived.{Source, Derived, nothing}
+use Rattle.naga_oil_derive.specs.Derived.{Source, Derived}
+use Rattle.naga_oil_derive.specs.DerivedFunctions.{Meanings, meant}
 use Rattle.naga_oil_derive.specs.DerivedLaw.{IsDerivation, IsSourceOf}
-use Rattle.naga_oil_derive.specs.DerivedValue.{import_item, set_source}
+use Rattle.naga_oil_derive.specs.DerivedValue.{import_item, import_function, set_source}
 use Rattle.naga_oil_derive.specs.Tree.{World, Kept}
 use Rattle.naga_oil_derive.specs.World.{goes, world, shifted}
 use Rattle.naga_oil_derive.proofs.DerivedLaws.{placed_law}
 use Rattle.naga_oil_derive.proofs.WorldLemmas.{named_names}
 use Rattle.naga_oil_form_laws.specs.EntryForm.{IsModuleFormed}
 use Rattle.naga_oil_form_laws.proofs.RequestLemmas.{from_at}
-use Rattle.naga_oil_link.specs.BuiltModule.{BuiltModule, Builds}
-use Rattle.naga_oil_link.specs.Linked.{LinkState, Asked, links_place, links_function, link_function, link_source, link_items, link_asked, asked_of, enter, link_within, link_import, link_imports, nothing_linked}
+use Rattle.naga_oil_link.specs.BuiltModule.{BuiltModule}
+use Rattle.naga_oil_link.specs.Linked.{Asked, links_place, links_function, link_function, link_source, link_items}
 use Rattle.naga_oil_link.specs.LinkView.{IsLinkFormed}
 use Rattle.naga_oil_link.specs.OwnPlaces.{OwnPlaces}
 use Rattle.naga_oil_link.specs.Places.{places_of}
-use Rattle.naga_oil_link.proofs.GoodFormLemmas.{has_places, nothing_formed_yet, source_formed}
+use Rattle.naga_oil_link.proofs.GoodFormLemmas.{has_places, source_formed}
 use Rattle.naga_oil_faith.specs.Scope.{ReadAlike, scope_of, scope_from}
 use Rattle.naga_oil_faith.specs.ByTree.{CopiesByTree}
 use Rattle.naga_oil_faith.specs.ByTreeLaw.{HasEarlierOperands}
@@ -35,22 +34,30 @@ use Rattle.naga_oil_faith.specs.Frame.{HasMore, IsAllThere}
 use Rattle.naga_oil_faith.specs.HeldCopies.{IsCopyableFunction}
 use Rattle.naga_oil_faith.specs.InTurn.{CanCopyModule}
 use Rattle.naga_oil_faith.proofs.FrameLaws.{alike, target, tree_stays, item_alike}
-use Rattle.naga_oil_faith.proofs.HeldLemmas.{comes_there}
+use Rattle.naga_oil_faith.proofs.HeldLemmas.{FunctionsStay, comes_there}
 use Rattle.naga_oil_faith.proofs.ThereLaws.{all_there}
 use Rattle.naga_oil_faith.proofs.TreeCopies.{made}
-use Rattle.naga_oil_faith.proofs.TurnLaws.{nowhere, no_meaning}
-use Rattle.naga_oil_copies.specs.ReadIn.{scope_in}
-use Rattle.naga_oil_copies.specs.LinkedCopies.{CopiesOfBuild, ReadsAsItemOf}
+use Rattle.naga_oil_faith.proofs.TurnLaws.{nowhere}
+use Rattle.naga_oil_copies.specs.Headers.{HasNamed}
+use Rattle.naga_oil_copies.specs.ReadIn.{scope_in, HasKeysOf}
+use Rattle.naga_oil_copies.specs.LinkedCopies.{CopiesOfBuild, HeaderOf, ReadsAsItemOf}
 use Rattle.naga_oil_copies.proofs.FormedSources.{can_copy}
-use Rattle.naga_oil_copies.proofs.Stages.{HasKeysOf, keys_stay, Setting, Stage, Stages, behind, read_behind, stage_begins, stage_same, stage_then, stage_item, stage_new, stage_made}
+use Rattle.naga_oil_copies.proofs.Names.{Function, named_stays, function_named}
+use Rattle.naga_oil_copies.proofs.Stages.{keys_stay, Setting, Stage, Stages, behind, read_behind, stage_begins, stage_same, stage_then, stage_item, stage_new, stage_made}
 use Rattle.naga_oil_copies.proofs.Scopes.{alike_same, behind_alike, in_alike}
 
 -- ---- copies in what is linked so far
 
--- g copies a function of a build, in a module where all that it names is there, and the keys of the build's special types
-pub record LinkCopy (P : BuiltModule → Type 0) (t : ModuleValue) (g : FunctionValue) : Type 0 where
+-- before the k-th function stands one of each name that a header has
+abbrev pub HasBefore : (header t : ModuleValue) → ℕ → Type 0
+HasBefore header t k = (n : Text) → HasNamed header n → (j : ℕ) × (y : Function) × (j < k) × (slice_get t.functions j ≡ Some y) × (y.0.name ≡ n)
+
+-- g, the k-th function, copies one of a build, in a module where all that it names is there, and the keys of the build's special
+-- types; what the build's header declares stands before it
+pub record LinkCopy (P : BuiltModule → Type 0) (H : HeaderOf P) (t : ModuleValue) (k : ℕ) (g : FunctionValue) : Type 0 where
   pub build : BuiltModule
   pub among : P build
+  pub before : HasBefore (H build among) t k
   pub place : ℕ
   pub function : FunctionValue × Span
   pub at : slice_get build.value.functions place ≡ Some function
@@ -67,10 +74,10 @@ pub record LinkItem (P : BuiltModule → Type 0) (t : ModuleValue) (q : ItemPlac
   pub keys : HasKeysOf build.value t
 
 -- all that was linked so far
-pub record Linked (P : BuiltModule → Type 0) (d : Derived) : Type 0 where
+pub record Linked (P : BuiltModule → Type 0) (H : HeaderOf P) (d : Derived) : Type 0 where
   pub formed : IsLinkFormed d
   pub are_true : AreTrueIn d.target d.function_names
-  pub functions : (k : ℕ) (g : FunctionValue × Span) → slice_get d.target.functions k ≡ Some g → LinkCopy P d.target g.0
+  pub functions : (k : ℕ) (g : FunctionValue × Span) → slice_get d.target.functions k ≡ Some g → LinkCopy P H d.target k g.0
   pub items : (q : ItemPlace) (r : Row) → world d.target q ≡ Some r → LinkItem P d.target q
 
 pub derived_of : (d : Derived) → IsLinkFormed d → (first : Kept) → IsDerivation first d
@@ -79,12 +86,12 @@ derived_of d l first = (l first).items.derivation
 
 -- ---- where more is linked
 
-module _ (P : BuiltModule → Type 0) (first : Kept) (d : Derived) (i : IsDerivation first d) (u : ModuleValue) (more : HasMore d.target u) where
+module _ (P : BuiltModule → Type 0) (H : HeaderOf P) (first : Kept) (d : Derived) (i : IsDerivation first d) (u : ModuleValue) (more : HasMore d.target u) where
   abbrev t : ModuleValue
   t = d.target
 
-  copy_stays : (g : FunctionValue) → LinkCopy P t g → LinkCopy P u g
-  copy_stays g c =
+  copy_stays : (k : ℕ) (g : FunctionValue) → LinkCopy P H t k g → LinkCopy P H u k g
+  copy_stays k g c =
       let m = c.build.value in
       let shift = shifted (c.build.index * 2097152) in
       let more_there = target shift (λ n. n) (scope_in m t) c.function.0 g t u c.source_earlier c.copies.earlier i.sound.whole more c.there c.copies.copies in
@@ -92,6 +99,7 @@ module _ (P : BuiltModule → Type 0) (first : Kept) (d : Derived) (i : IsDeriva
       record {
         build = c.build;
         among = c.among;
+        before = λ n h. (let o = c.before n h in (o.0, o.1, o.2, more.functions o.0 o.1 o.3, o.4));
         place = c.place;
         function = c.function;
         at = c.at;
@@ -112,6 +120,15 @@ module _ (P : BuiltModule → Type 0) (first : Kept) (d : Derived) (i : IsDeriva
         keys = keys_stay m t u more c.keys;
       }
 
+-- a known name is that of a function
+meant_named : (t : ModuleValue) (ns : Meanings) (n : Text) (h : ℕ) → AreTrueIn t ns → meant ns n ≡ Some h → HasNamed t n
+meant_named t ns None h a e = absurd (none-some h e)
+meant_named t ns (Some n) h a e = one (slice_get t.functions h) refl (a (Some n) h e)
+  where
+    one : (o : Option Function) → slice_get t.functions h ≡ o → option_flatten (option_map (λ (f : Function). f.0.name) o) ≡ Some n → HasNamed t (Some n)
+    one None at same = absurd (none-some n same)
+    one (Some f) at same = (h, f, at, same)
+
 at_or_behind : (fs : List (FunctionValue × Span)) (k : ℕ) → ((x : FunctionValue × Span) × (slice_get fs k ≡ Some x)) ⊎ (length fs ≤ k)
 at_or_behind [] k = inr zero-le
 at_or_behind (x ∷ fs) zero = inl (x, refl)
@@ -128,7 +145,7 @@ source_there first d s m p q i at is e =
 -- ---- one source
 
 -- a function of a build that is linked, or comes with the entry points, behind what was linked
-module _ (P : BuiltModule → Type 0) (b : BuiltModule) (among : P b) (form : IsModuleFormed b.value) (before : Derived) (l : Linked P before) (shift : ℕ) (moved : shift ≡ b.index * 2097152) where
+module _ (P : BuiltModule → Type 0) (H : HeaderOf P) (b : BuiltModule) (among : P b) (form : IsModuleFormed b.value) (before : Derived) (l : Linked P H before) (known : (n : Text) → HasNamed (H b among) n → HasNamed before.target n) (shift : ℕ) (moved : shift ≡ b.index * 2097152) where
   abbrev m : ModuleValue
   m = b.value
 
@@ -151,13 +168,14 @@ module _ (P : BuiltModule → Type 0) (b : BuiltModule) (among : P b) (form : Is
         let now = alike (shifted t.source.offset) (λ n. n) (scope_from t.source d.target) (scope_of d.target) (scope_in m d.target) (scope_of d.target) f g (behind_alike before m shift d t) (alike_same (scope_of d.target)) k.0 in
         record { copies = subst (λ o. CopiesByTree (shifted o) (λ n. n) (scope_in m d.target) f (scope_of d.target) g) (t.offset ∙ moved) now; earlier = k.1 }
 
-    new_function : (k : ℕ) (g : FunctionValue × Span) → length before.target.functions ≤ k → slice_get d.target.functions k ≡ Some g → LinkCopy P d.target g.0
+    new_function : (k : ℕ) (g : FunctionValue × Span) → length before.target.functions ≤ k → slice_get d.target.functions k ≡ Some g → LinkCopy P H d.target k g.0
     new_function k g n at =
         let h = stage_made x can w d t k g n at in
         let c = (can.functions h.place h.function h.at).0.copyable in
         record {
           build = b;
           among = among;
+          before = λ name own. (let o = known name own in (o.0, o.1, (let inside = slice_get_within before.target.functions o.0 o.1 o.2 in let r : o.0 < k = omega (arith, inside, n) in r), t.more.functions o.0 o.1 o.2, o.3));
           place = h.place;
           function = h.function;
           at = h.at;
@@ -167,17 +185,17 @@ module _ (P : BuiltModule → Type 0) (b : BuiltModule) (among : P b) (form : Is
           keys = t.keys;
         }
 
-    pub each_function : (k : ℕ) (g : FunctionValue × Span) → slice_get d.target.functions k ≡ Some g → LinkCopy P d.target g.0
+    pub each_function : (k : ℕ) (g : FunctionValue × Span) → slice_get d.target.functions k ≡ Some g → LinkCopy P H d.target k g.0
     each_function k g at =
         ⊎_elim
-        (λ (o : (y : FunctionValue × Span) × (slice_get before.target.functions k ≡ Some y)). let same : o.0 ≡ g = same_Some o.0 g (sym (t.more.functions k o.0 o.1) ∙ at) in copy_stays P nowhere before (derived_of before l.formed nowhere) d.target t.more g.0 (l.functions k g (o.1 ∙ ap Some same)))
+        (λ (o : (y : FunctionValue × Span) × (slice_get before.target.functions k ≡ Some y)). let same : o.0 ≡ g = same_Some o.0 g (sym (t.more.functions k o.0 o.1) ∙ at) in copy_stays P H nowhere before (derived_of before l.formed nowhere) d.target t.more k g.0 (l.functions k g (o.1 ∙ ap Some same)))
         (λ n. new_function k g n at)
         (at_or_behind before.target.functions k)
 
     pub each_item : (q : ItemPlace) (r : Row) → world d.target q ≡ Some r → LinkItem P d.target q
     each_item q r at =
         ⊎_elim
-        (λ (o : world before.target q ≡ Some r). item_stays P nowhere before (derived_of before l.formed nowhere) d.target t.more q (r, o) (l.items q r o))
+        (λ (o : world before.target q ≡ Some r). item_stays P H nowhere before (derived_of before l.formed nowhere) d.target t.more q (r, o) (l.items q r o))
         (λ (o : (p : ItemPlace) × (goes t.source.places p ≡ Some q)).
         let reads : ReadAlike (scope_from t.source d.target) (scope_of d.target) o.0 q = (placed_law x.first d t.source o.0 q t.derivation t.is o.1).now in
         record { build = b; among = among; item = (o.0, source_there x.first d t.source m o.0 q t.derivation t.is t.value o.1, item_alike (scope_from t.source d.target) (scope_of d.target) (scope_in m d.target) (scope_of d.target) o.0 q (behind_alike before m shift d t) (alike_same (scope_of d.target)) reads); keys = t.keys })
@@ -203,9 +221,43 @@ module _ (P : BuiltModule → Type 0) (b : BuiltModule) (among : P b) (form : Is
       let one = stage_new x can w d at.0 y t at.1 in
       stage_then x can w w w d e (fold link_function e fs) t one (functions_linked fs e one.stage (All-tail StandsIn y fs a))
 
--- what is linked of a build
-source_linked : (P : BuiltModule → Type 0) (b : BuiltModule) (own : OwnPlaces) (asked : Asked) (d : Derived) → P b → IsModuleFormed b.value → Linked P d → Linked P (link_source b own b.value asked d)
-source_linked P b own asked d among form l =
+  -- the name of a function that is linked is there
+  link_named : (d : Derived) (y : Function) (t : Stage x w d) → HasNamed (link_function d y).target y.0.name
+  link_named d y t = one (meant d.function_names y.0.name) refl
+    where
+      one : (o : Option ℕ) → meant d.function_names y.0.name ≡ o → HasNamed (let r : Derived = if is_some o then d else import_function d y.0 y.1 in r.target) y.0.name
+      one None e = function_named d y.0 y.1 (ap is_some t.is)
+      one (Some h) e = meant_named d.target d.function_names y.0.name h t.holds.are_true e
+
+  each_named : (test : Function → Bool) (fs : List Function) (d : Derived) (t : Stage x w d) → All StandsIn fs → (k : ℕ) (f : Function) → slice_get fs k ≡ Some f → test f ≡ true → HasNamed (fold link_function d (filter test fs)).target f.0.name
+  each_named test [] d t a k f at p = absurd (none-some f at)
+  each_named test (y ∷ fs) d t a k f at p = one (test y) refl k at (each_named test fs)
+    where
+      rest : All StandsIn fs
+      rest = All-tail StandsIn y fs a
+
+      one : (b : Bool) → test y ≡ b → (k : ℕ) → slice_get (y ∷ fs) k ≡ Some f → ((e : Derived) → Stage x w e → All StandsIn fs → (k : ℕ) (f : Function) → slice_get fs k ≡ Some f → test f ≡ true → HasNamed (fold link_function e (filter test fs)).target f.0.name) → HasNamed (let r : Derived = fold link_function d (if b then y ∷ filter test fs else filter test fs) in r.target) f.0.name
+      one true q zero at again =
+          let e = link_function d y in
+          let own = All-head StandsIn y fs a in
+          let stage = stage_new x can w d own.0 y t own.1 in
+          let stays = functions_linked (filter test fs) e stage.stage (All-filter test StandsIn fs rest) in
+          let same : y ≡ f = same_Some y f at in
+          named_stays e.target (fold link_function e (filter test fs)).target f.0.name stays.stay (subst (λ (z : Function). HasNamed e.target z.0.name) same (link_named d y t))
+      one true q (suc k) at again =
+          let own = All-head StandsIn y fs a in
+          again (link_function d y) (stage_new x can w d own.0 y t own.1).stage rest k f at p
+      one false q zero at again = absurd (false≢true (sym q ∙ ap test (same_Some y f at) ∙ p))
+      one false q (suc k) at again = again d t rest k f at p
+
+-- what is linked of a build is all that of it, behind what was linked
+pub record Links (P : BuiltModule → Type 0) (H : HeaderOf P) (b : BuiltModule) (asked : Asked) (d e : Derived) : Type 0 where
+  pub linked : Linked P H e
+  pub stay : FunctionsStay d.target e.target
+  pub named : (k : ℕ) (f : Function) → slice_get b.value.functions k ≡ Some f → links_function b asked f ≡ true → HasNamed e.target f.0.name
+
+source_linked : (P : BuiltModule → Type 0) (H : HeaderOf P) (b : BuiltModule) (own : OwnPlaces) (asked : Asked) (d : Derived) (among : P b) → IsModuleFormed b.value → Linked P H d → ((n : Text) → HasNamed (H b among) n → HasNamed d.target n) → Links P H b asked d (link_source b own b.value asked d)
+source_linked P H b own asked d among form l known =
     let m = b.value in
     let shift = b.index * 2097152 in
     let x = behind d m shift in
@@ -213,68 +265,22 @@ source_linked P b own asked d among form l =
     let ps = filter (links_place own m asked) (places_of m) in
     let fs = filter (links_function b asked) m.functions in
     let Stands = λ (y : FunctionValue × Span). (k : ℕ) × (slice_get m.functions k ≡ Some y) in
-    let t = source_begins P b among form d l shift refl in
-    let a = places_linked P b among form d l shift refl ps e t (All-filter (links_place own m asked) (HasAt m) (places_of m) (has_places m)) in
-    let f = functions_linked P b among form d l shift refl fs (fold import_item e ps) a.stage (All-filter (links_function b asked) Stands m.functions (from_at Stands m.functions (λ k y at. (k, at)))) in
+    let all : All Stands m.functions = from_at Stands m.functions (λ k y at. (k, at)) in
+    let t = source_begins P H b among form d l known shift refl in
+    let a = places_linked P H b among form d l known shift refl ps e t (All-filter (links_place own m asked) (HasAt m) (places_of m) (has_places m)) in
+    let f = functions_linked P H b among form d l known shift refl fs (fold import_item e ps) a.stage (All-filter (links_function b asked) Stands m.functions all) in
     let u = fold link_function (fold import_item e ps) fs in
     record {
-      formed = source_formed b own m asked d form l.formed;
-      are_true = f.stage.holds.are_true;
-      functions = each_function P b among form d l shift refl u f.stage;
-      items = each_item P b among form d l shift refl u f.stage;
+      linked = record {
+        formed = source_formed b own m asked d form l.formed;
+        are_true = f.stage.holds.are_true;
+        functions = each_function P H b among form d l known shift refl u f.stage;
+        items = each_item P H b among form d l known shift refl u f.stage;
+      };
+      stay = f.stage.more.functions;
+      named = each_named P H b among form d l known shift refl (links_function b asked) m.functions (fold import_item e ps) a.stage all;
     }
 
-pub items_linked : (P : BuiltModule → Type 0) (b : BuiltModule) (asked : Asked) (d : Derived) → P b → IsModuleFormed b.value → Linked P d → Linked P (link_items false b asked d)
+pub items_linked : (P : BuiltModule → Type 0) (H : HeaderOf P) (b : BuiltModule) (asked : Asked) (d : Derived) (among : P b) → IsModuleFormed b.value → Linked P H d → ((n : Text) → HasNamed (H b among) n → HasNamed d.target n) → Links P H b asked d (link_items false b asked d)
 unfolding link_items
-items_linked P b asked d among form l = source_linked P b b.own_in_value asked d among form l
-
--- ---- imports
-
--- a build may be linked
-abbrev MayLink : (BuiltModule → Type 0) → List ℕ × BuiltModule → Type 0
-MayLink P e = P e.1 × IsModuleFormed e.1.value
-
-fold_linked : (P : BuiltModule → Type 0) (f : LinkState → Import → LinkState) → ((s : LinkState) (i : Import) → Linked P s.derived → Linked P (f s i).derived) → (is : List Import) (s : LinkState) → Linked P s.derived → Linked P (fold f s is).derived
-fold_linked P f h [] s l = l
-fold_linked P f h (i ∷ is) s l = fold_linked P f h is (f s i) (h s i l)
-
-within_linked : (P : BuiltModule → Type 0) (f : LinkState → Import → LinkState) → ((s : LinkState) (i : Import) → Linked P s.derived → Linked P (f s i).derived) → (e : List ℕ × BuiltModule) (s : LinkState) → Linked P s.derived → (b : Bool) → Linked P (let r : LinkState = if b then s else fold f (enter e.0 s) e.1.imports in r.derived)
-within_linked P f h e s l true = l
-within_linked P f h e s l false = fold_linked P f h e.1.imports (enter e.0 s) l
-
-import_linked : (P : BuiltModule → Type 0) (bs : Builds) → All (MayLink P) bs → (s : LinkState) (i : Import) → Linked P s.derived → Linked P (link_import false bs s i).derived
-unfolding link_import
-import_linked P [] a s i l = l
-import_linked P (e ∷ bs) a s i l = one (import_linked P bs (All-tail (MayLink P) e bs a)) (bytes_eq i.import e.0)
-  where
-    own : MayLink P e
-    own = All-head (MayLink P) e bs a
-
-    one : ((s : LinkState) (i : Import) → Linked P s.derived → Linked P (link_import false bs s i).derived) → (b : Bool) → Linked P (let r : LinkState = if b then link_asked false i e.1 (link_within (link_import false bs) e s) else link_import false bs s i in r.derived)
-    one rest true = items_linked P e.1 (asked_of i e.1) (link_within (link_import false bs) e s).derived own.0 own.1 (within_linked P (link_import false bs) rest e s l (is_among s.entered e.0))
-    one rest false = rest s i l
-
-all_reversed : {X : Type 0} (Q : X → Type 0) (xs ys : List X) → All Q xs → All Q ys → All Q (reverse_aux xs ys)
-all_reversed Q [] ys a b = b
-all_reversed Q (x ∷ xs) ys a b = all_reversed Q xs (x ∷ ys) (All-tail Q x xs a) (All-cons Q x ys (All-head Q x xs a) b)
-
-nothing_there : (q : ItemPlace) (r : Row) → world nothing.target q ≡ Some r → ⊥
-unfolding world
-nothing_there (TypeItem k) r e = none-some r e
-nothing_there (ConstantItem k) r e = none-some r e
-nothing_there (OverrideItem k) r e = none-some r e
-nothing_there (GlobalItem k) r e = none-some r e
-nothing_there (ExpressionItem k) r e = none-some r e
-
-nothing_is_linked : (P : BuiltModule → Type 0) → Linked P nothing
-nothing_is_linked P = record {
-  formed = nothing_formed_yet;
-  are_true = λ n h e. absurd (no_meaning n h e);
-  functions = λ k g at. absurd (none-some g at);
-  items = λ q r at. absurd (nothing_there q r at);
-}
-
--- behind what imports ask for
-pub imports_linked : (P : BuiltModule → Type 0) (bs : Builds) (is : List Import) → All (MayLink P) bs → Linked P (link_imports false bs is nothing_linked).derived
-imports_linked P bs is a =
-    fold_linked P (link_import false (reverse bs)) (import_linked P (reverse bs) (all_reversed (MayLink P) bs [] a (All-nil (MayLink P)))) is nothing_linked (nothing_is_linked P)
+items_linked P H b asked d among form l known = source_linked P H b b.own_in_value asked d among form l known

@@ -17,8 +17,8 @@ use Rattle.naga_oil_faith.specs.Frame.{AreAlike, HasMore}
 use Rattle.naga_oil_faith.proofs.FrameLaws.{tree_stays, reading_stays, kept_stays}
 use Rattle.naga_oil_faith.proofs.HeldLemmas.{comes_there}
 use Rattle.naga_oil_faith.proofs.TurnLaws.{own_names}
-use Rattle.naga_oil_copies.specs.ReadIn.{scope_in}
-use Rattle.naga_oil_copies.proofs.Stages.{HasKeysOf, Stage, behind, read_behind}
+use Rattle.naga_oil_copies.specs.ReadIn.{scope_in, HasKeysOf}
+use Rattle.naga_oil_copies.proofs.Stages.{Stage, behind, read_behind}
 
 pub alike_same : (a : Scope) → AreAlike a a
 alike_same a = record { reads = λ p n. refl; names = λ k. refl }

@@ -33,6 +33,7 @@ use Rattle.naga_oil_faith.proofs.HeldLaws.{answers_hold, function_holds, items_h
 use Rattle.naga_oil_faith.proofs.HeldLemmas.{FunctionsStay, comes_there, later_again, later_same, source_is}
 use Rattle.naga_oil_faith.proofs.ItemLaws.{source_items, imported_items, answered_items, function_items}
 use Rattle.naga_oil_faith.proofs.TurnLaws.{ReadsThen, if_both, reads_last, reads_then, functions_in, among_functions, one_back, begins_with, copy_any, has_copies, into, of_value}
+use Rattle.naga_oil_copies.specs.ReadIn.{HasKeysOf}
 
 -- ---- modules that get more
 
@@ -65,10 +66,6 @@ more_again t u v a b = record {
 
 pub more_same : (t : ModuleValue) → HasMore t t
 more_same t = record { items = λ p r at. at; functions = λ k x at. at; special = λ k q at. at }
-
--- a module has a special type of each key of another
-abbrev pub HasKeysOf : ModuleValue → ModuleValue → Type 0
-HasKeysOf m t = All (λ (e : SpecialKey × ℕ). IsSome (special_at t.special_types e.0)) (special_entries m.special_types)
 
 pub keys_stay : (m t u : ModuleValue) → HasMore t u → HasKeysOf m t → HasKeysOf m u
 keys_stay m t u w a = All-weaker (λ (e : SpecialKey × ℕ). IsSome (special_at t.special_types e.0)) (λ (e : SpecialKey × ℕ). IsSome (special_at u.special_types e.0)) (λ e h. ap is_some (key_stays t u w e.0 h) ∙ h) (special_entries m.special_types) a

@@ -1,5 +1,6 @@
 -- Copies of what a build holds are copies of what was parsed.
-use Rattle.std.proofs.Common.{◌≡◌, ℕ, ◌+◌, ◌*◌, ◌==◌, ◌&&◌, min, if◌then◌else◌, Bool, true, false, slice_get, refl, ap, sym, ◌∙◌, subst, arith}
+use Rattle.std.proofs.Common.{◌≡◌, ℕ, ◌+◌, ◌*◌, ◌==◌, ◌&&◌, min, if◌then◌else◌, Bool, true, false, List, [], ◌∷◌, map, IsSome, slice_get, All, refl, ap, sym, ◌∙◌, subst, arith}
+use Rattle.std.proofs.lemmas.List.Elements.{All-nil, All-cons, All-head, All-tail}
 use Rattle.std.proofs.lemmas.Bool.{false≢true, and_parts}
 use Rattle.naga_oil_ir.specs.ModuleValue.{ModuleValue, FunctionValue}
 use Rattle.naga_oil_ir.specs.declared.names.ItemPlace.{ItemPlace}
@@ -7,7 +8,8 @@ use Rattle.naga_oil_ir.specs.declared.span.Span.{Span}
 use Rattle.naga_oil_ir.proofs.LinkLemmas.{eqb_eq, eq_eqb}
 use Rattle.naga_oil_derive.specs.CopiedEntry.{make_module}
 use Rattle.naga_oil_derive.specs.Tree.{World}
-use Rattle.naga_oil_derive.specs.World.{world, shifted, moved}
+use Rattle.naga_oil_derive.specs.declared.special.SpecialKey.{SpecialKey}
+use Rattle.naga_oil_derive.specs.World.{world, shifted, moved, special_at, special_entries}
 use Rattle.naga_oil_link.specs.BuiltModule.{BuiltModule}
 use Rattle.naga_oil_link.specs.CopiedBuild.{copy_whole}
 use Rattle.naga_oil_link.specs.OwnPlaces.{OwnPlaces}
@@ -16,7 +18,7 @@ use Rattle.naga_oil_faith.specs.ByTree.{CopiesByTree}
 use Rattle.naga_oil_faith.specs.ByTreeLaw.{HasEarlierOperands}
 use Rattle.naga_oil_faith.specs.InTurn.{CanCopyModule}
 use Rattle.naga_oil_faith.proofs.ComposeLaws.{compose}
-use Rattle.naga_oil_copies.specs.ReadIn.{scope_in}
+use Rattle.naga_oil_copies.specs.ReadIn.{scope_in, HasKeysOf}
 use Rattle.naga_oil_copies.specs.HeldBuild.{scope_reading, CopiesPlainly}
 use Rattle.naga_oil_copies.specs.KeptAlike.{scope_alike}
 use Rattle.naga_oil_copies.specs.LinkedCopies.{CopiesOfBuild}
@@ -65,6 +67,11 @@ shifted_twice a b s = one (is_nowhere s) refl
 
 -- ---- through a build
 
+-- what holds of what each goes to
+mapped_back : {X Y : Type 0} (f : X → Y) (Q : Y → Type 0) (xs : List X) → All Q (map f xs) → All (λ x. Q (f x)) xs
+mapped_back f Q [] h = All-nil (λ x. Q (f x))
+mapped_back f Q (x ∷ xs) h = All-cons (λ y. Q (f y)) x xs (All-head Q (f x) (map f xs) h) (mapped_back f Q xs (All-tail Q (f x) (map f xs) h))
+
 module _ (b : BuiltModule) (m : ModuleValue) (own : OwnPlaces) (t u : ModuleValue) (h : HeldWhole m own b.decoration u) (can : CanCopyModule m) (is : b.value ≡ u) where
   abbrev w : World
   w = h.copies.reads
@@ -91,11 +98,20 @@ module _ (b : BuiltModule) (m : ModuleValue) (own : OwnPlaces) (t u : ModuleValu
         earlier = y.earlier;
       }
 
+  -- each key of the module is one of what the build holds
+  keys_held : HasKeysOf b.value t → HasKeysOf m t
+  keys_held keys =
+      let HasKey = λ (e : SpecialKey × ℕ). IsSome (special_at t.special_types e.0) in
+      let there = λ (e : SpecialKey × ℕ). (let f : SpecialKey × ℕ = (e.0, h.special.places e.1) in f) in
+      let held : All HasKey (special_entries u.special_types) = subst (λ (v : ModuleValue). All HasKey (special_entries v.special_types)) is keys in
+      mapped_back there HasKey (special_entries m.special_types) (subst (All HasKey) h.special.entries held)
+
   through : GoesThrough b m own t
   through = record {
+    keys = keys_held;
     function = λ k c.
         let x = h.copies.copies.functions c.place c.function (ap (λ (v : ModuleValue). slice_get v.functions c.place) (sym is) ∙ c.at) in
-        record { place = x.place; function = x.function; at = x.at; copies = held_copy x.function.0 c.function.0 k (can.functions x.place x.function x.at).0.copyable.may.form.earlier x.copies c.copies };
+        record { keys = keys_held c.keys; place = x.place; function = x.function; at = x.at; copies = held_copy x.function.0 c.function.0 k (can.functions x.place x.function x.at).0.copyable.may.form.earlier x.copies c.copies };
     entry_point = λ i y c.
         let x = h.copies.copies.entry_points i c.entry (ap (λ (v : ModuleValue). slice_get v.entry_points i) (sym is) ∙ c.at) in
         record { entry = x.entry; at = x.at; copies = held_copy x.entry.function c.entry.function y.function (can.entry_points i x.entry x.at).0.copyable.may.form.earlier x.copies c.copies };

@@ -1,5 +1,6 @@
 -- The definitions that the contracts of this crate cite.
 pub mod ReadIn
+pub mod Headers
 pub mod KeptAlike
 pub mod LinkedCopies
 pub mod HeldBuild

@@ -1,5 +1,6 @@
 -- What is linked of builds, as copies of what the builds hold.
-use Rattle.std.specs.Prelude.{ℕ, ◌≡◌, ◌⊎◌, ◌*◌, List, slice_get, Some}
+use mathlib.Core.Logic.{inl, inr}
+use Rattle.std.specs.Prelude.{ℕ, ◌≡◌, ◌⊎◌, ◌*◌, List, take, slice_get, Some}
 use Rattle.naga_oil_ir.specs.ModuleValue.{ModuleValue, FunctionValue, EntryValue}
 use Rattle.naga_oil_ir.specs.Rows.{Row}
 use Rattle.naga_oil_ir.specs.declared.names.ItemPlace.{ItemPlace}
@@ -8,11 +9,12 @@ use Rattle.naga_oil_derive.specs.CopiedLaw.{HasAt}
 use Rattle.naga_oil_derive.specs.World.{world, shifted}
 use Rattle.naga_oil_form_laws.specs.EntryForm.{IsModuleFormed}
 use Rattle.naga_oil_link.specs.BuiltModule.{BuiltModule, Builds}
-use Rattle.naga_oil_link.specs.Linked.{link_whole}
+use Rattle.naga_oil_link.specs.Linked.{link_header, link_whole}
 use Rattle.naga_oil_faith.specs.Scope.{ReadAlike, scope_of}
 use Rattle.naga_oil_faith.specs.ByTree.{CopiesByTree}
 use Rattle.naga_oil_faith.specs.ByTreeLaw.{HasEarlierOperands}
-use Rattle.naga_oil_copies.specs.ReadIn.{scope_in}
+use Rattle.naga_oil_copies.specs.Headers.{HasNamed, HaveDeclarations, HaveOwnNames}
+use Rattle.naga_oil_copies.specs.ReadIn.{scope_in, HasKeysOf}
 
 -- ---- of which build
 
@@ -24,6 +26,15 @@ IsOneOf bs b = (i : ℕ) × (e : List ℕ × BuiltModule) × (slice_get bs i ≡
 abbrev pub IsOneOrLast : Builds → BuiltModule → BuiltModule → Type 0
 IsOneOrLast bs last b = IsOneOf bs b ⊎ (b ≡ last)
 
+-- the builds before one of some or the last
+abbrev pub builds_before : (bs : Builds) (last b : BuiltModule) → IsOneOrLast bs last b → Builds
+builds_before bs last b (inl one) = take one.0 bs
+builds_before bs last b (inr is) = bs
+
+-- the header of what it imports of those
+abbrev pub header_before : (bs : Builds) (last b : BuiltModule) → IsOneOrLast bs last b → ModuleValue
+header_before bs last b among = link_header (builds_before bs last b among) b.imports
+
 -- ---- copies
 
 -- g, in t, copies f, a function of a build, whose spans are those of the texts of all builds one behind another
@@ -31,8 +42,9 @@ pub record CopiesOfBuild (b : BuiltModule) (t : ModuleValue) (f g : FunctionValu
   pub copies : CopiesByTree (shifted (b.index * 2097152)) (λ n. n) (scope_in b.value t) f (scope_of t) g
   pub earlier : HasEarlierOperands g
 
--- g copies a function of a build
+-- g copies a function of a build, of whose special types each has one of its key in t
 pub record CopiesFunctionOf (b : BuiltModule) (t : ModuleValue) (g : FunctionValue) : Type 0 where
+  pub keys : HasKeysOf b.value t
   pub place : ℕ
   pub function : FunctionValue × Span
   pub at : slice_get b.value.functions place ≡ Some function
@@ -50,10 +62,22 @@ ReadsAsItemOf b t q = (p : ItemPlace) × HasAt b.value p × ReadAlike (scope_in 
 
 -- ---- the whole
 
+-- a header for each of some builds
+abbrev pub HeaderOf : (BuiltModule → Type 0) → Type 0
+HeaderOf P = (b : BuiltModule) → P b → ModuleValue
+
+-- g, in t, copies a function of one of some builds, whose header hasn't one of its name
+pub record CopiesFunctionOfOne (P : BuiltModule → Type 0) (header : HeaderOf P) (t : ModuleValue) (g : FunctionValue) : Type 0 where
+  pub build : BuiltModule
+  pub among : P build
+  pub copies : CopiesFunctionOf build t g
+  pub undeclared : HasNamed (header build among) g.name → ⊥
+
 -- in t, each function copies one of some builds, each item reads as one of those, and the function of each entry point copies
--- that of the entry point at its place in b
-pub record CopiesBuilds (P : BuiltModule → Type 0) (b : BuiltModule) (t : ModuleValue) : Type 0 where
-  pub functions : (k : ℕ) (g : FunctionValue × Span) → slice_get t.functions k ≡ Some g → (c : BuiltModule) × P c × CopiesFunctionOf c t g.0
+-- that of the entry point at its place in b, of whose special types each has one of its key
+pub record CopiesBuilds (P : BuiltModule → Type 0) (header : HeaderOf P) (b : BuiltModule) (t : ModuleValue) : Type 0 where
+  pub keys : HasKeysOf b.value t
+  pub functions : (k : ℕ) (g : FunctionValue × Span) → slice_get t.functions k ≡ Some g → CopiesFunctionOfOne P header t g.0
   pub items : (q : ItemPlace) (r : Row) → world t q ≡ Some r → (c : BuiltModule) × P c × ReadsAsItemOf c t q
   pub entry_points : (i : ℕ) (y : EntryValue) → slice_get t.entry_points i ≡ Some y → CopiesEntryOf b t i y
 
@@ -63,5 +87,7 @@ AreFormedBuilds bs = (i : ℕ) (e : List ℕ × BuiltModule) → slice_get bs i 
 
 -- LAW: so it is with the whole of a shader's build, whose index is 0, behind what it imports of these builds; it is of good form
 abbrev pub LinkedCopiesLaw : Type 0
-LinkedCopiesLaw = (bs : Builds) (b : BuiltModule) → b.index ≡ 0 → AreFormedBuilds bs → IsModuleFormed b.value →
-    CopiesBuilds (IsOneOrLast bs b) b (link_whole bs b) × IsModuleFormed (link_whole bs b)
+LinkedCopiesLaw =
+    (bs : Builds) (b : BuiltModule) → b.index ≡ 0 → AreFormedBuilds bs → HaveDeclarations bs → HaveOwnNames bs →
+    IsModuleFormed b.value →
+    CopiesBuilds (IsOneOrLast bs b) (header_before bs b) b (link_whole bs b) × IsModuleFormed (link_whole bs b)

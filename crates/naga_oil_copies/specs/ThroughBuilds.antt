@@ -9,20 +9,22 @@ use Rattle.naga_oil_derive.specs.Tree.{World}
 use Rattle.naga_oil_derive.specs.World.{shifted}
 use Rattle.naga_oil_form_laws.specs.EntryForm.{IsModuleFormed}
 use Rattle.naga_oil_link.specs.BuiltModule.{BuiltModule}
-use Rattle.naga_oil_link.specs.CopiedBuild.{copy_whole}
+use Rattle.naga_oil_link.specs.CopiedBuild.{copy_header, copy_whole}
 use Rattle.naga_oil_link.specs.OwnPlaces.{OwnPlaces}
 use Rattle.naga_oil_faith.specs.Scope.{ReadAlike, scope_of}
 use Rattle.naga_oil_faith.specs.ByTree.{CopiesByTree}
 use Rattle.naga_oil_faith.specs.ByTreeLaw.{HasEarlierOperands}
 use Rattle.naga_oil_copies.specs.HeldBuild.{DecoratesTypes}
 use Rattle.naga_oil_copies.specs.KeptAlike.{scope_alike}
+use Rattle.naga_oil_copies.specs.ReadIn.{HasKeysOf}
 use Rattle.naga_oil_copies.specs.LinkedCopies.{CopiesFunctionOf, CopiesEntryOf, ReadsAsItemOf}
 
--- a build holds all that a module of good form says, of which some items are its own
+-- a build holds all that a module of good form says, of which some items are its own, and its header declares its functions
 pub record Holds (b : BuiltModule) (m : ModuleValue) (own : OwnPlaces) : Type 0 where
   pub form : IsModuleFormed m
   pub functions : List (List ℕ)
   pub value : b.value ≡ make_module (copy_whole m own b.decoration functions).derived
+  pub header : b.header ≡ (copy_header m own b.decoration functions).derived.target
 
 -- g, in t, copies f, a function over the handles of a module that a build holds, whose own types may have their decorated names
 pub record CopiesHeld (b : BuiltModule) (m : ModuleValue) (own : OwnPlaces) (t : ModuleValue) (f g : FunctionValue) : Type 0 where
@@ -32,8 +34,9 @@ pub record CopiesHeld (b : BuiltModule) (m : ModuleValue) (own : OwnPlaces) (t :
   pub source_earlier : HasEarlierOperands f
   pub earlier : HasEarlierOperands g
 
--- g copies a function of that module
+-- g copies a function of that module, of whose special types each has one of its key in t
 pub record CopiesHeldFunction (b : BuiltModule) (m : ModuleValue) (own : OwnPlaces) (t : ModuleValue) (g : FunctionValue) : Type 0 where
+  pub keys : HasKeysOf m t
   pub place : ℕ
   pub function : FunctionValue × Span
   pub at : slice_get m.functions place ≡ Some function
@@ -53,8 +56,9 @@ pub record ReadsAsHeld (b : BuiltModule) (m : ModuleValue) (own : OwnPlaces) (t 
   pub stands : HasAt m place
   pub alike : ReadAlike (scope_alike reads m t) (scope_of t) place q
 
--- what copies a build copies what it holds
+-- what has its keys, and copies it, has the keys of what it holds, and copies that
 pub record GoesThrough (b : BuiltModule) (m : ModuleValue) (own : OwnPlaces) (t : ModuleValue) : Type 0 where
+  pub keys : HasKeysOf b.value t → HasKeysOf m t
   pub function : (g : FunctionValue) → CopiesFunctionOf b t g → CopiesHeldFunction b m own t g
   pub entry_point : (i : ℕ) (y : EntryValue) → CopiesEntryOf b t i y → CopiesHeldEntry b m own t i y
   pub item : (q : ItemPlace) → ReadsAsItemOf b t q → ReadsAsHeld b m own t q

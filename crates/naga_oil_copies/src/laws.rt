@@ -4,8 +4,8 @@ ghost use Rattle.naga_oil_copies.specs.LinkedCopies.{LinkedCopiesLaw};
 ghost use Rattle.naga_oil_copies.specs.OrderedCopies.{FormedCallsLaw, SentCallsLaw, OrderedCopiesLaw};
 ghost use Rattle.naga_oil_copies.specs.ThroughBuilds.{ThroughLaw};
 
-/// Each function of a whole that is linked copies one of a build, and each item reads as one; and the function of each entry
-/// point copies that of the shader's build at its place.
+/// Each function of a whole that is linked copies one of a build, which that build's header doesn't declare, and each item reads
+/// as one; and the function of each entry point copies that of the shader's build at its place.
 pub fn wholes_copy_builds()
     ensures { LinkedCopiesLaw }
 {}
