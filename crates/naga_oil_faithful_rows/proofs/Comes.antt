@@ -8,14 +8,15 @@ use Rattle.naga_oil_ir.specs.declared.span.Span.{Span}
 use Rattle.naga_oil_marks.specs.Marks.{has_module_mark}
 use Rattle.naga_oil_registry.specs.Definition.{Definition, Defs}
 use Rattle.naga_oil_link.specs.BuiltModule.{BuiltModule, Builds}
+use Rattle.naga_oil_link.specs.Linked.{link_header}
+use Rattle.naga_oil_copies.specs.Headers.{HasNamed}
 use Rattle.naga_oil_build.specs.Build.{WholeText, begin_build, write_whole, build}
 use Rattle.naga_oil_build.specs.Held.{Settings, parse_whole}
 use Rattle.naga_oil_link.specs.Form.{is_formed}
 use Rattle.naga_oil.specs.CallsSent.{call_goes}
-use Rattle.naga_oil.specs.MakeDefs.{make_defs}
 use Rattle.naga_oil.specs.Shader.{read_shader}
-use Rattle.naga_oil.specs.Faithful.{IsBuiltOf, IsBuiltModule, IsBuiltShader, ParseOf, made_builds, owned_parse, CopiesParsed, FunctionComes, EntryComes, IsFaithful}
-use Rattle.naga_oil_faithful_rows.specs.SmallMake.{function, small_settings, registry, shader, module_definition, module_parse, shader_parse, module_text, shader_text, helper_name, base_name, override_name, kill, base, stub, override_of}
+use Rattle.naga_oil.specs.Faithful.{IsBuiltOf, IsBuiltModule, IsBuiltShader, IsBuilt, ParseOf, header_of, made_builds, owned_parse, CopiesParsed, FunctionComes, EntryComes, IsFaithful}
+use Rattle.naga_oil_faithful_rows.specs.SmallMake.{function, small_settings, registry, shader, module_definition, module_parse, shader_parse, module_text, shader_text, helper_name, base_name, override_name, kill, base, override_of}
 use Rattle.naga_oil_faithful_rows.proofs.Texts.{source_read, described, shader_read, module_read, shader_definition, shader_output, module_output, used}
 use Rattle.naga_oil_faithful_rows.proofs.Builds.{copies, keywords, module_build, shader_build, module_is_built, shader_is_built}
 use Rattle.naga_oil_faithful_rows.proofs.Answered.{builds, defs_made, answered}
@@ -80,12 +81,35 @@ shader_only c b p h =
     let i = subst (λ bs. IsBuiltOf (small_settings c) [] h.definition bs b p) (ap (λ o. o.builds) (answered c)) (subst (λ defs. IsBuiltOf (small_settings c) defs h.definition (made_builds (small_settings c) registry 0 shader) b p) defs_made h.is) in
     one_built (small_settings c) [] shader_definition builds b shader_build p shader_parse (subst (λ d. IsBuiltOf (small_settings c) [] d builds b p) (sym d) i) (shader_is c)
 
-which : (c : Capabilities) (o : ParseOf (small_settings c) registry 0 shader) → IsModule o.b o.parse ⊎ IsShader o.b o.parse
+-- the header that stands before the shader's source: it declares the function that it imports
+abbrev pub shader_header : ModuleValue
+shader_header = link_header builds shader_build.imports
+
+base_declared : HasNamed shader_header (Some base_name)
+unfolding copies
+base_declared = (0, _, refl, refl)
+
+-- and no other
+pub only_base : (n : Text) → HasNamed shader_header n → Some base_name ≡ n
+unfolding copies
+only_base n h = one h.0 h.1 h.2 h.3
+  where
+    one : (k : ℕ) (e : FunctionValue × Span) → slice_get shader_header.functions k ≡ Some e → e.0.name ≡ n → Some base_name ≡ n
+    one zero e at name = ap (λ (x : FunctionValue × Span). x.0.name) (same_Some _ e at) ∙ name
+    one (suc k) e at name = absurd (none-some e at)
+
+-- a parse is that of the module, or of the shader behind its header
+abbrev IsOfTwo : (c : Capabilities) → ParseOf (small_settings c) registry 0 shader → Type 0
+IsOfTwo c o = IsModule o.b o.parse ⊎ (IsShader o.b o.parse × (header_of (small_settings c) registry 0 shader o ≡ shader_header))
+
+which : (c : Capabilities) (o : ParseOf (small_settings c) registry 0 shader) → IsOfTwo c o
 which c o = one o.is
   where
-    one : IsBuiltModule (small_settings c) registry (make_defs registry 0 shader) (made_builds (small_settings c) registry 0 shader) o.b o.parse ⊎ IsBuiltShader (small_settings c) registry 0 shader o.b o.parse → IsModule o.b o.parse ⊎ IsShader o.b o.parse
+    one : (is : IsBuilt (small_settings c) registry 0 shader o.b o.parse) → IsOfTwo c (record { b = o.b; parse = o.parse; is = is })
     one (inl h) = inl (module_only c o.b o.parse (subst (λ bs. IsBuiltModule (small_settings c) registry [] bs o.b o.parse) (ap (λ o. o.builds) (answered c)) (subst (λ defs. IsBuiltModule (small_settings c) registry defs (made_builds (small_settings c) registry 0 shader) o.b o.parse) defs_made h)))
-    one (inr h) = inr (shader_only c o.b o.parse h)
+    one (inr h) =
+        let only = shader_only c o.b o.parse h in
+        inr (only, ap (λ (bs : Builds). link_header bs o.b.imports) (ap (λ o. o.builds) (answered c)) ∙ ap (λ (b : BuiltModule). link_header builds b.imports) only.0)
 
 -- ---- which functions may be copied
 
@@ -99,11 +123,10 @@ own_base = record base { name = Some base_name }
 abbrev pub calls_go : Text → Text → Text
 calls_go = call_goes shader_build.overriding
 
--- g copies one of the functions of the two parses
+-- g copies one of the functions of the two parses, and not the shader's declaration of another
 pub data Comes (made : ModuleValue) (g : FunctionValue) : Type 0 where
   OfHelper : CopiesParsed module_build module_parse (calls_go (Some helper_name)) made own_helper g → Comes made g
   OfBase : CopiesParsed module_build module_parse (calls_go (Some base_name)) made own_base g → Comes made g
-  OfStub : CopiesParsed shader_build shader_parse (calls_go (Some base_name)) made stub g → Comes made g
   OfOverride : CopiesParsed shader_build shader_parse (calls_go (Some override_name)) made (override_of 0) g → Comes made g
 
 abbrev Copied : BuiltModule → ModuleValue → ModuleValue → FunctionValue → FunctionValue × Span → Type 0
@@ -115,11 +138,11 @@ of_module made g zero f at k = OfHelper (subst (Copied module_build module_parse
 of_module made g (suc zero) f at k = OfBase (subst (Copied module_build module_parse made g) (sym (same_Some _ f at)) k)
 of_module made g (suc (suc place)) f at k = absurd (none-some f at)
 
-of_shader : (made : ModuleValue) (g : FunctionValue) (place : ℕ) (f : FunctionValue × Span) → slice_get (owned_parse shader_build shader_parse).functions place ≡ Some f → Copied shader_build shader_parse made g f → Comes made g
+of_shader : (made : ModuleValue) (g : FunctionValue) (place : ℕ) (f : FunctionValue × Span) → slice_get (owned_parse shader_build shader_parse).functions place ≡ Some f → (HasNamed shader_header f.0.name → ⊥) → Copied shader_build shader_parse made g f → Comes made g
 unfolding has_module_mark
-of_shader made g zero f at k = OfStub (subst (Copied shader_build shader_parse made g) (sym (same_Some _ f at)) k)
-of_shader made g (suc zero) f at k = OfOverride (subst (Copied shader_build shader_parse made g) (sym (same_Some _ f at)) k)
-of_shader made g (suc (suc place)) f at k = absurd (none-some f at)
+of_shader made g zero f at new k = absurd (new (subst (λ (x : FunctionValue × Span). HasNamed shader_header x.0.name) (same_Some _ f at) base_declared))
+of_shader made g (suc zero) f at new k = OfOverride (subst (Copied shader_build shader_parse made g) (sym (same_Some _ f at)) k)
+of_shader made g (suc (suc place)) f at new k = absurd (none-some f at)
 
 of_parse : (b d : BuiltModule) (p q : ModuleValue) (made : ModuleValue) (g : FunctionValue) → b ≡ d → p ≡ q → (place : ℕ) (f : FunctionValue × Span) → slice_get (owned_parse b p).functions place ≡ Some f → Copied b p made g f → (slice_get (owned_parse d q).functions place ≡ Some f) × Copied d q made g f
 of_parse b d p q made g e i place f at k =
@@ -127,9 +150,9 @@ of_parse b d p q made g e i place f at k =
     (subst (λ d. (slice_get (owned_parse d p).functions place ≡ Some f) × Copied d p made g f) e (at, k))
 
 module _ (c : Capabilities) (made : ModuleValue) (g : FunctionValue) (s : BuiltModule) (x : FunctionComes (small_settings c) registry 0 shader s made g) where
-  comes_by : s ≡ shader_build → IsModule x.of.b x.of.parse ⊎ IsShader x.of.b x.of.parse → Comes made g
+  comes_by : s ≡ shader_build → IsOfTwo c x.of → Comes made g
   comes_by e (inl i) = let z = of_parse x.of.b module_build x.of.parse module_parse made g i.0 i.1 x.place x.function x.at (subst (λ (b : BuiltModule). CopiesParsed x.of.b x.of.parse (call_goes b.overriding x.function.0.name) made x.function.0 g) e x.copies) in of_module made g x.place x.function z.0 z.1
-  comes_by e (inr i) = let z = of_parse x.of.b shader_build x.of.parse shader_parse made g i.0 i.1 x.place x.function x.at (subst (λ (b : BuiltModule). CopiesParsed x.of.b x.of.parse (call_goes b.overriding x.function.0.name) made x.function.0 g) e x.copies) in of_shader made g x.place x.function z.0 z.1
+  comes_by e (inr two) = let i = two.0 in let z = of_parse x.of.b shader_build x.of.parse shader_parse made g i.0 i.1 x.place x.function x.at (subst (λ (b : BuiltModule). CopiesParsed x.of.b x.of.parse (call_goes b.overriding x.function.0.name) made x.function.0 g) e x.copies) in of_shader made g x.place x.function z.0 (λ h. x.undeclared (subst (λ (v : ModuleValue). HasNamed v x.function.0.name) (sym two.1) h)) z.1
 
 -- so does each function of a module that is faithful here
 pub each_comes : (c : Capabilities) (made : ModuleValue) (h : IsFaithful (small_settings c) registry 0 shader made) (k : ℕ) (g : FunctionValue × Span) → slice_get made.functions k ≡ Some g → Comes made g.0

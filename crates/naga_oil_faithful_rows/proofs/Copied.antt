@@ -22,7 +22,7 @@ use Rattle.naga_oil_derive.specs.Functions.{begun, argument_under}
 use Rattle.naga_oil_derive.specs.World.{shifted}
 use Rattle.naga_oil_faith.specs.Scope.{Scope, ReadAlike, CalledAlike}
 use Rattle.naga_oil_faith.specs.ByTree.{IsReached, IsBegun, HasCopy, HasSpan, NamesAlike, types_in, callee_in, CopiesByTree}
-use Rattle.naga_oil_faithful_rows.specs.SmallMake.{function, ray_of, kill, call_with_first, right, base_copy}
+use Rattle.naga_oil_faithful_rows.specs.SmallMake.{function, kill, call_with_first, right, base_copy}
 use Rattle.naga_oil_faithful_rows.proofs.Comes.{own_base}
 
 -- where the handles of the module go, and those of the shader, whose calls go by a map
@@ -52,9 +52,6 @@ shader_goes calls = record {
 
 -- ---- a function that has no expressions
 
-abbrev plain : List ℕ → List ArgumentValue → FunctionValue
-plain name arguments = function name arguments [] [] []
-
 nothing_reached : {P : Type 0} → false ≡ true → P
 nothing_reached e = absurd cc
 
@@ -80,25 +77,6 @@ plain_copy r sends a b name = record {
     callees_at : (i : ℕ) (t : Token) → slice_get kill i ≡ Some t → IfSome (callee_in t) (λ h. CalledAlike sends a b h (r.function h))
     callees_at zero t e = subst (λ t. IfSome (callee_in t) (λ h. CalledAlike sends a b h (r.function h))) (same_Some (Head 7) t e) tt
     callees_at (suc i) t e = absurd (none-some t e)
-
--- one with no body either, of a ray
-pub stub_copy : (calls : ℕ → ℕ) (sends : Text → Text) (a b : Scope) (name : List ℕ) → ReadAlike a b (TypeItem 1) (TypeItem 1) → CopiesByTree (shifted 0) sends a (plain name (ray_of 1 ∷ [])) b (plain name (ray_of 1 ∷ []))
-stub_copy calls sends a b name ray = record {
-  goes = shader_goes calls;
-  name = refl;
-  arguments = refl;
-  outcome = refl;
-  locals = refl;
-  body = refl;
-  spans = λ s. refl;
-  expressions = record { copies = λ k w. nothing_reached w; spans = λ k w. nothing_reached w; onto = λ h w. nothing_reached w; shared = λ j k v w. nothing_reached v };
-  emits = λ i p e. absurd (none-some (Emitted p) e);
-  names = record { order = refl; each = λ h n w i. nothing_reached w };
-  alike = record { types = types_at; expressions = λ k e w. nothing_reached w; callees = λ i t e. absurd (none-some t e) };
-}
-  where
-    types_at : (k : ℕ) → has (1 ∷ []) k ≡ true → ReadAlike a b (TypeItem k) (TypeItem k)
-    types_at k w = let P = λ (k : ℕ). ReadAlike a b (TypeItem k) (TypeItem k) in All-has P (1 ∷ []) k (All-cons P 1 [] ray (All-nil P)) w
 
 -- ---- a call with the one expression that there is
 

@@ -1,11 +1,12 @@
 -- What isn't faithful.
-use Rattle.std.proofs.Common.{◌≡◌, ◌⊎◌, inl, inr, ℕ, zero, suc, true, false, Bool, if◌then◌else◌, List, [], ◌∷◌, refl, Option, Some, None, option_map, ap, sym, ◌∙◌, subst, slice_get, arith}
+use Rattle.std.proofs.Common.{◌≡◌, ◌⊎◌, inl, inr, ℕ, zero, suc, true, false, Bool, if◌then◌else◌, List, [], ◌∷◌, refl, Option, Some, None, option_map, IsSome, ap, sym, ◌∙◌, subst, slice_get, arith}
+use Rattle.std.proofs.lemmas.List.Elements.{All-head}
 use Rattle.std.proofs.lemmas.Option.{none-some, same_Some}
 use Rattle.std.specs.Option.{option_eq}
 use Rattle.std.specs.Prelude.{codes, bytes_eq}
 use Rattle.naga_oil_ir.specs.Body.{Tokens}
 use Rattle.naga_oil_ir.specs.Links.{trail}
-use Rattle.naga_oil_ir.specs.ModuleValue.{FunctionValue, ArgumentValue}
+use Rattle.naga_oil_ir.specs.ModuleValue.{ModuleValue, FunctionValue, ArgumentValue}
 use Rattle.naga_oil_ir.specs.Parts.{Parts}
 use Rattle.naga_oil_ir.specs.Rows.{Row}
 use Rattle.naga_oil_ir.specs.declared.names.ItemPlace.{ItemPlace}
@@ -16,24 +17,28 @@ use Rattle.naga_oil_marks.specs.Marks.{has_module_mark}
 use Rattle.naga_oil_rename.specs.Renames.{Renames, rename}
 use Rattle.naga_oil_derive.specs.Collected.{depth}
 use Rattle.naga_oil_derive.specs.Tree.{World, Tree, Item, tree, reading, row_tree, kept_tree}
-use Rattle.naga_oil_derive.specs.World.{world, or_option}
+use Rattle.naga_oil_derive.specs.declared.special.SpecialKey.{SpecialKey}
+use Rattle.naga_oil_derive.specs.declared.special.SpecialKey.TheVariants.{RayDesc}
+use Rattle.naga_oil_derive.specs.World.{world, or_option, special_at}
+use Rattle.naga_oil_link.specs.BuiltModule.{BuiltModule}
 use Rattle.naga_oil_link.specs.Owned.{own_places}
 use Rattle.naga_oil_faith.specs.Scope.{name_of_function}
 use Rattle.naga_oil_faith.specs.ByTree.{HasCopy}
 use Rattle.naga_oil_copies.specs.HeldBuild.{HasDecoratedName}
 use Rattle.naga_oil_copies.specs.KeptAlike.{same_tree, kept_alike}
+use Rattle.naga_oil_copies.specs.ReadIn.{HasKeysOf}
 use Rattle.naga_oil.specs.Faithful.{CopiesParsed, owned_parse}
-use Rattle.naga_oil_faithful_rows.specs.SmallMake.{function, zero_of, literal, negated, span, struct, mark, helper_name, base_name, override_name, override_of, module_parse, made_with, base_copy}
-use Rattle.naga_oil_faithful_rows.specs.SmallMakeLaw.{IsRefused, unmapped, of_another_key, of_another_entry, calling_itself, without_body}
+use Rattle.naga_oil_faithful_rows.specs.SmallMake.{function, zero_of, literal, negated, span, struct, mark, helper_name, base_name, override_name, override_of, stub, module_parse, shader_parse, made_with, base_copy}
+use Rattle.naga_oil_faithful_rows.specs.SmallMakeLaw.{IsRefused, IsUnfaithful, unmapped, of_another_key, of_another_entry, calling_itself, without_body, with_declaration, without_special}
 use Rattle.naga_oil_faithful_rows.proofs.Builds.{module_build}
-use Rattle.naga_oil_faithful_rows.proofs.Comes.{Comes, OfHelper, OfBase, OfStub, OfOverride, each_comes, entry_comes, own_base, calls_go}
+use Rattle.naga_oil_faithful_rows.proofs.Comes.{Comes, OfHelper, OfBase, OfOverride, shader_only, each_comes, entry_comes, own_base, calls_go}
 
 -- ---- names tell functions apart
 
 not_base : Some helper_name ≡ Some base_name → ⊥
 not_base e = let f : false ≡ true = ap (option_eq bytes_eq (Some base_name)) e in cc
 
-not_override : Some override_name ≡ Some base_name → ⊥
+pub not_override : Some override_name ≡ Some base_name → ⊥
 not_override e = let f : false ≡ true = ap (option_eq bytes_eq (Some base_name)) e in cc
 
 helper_overrides : Some helper_name ≡ Some override_name → ⊥
@@ -112,7 +117,6 @@ unmapped_refused c h = one (each_comes c (made_with unmapped) h 1 _ refl)
     one : Comes (made_with unmapped) (base_copy unmapped) → ⊥
     one (OfHelper k) = not_base (sym k.copies.name)
     one (OfBase k) = negated_wrong k (k.copies.goes.expression 3) refl
-    one (OfStub k) = never (ap is_empty k.copies.body)
     one (OfOverride k) = not_override (sym k.copies.name)
 
 -- ---- bodies
@@ -123,8 +127,16 @@ without_body_refused c h = one (each_comes c (made_with without_body) h 0 _ refl
     one : Comes (made_with without_body) (function helper_name [] [] [] []) → ⊥
     one (OfHelper k) = never (sym (ap is_empty k.copies.body))
     one (OfBase k) = not_base k.copies.name
-    one (OfStub k) = not_base k.copies.name
     one (OfOverride k) = helper_overrides k.copies.name
+
+-- a function with the name of the one that is imported, and without a body
+pub with_declaration_refused : IsUnfaithful with_declaration
+with_declaration_refused c h = one (each_comes c with_declaration h 1 _ refl)
+  where
+    one : Comes with_declaration stub → ⊥
+    one (OfHelper k) = not_base (sym k.copies.name)
+    one (OfBase k) = never (sym (ap is_empty k.copies.body))
+    one (OfOverride k) = not_override (sym k.copies.name)
 
 pub of_another_entry_refused : IsRefused of_another_entry
 unfolding has_module_mark
@@ -139,7 +151,6 @@ calling_itself_refused c h = one (each_comes c (made_with calling_itself) h 2 _ 
     one : Comes (made_with calling_itself) (override_of 2) → ⊥
     one (OfHelper k) = helper_overrides (sym k.copies.name)
     one (OfBase k) = not_override k.copies.name
-    one (OfStub k) = not_override k.copies.name
     one (OfOverride k) =
         let e : calling_itself.callee ≡ k.copies.goes.function 0 = ap first_callee k.copies.body in
         let called : name_of_function (made_with calling_itself) (k.copies.goes.function 0) ≡ Some base_name = k.copies.alike.callees 1 (Callee 0) refl in
@@ -209,5 +220,12 @@ of_another_key_refused c h = one (each_comes c (made_with of_another_key) h 1 _ 
     one (OfBase k) =
         let e : 2 ≡ k.copies.goes.ty 2 = ap first_type k.copies.arguments in
         type_wrong k.reads k.decorated.each (ap (λ (n : ℕ). tree 1 (world (made_with of_another_key)) (TypeItem n)) e ∙ k.copies.alike.types 2 refl 1)
-    one (OfStub k) = never (ap is_empty k.copies.body)
     one (OfOverride k) = not_override (sym k.copies.name)
+
+-- the shader's parse has a special type of a ray
+pub without_special_refused : IsUnfaithful without_special
+unfolding has_module_mark
+without_special_refused c h =
+    let e = shader_only c h.shader h.parse h.is in
+    let keys = subst (λ (b : BuiltModule). HasKeysOf (owned_parse b shader_parse) without_special) e.0 (subst (λ (p : ModuleValue). HasKeysOf (owned_parse h.shader p) without_special) e.1 h.special) in
+    never (All-head (λ (e : SpecialKey × ℕ). IsSome (special_at without_special.special_types e.0)) (RayDesc, 1) [] keys)

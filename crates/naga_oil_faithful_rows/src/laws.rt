@@ -1,6 +1,6 @@
 //! A whole small make, and what the definition of a faithful module refuses in its place.
 ghost use Rattle.naga_oil_faithful_rows.specs.SmallMake.{right};
-ghost use Rattle.naga_oil_faithful_rows.specs.SmallMakeLaw.{AnswerLaw, IsFaithfulSo, IsRefused, SpecialLaw, StubLaw, unmapped, of_another_key, of_another_entry, calling_itself, without_body};
+ghost use Rattle.naga_oil_faithful_rows.specs.SmallMakeLaw.{AnswerLaw, IsFaithfulSo, IsRefused, IsUnfaithful, unmapped, of_another_key, of_another_entry, calling_itself, without_body, with_declaration, without_special};
 
 /// The small make answers its module.
 pub fn small_make_answers()
@@ -37,9 +37,12 @@ pub fn dropped_body_is_refused()
     ensures { IsRefused without_body }
 {}
 
-/// What the definition alone doesn't refuse, and only the value that a make answers tells: where the text of the shader declares what
-/// it imports, that declaration in the place of the body; and a module that doesn't tell which of its types are special.
-pub fn not_refused()
-    ensures declaration { StubLaw }
-    ensures untold { SpecialLaw }
+/// So is the declaration of a function that the shader imports, though the shader's text says it too.
+pub fn declaration_is_refused()
+    ensures { IsUnfaithful with_declaration }
+{}
+
+/// A module that doesn't tell which of its types are special is refused.
+pub fn untold_special_types_are_refused()
+    ensures { IsUnfaithful without_special }
 {}
