@@ -53,6 +53,7 @@ use Rattle.naga_oil.proofs.BuiltOfLemmas.{BuiltOf, built_of}
 use Rattle.naga_oil.proofs.ChainsLaws.{chains_law}
 use Rattle.naga_oil.proofs.EachBuiltLemmas.{AllBuilt, answer_made}
 use Rattle.naga_oil.proofs.FinishedLemmas.{shader_index}
+use Rattle.naga_oil.proofs.MadeOverridingLemmas.{stands_apart, shader_shares}
 use Rattle.naga_oil.proofs.SentDownLemmas.{IsSent, AllAsCopied, all_down_sent}
 use Rattle.naga_oil.proofs.StageFormLemmas.{stages_formed}
 
@@ -341,9 +342,11 @@ calls_go_down s ds counter m made modules e =
     let f = a.shader in
     let own = built_of s (make_defs ds counter m) a.definition a.output (made_builds s ds counter m) f.shader modules a.preprocessed f.built in
     let first = own.1 ∙ shader_index m a.read.0 a.definition a.described in
+    let shares = shader_shares s ds (make_defs ds counter m) (made_builds s ds counter m) a.definition a.output f.shader a.all f.built in
     record {
       shader = f.shader;
       parse = own.0.parse;
       is = shader_is s ds counter m modules a.all a.read a.source a.definition a.described f.shader own.0 first;
-      chains = chains_over s ds counter m modules a.all a.read a.source a.definition a.described f.shader own.0 first m.shader_type made f.chained;
+      shares = shares;
+      chains = λ i e at both. chains_over s ds counter m modules a.all a.read a.source a.definition a.described f.shader own.0 first m.shader_type made f.chained i e at (stands_apart f.shader.overriding i e shares at both);
     }

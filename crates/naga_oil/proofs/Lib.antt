@@ -32,6 +32,7 @@ pub mod StoreNewLemmas
 pub mod BuiltOfLemmas
 pub mod FinishedLemmas
 pub mod EachBuiltLemmas
+pub mod MadeOverridingLemmas
 pub mod SentDownLemmas
 pub mod FaithfulLemmas
 pub mod CallsLaws

@@ -3,9 +3,11 @@ use Rattle.std.specs.Prelude.{ℕ, ◌≡◌, true, false, List, slice_get, Some
 use Rattle.naga_oil_form_laws.specs.EntryForm.{IsModuleFormed}
 use Rattle.naga_oil_ir.specs.ModuleValue.{ModuleValue}
 use Rattle.naga_oil_ir.specs.Rows.{Text}
+use Rattle.naga_oil_lines.specs.Text.{is_among}
 use Rattle.naga_oil_link.specs.BuiltModule.{BuiltModule, Builds, Overriding}
 use Rattle.naga_oil_link.specs.Linked.{link_whole}
 use Rattle.naga_oil_build.specs.Held.{Settings}
+use Rattle.naga_oil_chain_laws.specs.OverridingForm.{OverridesEachOnce, BuildsOverrideOnce, NoNameShared}
 use Rattle.naga_oil_redirect.specs.Chain.{destination, IsSentDown}
 use Rattle.naga_oil_redirect.specs.ChainLaw.{is_in_chain}
 use Rattle.naga_oil_registry.specs.Definition.{Definition, Defs}
@@ -50,19 +52,32 @@ CallsLaw = (all : Overriding) (i : ℕ) (a : List ℕ × List (List ℕ)) (calle
 
 -- ---- a make
 
+-- no function of a chain is both: none that overrides is overridden itself, and what is overridden overrides none
+abbrev pub NoneIsBoth : Overriding → List ℕ × List (List ℕ) → Type 0
+NoneIsBoth all a = (j : ℕ) (b : List ℕ × List (List ℕ)) → slice_get all j ≡ Some b → (is_among a.1 b.0 ≡ false) × (is_among b.1 a.0 ≡ false)
+
 module _ (s : Settings) (ds : List Definition) (counter : ℕ) (m : ShaderSource) where
   -- a shader's build as it is linked behind what it imports, with its entry points' stage
   abbrev pub linked_shader : BuiltModule → ModuleValue
   linked_shader shader = with_stages m.shader_type (link_whole (made_builds s ds counter m) shader)
 
-  -- made has the functions and entry points of the linked shader, with each call of a function that is overridden at its destination
+  -- No function overrides two; and made has the functions and entry points of the linked shader, with each call of a function that is
+  -- overridden at its destination, if none of its chain is both.
   pub record CallsGoDown (made : ModuleValue) : Type 0 where
     pub shader : BuiltModule
     pub parse : ModuleValue
     pub is : IsBuiltShader s ds counter m shader parse
-    pub chains : GoDownChains shader.overriding (linked_shader shader) made
+    pub shares : NoNameShared shader.overriding
+    pub chains : (i : ℕ) (a : List ℕ × List (List ℕ)) →
+        slice_get shader.overriding i ≡ Some a → NoneIsBoth shader.overriding a → IsSentDown a.0 a.1 (linked_shader shader) made
 
 -- LAW: so it is with each module that a make answers
 abbrev pub CallsGoDownLaw : Type 0
 CallsGoDownLaw = (s : Settings) (ds : List Definition) (counter : ℕ) (m : ShaderSource) (made : ModuleValue) →
     ParsesModules s.front → (answer s ds counter m).result ≡ Ok made → CallsGoDown s ds counter m made
+
+-- LAW: of the builds of a make that is answered, and of its shader's, each function that is overridden is there once
+abbrev pub MadeOverridingLaw : Type 0
+MadeOverridingLaw = (s : Settings) (ds : List Definition) (counter : ℕ) (m : ShaderSource) (made : ModuleValue) (shader : BuiltModule) (parse : ModuleValue) →
+    (answer s ds counter m).result ≡ Ok made → IsBuiltShader s ds counter m shader parse →
+    BuildsOverrideOnce (made_builds s ds counter m) × OverridesEachOnce shader.overriding

@@ -21,7 +21,8 @@ settings_of front c = settings (front c.front) c.capabilities c.validate c.overr
 
 -- A make replies its answer, and changes the counter by the bindings that were read, and what is kept. No kept build is lost; unless
 -- memory ran out, just the builds of its answer are kept that weren't; and those newly kept are counted. Where the front end parses
--- modules, what the module says is of what was parsed; and however many functions override one, each call of it goes to its destination.
+-- modules, what the module says is of what was parsed; no function overrides two; and however many override one, each call of it goes to its
+-- destination, where none of them is itself overridden and it overrides none.
 pub record Makes {B : Type 0} (front : B → FrontEnd) (old : State B) (m : ShaderSource) (result : Result Module ComposerError) (new : State B) : Type 0 where
   pub reply : Answers module_value result (answer (settings_of front old) old.registry old.counter m).result
   pub counter : Counts (λ e. fault_of e.inner) result m.source old.counter new.counter

@@ -1,6 +1,6 @@
 //! What the builds of a make depend on.
 ghost use Rattle.naga_oil.specs.AfreshLaw.{AfreshLaw, ReadingLaw};
-ghost use Rattle.naga_oil.specs.ChainsLaw.{CallsLaw, ChainsLaw, ComposedLaw};
+ghost use Rattle.naga_oil.specs.ChainsLaw.{CallsLaw, ChainsLaw, ComposedLaw, MadeOverridingLaw};
 ghost use Rattle.naga_oil.specs.LocalLaw.{BuildLaw, FinishLaw, ImportLaw, LinkLaw};
 ghost use Rattle.naga_oil.specs.NewlyKeptLaw.{NewlyKeptLaw};
 ghost use Rattle.naga_oil.specs.ReachLaw.{ProjectionLaw, RegistryLaw};
@@ -62,4 +62,9 @@ pub fn calls_go_down_chains()
     ensures chain { ChainsLaw }
     ensures compose { ComposedLaw }
     ensures call { CallsLaw }
+{}
+
+/// In the builds of a make each function that is overridden is there once, and no function overrides two.
+pub fn builds_override_each_once()
+    ensures { MadeOverridingLaw }
 {}

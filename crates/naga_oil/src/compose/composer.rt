@@ -266,7 +266,7 @@ impl<B: Backend> Composer<B> {
     /// are given and its own, and again under those of what it imports; what it imports is built, each module once and behind
     /// what it imports itself, unless its build is kept; the shader is built over that, linked, and validated where that is asked for.
     /// However many functions override one, each of these calls the one before it, the first one the function itself, and all other
-    /// callers the last.
+    /// callers the last, where none of these is itself overridden and the function overrides none. No function overrides two.
     ///
     /// # Errors
     /// The first fault, in this order: a mark of a decoration, no number left for a binding, the text's own, an import that

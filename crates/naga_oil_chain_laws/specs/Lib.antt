@@ -1,0 +1,3 @@
+-- The definitions that the laws of this crate cite.
+pub mod OverridingForm
+mod OverridingRows
