@@ -5,20 +5,17 @@ use Rattle.naga_oil_ir.specs.Backend.{FrontEnd, FaultValue}
 use Rattle.naga_oil_ir.specs.ModuleValue.{ModuleValue}
 use Rattle.naga_oil_ir.specs.declared.language.ShaderLanguage.{ShaderLanguage}
 use Rattle.naga_oil_derive.specs.CopiedEntry.{make_module}
-use Rattle.naga_oil_derive.specs.World.{value_of}
 use Rattle.naga_oil_pre.specs.Fault.{Fault, text_too_large, wrong_form}
 use Rattle.naga_oil_pre.specs.Preprocessed.{Output}
 use Rattle.naga_oil_registry.specs.Added.{◌>>=◌}
 use Rattle.naga_oil_registry.specs.Definition.{Definition, Defs}
 use Rattle.naga_oil_form_laws.specs.EntryForm.{IsModuleFormed}
-use Rattle.naga_oil_form_laws.proofs.ParsedFunctions.{parsed_module}
 use Rattle.naga_oil_link.specs.BuiltModule.{BuiltModule, Builds}
 use Rattle.naga_oil_link.specs.CopiedBuild.{copy_build, copy_header, copy_whole}
 use Rattle.naga_oil_link.specs.Form.{is_formed}
 use Rattle.naga_oil_link.specs.OwnPlaces.{OwnPlaces}
 use Rattle.naga_oil_link.specs.Owned.{own_places, owned_module, owned_build, owning, owning_demoted, demotable, decorated_items}
-use Rattle.naga_oil_link.proofs.FormLawLemmas.{module_tested}
-use Rattle.naga_oil_link.proofs.OwnedFormLemmas.{owned_formed}
+use Rattle.naga_oil_parse_laws.proofs.ParsedShapes.{parsed_shape}
 use Rattle.naga_oil_copies.specs.ThroughBuilds.{Holds}
 use Rattle.naga_oil_build.specs.Build.{WholeText, begin_build, write_heading, write_whole, from_offset, build}
 use Rattle.naga_oil_build.specs.Virtuals.{Functions, functions_in}
@@ -60,14 +57,9 @@ parse_back front l text decoration m e = one (nat_lt (length text) 2097152) refl
 
 -- its own items decorated, it is of good form
 pub owned_is_formed : (front : FrontEnd) (l : ShaderLanguage) (text decoration : List ℕ) (m : ModuleValue) (index : ℕ) → ParsesModules front → IsParse front l text decoration m → IsModuleFormed (owned_module index decoration m)
-unfolding value_of
 owned_is_formed front l text decoration m index modules p =
-    let x = modules l text m p.parse in
-    let n = length text in
     let short = p.short in
-    let l : n ≤ 4294967295 = omega (arith, short) in
-    let form = (module_tested x.of decoration n).0 (ap (λ q. is_formed q decoration n) x.value ∙ p.formed) in
-    subst (λ q. IsModuleFormed (owned_module index decoration q)) x.value (owned_formed x.of index decoration n (λ d k i f. parsed_module x.of k i d f x.keys) l form)
+    parsed_shape m index decoration (length text) (modules l text m p.parse) (omega (arith, short)) p.formed
 
 -- ---- what is held of it
 

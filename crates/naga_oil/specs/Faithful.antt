@@ -1,12 +1,10 @@
 -- What a made module is: functions, items and entry points of what front ends parsed.
 use mathlib.Core.Logic.{inl, inr}
-use Rattle.std.specs.Prelude.{ℕ, ◌≡◌, ◌*◌, ◌⊎◌, nat_eq, List, map, take, slice_get, Some, None, Ok}
-use Rattle.std.specs.List.{IsDistinct}
+use Rattle.std.specs.Prelude.{ℕ, ◌≡◌, ◌*◌, ◌⊎◌, List, take, slice_get, Some, None, Ok}
 use Rattle.naga_oil_ir.specs.Backend.{FrontEnd}
-use Rattle.naga_oil_ir.specs.ModuleValue.{ModuleValue, FunctionValue, EntryValue, module_value}
+use Rattle.naga_oil_ir.specs.ModuleValue.{ModuleValue, FunctionValue, EntryValue}
 use Rattle.naga_oil_ir.specs.Rows.{Row, Text}
 use Rattle.naga_oil_ir.specs.declared.language.ShaderLanguage.{ShaderLanguage}
-use Rattle.naga_oil_ir.specs.declared.module.Module.{Module}
 use Rattle.naga_oil_ir.specs.declared.names.ItemPlace.{ItemPlace}
 use Rattle.naga_oil_ir.specs.declared.span.Span.{Span}
 use Rattle.naga_oil_derive.specs.CopiedLaw.{HasAt}
@@ -16,6 +14,7 @@ use Rattle.naga_oil_pre.specs.Preprocessed.{Output}
 use Rattle.naga_oil_registry.specs.Added.{read_source}
 use Rattle.naga_oil_registry.specs.Definition.{Definition, Defs}
 use Rattle.naga_oil_registry.specs.Descriptor.{ShaderSource}
+use Rattle.naga_oil_shape.specs.Shape.{HasModuleShape}
 use Rattle.naga_oil_link.specs.BuiltModule.{BuiltModule, Builds}
 use Rattle.naga_oil_link.specs.Linked.{link_header}
 use Rattle.naga_oil_link.specs.Owned.{own_places, owned_module}
@@ -34,16 +33,10 @@ use Rattle.naga_oil.specs.MakeDefs.{make_defs}
 use Rattle.naga_oil.specs.Reach.{defined}
 use Rattle.naga_oil.specs.Shader.{read_shader}
 
--- plain data is that of a module, whose predeclared types have a key each
-pub record IsOfModule (m : ModuleValue) : Type 0 where
-  pub of : Module
-  pub value : module_value of ≡ m
-  pub keys : IsDistinct nat_eq (map (λ e. e.0) of.special_types.predeclared_types.entries)
-
--- what a front end parses are modules
+-- what a front end parses has the shape of modules
 abbrev pub ParsesModules : FrontEnd → Type 0
 ParsesModules front = (in_language : ShaderLanguage) (text : List ℕ) (m : ModuleValue) →
-    front.parse in_language text ≡ Ok m → IsOfModule m
+    front.parse in_language text ≡ Ok m → HasModuleShape m
 
 -- ---- parses
 
