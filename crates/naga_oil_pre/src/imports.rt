@@ -1,5 +1,5 @@
 // What imports declare, and what lines use of them.
-ghost use Rattle.std.specs.Prelude.{◌≡◌, ◌+◌, ◌<◌, ◌≤◌, ◌^◌, ◌++◌, Some, None, Ok, length, string_bytes, replicate, false, OnOk, IfOk, IfErr};
+ghost use Rattle.std.specs.Prelude.{◌≡◌, ℕ, List, ◌+◌, ◌<◌, ◌≤◌, ◌^◌, ◌++◌, Some, None, Ok, length, string_bytes, replicate, false, OnOk, IfOk, IfErr};
 ghost use Rattle.std.specs.BTreeMap.{get_by_text};
 ghost use Rattle.naga_oil_lines.specs.Declarations.{declared_of};
 ghost use Rattle.naga_oil_lines.specs.Uses.{uses_of};
@@ -15,6 +15,7 @@ ghost use Rattle.naga_oil_pre.specs.SourceView.{line_of};
 use super::replace::replaced_text;
 use super::*;
 use naga_oil_lines::parse_imports::{ImportFault, parse_imports};
+use naga_oil_lines::substitute::push_substituted;
 use naga_oil_lines::text::push_spaces;
 
 /// What the imports so far declare, and what the lines so far use of them.
@@ -43,12 +44,13 @@ pub fn blank_line(out: &mut String, line: &str) -> Result<(), AllocError>
     out.push('\n')
 }
 
-// Writes a text as a line, filled up by spaces to a length.
-fn push_padded(out: &mut String, text: &str, size: usize) -> Result<(), AllocError>
-    ensures { OnOk result (string_bytes out.new ≡ string_bytes out.old ++ end_line (padded size text.now)) }
+// Fills a line up by spaces to a length, and ends it. It begins at this place of the text.
+fn fill_line(out: &mut String, start: usize, size: usize) -> Result<(), AllocError>
+    requires { start ≤ length (string_bytes out.old) }
+    ensures { (front text : List ℕ) → string_bytes out.old ≡ front ++ text → length front ≡ start → OnOk result (string_bytes out.new ≡ front ++ end_line (padded size text)) }
 {
-    out.push_str(text)?;
-    push_spaces(out, size.saturating_sub(text.len()))?;
+    let len = out.len() - start;
+    push_spaces(out, size.saturating_sub(len))?;
     out.push('\n')
 }
 
@@ -118,15 +120,14 @@ pub fn take_lines(
     Ok(())
 }
 
-// Records what a shown line uses, by its covered line. Gives the covered line with its values and what its identifiers stand for.
-pub fn record_uses(
+// Records what a shown line uses, by its covered line with its values.
+fn record_uses(
     alloc: Global,
     line: &SourceLine<'_>,
     definitions: &BTreeMap<String, ShaderDefValue>,
     imports: &mut Imports,
-) -> Result<String, ComposerErrorInner>
+) -> Result<(), ComposerErrorInner>
     requires { line.now.offset ≤ 2 ^ 63 }
-    ensures text { IfOk result (λ t. string_bytes t ≡ substituted (declared_of imports.old.declared) (using_tokens (get_by_text definitions.now) (line_of line.now))) }
     ensures ok { let tokens = using_tokens (get_by_text definitions.now) (line_of line.now) in
         let first = first_ambiguous (declared_of imports.old.declared) false (sites line.now.offset tokens) in
         OnOk result (first ≡ None) }
@@ -138,7 +139,7 @@ pub fn record_uses(
         (first_ambiguous (declared_of imports.old.declared) false (sites line.now.offset (using_tokens (get_by_text definitions.now) (line_of line.now)))))) }
 {
     let covered = replaced_text(alloc, line.covered.as_str(), definitions)?;
-    match substitute_identifiers(
+    match record_identifiers(
         alloc,
         covered.as_str(),
         line.offset,
@@ -146,7 +147,7 @@ pub fn record_uses(
         &mut imports.used,
         false,
     ) {
-        Ok(text) => Ok(text),
+        Ok(()) => Ok(()),
         Err(SubstituteFault::Ambiguous(place)) => Err(ComposerErrorInner::ImportParseError(
             String::from_str(alloc, "Ambiguous import path for item")?,
             place,
@@ -155,8 +156,48 @@ pub fn record_uses(
     }
 }
 
-// Writes a shown line: its values, then what its identifiers stand for, filled up to its length.
-pub fn push_shown(
+// The same, and writes the covered line with its values and what its identifiers stand for.
+fn write_uses(
+    alloc: Global,
+    line: &SourceLine<'_>,
+    definitions: &BTreeMap<String, ShaderDefValue>,
+    imports: &mut Imports,
+    out: &mut String,
+) -> Result<(), ComposerErrorInner>
+    requires { line.now.offset ≤ 2 ^ 63 }
+    ensures text { let tokens = using_tokens (get_by_text definitions.now) (line_of line.now) in
+        OnOk result (string_bytes out.new ≡ string_bytes out.old ++ substituted (declared_of imports.old.declared) tokens) }
+    ensures ok { let tokens = using_tokens (get_by_text definitions.now) (line_of line.now) in
+        let first = first_ambiguous (declared_of imports.old.declared) false (sites line.now.offset tokens) in
+        OnOk result (first ≡ None) }
+    ensures used { let tokens = using_tokens (get_by_text definitions.now) (line_of line.now) in
+        let used = used_by (declared_of imports.old.declared) line.now.offset tokens in
+        OnOk result (uses_of imports.new.used ≡ used (uses_of imports.old.used)) }
+    ensures declared { OnOk result (declared_of imports.new.declared ≡ declared_of imports.old.declared) }
+    ensures err { IfErr result (λ e. (known : Known) → Fails e (shown_passage (get_by_text definitions.now) known (line_of line.now)
+        (first_ambiguous (declared_of imports.old.declared) false (sites line.now.offset (using_tokens (get_by_text definitions.now) (line_of line.now)))))) }
+{
+    let covered = replaced_text(alloc, line.covered.as_str(), definitions)?;
+    match push_substituted(
+        alloc,
+        out,
+        covered.as_str(),
+        line.offset,
+        &imports.declared,
+        &mut imports.used,
+        false,
+    ) {
+        Ok(()) => Ok(()),
+        Err(SubstituteFault::Ambiguous(place)) => Err(ComposerErrorInner::ImportParseError(
+            String::from_str(alloc, "Ambiguous import path for item")?,
+            place,
+        )),
+        Err(SubstituteFault::Memory) => Err(ComposerErrorInner::Memory),
+    }
+}
+
+// Writes a line's values and what its identifiers then stand for.
+fn push_shown(
     alloc: Global,
     line: &SourceLine<'_>,
     definitions: &BTreeMap<String, ShaderDefValue>,
@@ -164,23 +205,23 @@ pub fn push_shown(
     out: &mut String,
 ) -> Result<(), AllocError>
     ensures { OnOk result (string_bytes out.new ≡ string_bytes out.old
-        ++ end_line (padded (length line.now.text.now) (substituted (declared_of declared.now) (tokens_of (replaced (get_by_text definitions.now) line.now.text.now))))) }
+        ++ substituted (declared_of declared.now) (tokens_of (replaced (get_by_text definitions.now) line.now.text.now))) }
 {
     let replaced = replaced_text(alloc, line.text, definitions)?;
     let mut unused = IndexMap::new(alloc);
-    let shown = match substitute_identifiers(
+    match push_substituted(
         alloc,
+        out,
         replaced.as_str(),
         0,
         declared,
         &mut unused,
         true,
     ) {
-        Ok(shown) => shown,
+        Ok(()) => Ok(()),
         Err(SubstituteFault::Ambiguous(_)) => unreachable!(),
-        Err(SubstituteFault::Memory) => return Err(AllocError),
-    };
-    push_padded(out, shown.as_str(), line.text.len())
+        Err(SubstituteFault::Memory) => Err(AllocError),
+    }
 }
 
 // Records what a shown line uses and writes the line: both at once where nothing of it is covered.
@@ -204,11 +245,13 @@ pub fn show_line(
     ensures err { IfErr result (λ e. (known : Known) → Fails e (shown_passage (get_by_text definitions.now) known (line_of line.now)
         (first_ambiguous (declared_of imports.old.declared) false (sites line.now.offset (using_tokens (get_by_text definitions.now) (line_of line.now)))))) }
 {
-    let shown = record_uses(alloc, line, definitions, imports)?;
+    let start = out.len();
     if line.covered.as_str() == line.text {
-        push_padded(out, shown.as_str(), line.text.len())?;
+        write_uses(alloc, line, definitions, imports, out)?;
     } else {
+        record_uses(alloc, line, definitions, imports)?;
         push_shown(alloc, line, definitions, &imports.declared, out)?;
     }
+    fill_line(out, start, line.text.len())?;
     Ok(())
 }

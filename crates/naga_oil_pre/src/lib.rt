@@ -38,7 +38,7 @@ use line_kind::{Condition, LineKind};
 pub use metadata::{PreprocessorMetaData, get_preprocessor_data};
 use naga_oil_lines::comment_strip_iter::CommentReplaceExt;
 use naga_oil_lines::import_definition::{ImportDefWithOffset, ImportDefinition};
-use naga_oil_lines::substitute::{SubstituteFault, substitute_identifiers};
+use naga_oil_lines::substitute::{SubstituteFault, record_identifiers};
 use naga_oil_lines::text::{after_whitespace, split_first_char, text_before};
 use naga_oil_lines::wgsl_directives::WgslDirectives;
 pub use preprocess::{PreprocessOutput, Preprocessor};

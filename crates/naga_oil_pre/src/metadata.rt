@@ -81,7 +81,7 @@ fn read_uses(alloc: Global, line: &SourceLine<'_>, imports: &mut Imports) -> Res
     ensures used { OnOk result (uses_of imports.new.used ≡ used_by (declared_of imports.old.declared) line.now.offset (tokens_of (line_of line.now).covered) (uses_of imports.old.used)) }
     ensures declared { OnOk result (declared_of imports.new.declared ≡ declared_of imports.old.declared) }
 {
-    match substitute_identifiers(
+    match record_identifiers(
         alloc,
         line.covered.as_str(),
         line.offset,
@@ -89,7 +89,7 @@ fn read_uses(alloc: Global, line: &SourceLine<'_>, imports: &mut Imports) -> Res
         &mut imports.used,
         true,
     ) {
-        Ok(_) => Ok(()),
+        Ok(()) => Ok(()),
         Err(SubstituteFault::Ambiguous(_)) => unreachable!(),
         Err(SubstituteFault::Memory) => Err(AllocError),
     }

@@ -36,7 +36,7 @@ returns-in-Err-Ambiguous-clause-err c = λ known.
     let same : text ≡ whole = search rules in
     let fits : c.args.line.now.offset + length text < 2 ^ 64 = search (rules, arith) in
     let declared = declared_of c.args.imports.now.declared in
-    let found = first_refused declared (usize_sites (sites c.args.line.now.offset (lexemes 0 0 (chars text)))) (uses_of c.args.imports.now.used) (uses_of c.substitute_identifiers.new.used_imports)
+    let found = first_refused declared (usize_sites (sites c.args.line.now.offset (lexemes 0 0 (chars text)))) (uses_of c.args.imports.now.used) (uses_of c.record_identifiers.new.used_imports)
     c.in-Err-Ambiguous.field-0 c.in-Err-Ambiguous.place c.in-Err-Ambiguous.ensures.fault c.in-Err-Ambiguous.field-0-is in
     ap (shown_passage (get_by_text c.args.definitions.now) known (line_of c.args.line.now))
     (ap (first_ambiguous declared false) (sym (counted c.args.line.now.offset text whole c.as_str-2.utf8 same fits)) ∙ found)

@@ -7,22 +7,17 @@ use Rattle.naga_oil_lines.specs.Uses.{uses_of}
 use Rattle.naga_oil_pre.specs.SourceView.{line_of}
 use Rattle.naga_oil_pre.proofs.LoopLemmas.{never_ambiguous, counted}
 use Rattle.naga_oil_pre.proofs.metadata.read_uses.Goals as goal
-use Rattle.naga_oil_pre.proofs.metadata.read_uses.Goals.{in-Ok, in-Err-Memory}
 
 pub unreachable-requires : goal.unreachable-requires
 unreachable-requires c =
-    never_ambiguous (declared_of c.args.imports.now.declared) (usize_sites (sites c.args.line.now.offset (lexemes 0 0 (chars c.as_str.result.now)))) (uses_of c.args.imports.now.used) (uses_of c.substitute_identifiers.new.used_imports)
+    never_ambiguous (declared_of c.args.imports.now.declared) (usize_sites (sites c.args.line.now.offset (lexemes 0 0 (chars c.as_str.result.now)))) (uses_of c.args.imports.now.used) (uses_of c.record_identifiers.new.used_imports)
     c.in-Err-Ambiguous.field-0 c.in-Err-Ambiguous.field-0-0 c.in-Err-Ambiguous.ensures.fault c.in-Err-Ambiguous.field-0-is
 
-pub returns-clause-used : goal.returns-clause-used
-returns-clause-used c = elim c.match-substitute_identifiers.branch [
-  | in-Ok w ↦ (
-      let text = c.as_str.result.now in
-      let whole = (line_of c.args.line.now).covered in
-      let same : text ≡ whole = search rules in
-      let fits : c.args.line.now.offset + length text < 2 ^ 64 = search (rules, arith) in
-      rw w.result-is (
-      w.in-Ok.ensures.used
-      ∙ ap (λ ss. with_mentions (uses_of c.args.imports.now.used) (mentions_in (declared_of c.args.imports.now.declared) ss)) (counted c.args.line.now.offset text whole c.as_str.utf8 same fits)))
-  | in-Err-Memory w ↦ search rules
-]
+pub returns-in-Ok-clause-used : goal.returns-in-Ok-clause-used
+returns-in-Ok-clause-used c =
+    let text = c.as_str.result.now in
+    let whole = (line_of c.args.line.now).covered in
+    let same : text ≡ whole = search rules in
+    let fits : c.args.line.now.offset + length text < 2 ^ 64 = search (rules, arith) in
+    c.in-Ok.ensures.used
+    ∙ ap (λ ss. with_mentions (uses_of c.args.imports.now.used) (mentions_in (declared_of c.args.imports.now.declared) ss)) (counted c.args.line.now.offset text whole c.as_str.utf8 same fits)
