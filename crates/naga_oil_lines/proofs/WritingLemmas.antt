@@ -76,20 +76,20 @@ is_own_gives declared name e =
     by false true p q h = own_without_cut declared name (no_cut name p) (eqb-true _ _ q)
 
 -- ---- one identifier after another
--- the text is read up to the rest, and written up to what is unwritten, which stands as it is up to the rest
-pub record Writing (declared : Declared) (allowed : Bool) (offset : ℕ) (input : List ℕ) (old now : Uses) (output unwritten rest : List ℕ) : Type 0 where
+-- the text is read up to the rest, and written behind the start up to what is unwritten, which stands as it is up to the rest
+pub record Writing (declared : Declared) (allowed : Bool) (offset : ℕ) (input start : List ℕ) (old now : Uses) (output unwritten rest : List ℕ) : Type 0 where
   pub read : List ℕ
   pub whole : input ≡ read ++ rest
   pub plain : List ℕ
   pub behind : unwritten ≡ plain ++ rest
-  pub text : output ++ (plain ++ substituted declared (lexemes 0 (length read) (chars rest))) ≡ substituted declared (lexemes 0 0 (chars input))
+  pub text : output ++ (plain ++ substituted declared (lexemes 0 (length read) (chars rest))) ≡ start ++ substituted declared (lexemes 0 0 (chars input))
   pub settled : Settled declared allowed (usize_sites (sites offset (lexemes 0 0 (chars input)))) old now (usize_sites (sites offset (lexemes 0 (length read) (chars rest))))
 
-module _ (declared : Declared) (allowed : Bool) (offset : ℕ) (input : List ℕ) (old : Uses) where
+module _ (declared : Declared) (allowed : Bool) (offset : ℕ) (input start : List ℕ) (old : Uses) where
   abbrev all : List Site
   all = usize_sites (sites offset (lexemes 0 0 (chars input)))
 
-  pub writing_start : (output : List ℕ) → output ≡ [] → Writing declared allowed offset input old old output input input
+  pub writing_start : (output : List ℕ) → output ≡ start → Writing declared allowed offset input start old old output input input
   writing_start output e = record {
     read = [];
     whole = refl;
@@ -100,11 +100,11 @@ module _ (declared : Declared) (allowed : Bool) (offset : ℕ) (input : List ℕ
   }
 
   -- want of memory between two identifiers
-  pub writing_refused : (now : Uses) (output unwritten rest : List ℕ) → Writing declared allowed offset input old now output unwritten rest → RefusesUses declared allowed all old now Memory
+  pub writing_refused : (now : Uses) (output unwritten rest : List ℕ) → Writing declared allowed offset input start old now output unwritten rest → RefusesUses declared allowed all old now Memory
   writing_refused now output unwritten rest w =
       settled_refused declared allowed all old now now [] (usize_sites (sites offset (lexemes 0 (length w.read) (chars rest)))) Memory w.settled (begins_none [] now now refl)
 
-  module _ (now : Uses) (output unwritten rest : List ℕ) (w : Writing declared allowed offset input old now output unwritten rest) where
+  module _ (now : Uses) (output unwritten rest : List ℕ) (w : Writing declared allowed offset input start old now output unwritten rest) where
     -- no identifier is left
     module _ (none : HasNoSite rest) where
       nothing_left : (at : ℕ) → lexemes 0 at (chars []) ≡ []
@@ -120,7 +120,7 @@ module _ (declared : Declared) (allowed : Bool) (offset : ℕ) (input : List ℕ
       done : Settled declared allowed all old now []
       done = subst (Settled declared allowed all old now) no_sites w.settled
 
-      pub written_text : (new : List ℕ) → new ≡ output ++ unwritten → new ≡ substituted declared (lexemes 0 0 (chars input))
+      pub written_text : (new : List ℕ) → new ≡ output ++ unwritten → new ≡ start ++ substituted declared (lexemes 0 0 (chars input))
       written_text new e = e ∙ ap (λ l. output ++ l) (w.behind ∙ ap (λ l. w.plain ++ l) (sym rest_text)) ∙ w.text
 
       pub written_allowed : first_ambiguous declared allowed all ≡ None
@@ -173,7 +173,7 @@ module _ (declared : Declared) (allowed : Bool) (offset : ℕ) (input : List ℕ
           omega arith
 
       -- it stands for itself
-      pub own_read : is_own declared name ≡ true → Writing declared allowed offset input old now output unwritten more
+      pub own_read : is_own declared name ≡ true → Writing declared allowed offset input start old now output unwritten more
       own_read e =
           let own = is_own_gives declared name e in
           let uses : mentions_in declared (this ∷ []) ≡ [] = mentions_one declared this (name ∷ []) own.paths ∙ append-nil (mentions_at (usize_place (offset + at)) name) ∙ own.unused (usize_place (offset + at)) in
@@ -202,7 +202,7 @@ module _ (declared : Declared) (allowed : Bool) (offset : ℕ) (input : List ℕ
 
         pub site_written : (new : Uses) (front_text mid out : List ℕ) → unwritten ≡ front_text ++ from → mid ≡ output ++ front_text → out ≡ mid ++ flat_map (path_text name) (paths_for declared name)
             → first_ambiguous declared allowed (record { name = name; place = place } ∷ []) ≡ None → new ≡ with_mentions now (mentions_in declared (record { name = name; place = place } ∷ []))
-            → Writing declared allowed offset input old new out more more
+            → Writing declared allowed offset input start old new out more more
         unfolding unwritten_before
         site_written new front_text mid out e m o none uses =
             let before : front_text ≡ w.plain ++ front = append_cancel_right front_text (w.plain ++ front) from (sym e ∙ unwritten_before.1) in

@@ -254,6 +254,55 @@ impl Substitution<'_> {
     }
 }
 
+/// Writes a text behind what stands in `output`, its identifiers substituted as by `substitute_identifiers`, and records
+/// their uses alike. After a refusal `output` holds a part of the text.
+pub fn push_substituted(
+    alloc: Global,
+    output: &mut String,
+    input: &str,
+    offset: usize,
+    declared_imports: &IndexMap<String, Vec<String>>,
+    used_imports: &mut IndexMap<String, ImportDefWithOffset>,
+    allow_ambiguous: bool,
+) -> Result<(), SubstituteFault>
+    ensures text { let more = substituted (declared_of declared_imports.now) (lexemes 0 0 (chars input.now)) in
+        OnOk result (string_bytes output.new ≡ string_bytes output.old ++ more) }
+    ensures used { let found = usize_sites (sites offset (lexemes 0 0 (chars input.now))) in
+        let more = mentions_in (declared_of declared_imports.now) found in
+        OnOk result (uses_of used_imports.new ≡ with_mentions (uses_of used_imports.old) more) }
+    ensures allowed { let found = usize_sites (sites offset (lexemes 0 0 (chars input.now))) in
+        let first = first_ambiguous (declared_of declared_imports.now) allow_ambiguous found in
+        OnOk result (first ≡ None) }
+    ensures fault { let found = usize_sites (sites offset (lexemes 0 0 (chars input.now))) in
+        let refuses = RefusesUses (declared_of declared_imports.now) allow_ambiguous found in
+        IfErr result (λ e. refuses (uses_of used_imports.old) (uses_of used_imports.new) e) }
+{
+    if declared_imports.is_empty() && !input.contains("::") {
+        output.push_str(input)?;
+        return Ok(());
+    }
+    let substitution = Substitution {
+        alloc,
+        declared_imports,
+        allow_ambiguous,
+        offset,
+    };
+    let mut unwritten = input;
+    let mut rest = input;
+    while let Some(site) = next_site(rest) {
+        rest = site.behind;
+        if substitution.is_own(site) {
+            continue;
+        }
+        output.push_str(text_before(unwritten, site.from))?;
+        let place = offset.saturating_add(input.len() - site.from.len());
+        substitution.write_identifier(site.name, place, used_imports, output)?;
+        unwritten = rest;
+    }
+    output.push_str(unwritten)?;
+    Ok(())
+}
+
 /// Writes a text with what its identifiers stand for by the declared imports, and records in `used_imports` what they
 /// use, at their places, in bytes, counted from the offset; a place past the greatest `usize` is that. Behind `.` or `@`
 /// an identifier is kept. An identifier with several paths is refused, or these are written one after another.
@@ -278,29 +327,16 @@ pub fn substitute_identifiers(
         let refuses = RefusesUses (declared_of declared_imports.now) allow_ambiguous found in
         IfErr result (λ e. refuses (uses_of used_imports.old) (uses_of used_imports.new) e) }
 {
-    if declared_imports.is_empty() && !input.contains("::") {
-        return Ok(String::from_str(alloc, input)?);
-    }
-    let substitution = Substitution {
-        alloc,
-        declared_imports,
-        allow_ambiguous,
-        offset,
-    };
     let mut output = String::with_capacity(alloc, input.len())?;
-    let mut unwritten = input;
-    let mut rest = input;
-    while let Some(site) = next_site(rest) {
-        rest = site.behind;
-        if substitution.is_own(site) {
-            continue;
-        }
-        output.push_str(text_before(unwritten, site.from))?;
-        let place = offset.saturating_add(input.len() - site.from.len());
-        substitution.write_identifier(site.name, place, used_imports, &mut output)?;
-        unwritten = rest;
-    }
-    output.push_str(unwritten)?;
+    push_substituted(
+        alloc,
+        &mut output,
+        input,
+        offset,
+        declared_imports,
+        used_imports,
+        allow_ambiguous,
+    )?;
     Ok(output)
 }
 

@@ -1,4 +1,4 @@
-use Rattle.std.proofs.Common.{◌≡◌, [], map, ap, ◌∙◌, refl, sym, rules}
+use Rattle.std.proofs.Common.{◌≡◌, ◌++◌, [], map, ap, ◌∙◌, sym, rules}
 use Rattle.std.proofs.lemmas.List.{nil_from_length}
 use Rattle.naga_oil_lines.specs.Substituted.{with_mentions}
 use Rattle.std.specs.String.{string_bytes}
@@ -8,26 +8,26 @@ use Rattle.naga_oil_lines.specs.Uses.{uses_of}
 use Rattle.naga_oil_lines.proofs.SettledLemmas.{fault_answer}
 use Rattle.naga_oil_lines.proofs.WritingLemmas.{writing_refused, written_text, written_allowed, written_uses, unwritten_before, own_read, site_written, site_refused}
 use Rattle.naga_oil_lines.proofs.PlainLemmas.{plain_text}
-use Rattle.naga_oil_lines.proofs.substitute.substitute_identifiers.Goals as goal
+use Rattle.naga_oil_lines.proofs.substitute.push_substituted.Goals as goal
 
 pub text_before-requires : goal.text_before-requires
-text_before-requires c = unwritten_before _ _ _ _ _ _ _ _ _ c.loop-site.invariant.writing _ _ _ _ c.in-Some.ensures
+text_before-requires c = unwritten_before _ _ _ _ _ _ _ _ _ _ c.loop-site.invariant.writing _ _ _ _ c.in-Some.ensures
 
 pub loop-site-preserved-then-is_own : goal.loop-site-preserved-then-is_own
 loop-site-preserved-then-is_own c = record {
   unwritten = c.loop-site.invariant.unwritten;
   rest = c.in-Some.ensures.utf8;
-  writing = own_read _ _ _ _ _ _ _ _ _ c.loop-site.invariant.writing _ _ _ _ c.in-Some.ensures (sym c.is_own.ensures ∙ c.if-is_own.true);
+  writing = own_read _ _ _ _ _ _ _ _ _ _ c.loop-site.invariant.writing _ _ _ _ c.in-Some.ensures (sym c.is_own.ensures ∙ c.if-is_own.true);
 }
 
-pub returns-in_err-push_str-clause-fault : goal.returns-in_err-push_str-clause-fault
-returns-in_err-push_str-clause-fault c =
-    fault_answer c.from_residual-in_err-push_str.result _ Memory c.from_residual-in_err-push_str.ensures.1 (writing_refused _ _ _ _ _ _ _ _ _ c.loop-site.invariant.writing)
+pub returns-in_err-push_str-2-clause-fault : goal.returns-in_err-push_str-2-clause-fault
+returns-in_err-push_str-2-clause-fault c =
+    fault_answer c.from_residual-in_err-push_str-2.result _ Memory c.from_residual-in_err-push_str-2.ensures.1 (writing_refused _ _ _ _ _ _ _ _ _ _ c.loop-site.invariant.writing)
 
 pub returns-in_err-write_identifier-clause-fault : goal.returns-in_err-write_identifier-clause-fault
 returns-in_err-write_identifier-clause-fault c =
     fault_answer c.from_residual-in_err-write_identifier.result _ c.in_err-write_identifier.field-0.0 c.from_residual-in_err-write_identifier.ensures.1
-    (site_refused _ _ _ _ _ _ _ _ _ c.loop-site.invariant.writing _ _ _ _ c.in-Some.ensures c.saturating_add-place.result c.saturating_add-place.ensures (uses_of c.write_identifier.new.used_imports) c.in_err-write_identifier.field-0.0
+    (site_refused _ _ _ _ _ _ _ _ _ _ c.loop-site.invariant.writing _ _ _ _ c.in-Some.ensures c.saturating_add-place.result c.saturating_add-place.ensures (uses_of c.write_identifier.new.used_imports) c.in_err-write_identifier.field-0.0
     c.in_err-write_identifier.ensures.fault)
 
 pub loop-site-preserved : goal.loop-site-preserved
@@ -35,28 +35,28 @@ loop-site-preserved c = record {
   unwritten = c.in-Some.ensures.utf8;
   rest = c.in-Some.ensures.utf8;
   writing =
-      site_written _ _ _ _ _ _ _ _ _ c.loop-site.invariant.writing _ _ _ _ c.in-Some.ensures c.saturating_add-place.result c.saturating_add-place.ensures (uses_of c.write_identifier.new.used_imports) _ (string_bytes c.push_str.new.self)
-      (string_bytes c.write_identifier.new.output) c.text_before.ensures c.in_ok-push_str.ensures.bytes c.in_ok-write_identifier.ensures.text c.in_ok-write_identifier.ensures.allowed
+      site_written _ _ _ _ _ _ _ _ _ _ c.loop-site.invariant.writing _ _ _ _ c.in-Some.ensures c.saturating_add-place.result c.saturating_add-place.ensures (uses_of c.write_identifier.new.used_imports) _ (string_bytes c.push_str-in-Some.new.self)
+      (string_bytes c.write_identifier.new.output) c.text_before.ensures c.in_ok-push_str-2.ensures.bytes c.in_ok-write_identifier.ensures.text c.in_ok-write_identifier.ensures.allowed
       c.in_ok-write_identifier.ensures.used;
 }
 
-pub returns-in_err-push_str-2-clause-fault : goal.returns-in_err-push_str-2-clause-fault
-returns-in_err-push_str-2-clause-fault c =
-    fault_answer c.from_residual-in_err-push_str-2.result _ Memory c.from_residual-in_err-push_str-2.ensures.1 (writing_refused _ _ _ _ _ _ _ _ _ c.loop-site.invariant.writing)
+pub returns-in_err-push_str-3-clause-fault : goal.returns-in_err-push_str-3-clause-fault
+returns-in_err-push_str-3-clause-fault c =
+    fault_answer c.from_residual-in_err-push_str-3.result _ Memory c.from_residual-in_err-push_str-3.ensures.1 (writing_refused _ _ _ _ _ _ _ _ _ _ c.loop-site.invariant.writing)
 
 pub returns-clause-text : goal.returns-clause-text
-returns-clause-text c = written_text _ _ _ _ _ _ _ _ _ c.loop-site.invariant.writing c.in_default.ensures _ c.in_ok-push_str-2.ensures.bytes
+returns-clause-text c = written_text _ _ _ _ _ _ _ _ _ _ c.loop-site.invariant.writing c.in_default.ensures _ c.in_ok-push_str-3.ensures.bytes
 
 pub returns-clause-used : goal.returns-clause-used
-returns-clause-used c = written_uses _ _ _ _ _ _ _ _ _ c.loop-site.invariant.writing c.in_default.ensures
+returns-clause-used c = written_uses _ _ _ _ _ _ _ _ _ _ c.loop-site.invariant.writing c.in_default.ensures
 
 pub returns-clause-allowed : goal.returns-clause-allowed
-returns-clause-allowed c = written_allowed _ _ _ _ _ _ _ _ _ c.loop-site.invariant.writing c.in_default.ensures
+returns-clause-allowed c = written_allowed _ _ _ _ _ _ _ _ _ _ c.loop-site.invariant.writing c.in_default.ensures
 
 pub returns-then-not-contains-clause-text : goal.returns-then-not-contains-clause-text
 returns-then-not-contains-clause-text c =
     let nothing : declared_of c.args.declared_imports.now ≡ [] = ap (map _) (nil_from_length c.args.declared_imports.now.entries (c.is_empty.ensures.0 (search rules))) in
-    rw nothing (c.in_ok-from_str.ensures.ok ∙ sym (plain_text c.args.input.now c.utf8.input c.if-not-contains.ensures.cases).written)
+    rw nothing (c.in_ok-push_str.ensures.bytes ∙ ap (λ l. string_bytes c.args.output.now ++ l) (sym (plain_text c.args.input.now c.utf8.input c.if-not-contains.ensures.cases).written))
 
 pub returns-then-not-contains-clause-used : goal.returns-then-not-contains-clause-used
 returns-then-not-contains-clause-used c =
