@@ -23,6 +23,7 @@ pub mod DirectiveLemmas
 pub mod NamesInOrder
 pub mod PassLemmas
 pub mod WritingLemmas
+pub mod RecordingLemmas
 pub mod WordLemmas
 pub mod PlainLemmas
 pub mod UndecorateLemmas

@@ -9,7 +9,9 @@ ghost use Rattle.naga_oil_lines.specs.Leaves.{leaf, close, behind_hash, behind_l
 ghost use Rattle.naga_oil_lines.specs.ImportReader.{at_start, step, may_end, without_path};
 ghost use Rattle.naga_oil_lines.specs.ImportView.{head_of, RefusesImport, alias_of, part_of, leaf_of, reader_of};
 
-pub use crate::substitute::{SubstituteFault, push_substituted, substitute_identifiers};
+pub use crate::substitute::{
+    SubstituteFault, push_substituted, record_identifiers, substitute_identifiers,
+};
 use crate::tokenizer::{Token, Tokenizer};
 use indexmap::IndexMap;
 use std::alloc::{AllocError, AllocFailed, Global};

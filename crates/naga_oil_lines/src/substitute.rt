@@ -189,6 +189,41 @@ impl Substitution<'_> {
         Ok(())
     }
 
+    // Records the use that a path makes.
+    fn record_path(
+        &self,
+        path: &str,
+        place: usize,
+        used_imports: &mut IndexMap<String, ImportDefWithOffset>,
+    ) -> Result<(), AllocError>
+        ensures used { OnOk result (uses_of used_imports.new ≡ with_mentions (uses_of used_imports.old) (mentions_at place path.now)) }
+        ensures begun { OnErr result (BeginsUses (mentions_at place path.now) (uses_of used_imports.old) (uses_of used_imports.new)) }
+    {
+        if let Some((module_name, item)) = path.rsplit_once("::") {
+            record_use(self.alloc, used_imports, module_name, item, place)?;
+            return Ok(());
+        }
+        Ok(())
+    }
+
+    // Records the uses that paths make one after another, each with what follows.
+    fn record_paths(
+        &self,
+        paths: &[String],
+        behind: &str,
+        place: usize,
+        used_imports: &mut IndexMap<String, ImportDefWithOffset>,
+    ) -> Result<(), AllocError>
+        ensures used { OnOk result (uses_of used_imports.new ≡ with_mentions (uses_of used_imports.old) (flat_map (mentions_at place) (longer_paths (map string_bytes paths.now) behind.now))) }
+        ensures begun { OnErr result (BeginsUses (flat_map (mentions_at place) (longer_paths (map string_bytes paths.now) behind.now)) (uses_of used_imports.old) (uses_of used_imports.new)) }
+    {
+        for path in paths {
+            let whole = longer_path(self.alloc, path.as_str(), behind)?;
+            self.record_path(whole.as_str(), place, used_imports)?;
+        }
+        Ok(())
+    }
+
     // The paths that are declared for a name.
     fn declared_paths(&self, name: &str) -> &[String]
         ensures { map string_bytes result.now ≡ paths_of (declared_of self.now.declared_imports.now) name.now }
@@ -241,6 +276,37 @@ impl Substitution<'_> {
             return Err(SubstituteFault::Ambiguous(place));
         }
         self.write_paths(identifier, paths, behind, place, used_imports, output)?;
+        Ok(())
+    }
+
+    // Records the uses of what an identifier stands for.
+    fn record_identifier(
+        &self,
+        identifier: &str,
+        place: usize,
+        used_imports: &mut IndexMap<String, ImportDefWithOffset>,
+    ) -> Result<(), SubstituteFault>
+        ensures used { let declared = declared_of self.now.declared_imports.now in
+            let more = mentions_in declared (record { name = identifier.now; place = place } ∷ []) in
+            OnOk result (uses_of used_imports.new ≡ with_mentions (uses_of used_imports.old) more) }
+        ensures allowed { let declared = declared_of self.now.declared_imports.now in
+            let first = first_ambiguous declared self.now.allow_ambiguous (record { name = identifier.now; place = place } ∷ []) in
+            OnOk result (first ≡ None) }
+        ensures fault { let declared = declared_of self.now.declared_imports.now in
+            let refuses = RefusesUses declared self.now.allow_ambiguous (record { name = identifier.now; place = place } ∷ []) in
+            IfErr result (λ e. refuses (uses_of used_imports.old) (uses_of used_imports.new) e) }
+    {
+        let (first, behind) = split_identifier(identifier);
+        let paths = self.declared_paths(first);
+        if paths.is_empty() {
+            let path = own_path(identifier, first, behind);
+            self.record_path(path, place, used_imports)?;
+            return Ok(());
+        }
+        if self.is_refused(paths) {
+            return Err(SubstituteFault::Ambiguous(place));
+        }
+        self.record_paths(paths, behind, place, used_imports)?;
         Ok(())
     }
 
@@ -338,6 +404,47 @@ pub fn substitute_identifiers(
         allow_ambiguous,
     )?;
     Ok(output)
+}
+
+/// Records in `used_imports` what the identifiers of a text use, as `substitute_identifiers` does, and writes nothing.
+pub fn record_identifiers(
+    alloc: Global,
+    input: &str,
+    offset: usize,
+    declared_imports: &IndexMap<String, Vec<String>>,
+    used_imports: &mut IndexMap<String, ImportDefWithOffset>,
+    allow_ambiguous: bool,
+) -> Result<(), SubstituteFault>
+    ensures used { let found = usize_sites (sites offset (lexemes 0 0 (chars input.now))) in
+        let more = mentions_in (declared_of declared_imports.now) found in
+        OnOk result (uses_of used_imports.new ≡ with_mentions (uses_of used_imports.old) more) }
+    ensures allowed { let found = usize_sites (sites offset (lexemes 0 0 (chars input.now))) in
+        let first = first_ambiguous (declared_of declared_imports.now) allow_ambiguous found in
+        OnOk result (first ≡ None) }
+    ensures fault { let found = usize_sites (sites offset (lexemes 0 0 (chars input.now))) in
+        let refuses = RefusesUses (declared_of declared_imports.now) allow_ambiguous found in
+        IfErr result (λ e. refuses (uses_of used_imports.old) (uses_of used_imports.new) e) }
+{
+    if declared_imports.is_empty() && !input.contains("::") {
+        return Ok(());
+    }
+    let substitution = Substitution {
+        alloc,
+        declared_imports,
+        allow_ambiguous,
+        offset,
+    };
+    let mut rest = input;
+    while let Some(site) = next_site(rest) {
+        rest = site.behind;
+        if substitution.is_own(site) {
+            continue;
+        }
+        let before = input.len() - site.from.len();
+        let place = offset.saturating_add(before);
+        substitution.record_identifier(site.name, place, used_imports)?;
+    }
+    Ok(())
 }
 
 /// The place of a use is the sum of the offset and its place in the text wherever a `usize` holds the text's end.
