@@ -25,6 +25,7 @@ pub mod PassLemmas
 pub mod WritingLemmas
 pub mod RecordingLemmas
 pub mod WordLemmas
+pub mod GapLemmas
 pub mod PlainLemmas
 pub mod UndecorateLemmas
 pub mod MarkLemmas

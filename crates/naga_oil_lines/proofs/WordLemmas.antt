@@ -15,7 +15,7 @@ use Rattle.unicode_ident.proofs.Computing.{unicode_ident}
 use Rattle.naga_oil_lines.specs.Text.{BeginsWithChar}
 use Rattle.naga_oil_lines.specs.Tokens.{starts_identifier}
 use Rattle.unicode_ident.proofs.IdentLemmas.{is_xid_continue-ascii}
-use Rattle.naga_oil_lines.specs.Words.{is_word_byte, ends_identifier}
+use Rattle.naga_oil_lines.specs.Words.{is_word_byte, is_gap_byte, ends_identifier}
 use Rattle.naga_oil_lines.proofs.TokenLemmas.{after, after-nil, after_continue, after_stop}
 
 -- a run of bytes that are ASCII
@@ -46,6 +46,9 @@ module _ (p : ℕ → Bool) (ascii : (b : ℕ) → p b ≡ true → b < 128) (bs
 
 pub word_ascii : (b : ℕ) → is_word_byte b ≡ true → b < 128
 word_ascii b e = grind (arith, nat_tests, e)
+
+pub gap_ascii : (b : ℕ) → is_gap_byte b ≡ true → b < 128
+gap_ascii b e = grind (arith, nat_tests, e)
 
 not_quote : (b : ℕ) → is_word_byte b ≡ true → b ≢ 34
 not_quote b e q = let w : false ≡ true = subst (λ k. is_word_byte k ≡ true) q e in cc

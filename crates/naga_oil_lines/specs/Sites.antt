@@ -1,5 +1,5 @@
 -- Where the identifiers of a text are that are substituted.
-use Rattle.std.specs.Prelude.{◌≡◌, ℕ, ◌+◌, ◌<◌, Bool, false, not, ◌&&◌, ◌==◌, List, [], ◌∷◌, ◌++◌, length, IsTrue}
+use Rattle.std.specs.Prelude.{◌≡◌, ℕ, ◌+◌, ◌<◌, Bool, false, not, ◌&&◌, ◌||◌, ◌==◌, List, [], ◌∷◌, ◌++◌, length, IsTrue}
 use Rattle.std.specs.List.{list_any}
 use Rattle.std.specs.Str.{chars, IsUtf8}
 use Rattle.naga_oil_lines.specs.Declarations.{Declared, paths_of}
@@ -9,6 +9,11 @@ use Rattle.naga_oil_lines.specs.Substituted.{sites_from, substituted_from}
 -- an identifier without `:` that is not declared, which stands for itself alone
 abbrev pub is_own : Declared → List ℕ → Bool
 is_own declared name = not (list_any (λ b. b == 58) name) && (length (paths_of declared name) == 0)
+
+-- whether an identifier is kept behind these bytes, none of which is of one, where kept says it of one in their place
+abbrev pub keeps_behind : (kept : Bool) → List ℕ → Bool
+keeps_behind kept [] = kept
+keeps_behind kept (b ∷ bs) = keeps_behind ((b == 46) || (b == 64)) bs
 
 -- what stands before the rest of a text is written as it is, with no identifier that is substituted; kept and next say
 -- whether an identifier is kept that begins the text, and one that begins the rest

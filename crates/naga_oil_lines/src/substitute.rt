@@ -8,14 +8,14 @@ ghost use Rattle.naga_oil_lines.specs.Declarations.{declared_of, paths_of};
 ghost use Rattle.naga_oil_lines.specs.Decorate.{decorated_name};
 ghost use Rattle.naga_oil_lines.specs.SubstituteFault.{RefusesUses};
 ghost use Rattle.naga_oil_lines.specs.Substituted.{first_part, behind_first, longer_path, longer_paths, paths_for, path_text, mentions_at, with_mentions, Site, substituted, sites, usize_sites, mentions_in, first_ambiguous, BeginsUses};
-ghost use Rattle.naga_oil_lines.specs.Sites.{HasNoSite, FindsSite, is_own};
+ghost use Rattle.naga_oil_lines.specs.Sites.{HasNoSite, FindsSite, is_own, keeps_behind};
 ghost use Rattle.naga_oil_lines.specs.Tokens.{lexemes};
 ghost use Rattle.naga_oil_lines.specs.Uses.{uses_of, with_use};
 
 use crate::decorate::push_decorated;
 use crate::import_definition::ImportDefWithOffset;
 use crate::text::{split_first_char, text_before};
-use crate::tokenizer::{behind_identifier, starts_identifier};
+use crate::tokenizer::{behind_identifier, split_gap, starts_identifier};
 use indexmap::IndexMap;
 use std::alloc::{AllocError, Global};
 use std::borrow::CowStr;
@@ -92,11 +92,14 @@ fn own_path<'a>(identifier: &'a str, first: &'a str, behind: &str) -> &'a str
     if behind.is_empty() { first } else { identifier }
 }
 
-// Whether an identifier behind the character is kept.
-fn keeps_next(c: char) -> bool
-    ensures { result ≡ (c == 46 || (c == 64)) }
+// Whether an identifier behind such bytes is kept, where one in their place would be or not: their last one decides.
+fn keeps_behind(gap: &str, kept: bool) -> bool
+    ensures { result ≡ keeps_behind kept gap.now }
 {
-    c == '.' || c == '@'
+    match gap.as_bytes().last() {
+        Some(last) => *last == b'.' || *last == b'@',
+        None => kept,
+    }
 }
 
 /// An identifier that is substituted, with the text from it on and the text behind it. A word has no `:`.
@@ -114,18 +117,23 @@ fn next_site(text: &str) -> Option<SiteText<'_>>
 {
     let mut kept = false;
     let mut rest = text;
-    while let Some((first, more)) = split_first_char(rest) {
+    while !rest.is_empty() {
+        let (gap, from) = split_gap(rest);
+        kept = keeps_behind(gap, kept);
+        let Some((first, more)) = split_first_char(from) else {
+            return None;
+        };
         if !starts_identifier(first) {
-            kept = keeps_next(first);
+            kept = false;
             rest = more;
             continue;
         }
         let (behind, is_word) = behind_identifier(first, more);
         if !kept {
             return Some(SiteText {
-                name: text_before(rest, behind),
+                name: text_before(from, behind),
                 is_word,
-                from: rest,
+                from,
                 behind,
             });
         }

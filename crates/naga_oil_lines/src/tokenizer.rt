@@ -1,10 +1,10 @@
 // Cuts a text into identifiers, white space and single characters.
-ghost use Rattle.std.specs.Prelude.{◌≡◌, ◌↔◌, ℕ, ◌+◌, ◌<◌, ◌≤◌, ◌^◌, ◌++◌, ◌∷◌, ◌==◌, List, length, drop, MatchOption, true, false, Bool, IsTrue};
+ghost use Rattle.std.specs.Prelude.{◌≡◌, ◌↔◌, ℕ, ◌+◌, ◌<◌, ◌≤◌, ◌^◌, ◌++◌, ◌∷◌, ◌==◌, List, length, take, drop, MatchOption, true, false, Bool, IsTrue};
 ghost use Rattle.std.specs.Char.{encode_utf8, is_whitespace};
 ghost use Rattle.std.specs.Str.{chars, IsUtf8};
 ghost use Rattle.std.specs.List.{prefix_len, list_any};
 ghost use Rattle.naga_oil_lines.specs.Tokens.{Lexeme, tail_len, lexemes, starts_identifier};
-ghost use Rattle.naga_oil_lines.specs.Words.{is_word_byte, ends_identifier};
+ghost use Rattle.naga_oil_lines.specs.Words.{is_word_byte, is_gap_byte, ends_identifier};
 ghost use Rattle.naga_oil_lines.specs.TokenGrammar.{AreTokens};
 ghost use Rattle.unicode_ident.specs.Ident.{is_xid_start, is_xid_continue};
 
@@ -96,6 +96,33 @@ fn after_word(text: &str) -> &str
 {
     let (_, rest) = text.split_at(word_len(text.as_bytes()));
     rest
+}
+
+// Whether a byte is of ASCII and begins no identifier.
+fn is_gap_byte(byte: u8) -> bool
+    ensures { result ≡ is_gap_byte byte }
+{
+    byte < 128 && !byte.is_ascii_alphabetic() && byte != b'"'
+}
+
+// How many bytes of that kind are at the front.
+fn gap_len(bytes: &[u8]) -> usize
+    ensures { result ≡ prefix_len is_gap_byte bytes.now }
+{
+    for i in 0..bytes.len() {
+        if !is_gap_byte(bytes[i]) {
+            return i;
+        }
+    }
+    bytes.len()
+}
+
+// The front of a text where bytes of ASCII begin no identifier, and what follows it.
+pub(crate) fn split_gap(text: &str) -> (&str, &str)
+    ensures gap { result.0.now ≡ take (prefix_len is_gap_byte text.now) text.now }
+    ensures rest { result.1.now ≡ drop (prefix_len is_gap_byte text.now) text.now }
+{
+    text.split_at(gap_len(text.as_bytes()))
 }
 
 // What is left of a text behind the characters that go on an identifier.

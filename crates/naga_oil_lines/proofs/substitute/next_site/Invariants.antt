@@ -4,11 +4,11 @@ use denote.Shadow.{shadow}
 use Rattle.naga_oil_lines.specs.Sites.{Passes}
 use Rattle.naga_oil_lines.proofs.substitute.next_site.Given as goal
 
-abbrev pub invariant-loop-first : goal.invariant-loop-first
-invariant-loop-first l = record {
+abbrev pub invariant-loop-rest : goal.invariant-loop-rest
+invariant-loop-rest l = record {
   text : shadow (Utf8 l.rest);
   passes : Passes false l.text l.kept l.rest;
 }
 
-abbrev pub decreases-loop-first : goal.decreases-loop-first
-decreases-loop-first l = length l.rest
+abbrev pub decreases-loop-rest : goal.decreases-loop-rest
+decreases-loop-rest l = length l.rest
