@@ -72,10 +72,14 @@ fn goes_on_name(c: char) -> bool
     }
 }
 
+// Whether a byte goes on a name. Most of those are letters.
 fn is_word_byte(byte: u8) -> bool
     ensures { result ≡ is_word_byte byte }
 {
-    byte.is_ascii_alphanumeric() || byte == b'_'
+    if byte.is_ascii_alphabetic() {
+        return true;
+    }
+    byte.is_ascii_digit() || byte == b'_'
 }
 
 // How many bytes of names are at the front.
@@ -98,11 +102,15 @@ fn after_word(text: &str) -> &str
     rest
 }
 
-// Whether a byte is of ASCII and begins no identifier.
+// Whether a byte is of ASCII and begins no identifier. Most of those are below the letters.
 fn is_gap_byte(byte: u8) -> bool
     ensures { result ≡ is_gap_byte byte }
 {
-    byte < 128 && !byte.is_ascii_alphabetic() && byte != b'"'
+    if byte < b'A' {
+        byte != b'"'
+    } else {
+        byte < 128 && !byte.is_ascii_alphabetic()
+    }
 }
 
 // How many bytes of that kind are at the front.
