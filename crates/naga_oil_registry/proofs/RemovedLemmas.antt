@@ -1,8 +1,12 @@
 -- What stays when a module goes is a registry again.
-use Rattle.std.proofs.Common.{◌≡◌, ℕ, List, [], ◌∷◌, ◌++◌, Bool, true, false, not, cond, ◌||◌, refl, sym, ap, subst, ◌∙◌, filter, Option, option_map, unwrap_or, Result, Ok, Err, OnOk, OnErr}
+use Rattle.std.proofs.Common.{◌≡◌, ℕ, List, [], ◌∷◌, ◌++◌, length, String, string_bytes, Bool, true, false, not, cond, ◌||◌, refl, sym, ap, subst, ◌∙◌, filter, Option, option_map, unwrap_or, Result, Ok, Err, OnOk, OnErr}
 use Rattle.std.proofs.lemmas.Bool.{or_parts, or_from, and_parts, and_from, true≢false, false_from_ne_true}
+use Rattle.std.proofs.lemmas.List.{nil_from_length}
 use Rattle.std.proofs.lemmas.Slice.Eq.{bytes_eq-Decides}
+use Rattle.std.specs.BTreeSet.{BTreeSet, contains_text}
+use Rattle.std.specs.Cmp.Lexicographic.{slice_cmp}
 use Rattle.std.specs.List.{list_any, list_all}
+use Rattle.std.specs.Ordering.{is_eq, nat_cmp}
 use Rattle.std.specs.Str.{bytes_eq}
 use Rattle.naga_oil_lines.specs.DirectivesText.{in_order}
 use Rattle.naga_oil_lines.specs.Uses.{Use}
@@ -134,6 +138,16 @@ filter-all p (x ∷ xs) h = ap (λ b. cond b (x ∷ filter p xs) (filter p xs)) 
 
 pub removed-unknown : (name : List ℕ) (ds : List Definition) → registered name ds ≡ false → removed name ds ≡ ds
 removed-unknown name ds e = filter-all _ ds (λ d. ap not (reaches-unregistered name ds d.name e))
+
+-- a set of no names has none of them, and all stay
+pub none-gone : {Y : Type 0} (gone : BTreeSet (String Y)) (name : List ℕ) → length gone.keys ≡ 0 → contains_text gone name ≡ false
+none-gone gone name e = ap (λ ks. list_any (λ k. is_eq (slice_cmp nat_cmp name (string_bytes k))) ks) (nil_from_length gone.keys e)
+
+pub none-imported : {Y : Type 0} (gone : BTreeSet (String Y)) (us : List Use) → length gone.keys ≡ 0 → list_any (λ u. contains_text gone u.import.import) us ≡ false
+none-imported gone us e = any-none _ us (λ u. none-gone gone u.import.import e)
+
+pub all-stay : {Y : Type 0} (gone : BTreeSet (String Y)) (ds : List Definition) → length gone.keys ≡ 0 → standing (contains_text gone) ds ≡ ds
+all-stay gone ds e = filter-all _ ds (λ d. ap not (none-gone gone d.name e))
 
 -- by names that go alike, the same modules stay
 pub standing-same : (f g : List ℕ → Bool) → ((other : List ℕ) → f other ≡ g other) → (ds : List Definition) → standing f ds ≡ standing g ds

@@ -25,6 +25,9 @@ fn goes(definition: &Definition, gone: &Names, name: &str) -> bool
     if definition.name.as_str() == name {
         return true;
     }
+    if gone.is_empty() {
+        return false;
+    }
     for import in &definition.all_imports {
         if gone.contains(import.definition().import.as_str()) {
             return true;
@@ -60,8 +63,9 @@ pub(crate) fn standing<'a>(
     ensures { IfOk result (λ v. map (λ d. definition_of d.now) v.items ≡ standing (contains_text gone.now) (map definition_of modules.now)) }
 {
     let mut standing = Vec::with_capacity(alloc, modules.len())?;
+    let all_stay = gone.is_empty();
     for definition in modules {
-        if !gone.contains(definition.name.as_str()) {
+        if all_stay || !gone.contains(definition.name.as_str()) {
             standing.push(definition)?;
         }
     }
@@ -100,6 +104,9 @@ fn remove_all(modules: &mut Vec<Definition>, gone: &Names)
     ensures len { vec_len modules.new ≤ vec_len modules.old }
     ensures room { vec_capacity modules.new ≡ vec_capacity modules.old }
 {
+    if gone.is_empty() {
+        return;
+    }
     modules.retain(|definition| !gone.contains(definition.name.as_str()));
 }
 

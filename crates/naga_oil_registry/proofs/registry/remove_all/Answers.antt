@@ -1,10 +1,14 @@
-use Rattle.std.proofs.Common.{◌≡◌, ◌∙◌, map, ap, not, filter, rules}
+use Rattle.std.proofs.Common.{◌≡◌, ◌∙◌, map, ap, not, filter, sym, rules}
 use Rattle.std.proofs.lemmas.Fn.{filter_same}
 use Rattle.std.specs.BTreeSet.{contains_text}
 use Rattle.std.specs.String.{string_bytes}
 use Rattle.naga_oil_registry.specs.Definition.{definition_of}
 use Rattle.naga_oil_registry.proofs.RegistryLemmas.{filter_map}
+use Rattle.naga_oil_registry.proofs.RemovedLemmas.{all-stay}
 use Rattle.naga_oil_registry.proofs.registry.remove_all.Goals as goal
+
+pub returns-then-is_empty-clause-items : goal.returns-then-is_empty-clause-items
+returns-then-is_empty-clause-items c = sym (all-stay c.args.gone.now (map definition_of c.args.modules.now.items) (c.is_empty.ensures.0 c.if-is_empty.true))
 
 pub returns-clause-items : goal.returns-clause-items
 returns-clause-items c =
