@@ -209,7 +209,6 @@ impl Substitution<'_> {
     {
         if let Some((module_name, item)) = path.rsplit_once("::") {
             record_use(self.alloc, used_imports, module_name, item, place)?;
-            return Ok(());
         }
         Ok(())
     }
@@ -329,7 +328,7 @@ impl Substitution<'_> {
 }
 
 /// Writes a text behind what stands in `output`, its identifiers substituted as by `substitute_identifiers`, and records
-/// their uses alike. After a refusal `output` holds a part of the text.
+/// their uses alike. What `output` holds after a refusal is not promised.
 pub fn push_substituted(
     alloc: Global,
     output: &mut String,
