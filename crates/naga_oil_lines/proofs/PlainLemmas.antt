@@ -1,7 +1,7 @@
 -- A text without `::` stands as it is where nothing is declared.
-use Rattle.std.proofs.Common.{◌≡◌, ℕ, zero, suc, ◌+◌, Bool, true, false, List, [], ◌∷◌, ◌++◌, take, drop, None, refl, sym, ap, ◌∙◌, append_assoc, append-nil, subst, length, ◌≤◌}
+use Rattle.std.proofs.Common.{◌≡◌, ℕ, zero, suc, ◌+◌, Bool, true, false, List, [], ◌∷◌, ◌++◌, take, drop, None, refl, sym, ap, ◌∙◌, ◌||◌, ◌==◌, append_assoc, append-nil, subst, length, ◌≤◌}
 use Rattle.std.specs.Char.{is_whitespace, len_utf8, encode_utf8}
-use Rattle.std.specs.List.{flat_map}
+use Rattle.std.specs.List.{flat_map, list_any}
 use Rattle.std.specs.Str.{IsUtf8, chars, encode_utf8_all}
 use Rattle.std.specs.Str.Pattern.{LacksTextAt}
 use Rattle.std.proofs.lemmas.Grind.{flat_map-append}
@@ -94,6 +94,22 @@ plain_lexemes kept zero at (c ∷ cs) e =
     rw (← whole) (plain_more kept (lexeme_at at c text) (lexemes n (at + len_utf8 c) cs) text (encode_utf8_all (drop n cs)) one more)
 
 -- ---- a text
+any_drop : (p : ℕ → Bool) (bs : List ℕ) (i : ℕ) → list_any p bs ≡ false → list_any p (drop i bs) ≡ false
+any_drop p bs zero e = e
+any_drop p [] (suc i) e = refl
+any_drop p (b ∷ bs) (suc i) e = any_drop p bs i (rest (p b) e)
+  where
+    rest : (x : Bool) → (x || list_any p bs) ≡ false → list_any p bs ≡ false
+    rest true h = cc
+    rest false h = h
+
+-- one without `:` has no `::`
+pub lacks_colons : (bs : List ℕ) → list_any (λ b. b == 58) bs ≡ false → (i : ℕ) → i ≤ length bs → LacksTextAt (58 ∷ 58 ∷ []) bs i
+lacks_colons bs none i within rest e =
+    let lost = any_drop (λ b. b == 58) bs i none in
+    let found : list_any (λ b. b == 58) (drop i bs) ≡ true = ap (list_any (λ b. b == 58)) e in
+    cc
+
 pub plain_text : (bs : List ℕ) → IsUtf8 bs → ((i : ℕ) → i ≤ length bs → LacksTextAt (58 ∷ 58 ∷ []) bs i) → Plain false (lexemes 0 0 (chars bs)) bs
 plain_text bs u lacks =
     let same : encode_utf8_all (chars bs) ≡ bs = encodes-chars bs u in

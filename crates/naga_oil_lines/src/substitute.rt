@@ -1,8 +1,9 @@
 // Writes what identifiers stand for, and records what they use of imported modules.
-ghost use Rattle.std.specs.Prelude.{◌≡◌, ℕ, ◌+◌, ◌<◌, ◌^◌, ◌++◌, ◌∷◌, [], List, None, not, ◌&&◌, ◌||◌, ◌==◌, nat_lt, length, map, IfOk, IfErr, OnOk, OnErr, MatchOption, IsTrue, false};
+ghost use Rattle.std.specs.Prelude.{◌≡◌, ℕ, ◌+◌, ◌<◌, ◌≤◌, ◌^◌, ◌++◌, ◌∷◌, [], List, None, not, ◌&&◌, ◌||◌, ◌==◌, nat_lt, length, map, IfOk, IfErr, OnOk, OnErr, MatchOption, IsTrue, false};
 ghost use Rattle.std.specs.Cow.{cow_str_bytes};
 ghost use Rattle.std.specs.List.{flat_map, list_any};
 ghost use Rattle.std.specs.Str.{chars, IsUtf8};
+ghost use Rattle.std.specs.Str.Pattern.{LacksTextAt};
 ghost use Rattle.std.specs.String.{string_bytes};
 ghost use Rattle.naga_oil_lines.specs.Declarations.{declared_of, paths_of};
 ghost use Rattle.naga_oil_lines.specs.Decorate.{decorated_name};
@@ -327,6 +328,13 @@ impl Substitution<'_> {
     }
 }
 
+// Whether the text has no `::`. Most texts have no `:` at all.
+fn lacks_colons(text: &str) -> bool
+    ensures { IsTrue result → (i : ℕ) → i ≤ length text.now → LacksTextAt (58 ∷ 58 ∷ []) text.now i }
+{
+    !text.as_bytes().contains(&b':') || !text.contains("::")
+}
+
 /// Writes a text behind what stands in `output`, its identifiers substituted as by `substitute_identifiers`, and records
 /// their uses alike. What `output` holds after a refusal is not promised.
 pub fn push_substituted(
@@ -350,7 +358,7 @@ pub fn push_substituted(
         let refuses = RefusesUses (declared_of declared_imports.now) allow_ambiguous found in
         IfErr result (λ e. refuses (uses_of used_imports.old) (uses_of used_imports.new) e) }
 {
-    if declared_imports.is_empty() && !input.contains("::") {
+    if declared_imports.is_empty() && lacks_colons(input) {
         output.push_str(input)?;
         return Ok(());
     }
@@ -432,7 +440,7 @@ pub fn record_identifiers(
         let refuses = RefusesUses (declared_of declared_imports.now) allow_ambiguous found in
         IfErr result (λ e. refuses (uses_of used_imports.old) (uses_of used_imports.new) e) }
 {
-    if declared_imports.is_empty() && !input.contains("::") {
+    if declared_imports.is_empty() && lacks_colons(input) {
         return Ok(());
     }
     let substitution = Substitution {

@@ -53,17 +53,17 @@ returns-clause-used c = written_uses _ _ _ _ _ _ _ _ _ _ c.loop-site.invariant.w
 pub returns-clause-allowed : goal.returns-clause-allowed
 returns-clause-allowed c = written_allowed _ _ _ _ _ _ _ _ _ _ c.loop-site.invariant.writing c.in_default.ensures
 
-pub returns-then-not-contains-clause-text : goal.returns-then-not-contains-clause-text
-returns-then-not-contains-clause-text c =
+pub returns-then-lacks_colons-clause-text : goal.returns-then-lacks_colons-clause-text
+returns-then-lacks_colons-clause-text c =
     let nothing : declared_of c.args.declared_imports.now ≡ [] = ap (map _) (nil_from_length c.args.declared_imports.now.entries (c.is_empty.ensures.0 (search rules))) in
-    rw nothing (c.in_ok-push_str.ensures.bytes ∙ ap (λ l. string_bytes c.args.output.now ++ l) (sym (plain_text c.args.input.now c.utf8.input c.if-not-contains.ensures.cases).written))
+    rw nothing (c.in_ok-push_str.ensures.bytes ∙ ap (λ l. string_bytes c.args.output.now ++ l) (sym (plain_text c.args.input.now c.utf8.input (c.lacks_colons.ensures c.if-lacks_colons.true)).written))
 
-pub returns-then-not-contains-clause-used : goal.returns-then-not-contains-clause-used
-returns-then-not-contains-clause-used c =
+pub returns-then-lacks_colons-clause-used : goal.returns-then-lacks_colons-clause-used
+returns-then-lacks_colons-clause-used c =
     let nothing : declared_of c.args.declared_imports.now ≡ [] = ap (map _) (nil_from_length c.args.declared_imports.now.entries (c.is_empty.ensures.0 (search rules))) in
-    rw nothing (ap (with_mentions (uses_of c.args.used_imports.now)) (sym ((plain_text c.args.input.now c.utf8.input c.if-not-contains.ensures.cases).unused c.args.offset)))
+    rw nothing (ap (with_mentions (uses_of c.args.used_imports.now)) (sym ((plain_text c.args.input.now c.utf8.input (c.lacks_colons.ensures c.if-lacks_colons.true)).unused c.args.offset)))
 
-pub returns-then-not-contains-clause-allowed : goal.returns-then-not-contains-clause-allowed
-returns-then-not-contains-clause-allowed c =
+pub returns-then-lacks_colons-clause-allowed : goal.returns-then-lacks_colons-clause-allowed
+returns-then-lacks_colons-clause-allowed c =
     let nothing : declared_of c.args.declared_imports.now ≡ [] = ap (map _) (nil_from_length c.args.declared_imports.now.entries (c.is_empty.ensures.0 (search rules))) in
-    rw nothing ((plain_text c.args.input.now c.utf8.input c.if-not-contains.ensures.cases).allowed c.args.allow_ambiguous c.args.offset)
+    rw nothing ((plain_text c.args.input.now c.utf8.input (c.lacks_colons.ensures c.if-lacks_colons.true)).allowed c.args.allow_ambiguous c.args.offset)

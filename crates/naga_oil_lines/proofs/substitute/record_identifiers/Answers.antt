@@ -37,12 +37,12 @@ returns-clause-used c = recorded_uses _ _ _ _ _ _ _ c.loop-site.invariant.record
 pub returns-clause-allowed : goal.returns-clause-allowed
 returns-clause-allowed c = recorded_allowed _ _ _ _ _ _ _ c.loop-site.invariant.recording c.in_default.ensures
 
-pub returns-then-not-contains-clause-used : goal.returns-then-not-contains-clause-used
-returns-then-not-contains-clause-used c =
+pub returns-then-lacks_colons-clause-used : goal.returns-then-lacks_colons-clause-used
+returns-then-lacks_colons-clause-used c =
     let nothing : declared_of c.args.declared_imports.now ≡ [] = ap (map _) (nil_from_length c.args.declared_imports.now.entries (c.is_empty.ensures.0 (search rules))) in
-    rw nothing (ap (with_mentions (uses_of c.args.used_imports.now)) (sym ((plain_text c.args.input.now c.utf8.input c.if-not-contains.ensures.cases).unused c.args.offset)))
+    rw nothing (ap (with_mentions (uses_of c.args.used_imports.now)) (sym ((plain_text c.args.input.now c.utf8.input (c.lacks_colons.ensures c.if-lacks_colons.true)).unused c.args.offset)))
 
-pub returns-then-not-contains-clause-allowed : goal.returns-then-not-contains-clause-allowed
-returns-then-not-contains-clause-allowed c =
+pub returns-then-lacks_colons-clause-allowed : goal.returns-then-lacks_colons-clause-allowed
+returns-then-lacks_colons-clause-allowed c =
     let nothing : declared_of c.args.declared_imports.now ≡ [] = ap (map _) (nil_from_length c.args.declared_imports.now.entries (c.is_empty.ensures.0 (search rules))) in
-    rw nothing ((plain_text c.args.input.now c.utf8.input c.if-not-contains.ensures.cases).allowed c.args.allow_ambiguous c.args.offset)
+    rw nothing ((plain_text c.args.input.now c.utf8.input (c.lacks_colons.ensures c.if-lacks_colons.true)).allowed c.args.allow_ambiguous c.args.offset)
