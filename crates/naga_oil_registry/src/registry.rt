@@ -62,10 +62,12 @@ pub(crate) fn standing<'a>(
 ) -> Tried<Vec<&'a Definition>>
     ensures { IfOk result (λ v. map (λ d. definition_of d.now) v.items ≡ standing (contains_text gone.now) (map definition_of modules.now)) }
 {
+    if gone.is_empty() {
+        return modules.iter().collect(alloc);
+    }
     let mut standing = Vec::with_capacity(alloc, modules.len())?;
-    let all_stay = gone.is_empty();
     for definition in modules {
-        if all_stay || !gone.contains(definition.name.as_str()) {
+        if !gone.contains(definition.name.as_str()) {
             standing.push(definition)?;
         }
     }
