@@ -165,15 +165,14 @@ fn after_identifier(text: &str, begins_quoted: bool) -> &str
     rest
 }
 
-// Whether no identifier goes on at the text's front: nothing is there, or a byte of ASCII that is no part of one.
+// Whether no identifier goes on behind a word: nothing is there, or a byte of ASCII that is no part of one.
 fn ends_identifier(text: &str) -> bool
+    requires { prefix_len is_word_byte text.now ≡ 0 }
     ensures { result ≡ ends_identifier text.now }
 {
     match text.as_bytes() {
         [] => true,
-        [first, ..] => {
-            *first < 128 && !(is_word_byte(*first) || *first == b'"' || *first == b':')
-        }
+        [first, ..] => *first < 128 && *first != b'"' && *first != b':',
     }
 }
 
@@ -183,11 +182,14 @@ pub(crate) fn behind_identifier(first: char, text: &str) -> (&str, bool)
     ensures suffix { (front : List ℕ) × (text.now ≡ front ++ result.0.now) × (IsTrue result.1 → list_any (λ b. b == 58) front ≡ false) }
     ensures utf8 { IsUtf8 result.0.now }
 {
+    if first == '"' {
+        return (after_identifier(text, true), false);
+    }
     let word = after_word(text);
-    if first != '"' && ends_identifier(word) {
+    if ends_identifier(word) {
         (word, true)
     } else {
-        (after_identifier(text, first == '"'), false)
+        (after_identifier(word, false), false)
     }
 }
 
