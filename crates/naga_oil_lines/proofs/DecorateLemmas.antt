@@ -1,7 +1,7 @@
 -- A decorated name tells its item and its module, and a code its text.
-use Rattle.std.proofs.Common.{◌≡◌, ◌≢◌, ℕ, ◌-◌, ◌+◌, ◌/◌, ◌%◌, ◌<◌, ◌&&◌, Bool, true, false, cond, Some, None, List, [], ◌∷◌, ◌++◌, length, refl, sym, ap, subst, lit<, ◌∙◌, arith, append_assoc, ⊎_elim}
+use Rattle.std.proofs.Common.{◌≡◌, ◌≢◌, ℕ, ◌+◌, ◌/◌, ◌%◌, ◌<◌, ◌&&◌, Bool, true, false, cond, Some, None, List, [], ◌∷◌, ◌++◌, length, refl, sym, ap, subst, lit<, ◌∙◌, arith, append_assoc, ⊎_elim}
 use lib.Utf8.{scalar, scalar_cases, next}
-use Rattle.std.specs.Prelude.{All, nat_lt, if◌then◌else◌, codes, bytes_eq}
+use Rattle.std.specs.Prelude.{All, nat_lt, codes, bytes_eq}
 use Rattle.std.specs.Char.{encode_utf8}
 use Rattle.std.specs.List.{flat_map}
 use Rattle.std.specs.Str.{IsUtf8, is_utf8, all_scalars, encode_utf8_all}

@@ -1,5 +1,5 @@
 -- Marks and their codes, and the last mark of a run: their grammar says what the reader gives.
-use Rattle.std.proofs.Common.{◌≡◌, ◌≢◌, ℕ, ◌+◌, ◌-◌, ◌<◌, Bool, true, false, cond, eqb, eq-eqb, Option, Some, None, List, [], ◌∷◌, ◌++◌, length, take, drop, refl, sym, ap, subst, ◌∙◌, inl, inr, ◌⊎◌, arith, rules, length-append}
+use Rattle.std.proofs.Common.{◌≡◌, ◌≢◌, ℕ, ◌-◌, ◌<◌, Bool, true, false, cond, eqb, eq-eqb, Option, Some, None, List, [], ◌∷◌, ◌++◌, length, take, drop, refl, sym, ap, subst, ◌∙◌, inl, inr, ◌⊎◌, arith, rules, length-append}
 use borrow.Author.Tests.{eqb-true, ne_eqb}
 use Rattle.std.specs.Prelude.{All, codes}
 use Rattle.std.specs.Option.{option_or, option_and_then, is_some}

@@ -1,12 +1,12 @@
 -- Places of identifiers that a number of the machine holds.
-use Rattle.std.proofs.Common.{◌≡◌, ℕ, ◌+◌, ◌<◌, ◌≤◌, ◌^◌, Bool, true, false, List, [], ◌∷◌, ◌++◌, length, refl, ap, arith}
+use Rattle.std.proofs.Common.{◌≡◌, ℕ, ◌+◌, ◌<◌, ◌≤◌, ◌^◌, Bool, true, false, List, [], ◌∷◌, length, refl, ap, arith}
 use Rattle.std.specs.Prelude.{All}
-use Rattle.std.specs.Str.{chars, encode_utf8_all, IsUtf8}
+use Rattle.std.specs.Str.{chars, IsUtf8}
 use Rattle.std.proofs.Math.Nat.{min-eq_left}
 use Rattle.std.proofs.lemmas.Str.{encodes-chars}
 use Rattle.std.proofs.lemmas.List.Elements.{All-head, All-tail}
 use Rattle.naga_oil_lines.specs.Tokens.{Lexeme, identifier, other, whitespace, lexemes}
-use Rattle.naga_oil_lines.specs.Substituted.{Site, sites_from, sites, keeps_next, usize_place, usize_sites}
+use Rattle.naga_oil_lines.specs.Substituted.{sites_from, sites, keeps_next, usize_place, usize_sites}
 use Rattle.naga_oil_lines.proofs.ImportPlaceLemmas.{Within, lexemes_within}
 
 place_counts : (place : ℕ) → place < 2 ^ 64 → usize_place place ≡ place

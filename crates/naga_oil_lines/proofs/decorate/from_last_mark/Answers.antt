@@ -1,4 +1,4 @@
-use Rattle.std.proofs.Common.{◌≡◌, ℕ, Bool, Option, Some, None, List, [], ap, refl, sym, ◌∙◌}
+use Rattle.std.proofs.Common.{◌≡◌, ℕ, Bool, Option, List, [], ap, refl, sym, ◌∙◌}
 use denote.Ref.{Bor}
 use Rattle.std.specs.Option.{option_map, is_some}
 use Rattle.std.specs.Str.{chars}

@@ -1,4 +1,4 @@
-use Rattle.std.proofs.Common.{◌≡◌, ap, ◌∙◌, codes}
+use Rattle.std.proofs.Common.{ap, ◌∙◌}
 use Rattle.std.specs.Str.{chars}
 use Rattle.naga_oil_lines.specs.Text.{past_word}
 use Rattle.naga_oil_lines.proofs.UndecorateLemmas.{no_mark, no_code, no_end, a_mark, text_before_rest, spelled_x}

@@ -1,4 +1,4 @@
-use Rattle.std.proofs.Common.{◌≡◌, ap, ◌∙◌}
+use Rattle.std.proofs.Common.{ap, ◌∙◌}
 use Rattle.std.specs.Str.{chars}
 use Rattle.naga_oil_lines.specs.Undecorate.{mark_code}
 use Rattle.naga_oil_lines.proofs.UndecorateLemmas.{no_split, no_split_behind, a_split, text_before_rest, spelled_module_mark}
