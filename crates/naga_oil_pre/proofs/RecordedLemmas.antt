@@ -41,6 +41,17 @@ gained old new names left all h e name =
 pub gains_both : (old mid new : BTreeSet (String Global)) (names more : List (List ℕ)) → Gains old mid names → Gains mid new more → Gains old new (names ++ more)
 gains_both old mid new names more h g = λ name. g name ∙ gained old mid names more (names ++ more) h refl name
 
+or_twice : (b : Bool) → (b || b) ≡ b
+or_twice true = refl
+or_twice false = refl
+
+-- names that are gained twice
+pub gains_twice : (old new : BTreeSet (String Global)) (names again : List (List ℕ)) → again ≡ names → Gains old new names → Gains old new (names ++ again)
+gains_twice old new names again e h = λ name.
+    h name
+    ∙ ap (λ b. contains_text old name || b)
+    (sym (or_twice (is_among names name)) ∙ ap (λ ns. is_among names name || is_among ns name) (sym e) ∙ sym (list_any-append (bytes_eq name) names again))
+
 -- where nothing is left
 pub gains_all : (old new : BTreeSet (String Global)) (left all : List (List ℕ)) → left ≡ [] → ((name : List ℕ) → has_with new left name ≡ has_with old all name) → Gains old new all
 gains_all old new left all e h = λ name. sym (or_false (contains_text new name)) ∙ ap (λ ns. has_with new ns name) (sym e) ∙ h name

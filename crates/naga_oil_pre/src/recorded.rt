@@ -52,7 +52,7 @@ fn record_hash_names(
     Ok(())
 }
 
-// Records the `#` names of a line and of its covered line.
+// Records the `#` names of a line and of its covered line, which are the same where it has no comment.
 fn record_text_names(
     alloc: Global,
     names: &mut BTreeSet<String>,
@@ -61,7 +61,11 @@ fn record_text_names(
     ensures { OnOk result (Gains names.old names.new (text_names (line_of line.now))) }
 {
     record_hash_names(alloc, names, line.text)?;
-    record_hash_names(alloc, names, line.covered.as_str())
+    let covered = line.covered.as_str();
+    if covered == line.text {
+        return Ok(());
+    }
+    record_hash_names(alloc, names, covered)
 }
 
 // Records the name that a condition asks for.
