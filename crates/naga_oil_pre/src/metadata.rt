@@ -256,8 +256,8 @@ fn read_text(
     ensures names { IfOk result (λ findings. (name : List ℕ) → contains_text findings.names name ≡ is_recorded cleaned.now name) }
     ensures err { IfErr result (λ e. Fails e (found_in allow_defines nothing_found 0 (source_lines cleaned.now))) }
 {
-    let mut commented = cleaned.lines();
-    let mut source = SourceLines::new(cleaned, commented.replace_comments(alloc));
+    let mut lines = cleaned.lines();
+    let mut source = SourceLines::new(alloc, &mut lines);
     let mut findings = Findings {
         name: None,
         imports: Imports {

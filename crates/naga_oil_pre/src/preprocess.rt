@@ -185,8 +185,8 @@ impl Preprocessor {
     {
         let mut out = String::with_capacity(alloc, shader_str.len() + 1)?;
         let mut scope = Scope::new(alloc);
-        let mut commented = shader_str.lines();
-        let mut source = SourceLines::new(shader_str, commented.replace_comments(alloc));
+        let mut lines = shader_str.lines();
+        let mut source = SourceLines::new(alloc, &mut lines);
         let mut imports = Imports {
             declared: IndexMap::new(alloc),
             used: IndexMap::new(alloc),

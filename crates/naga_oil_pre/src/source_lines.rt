@@ -1,10 +1,8 @@
 // The lines of a text with their covered lines.
 ghost use Rattle.std.specs.Prelude.{◌≡◌, ℕ, List, [], ◌∷◌, ◌+◌, ◌^◌, ◌<◌, ◌≤◌, length, All, IfOk, IfSome, MatchOption};
-ghost use Rattle.std.specs.Str.Lines.{lines};
 ghost use Rattle.std.specs.Str.Iter.{lines_rest};
-ghost use Rattle.naga_oil_lines.specs.declared.comment_strip_iter.CommentState.TheVariants.{Code};
-ghost use Rattle.naga_oil_lines.specs.CoveredLines.{covered_lines, covered_lines_left};
-ghost use Rattle.naga_oil_pre.specs.Line.{Line, placed, source_lines, next_place};
+ghost use Rattle.naga_oil_lines.specs.CoveredLines.{texts_left, covered_lines_left};
+ghost use Rattle.naga_oil_pre.specs.Line.{Line, placed, source_lines, next_place, end_place};
 ghost use Rattle.naga_oil_pre.specs.SourceView.{line_of};
 
 use super::*;
@@ -22,23 +20,20 @@ pub struct SourceLine<'a> {
 /// The lines of a text that are left. A clause sees the lines, and where the first of them begins.
 #[derive(Drop)]
 pub struct SourceLines<'b, 'a> {
-    texts: Lines<'a>,
-    covers: CommentReplaceIter<'b, 'a>,
+    lines: CommentReplaceIter<'b, 'a>,
     offset: usize,
-    ghost room: { 0 < length (lines_rest texts) → offset + length (lines_rest texts) < 2 ^ 63 },
-    ghost even: { All (λ l. length l.covered ≤ length l.text) (placed offset (lines (lines_rest texts)) (covered_lines_left covers)) },
+    ghost room: { end_place offset (placed offset (texts_left lines) (covered_lines_left lines)) ≤ 2 ^ 63 },
+    ghost even: { All (λ l. length l.covered ≤ length l.text) (placed offset (texts_left lines) (covered_lines_left lines)) },
 }
 
 impl<'b, 'a> Model for SourceLines<'b, 'a> {
-    ghost use Rattle.std.specs.Str.Lines.{lines};
-    ghost use Rattle.std.specs.Str.Iter.{lines_rest};
-    ghost use Rattle.naga_oil_lines.specs.CoveredLines.{covered_lines_left};
+    ghost use Rattle.naga_oil_lines.specs.CoveredLines.{texts_left, covered_lines_left};
     ghost use Rattle.naga_oil_pre.specs.Line.{placed};
     ghost use Rattle.naga_oil_pre.specs.SourceView.{Left};
 
     ghost Value = { Left };
 
-    ghost view = { λ s. record { place = s.offset; left = placed s.offset (lines (lines_rest s.texts)) (covered_lines_left s.covers) } };
+    ghost view = { λ s. record { place = s.offset; left = placed s.offset (texts_left s.lines) (covered_lines_left s.lines) } };
 }
 
 // Where the line behind one begins, or would begin.
@@ -50,13 +45,11 @@ fn next_place(offset: usize, text: &str) -> usize
 }
 
 impl<'b, 'a> SourceLines<'b, 'a> {
-    pub fn new(text: &'a str, covers: CommentReplaceIter<'b, 'a>) -> SourceLines<'b, 'a>
-        requires { covered_lines_left covers ≡ covered_lines Code (lines text.now) }
-        ensures { result ≡ record { place = 0; left = source_lines text.now } }
+    pub fn new(alloc: Global, lines: &'b mut Lines<'a>) -> SourceLines<'b, 'a>
+        ensures { result ≡ record { place = 0; left = source_lines (lines_rest lines.old) } }
     {
         SourceLines {
-            texts: text.lines(),
-            covers,
+            lines: lines.replace_comments(alloc),
             offset: 0,
         }
     }
@@ -75,13 +68,9 @@ impl<'b, 'a> SourceLines<'b, 'a> {
         ensures at { IfOk result (λ r. IfSome r (λ line. line.offset ≡ self.old.place)) }
         ensures room { IfOk result (λ r. IfSome r (λ line. self.new.place ≤ 2 ^ 63)) }
     {
-        let Some(text) = self.texts.next() else {
+        let Some((text, covered)) = self.lines.next_line()? else {
             return Ok(None);
         };
-        let Some(covered) = self.covers.next() else {
-            return Ok(None);
-        };
-        let covered = covered?;
         let offset = self.offset;
         self.offset = next_place(offset, text);
         Ok(Some(SourceLine {

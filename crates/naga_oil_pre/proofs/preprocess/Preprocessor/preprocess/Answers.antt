@@ -8,15 +8,17 @@ use Rattle.naga_oil_pre.specs.KnownView.{known_of, output_of}
 use Rattle.naga_oil_pre.proofs.LineEndLemmas.{as_many_ends}
 use Rattle.naga_oil_pre.proofs.QuotelessLemmas.{quoteless_paths}
 use Rattle.naga_oil_pre.proofs.LoopLemmas.{nothing_is, told_first, fails_first, uses_of_values, told_last}
+use Rattle.naga_oil_pre.proofs.SourceLemmas.{source_begins}
 use Rattle.naga_oil_pre.proofs.preprocess.Preprocessor.preprocess.Goals as goal
 
 pub loop-imports-init : goal.loop-imports-init
 loop-imports-init c =
     let declared : declared_of c.new.result ≡ [] = search rules in
     let used : uses_of c.new-2.result ≡ [] = search rules in
+    let source = source_begins _ _ _ c.new-source.ensures c.lines-lines.ensures.rest in
     record {
-      end = rw c.new-source.ensures refl;
-      told = rw (c.new-source.ensures, c.new-scope.ensures) (told_first _ (known_of (record { declared = c.new.result; used = c.new-2.result })) _ _ (nothing_is (known_of (record { declared = c.new.result; used = c.new-2.result })) declared used) c.in_ok-out.ensures.bytes);
+      end = rw source refl;
+      told = rw (source, c.new-scope.ensures) (told_first _ (known_of (record { declared = c.new.result; used = c.new-2.result })) _ _ (nothing_is (known_of (record { declared = c.new.result; used = c.new-2.result })) declared used) c.in_ok-out.ensures.bytes);
     }
 
 pub returns-in_err-write_line-clause-value : goal.returns-in_err-write_line-clause-value
