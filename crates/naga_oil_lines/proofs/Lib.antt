@@ -29,3 +29,4 @@ pub mod GapLemmas
 pub mod PlainLemmas
 pub mod UndecorateLemmas
 pub mod MarkLemmas
+pub mod NameMarkLemmas

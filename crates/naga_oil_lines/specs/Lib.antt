@@ -1,6 +1,7 @@
 -- What the crate's contracts say.
 pub mod Text
 pub mod Declarations
+pub mod NameMarks
 pub mod Leaves
 pub mod ImportView
 pub mod Uses

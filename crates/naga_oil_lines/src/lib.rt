@@ -2,6 +2,7 @@
 #![tactic(auto)]
 
 pub mod comment_strip_iter;
+pub mod declared_names;
 pub mod decorate;
 pub mod import_definition;
 pub mod parse_imports;

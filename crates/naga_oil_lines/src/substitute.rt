@@ -7,12 +7,14 @@ ghost use Rattle.std.specs.Str.Pattern.{LacksTextAt};
 ghost use Rattle.std.specs.String.{string_bytes};
 ghost use Rattle.naga_oil_lines.specs.Declarations.{declared_of, paths_of};
 ghost use Rattle.naga_oil_lines.specs.Decorate.{decorated_name};
+ghost use Rattle.naga_oil_lines.specs.NameMarks.{Covers};
 ghost use Rattle.naga_oil_lines.specs.SubstituteFault.{RefusesUses};
 ghost use Rattle.naga_oil_lines.specs.Substituted.{first_part, behind_first, longer_path, longer_paths, paths_for, path_text, mentions_at, with_mentions, Site, substituted, sites, usize_sites, mentions_in, first_ambiguous, BeginsUses};
 ghost use Rattle.naga_oil_lines.specs.Sites.{HasNoSite, FindsSite, is_own, keeps_behind};
 ghost use Rattle.naga_oil_lines.specs.Tokens.{lexemes};
 ghost use Rattle.naga_oil_lines.specs.Uses.{uses_of, with_use};
 
+use crate::declared_names::DeclaredNames;
 use crate::decorate::push_decorated;
 use crate::import_definition::ImportDefWithOffset;
 use crate::text::{split_first_char, text_before};
@@ -149,6 +151,7 @@ fn next_site(text: &str) -> Option<SiteText<'_>>
 struct Substitution<'a> {
     alloc: Global,
     declared_imports: &'a IndexMap<String, Vec<String>>,
+    names: &'a DeclaredNames,
     allow_ambiguous: bool,
     offset: usize,
 }
@@ -234,9 +237,10 @@ impl Substitution<'_> {
 
     // The paths that are declared for a name.
     fn declared_paths(&self, name: &str) -> &[String]
+        requires { Covers self.now.names.now (declared_of self.now.declared_imports.now) }
         ensures { map string_bytes result.now ≡ paths_of (declared_of self.now.declared_imports.now) name.now }
     {
-        if self.declared_imports.is_empty() {
+        if !self.names.may_have(name) {
             return &[];
         }
         match self.declared_imports.get(name) {
@@ -260,6 +264,7 @@ impl Substitution<'_> {
         used_imports: &mut IndexMap<String, ImportDefWithOffset>,
         output: &mut String,
     ) -> Result<(), SubstituteFault>
+        requires { Covers self.now.names.now (declared_of self.now.declared_imports.now) }
         ensures text { let paths = paths_for (declared_of self.now.declared_imports.now) identifier.now in
             let more = flat_map (path_text identifier.now) paths in
             OnOk result (string_bytes output.new ≡ string_bytes output.old ++ more) }
@@ -294,6 +299,7 @@ impl Substitution<'_> {
         place: usize,
         used_imports: &mut IndexMap<String, ImportDefWithOffset>,
     ) -> Result<(), SubstituteFault>
+        requires { Covers self.now.names.now (declared_of self.now.declared_imports.now) }
         ensures used { let declared = declared_of self.now.declared_imports.now in
             let more = mentions_in declared (record { name = identifier.now; place = place } ∷ []) in
             OnOk result (uses_of used_imports.new ≡ with_mentions (uses_of used_imports.old) more) }
@@ -320,7 +326,8 @@ impl Substitution<'_> {
 
     // Whether an identifier stands for itself alone.
     fn is_own(&self, site: SiteText<'_>) -> bool
-        requires { IsTrue site.is_word → list_any (λ b. b == 58) site.name.now ≡ false }
+        requires covers { Covers self.now.names.now (declared_of self.now.declared_imports.now) }
+        requires word { IsTrue site.is_word → list_any (λ b. b == 58) site.name.now ≡ false }
         ensures { result ≡ is_own (declared_of self.now.declared_imports.now) site.entry.name.now }
     {
         (site.is_word || !site.name.as_bytes().contains(&b':'))
@@ -336,16 +343,18 @@ fn lacks_colons(text: &str) -> bool
 }
 
 /// Writes a text behind what stands in `output`, its identifiers substituted as by `substitute_identifiers`, and records
-/// their uses alike. What `output` holds after a refusal is not promised.
+/// their uses alike. `names` marks each declared name. What `output` holds after a refusal is not promised.
 pub fn push_substituted(
     alloc: Global,
     output: &mut String,
     input: &str,
     offset: usize,
     declared_imports: &IndexMap<String, Vec<String>>,
+    names: &DeclaredNames,
     used_imports: &mut IndexMap<String, ImportDefWithOffset>,
     allow_ambiguous: bool,
 ) -> Result<(), SubstituteFault>
+    requires { Covers names.now (declared_of declared_imports.now) }
     ensures text { let more = substituted (declared_of declared_imports.now) (lexemes 0 0 (chars input.now)) in
         OnOk result (string_bytes output.new ≡ string_bytes output.old ++ more) }
     ensures used { let found = usize_sites (sites offset (lexemes 0 0 (chars input.now))) in
@@ -365,6 +374,7 @@ pub fn push_substituted(
     let substitution = Substitution {
         alloc,
         declared_imports,
+        names,
         allow_ambiguous,
         offset,
     };
@@ -408,6 +418,8 @@ pub fn substitute_identifiers(
         let refuses = RefusesUses (declared_of declared_imports.now) allow_ambiguous found in
         IfErr result (λ e. refuses (uses_of used_imports.old) (uses_of used_imports.new) e) }
 {
+    let mut names = DeclaredNames::new();
+    names.mark_from(declared_imports, 0);
     let mut output = String::with_capacity(alloc, input.len())?;
     push_substituted(
         alloc,
@@ -415,6 +427,7 @@ pub fn substitute_identifiers(
         input,
         offset,
         declared_imports,
+        &names,
         used_imports,
         allow_ambiguous,
     )?;
@@ -422,14 +435,17 @@ pub fn substitute_identifiers(
 }
 
 /// Records in `used_imports` what the identifiers of a text use, as `substitute_identifiers` does, and writes nothing.
+/// `names` marks each declared name.
 pub fn record_identifiers(
     alloc: Global,
     input: &str,
     offset: usize,
     declared_imports: &IndexMap<String, Vec<String>>,
+    names: &DeclaredNames,
     used_imports: &mut IndexMap<String, ImportDefWithOffset>,
     allow_ambiguous: bool,
 ) -> Result<(), SubstituteFault>
+    requires { Covers names.now (declared_of declared_imports.now) }
     ensures used { let found = usize_sites (sites offset (lexemes 0 0 (chars input.now))) in
         let more = mentions_in (declared_of declared_imports.now) found in
         OnOk result (uses_of used_imports.new ≡ with_mentions (uses_of used_imports.old) more) }
@@ -446,6 +462,7 @@ pub fn record_identifiers(
     let substitution = Substitution {
         alloc,
         declared_imports,
+        names,
         allow_ambiguous,
         offset,
     };

@@ -3,6 +3,7 @@ ghost use Rattle.std.specs.Prelude.{◌≡◌, ℕ, List, ◌+◌, ◌<◌, ◌�
 ghost use Rattle.std.specs.BTreeMap.{get_by_text};
 ghost use Rattle.naga_oil_lines.specs.Declarations.{declared_of};
 ghost use Rattle.naga_oil_lines.specs.Uses.{uses_of};
+ghost use Rattle.naga_oil_lines.specs.NameMarks.{Covers};
 ghost use Rattle.naga_oil_lines.specs.Leaves.{import_leaves, with_import};
 ghost use Rattle.naga_oil_lines.specs.Substituted.{substituted, sites, first_ambiguous, used_by};
 ghost use Rattle.naga_oil_pre.specs.Line.{Line, end_place};
@@ -10,10 +11,12 @@ ghost use Rattle.naga_oil_pre.specs.View.{Fails};
 ghost use Rattle.naga_oil_pre.specs.Preprocessed.{Known, end_line, padded, blanks, import_text, tokens_of, using_tokens, imported_passage, shown_passage};
 ghost use Rattle.naga_oil_pre.specs.Replaced.{replaced};
 ghost use Rattle.naga_oil_pre.specs.Reading.{braces_after, taken, behind_taken};
+ghost use Rattle.naga_oil_pre.specs.KnownView.{HasMarks};
 ghost use Rattle.naga_oil_pre.specs.SourceView.{line_of};
 
 use super::replace::replaced_text;
 use super::*;
+use naga_oil_lines::declared_names::DeclaredNames;
 use naga_oil_lines::parse_imports::{ImportFault, parse_imports};
 use naga_oil_lines::substitute::push_substituted;
 use naga_oil_lines::text::push_spaces;
@@ -22,6 +25,8 @@ use naga_oil_lines::text::push_spaces;
 #[derive(Drop)]
 pub struct Imports {
     pub declared: IndexMap<String, Vec<String>>,
+    /// The marks of the declared names.
+    pub names: DeclaredNames,
     pub used: IndexMap<String, ImportDefWithOffset>,
 }
 
@@ -54,19 +59,26 @@ fn fill_line(out: &mut String, start: usize, size: usize) -> Result<(), AllocErr
     out.push('\n')
 }
 
-// Declares what an import of this text declares; the text stands at the offset.
+// Declares what an import of this text declares, and marks its names; the text stands at the offset.
 pub fn declare(
     alloc: Global,
     import: &str,
     offset: usize,
     declared: &mut IndexMap<String, Vec<String>>,
+    names: &mut DeclaredNames,
 ) -> Result<(), ComposerErrorInner>
-    requires { offset + length import.now < 2 ^ 64 }
+    requires fits { offset + length import.now < 2 ^ 64 }
+    requires marked { Covers names.old (declared_of declared.old) }
     ensures ok { OnOk result (with_import (declared_of declared.old) (import_leaves import.now) ≡ Ok (declared_of declared.new)) }
+    ensures marked { OnOk result (Covers names.new (declared_of declared.new)) }
     ensures err { IfErr result (λ e. (known : Known) (l : Line) → l.at ≡ offset → Fails e (imported_passage known l (import_leaves import.now))) }
 {
+    let count = declared.len();
     match parse_imports(alloc, import, declared) {
-        Ok(()) => Ok(()),
+        Ok(()) => {
+            names.mark_from(declared, count);
+            Ok(())
+        }
         Err(ImportFault::Syntax(text, place)) => Err(ComposerErrorInner::ImportParseError(
             String::from_str(alloc, text)?,
             offset + place,
@@ -127,7 +139,8 @@ fn record_uses(
     definitions: &BTreeMap<String, ShaderDefValue>,
     imports: &mut Imports,
 ) -> Result<(), ComposerErrorInner>
-    requires { line.now.offset ≤ 2 ^ 63 }
+    requires place { line.now.offset ≤ 2 ^ 63 }
+    requires marked { HasMarks imports.old }
     ensures ok { let tokens = using_tokens (get_by_text definitions.now) (line_of line.now) in
         let first = first_ambiguous (declared_of imports.old.declared) false (sites line.now.offset tokens) in
         OnOk result (first ≡ None) }
@@ -135,6 +148,7 @@ fn record_uses(
         let used = used_by (declared_of imports.old.declared) line.now.offset tokens in
         OnOk result (uses_of imports.new.used ≡ used (uses_of imports.old.used)) }
     ensures declared { OnOk result (declared_of imports.new.declared ≡ declared_of imports.old.declared) }
+    ensures marked { OnOk result (HasMarks imports.new) }
     ensures err { IfErr result (λ e. (known : Known) → Fails e (shown_passage (get_by_text definitions.now) known (line_of line.now)
         (first_ambiguous (declared_of imports.old.declared) false (sites line.now.offset (using_tokens (get_by_text definitions.now) (line_of line.now)))))) }
 {
@@ -144,6 +158,7 @@ fn record_uses(
         covered.as_str(),
         line.offset,
         &imports.declared,
+        &imports.names,
         &mut imports.used,
         false,
     ) {
@@ -164,7 +179,8 @@ fn write_uses(
     imports: &mut Imports,
     out: &mut String,
 ) -> Result<(), ComposerErrorInner>
-    requires { line.now.offset ≤ 2 ^ 63 }
+    requires place { line.now.offset ≤ 2 ^ 63 }
+    requires marked { HasMarks imports.old }
     ensures text { let tokens = using_tokens (get_by_text definitions.now) (line_of line.now) in
         OnOk result (string_bytes out.new ≡ string_bytes out.old ++ substituted (declared_of imports.old.declared) tokens) }
     ensures ok { let tokens = using_tokens (get_by_text definitions.now) (line_of line.now) in
@@ -174,6 +190,7 @@ fn write_uses(
         let used = used_by (declared_of imports.old.declared) line.now.offset tokens in
         OnOk result (uses_of imports.new.used ≡ used (uses_of imports.old.used)) }
     ensures declared { OnOk result (declared_of imports.new.declared ≡ declared_of imports.old.declared) }
+    ensures marked { OnOk result (HasMarks imports.new) }
     ensures err { IfErr result (λ e. (known : Known) → Fails e (shown_passage (get_by_text definitions.now) known (line_of line.now)
         (first_ambiguous (declared_of imports.old.declared) false (sites line.now.offset (using_tokens (get_by_text definitions.now) (line_of line.now)))))) }
 {
@@ -184,6 +201,7 @@ fn write_uses(
         covered.as_str(),
         line.offset,
         &imports.declared,
+        &imports.names,
         &mut imports.used,
         false,
     ) {
@@ -201,11 +219,12 @@ fn push_shown(
     alloc: Global,
     line: &SourceLine<'_>,
     definitions: &BTreeMap<String, ShaderDefValue>,
-    declared: &IndexMap<String, Vec<String>>,
+    imports: &Imports,
     out: &mut String,
 ) -> Result<(), AllocError>
+    requires { HasMarks imports.now }
     ensures { OnOk result (string_bytes out.new ≡ string_bytes out.old
-        ++ substituted (declared_of declared.now) (tokens_of (replaced (get_by_text definitions.now) line.now.text.now))) }
+        ++ substituted (declared_of imports.now.declared) (tokens_of (replaced (get_by_text definitions.now) line.now.text.now))) }
 {
     let replaced = replaced_text(alloc, line.text, definitions)?;
     let mut unused = IndexMap::new(alloc);
@@ -214,7 +233,8 @@ fn push_shown(
         out,
         replaced.as_str(),
         0,
-        declared,
+        &imports.declared,
+        &imports.names,
         &mut unused,
         true,
     ) {
@@ -232,7 +252,8 @@ pub fn show_line(
     imports: &mut Imports,
     out: &mut String,
 ) -> Result<(), ComposerErrorInner>
-    requires { line.now.offset ≤ 2 ^ 63 }
+    requires place { line.now.offset ≤ 2 ^ 63 }
+    requires marked { HasMarks imports.old }
     ensures text { OnOk result (string_bytes out.new ≡ string_bytes out.old
         ++ end_line (padded (length line.now.text.now) (substituted (declared_of imports.old.declared) (tokens_of (replaced (get_by_text definitions.now) line.now.text.now))))) }
     ensures ok { let tokens = using_tokens (get_by_text definitions.now) (line_of line.now) in
@@ -242,6 +263,7 @@ pub fn show_line(
         let used = used_by (declared_of imports.old.declared) line.now.offset tokens in
         OnOk result (uses_of imports.new.used ≡ used (uses_of imports.old.used)) }
     ensures declared { OnOk result (declared_of imports.new.declared ≡ declared_of imports.old.declared) }
+    ensures marked { OnOk result (HasMarks imports.new) }
     ensures err { IfErr result (λ e. (known : Known) → Fails e (shown_passage (get_by_text definitions.now) known (line_of line.now)
         (first_ambiguous (declared_of imports.old.declared) false (sites line.now.offset (using_tokens (get_by_text definitions.now) (line_of line.now)))))) }
 {
@@ -250,7 +272,7 @@ pub fn show_line(
         write_uses(alloc, line, definitions, imports, out)?;
     } else {
         record_uses(alloc, line, definitions, imports)?;
-        push_shown(alloc, line, definitions, &imports.declared, out)?;
+        push_shown(alloc, line, definitions, imports, out)?;
     }
     fill_line(out, start, line.text.len())?;
     Ok(())

@@ -8,6 +8,7 @@ ghost use Rattle.naga_oil_lines.specs.Leaves.{import_leaves};
 ghost use Rattle.naga_oil_lines.specs.Substituted.{used_by};
 ghost use Rattle.naga_oil_lines.specs.Uses.{uses_of, use_of, import_of};
 ghost use Rattle.naga_oil_pre.specs.Line.{source_lines};
+ghost use Rattle.naga_oil_pre.specs.KnownView.{HasMarks};
 ghost use Rattle.naga_oil_pre.specs.KindView.{line_kind_of};
 ghost use Rattle.naga_oil_pre.specs.Metadata.{nothing_found, defined_behind, with_import, found_behind, left_open, going_on, found_in, metadata_of_cleaned, metadata, data_of};
 ghost use Rattle.naga_oil_pre.specs.MetadataView.{has_with, Gains, found_of, metadata_of};
@@ -21,6 +22,7 @@ ghost use Rattle.naga_oil_pre.specs.View.{Fails, Gives};
 use super::line_kind::unversioned_line_kind;
 use super::recorded::record_line_names;
 use super::*;
+use naga_oil_lines::declared_names::DeclaredNames;
 
 /// What a registry needs of a text before any build.
 #[derive(Debug, Drop)]
@@ -77,15 +79,18 @@ fn define(
 
 // Records what a line uses by its covered line, as it stands.
 fn read_uses(alloc: Global, line: &SourceLine<'_>, imports: &mut Imports) -> Result<(), AllocError>
-    requires { line.now.offset ≤ 2 ^ 63 }
+    requires place { line.now.offset ≤ 2 ^ 63 }
+    requires marked { HasMarks imports.old }
     ensures used { OnOk result (uses_of imports.new.used ≡ used_by (declared_of imports.old.declared) line.now.offset (tokens_of (line_of line.now).covered) (uses_of imports.old.used)) }
     ensures declared { OnOk result (declared_of imports.new.declared ≡ declared_of imports.old.declared) }
+    ensures marked { OnOk result (HasMarks imports.new) }
 {
     match record_identifiers(
         alloc,
         line.covered.as_str(),
         line.offset,
         &imports.declared,
+        &imports.names,
         &mut imports.used,
         true,
     ) {
@@ -153,6 +158,7 @@ fn read_import(
     requires place { line.now.offset + length line.now.text.now + 1 ≡ source.old.place }
     requires even { length (line_of line.now).covered ≤ length line.now.text.now }
     requires room { source.old.place ≤ 2 ^ 63 }
+    requires marked { HasMarks findings.old.imports }
     ensures left { OnOk result (source.new.left ≡ behind_taken (braces_after 0 (line_of line.now).covered) source.old.left) }
     ensures ok { let first = line_of line.now in
         let more = taken (braces_after 0 first.covered) source.old.left in
@@ -160,6 +166,7 @@ fn read_import(
         let found = with_import (found_of findings.old) line.now.offset leaves in
         OnOk result (found ≡ Ok (found_of findings.new)) }
     ensures names { OnOk result (Gains findings.old.names findings.new.names (names_of (taken (braces_after 0 (line_of line.now).covered) source.old.left))) }
+    ensures marked { OnOk result (HasMarks findings.new.imports) }
     ensures shorter { OnOk result (length source.new.left ≤ length source.old.left) }
     ensures err { let first = line_of line.now in
         let more = taken (braces_after 0 first.covered) source.old.left in
@@ -182,6 +189,7 @@ fn read_import(
         import.as_str(),
         line.offset,
         &mut findings.imports.declared,
+        &mut findings.imports.names,
     )
 }
 
@@ -197,9 +205,11 @@ fn read_kind(
     requires place { line.now.offset + length line.now.text.now + 1 ≡ source.old.place }
     requires even { length (line_of line.now).covered ≤ length line.now.text.now }
     requires room { source.old.place ≤ 2 ^ 63 }
+    requires marked { HasMarks findings.old.imports }
     ensures ok { OnOk result (found_in allow_defines (found_of findings.new) 0 source.new.left
         ≡ going_on (found_behind allow_defines (found_of findings.old) (line_of line.now) (line_kind_of kind.entry) source.old.left) (λ next. found_in allow_defines next (left_open (line_of line.now) (line_kind_of kind.entry)) source.old.left)) }
     ensures names { OnOk result ((name : List ℕ) → has_with findings.new.names (names_of source.new.left) name ≡ has_with findings.old.names (names_of source.old.left) name) }
+    ensures marked { OnOk result (HasMarks findings.new.imports) }
     ensures shorter { OnOk result (length source.new.left ≤ length source.old.left) }
     ensures err { IfErr result (λ e. Fails e (found_behind allow_defines (found_of findings.old) (line_of line.now) (line_kind_of kind.entry) source.old.left)) }
 {
@@ -236,8 +246,10 @@ fn read_line(
     requires place { line.now.offset + length line.now.text.now + 1 ≡ source.old.place }
     requires even { length (line_of line.now).covered ≤ length line.now.text.now }
     requires room { source.old.place ≤ 2 ^ 63 }
+    requires marked { HasMarks findings.old.imports }
     ensures ok { OnOk result (found_in allow_defines (found_of findings.new) 0 source.new.left ≡ found_in allow_defines (found_of findings.old) 0 (line_of line.now ∷ source.old.left)) }
     ensures names { OnOk result ((name : List ℕ) → has_with findings.new.names (names_of source.new.left) name ≡ has_with findings.old.names (names_of (line_of line.now ∷ source.old.left)) name) }
+    ensures marked { OnOk result (HasMarks findings.new.imports) }
     ensures shorter { OnOk result (length source.new.left ≤ length source.old.left) }
     ensures err { IfErr result (λ e. Fails e (found_in allow_defines (found_of findings.old) 0 (line_of line.now ∷ source.old.left))) }
 {
@@ -262,6 +274,7 @@ fn read_text(
         name: None,
         imports: Imports {
             declared: IndexMap::new(alloc),
+            names: DeclaredNames::new(),
             used: IndexMap::new(alloc),
         },
         defines: BTreeMap::new(alloc),

@@ -10,7 +10,7 @@ ghost use Rattle.naga_oil_pre.specs.Fault.{Definitions};
 ghost use Rattle.naga_oil_pre.specs.View.{Notes, Fails, Gives};
 ghost use Rattle.naga_oil_pre.specs.Preprocessed.{imported, prepend, passage, written, preprocessed};
 ghost use Rattle.naga_oil_pre.specs.LineEnds.{line_ends, declared_paths};
-ghost use Rattle.naga_oil_pre.specs.KnownView.{known_of, output_of};
+ghost use Rattle.naga_oil_pre.specs.KnownView.{known_of, output_of, HasMarks};
 ghost use Rattle.naga_oil_pre.specs.Reading.{taken};
 ghost use Rattle.naga_oil_pre.specs.Treatment.{status_of, open_after};
 ghost use Rattle.naga_oil_pre.specs.SourceView.{line_of};
@@ -21,6 +21,7 @@ use super::imports::{blank_line, show_line, take_lines};
 use super::line_kind::line_kind;
 use super::scope::Scope;
 use super::*;
+use naga_oil_lines::declared_names::DeclaredNames;
 
 /// What a text becomes.
 #[derive(Debug, Drop)]
@@ -106,11 +107,13 @@ fn write_import(
     requires place { line.offset + length line.text.now + 1 ≡ source.old.place }
     requires even { length (line_of line).covered ≤ length line.text.now }
     requires room { source.old.place ≤ 2 ^ 63 }
+    requires marked { HasMarks imports.old }
     requires braces { braces ≤ length (line_of line).covered }
     ensures ok { OnOk result ((defs : Definitions) (end : ℕ) (levels : List ScopeLevel) →
         prepend (string_bytes out.new) (written defs (known_of imports.new) (scanned defs end levels 0 source.new.left))
         ≡ prepend (string_bytes out.old) (written defs (known_of imports.old) (imported (line_of line.entry) (taken braces source.old.left) ∷ scanned defs end levels braces source.old.left))) }
     ensures end { OnOk result (end_place source.new.place source.new.left ≡ end_place source.old.place source.old.left) }
+    ensures marked { OnOk result (HasMarks imports.new) }
     ensures shorter { OnOk result (length source.new.left ≤ length source.old.left) }
     ensures err { IfErr result (λ e. (defs : Definitions) → Fails e (passage defs (known_of imports.old) (imported (line_of line.entry) (taken braces source.old.left)))) }
 {
@@ -118,7 +121,13 @@ fn write_import(
     import.push('\n')?;
     blank_line(out, line.text)?;
     take_lines(source, braces, &mut import, out)?;
-    declare(alloc, import.as_str(), line.offset, &mut imports.declared)
+    declare(
+        alloc,
+        import.as_str(),
+        line.offset,
+        &mut imports.declared,
+        &mut imports.names,
+    )
 }
 
 // Reads a line and writes what it becomes, with the lines that it takes.
@@ -134,10 +143,12 @@ fn write_line(
     requires place { line.offset + length line.text.now + 1 ≡ source.old.place }
     requires even { length (line_of line).covered ≤ length line.text.now }
     requires room { source.old.place ≤ 2 ^ 63 }
+    requires marked { HasMarks imports.old }
     ensures ok { OnOk result ((end : ℕ) →
         prepend (string_bytes out.new) (written (get_by_text definitions.now) (known_of imports.new) (scanned (get_by_text definitions.now) end scope.new 0 source.new.left))
         ≡ prepend (string_bytes out.old) (written (get_by_text definitions.now) (known_of imports.old) (scanned (get_by_text definitions.now) end scope.old 0 (line_of line.entry ∷ source.old.left)))) }
     ensures end { OnOk result (end_place source.new.place source.new.left ≡ end_place source.old.place source.old.left) }
+    ensures marked { OnOk result (HasMarks imports.new) }
     ensures shorter { OnOk result (length source.new.left ≤ length source.old.left) }
     ensures err { let given = get_by_text definitions.now in
         let left = line_of line.entry ∷ source.old.left in
@@ -189,6 +200,7 @@ impl Preprocessor {
         let mut source = SourceLines::new(alloc, &mut lines);
         let mut imports = Imports {
             declared: IndexMap::new(alloc),
+            names: DeclaredNames::new(),
             used: IndexMap::new(alloc),
         };
         while let Some(line) = source.next()? {

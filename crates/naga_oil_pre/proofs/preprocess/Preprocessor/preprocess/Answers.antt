@@ -1,7 +1,9 @@
 use Rattle.std.proofs.Common.{◌≡◌, ◌∙◌, [], false, map, ap, refl, rules, string_bytes}
+use Rattle.std.specs.List.{list_all}
 use Rattle.std.proofs.lemmas.Result.{err_from_is_err_and}
 use Rattle.std.proofs.lemmas.Option.{MatchOption-at_some}
 use Rattle.naga_oil_lines.specs.Declarations.{declared_of}
+use Rattle.naga_oil_lines.specs.NameMarks.{has_mark, keys_of}
 use Rattle.naga_oil_lines.specs.Uses.{uses_of, use_of}
 use Rattle.naga_oil_pre.specs.Scope.{is_open}
 use Rattle.naga_oil_pre.specs.KnownView.{known_of, output_of}
@@ -14,11 +16,12 @@ use Rattle.naga_oil_pre.proofs.preprocess.Preprocessor.preprocess.Goals as goal
 pub loop-imports-init : goal.loop-imports-init
 loop-imports-init c =
     let declared : declared_of c.new.result ≡ [] = search rules in
-    let used : uses_of c.new-2.result ≡ [] = search rules in
+    let used : uses_of c.new-3.result ≡ [] = search rules in
     let source = source_begins _ _ _ c.new-source.ensures c.lines-lines.ensures.rest in
     record {
+      marked = ap (λ d. list_all (has_mark c.new-2.result) (keys_of d)) declared;
       end = rw source refl;
-      told = rw (source, c.new-scope.ensures) (told_first _ (known_of (record { declared = c.new.result; used = c.new-2.result })) _ _ (nothing_is (known_of (record { declared = c.new.result; used = c.new-2.result })) declared used) c.in_ok-out.ensures.bytes);
+      told = rw (source, c.new-scope.ensures) (told_first _ (known_of (record { declared = c.new.result; names = c.new-2.result; used = c.new-3.result })) _ _ (nothing_is (known_of (record { declared = c.new.result; names = c.new-2.result; used = c.new-3.result })) declared used) c.in_ok-out.ensures.bytes);
     }
 
 pub returns-in_err-write_line-clause-value : goal.returns-in_err-write_line-clause-value
