@@ -7,7 +7,7 @@ use Rattle.std.proofs.lemmas.Option.{none-some, same_Some, slice_get_within, sli
 use Rattle.std.proofs.lemmas.Slice.Eq.{bytes_eq-Decides}
 use Rattle.naga_oil_form_laws.specs.EntryForm.{IsEntryFormed, IsModuleFormed}
 use Rattle.naga_oil_ir.specs.ModuleValue.{ModuleValue, EntryValue}
-use Rattle.naga_oil_ir.specs.NameForm.{Name}
+use Rattle.naga_oil_form.specs.NameForm.{Name}
 use Rattle.naga_oil_ir.specs.RedirectFault.{RedirectFault}
 use Rattle.naga_oil_lines.specs.Text.{is_among}
 use Rattle.naga_oil_pre.specs.Fault.{Fault}

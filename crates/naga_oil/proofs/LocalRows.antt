@@ -2,7 +2,7 @@
 use Rattle.std.specs.Prelude.{◌≡◌, refl, ℕ, Some, [], ◌∷◌, codes}
 use Rattle.std.proofs.Common.{ap, rules}
 use Rattle.std.proofs.lemmas.List.Elements.{All-cons, All-nil}
-use Rattle.naga_oil_lines.specs.Uses.{Import}
+use Rattle.naga_oil_imports.specs.Uses.{Import}
 use Rattle.naga_oil_link.specs.BuiltModule.{BuiltModule, Builds, nothing_built}
 use Rattle.naga_oil.specs.LocalLaw.{newest, AlikeIn}
 

@@ -15,7 +15,7 @@ use Rattle.std.specs.Str.{bytes_eq}
 use Rattle.std.specs.String.{string_cmp}
 use Rattle.naga_oil_lines.specs.Directives.{Directives}
 use Rattle.naga_oil_lines.specs.DirectivesText.{in_order}
-use Rattle.naga_oil_lines.specs.Leaves.{Leaf, SyntaxFault}
+use Rattle.naga_oil_imports.specs.Leaves.{Leaf, SyntaxFault}
 use Rattle.naga_oil_lines.specs.Text.{is_among, texts}
 use Rattle.naga_oil_lines.proofs.NamesInOrder.{names_rise}
 use Rattle.naga_oil_pre.specs.DefineValue.{defined_value}

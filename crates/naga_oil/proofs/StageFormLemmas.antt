@@ -3,9 +3,9 @@ use Rattle.std.proofs.Common.{◌≡◌, ◌∙◌, ℕ, ◌<◌, ◌≤◌, Lis
 use Rattle.std.proofs.lemmas.List.Elements.{All-map, All-weaker}
 use Rattle.std.proofs.lemmas.Option.{slice_get-get_or}
 use Rattle.naga_oil_ir.specs.Body.{block_tokens}
-use Rattle.naga_oil_ir.specs.BodyForm.{IsTokenFine}
+use Rattle.naga_oil_form.specs.BodyForm.{IsTokenFine}
 use Rattle.naga_oil_ir.specs.ModuleValue.{ModuleValue, EntryValue, module_value}
-use Rattle.naga_oil_ir.specs.WellFormed.{FunctionForm, FunctionsForm}
+use Rattle.naga_oil_form.specs.WellFormed.{FunctionForm, FunctionsForm}
 use Rattle.naga_oil_ir.specs.declared.module.Function.{Function}
 use Rattle.naga_oil_ir.specs.declared.module.Module.{Module}
 use Rattle.naga_oil_ir.specs.declared.names.ItemPlace.{ItemPlace}

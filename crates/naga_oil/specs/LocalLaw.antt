@@ -5,7 +5,7 @@ use Rattle.std.specs.List.{All, IsDistinct}
 use Rattle.std.specs.Map.{keys_of}
 use Rattle.std.specs.Option.{IsSomeAnd}
 use Rattle.naga_oil_ir.specs.Backend.{FaultValue}
-use Rattle.naga_oil_lines.specs.Uses.{Import, Use}
+use Rattle.naga_oil_imports.specs.Uses.{Import, Use}
 use Rattle.naga_oil_pre.specs.Preprocessed.{Output}
 use Rattle.naga_oil_registry.specs.Definition.{Definition, Defs}
 use Rattle.naga_oil_registry.specs.declared.descriptor.ShaderType.{ShaderType}

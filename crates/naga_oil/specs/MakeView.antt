@@ -1,6 +1,6 @@
 -- What the code of a make tells, and what its rules say.
 use Rattle.std.specs.Prelude.{◌≡◌, ◌≤◌, ◌⊎◌, ℕ, List, length, map, Option, Some, None, option_map, Result, Ok, Err, MatchOption, OnOk, string_bytes}
-use Rattle.naga_oil_lines.specs.Uses.{Use}
+use Rattle.naga_oil_imports.specs.Uses.{Use}
 use Rattle.naga_oil_pre.specs.Fault.{Fault}
 use Rattle.naga_oil_pre.specs.View.{fault_of}
 use Rattle.naga_oil_pre.specs.declared.fault.ComposerErrorInner.{ComposerErrorInner}

@@ -5,7 +5,7 @@ use mathlib.Core.Bool.{beq}
 use Rattle.std.specs.Map.{lookup}
 use Rattle.std.specs.Ordering.{int_eq}
 use Rattle.naga_oil_lines.specs.DirectivesText.{in_order}
-use Rattle.naga_oil_lines.specs.Uses.{Use}
+use Rattle.naga_oil_imports.specs.Uses.{Use}
 use Rattle.naga_oil_pre.specs.Fault.{Fault, Definitions, import_not_found, inconsistent_def}
 use Rattle.naga_oil_pre.specs.Kind.{LineKind, define, unversioned_kind_of}
 use Rattle.naga_oil_pre.specs.Line.{source_lines}

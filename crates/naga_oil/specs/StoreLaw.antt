@@ -3,7 +3,7 @@ use Rattle.std.specs.Prelude.{◌≡◌, ℕ, List, [], ◌∷◌, drop, suc, sl
 use Rattle.std.specs.List.{All, IsDistinct}
 use Rattle.std.specs.Map.{keys_of}
 use Rattle.std.specs.Option.{IsSomeAnd}
-use Rattle.naga_oil_lines.specs.Uses.{Import}
+use Rattle.naga_oil_imports.specs.Uses.{Import}
 use Rattle.naga_oil_registry.specs.Added.{registry_with}
 use Rattle.naga_oil_registry.specs.Definition.{Definition, Defs}
 use Rattle.naga_oil_registry.specs.Registry.{IsRegistry, module_named, reaches, removed}

@@ -32,10 +32,8 @@ pub use naga_oil_lines::decorate::{decode, decorated_name, undecorate};
 pub use naga_oil_lines::wgsl_directives::{
     DiagnosticDirective, EnableDirective, RequiresDirective, WgslDirectives,
 };
-pub use naga_oil_lines::{
-    ImportDefWithOffset, ImportDefinition, comment_strip_iter, decorate, parse_imports, tokenizer,
-    wgsl_directives,
-};
+pub use naga_oil_imports::{ImportDefWithOffset, ImportDefinition, parse_imports};
+pub use naga_oil_lines::{comment_strip_iter, decorate, tokenizer, wgsl_directives};
 pub use naga_oil_link::ComposableModule;
 use naga_oil_link::{Build, Builds, Overrides};
 pub use naga_oil_pre as preprocess;

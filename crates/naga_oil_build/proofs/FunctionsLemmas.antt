@@ -1,7 +1,7 @@
 -- What a text says of functions by keywords.
 use Rattle.std.proofs.Common.{◌≡◌, Bool, ℕ, List, Option, Some, None, option_map, MatchOption, Result, Ok, Err, refl, sym, ap, ◌∙◌}
 use Rattle.std.specs.Prelude.{codes}
-use Rattle.naga_oil_lines.specs.Uses.{Import}
+use Rattle.naga_oil_imports.specs.Uses.{Import}
 use Rattle.naga_oil_pre.specs.Fault.{Fault}
 use Rattle.naga_oil_pre.specs.View.{Fails, fault_of}
 use Rattle.naga_oil_pre.specs.declared.fault.ComposerErrorInner.{ComposerErrorInner}

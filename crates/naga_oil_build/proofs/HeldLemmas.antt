@@ -4,8 +4,8 @@ use Rattle.std.specs.Prelude.{◌&&◌}
 use Rattle.std.proofs.lemmas.Bool.{lt-ltb, le-ltb}
 use Rattle.naga_oil_ir.specs.Backend.{FrontEnd}
 use Rattle.naga_oil_ir.specs.ModuleValue.{ModuleValue}
-use Rattle.naga_oil_ir.specs.declared.check_form.FormFault.{FormFault}
-use Rattle.naga_oil_ir.specs.declared.check_form.FormFault.TheVariants.{WrongForm, Memory}
+use Rattle.naga_oil_form.specs.declared.check_form.FormFault.{FormFault}
+use Rattle.naga_oil_form.specs.declared.check_form.FormFault.TheVariants.{WrongForm, Memory}
 use Rattle.naga_oil_ir.specs.declared.language.ShaderLanguage.{ShaderLanguage}
 use Rattle.naga_oil_pre.specs.Fault.{Fault, text_too_large, wrong_form}
 use Rattle.naga_oil_pre.specs.View.{Fails, Gives}

@@ -11,7 +11,7 @@ use Rattle.std.specs.Option.{option_or}
 use Rattle.std.specs.Str.Pattern.{RFindsText, FindsTextSuffix, LacksTextAt, SplitsAroundMatch, StripsSuffix}
 use Rattle.naga_oil_lines.specs.Decorate.{decoded}
 use Rattle.naga_oil_marks.specs.Marks.{module_mark}
-use Rattle.naga_oil_lines.specs.Uses.{Import}
+use Rattle.naga_oil_imports.specs.Uses.{Import}
 use Rattle.naga_oil_pre.specs.Fault.{Fault}
 use Rattle.naga_oil_pre.specs.View.{fault_of}
 use Rattle.naga_oil_pre.specs.declared.fault.ComposerErrorInner.{ComposerErrorInner}

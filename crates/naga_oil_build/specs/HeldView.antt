@@ -1,7 +1,7 @@
 -- A module's form, as a fault.
 use Rattle.std.specs.Prelude.{◌≡◌, Result, Ok, Err}
-use Rattle.naga_oil_ir.specs.declared.check_form.FormFault.{FormFault}
-use Rattle.naga_oil_ir.specs.declared.check_form.FormFault.TheVariants as form
+use Rattle.naga_oil_form.specs.declared.check_form.FormFault.{FormFault}
+use Rattle.naga_oil_form.specs.declared.check_form.FormFault.TheVariants as form
 use Rattle.naga_oil_pre.specs.declared.fault.ComposerErrorInner.{ComposerErrorInner}
 use Rattle.naga_oil_pre.specs.declared.fault.ComposerErrorInner.TheVariants as code
 

@@ -1,7 +1,7 @@
 -- Functions that are overridden, each with those that override it.
 use Rattle.std.specs.Prelude.{ℕ, List, [], ◌∷◌, ◌++◌, fold, if◌then◌else◌, bytes_eq, Option, Some, None}
 use Rattle.std.specs.Map.{lookup}
-use Rattle.naga_oil_lines.specs.Uses.{Import}
+use Rattle.naga_oil_imports.specs.Uses.{Import}
 use Rattle.naga_oil_lines.specs.Text.{is_among}
 pub use Rattle.naga_oil_link.specs.BuiltModule.{overriding_of}
 use Rattle.naga_oil_link.specs.BuiltModule.{BuiltModule, Overriding, Builds}

@@ -3,7 +3,7 @@ ghost use Rattle.std.specs.Prelude.{◌≡◌, ◌≤◌, [], map, string_bytes,
 ghost use Rattle.std.specs.BTreeMap.{get_by_text};
 ghost use Rattle.naga_oil_ir.specs.ModuleValue.{module_value};
 ghost use Rattle.naga_oil_lines.specs.Text.{texts};
-ghost use Rattle.naga_oil_lines.specs.Uses.{import_of, use_of};
+ghost use Rattle.naga_oil_imports.specs.Uses.{import_of, use_of};
 ghost use Rattle.naga_oil_pre.specs.KnownView.{output_of};
 ghost use Rattle.naga_oil_pre.specs.View.{Gives};
 ghost use Rattle.naga_oil_registry.specs.Definition.{definition_of};

@@ -1,7 +1,7 @@
 //! What a build holds of the module that its whole text says.
 ghost use Rattle.std.specs.Prelude.{◌≡◌, ◌<◌, IfOk, length, string_bytes};
 ghost use Rattle.naga_oil_ir.specs.ModuleValue.{module_value};
-ghost use Rattle.naga_oil_ir.specs.WellFormed.{WellFormed};
+ghost use Rattle.naga_oil_form.specs.WellFormed.{WellFormed};
 ghost use Rattle.naga_oil_form_laws.specs.EntryForm.{IsModuleFormed};
 ghost use Rattle.naga_oil_pre.specs.View.{Gives};
 ghost use Rattle.naga_oil_link.specs.BuiltModule.{built_of};

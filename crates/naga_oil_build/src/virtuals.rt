@@ -5,7 +5,7 @@ ghost use Rattle.std.specs.List.{list_all};
 ghost use Rattle.std.specs.Ordering.{nat_cmp};
 ghost use Rattle.std.specs.Str.{chars};
 ghost use Rattle.ucd_perl.specs.Perl.{is_word_char};
-ghost use Rattle.naga_oil_lines.specs.Uses.{import_of};
+ghost use Rattle.naga_oil_imports.specs.Uses.{import_of};
 ghost use Rattle.naga_oil_pre.specs.Fault.{Fault};
 ghost use Rattle.naga_oil_pre.specs.View.{fault_of, Gives};
 ghost use Rattle.std.specs.Option.{option_or};

@@ -4,7 +4,7 @@ use Rattle.std.specs.List.{filter}
 use Rattle.naga_oil_ir.specs.ModuleValue.{ModuleValue}
 use Rattle.naga_oil_ir.specs.Rows.{Text}
 use Rattle.naga_oil_lines.specs.Text.{is_among}
-use Rattle.naga_oil_lines.specs.Uses.{Import}
+use Rattle.naga_oil_imports.specs.Uses.{Import}
 use Rattle.naga_oil_derive.specs.Derived.{Derived}
 use Rattle.naga_oil_derive.specs.DerivedFunctions.{meant}
 use Rattle.naga_oil_derive.specs.DerivedValue.{import_item, import_function, set_source}

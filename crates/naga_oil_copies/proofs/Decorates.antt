@@ -6,7 +6,7 @@ use Rattle.naga_oil_ir.specs.ModuleValue.{ModuleValue, no_items}
 use Rattle.naga_oil_ir.specs.Rows.{Row, Text}
 use Rattle.naga_oil_ir.specs.declared.names.ItemPlace.{ItemPlace}
 use Rattle.naga_oil_ir.specs.declared.names.ItemPlace.TheVariants.{TypeItem, ConstantItem, OverrideItem, GlobalItem, ExpressionItem}
-use Rattle.naga_oil_ir.proofs.LinkLemmas.{eqb_eq, eq_eqb}
+use Rattle.naga_oil_form.proofs.LinkLemmas.{eqb_eq, eq_eqb}
 use Rattle.naga_oil_rename.specs.Renames.{under_name}
 use Rattle.naga_oil_derive.specs.declared.special.SpecialKey.{SpecialKey}
 use Rattle.naga_oil_derive.specs.Collected.{depth}
@@ -34,8 +34,8 @@ use Rattle.std.proofs.lemmas.Bool.{false≢true, cases_lt}
 use Rattle.std.proofs.lemmas.List.Elements.{All-nil, All-cons, All-append, Contains-append_cases, Contains-push_cases}
 use Rattle.std.proofs.lemmas.List.Sums.{fold-append}
 use Rattle.std.specs.List.{range_with_len}
-use Rattle.naga_oil_ir.specs.Links.{has}
-use Rattle.naga_oil_ir.proofs.LinkLemmas.{or_left, or_right}
+use Rattle.naga_oil_form.specs.Links.{has}
+use Rattle.naga_oil_form.proofs.LinkLemmas.{or_left, or_right}
 use Rattle.naga_oil_derive.specs.Collected.{reached, names_trail, row_trail, kept_trail}
 use Rattle.naga_oil_derive.specs.Copying.{WentSomewhere}
 use Rattle.naga_oil_derive.specs.CopiedLaw.{PlacesAmong}

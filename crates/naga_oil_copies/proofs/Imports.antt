@@ -8,7 +8,7 @@ use Rattle.naga_oil_ir.specs.Rows.{Row, Text}
 use Rattle.naga_oil_ir.specs.declared.names.ItemPlace.{ItemPlace}
 use Rattle.naga_oil_ir.specs.declared.names.ItemPlace.TheVariants.{TypeItem, ConstantItem, OverrideItem, GlobalItem, ExpressionItem}
 use Rattle.naga_oil_lines.specs.Text.{is_among}
-use Rattle.naga_oil_lines.specs.Uses.{Import}
+use Rattle.naga_oil_imports.specs.Uses.{Import}
 use Rattle.naga_oil_derive.specs.Derived.{Derived, nothing}
 use Rattle.naga_oil_derive.specs.World.{world}
 use Rattle.naga_oil_form_laws.specs.EntryForm.{IsModuleFormed}

@@ -5,7 +5,7 @@ use Rattle.std.proofs.lemmas.Bool.{false≢true, and_parts}
 use Rattle.naga_oil_ir.specs.ModuleValue.{ModuleValue, FunctionValue}
 use Rattle.naga_oil_ir.specs.declared.names.ItemPlace.{ItemPlace}
 use Rattle.naga_oil_ir.specs.declared.span.Span.{Span}
-use Rattle.naga_oil_ir.proofs.LinkLemmas.{eqb_eq, eq_eqb}
+use Rattle.naga_oil_form.proofs.LinkLemmas.{eqb_eq, eq_eqb}
 use Rattle.naga_oil_derive.specs.CopiedEntry.{make_module}
 use Rattle.naga_oil_derive.specs.Tree.{World}
 use Rattle.naga_oil_derive.specs.declared.special.SpecialKey.{SpecialKey}

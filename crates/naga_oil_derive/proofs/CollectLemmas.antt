@@ -10,7 +10,7 @@ use Rattle.naga_oil_derive.specs.World.{world}
 use Rattle.naga_oil_derive.specs.Collected.{names_trail, row_trail, kept_trail, reached, Stands, Collects, Done, Known, Fresh, Comes}
 use Rattle.naga_oil_derive.specs.Copying.{IsWhole, Goes, NameGoesTo, AreCopied, IsSound, Fetches, rank}
 use Rattle.naga_oil_derive.proofs.TreeLemmas.{reads, same_place, tree-later, trees_same}
-use Rattle.naga_oil_ir.proofs.LinkLemmas.{eqb_eq, eq_eqb}
+use Rattle.naga_oil_form.proofs.LinkLemmas.{eqb_eq, eq_eqb}
 use Rattle.naga_oil_ir.specs.declared.names.ItemPlace.TheVariants.{TypeItem, ConstantItem, OverrideItem, GlobalItem, ExpressionItem}
 use Rattle.naga_oil_ir.specs.Rows.{Text}
 use Rattle.naga_oil_rename.specs.Renames.{under_name}

@@ -5,8 +5,8 @@ use Rattle.std.proofs.lemmas.Bool.{false≢true, true≢false}
 use Rattle.std.proofs.lemmas.List.{append-nil, append_assoc, map-append, length_push, take_more, take-take}
 use Rattle.std.proofs.lemmas.Option.{slice_get-get_or, none-some}
 use Rattle.naga_oil_ir.specs.Parts.{Parts, parts}
-use Rattle.naga_oil_ir.specs.Links.{Links, has}
-use Rattle.naga_oil_ir.specs.BodyForm.{run, operand_links}
+use Rattle.naga_oil_form.specs.Links.{Links, has}
+use Rattle.naga_oil_form.specs.BodyForm.{run, operand_links}
 use Rattle.naga_oil_ir.specs.ModuleValue.{expression_values}
 use Rattle.naga_oil_ir.specs.declared.expression.Expression.{Expression}
 use Rattle.naga_oil_ir.specs.declared.span.Span.{Span}

@@ -6,10 +6,10 @@ use Rattle.std.proofs.lemmas.Bool.{cases_eq, cases_lt, or_cases, or_left, or_rig
 use Rattle.std.proofs.lemmas.List.{map-append, length_push}
 use Rattle.std.proofs.lemmas.Option.{slice_get_within, none-some, same_Some}
 use Rattle.naga_oil_ir.specs.Parts.{Parts}
-use Rattle.naga_oil_ir.specs.Links.{linked, has, added}
-use Rattle.naga_oil_ir.specs.BodyForm.{run}
+use Rattle.naga_oil_form.specs.Links.{linked, has, added}
+use Rattle.naga_oil_form.specs.BodyForm.{run}
 use Rattle.naga_oil_ir.specs.declared.span.Span.{Span}
-use Rattle.naga_oil_ir.proofs.LinkLemmas.{has-append, has-added, itself, linked-map, slice_get-set_same, slice_get-set_other, slice_get-append_within, slice_get-append_at, eqb_eq, eq_eqb}
+use Rattle.naga_oil_form.proofs.LinkLemmas.{has-append, has-added, itself, linked-map, slice_get-set_same, slice_get-set_other, slice_get-append_within, slice_get-append_at, eqb_eq, eq_eqb}
 use Rattle.naga_oil_rename.specs.Renames.{Renames}
 use Rattle.naga_oil_walk.specs.Walk.{Holds}
 use Rattle.naga_oil_derive.specs.Copies.{Values, Table, place_under, copied, AreCopies, LacksBefore, IsPut, AreApart, value_links}

@@ -2,7 +2,7 @@
 use Rattle.std.proofs.Common.{◌≡◌, ◌<◌, ℕ, List, [], length, map, Option, Some, None, option_map, refl, ap, sym, ◌∙◌, subst, All, IfSome, Global, String, string_bytes}
 use Rattle.std.specs.Borrow.{Bor}
 use Rattle.std.proofs.lemmas.List.Elements.{All-weaker}
-use Rattle.naga_oil_ir.specs.ItemForm.{special_types}
+use Rattle.naga_oil_form.specs.ItemForm.{special_types}
 use Rattle.naga_oil_ir.specs.ModuleValue.{SpecialValue, special_value, no_items}
 use Rattle.naga_oil_ir.specs.declared.module.Module.{Module}
 use Rattle.naga_oil_ir.specs.declared.names.ItemPlace.TheVariants.{TypeItem}

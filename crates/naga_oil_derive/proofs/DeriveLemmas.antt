@@ -1,7 +1,7 @@
 use Rattle.std.proofs.Common.{◌≡◌, ◌⊎◌, inl, inr, ⊎_elim, ℕ, Bool, true, false, List, [], ◌∷◌, ◌++◌, map, Option, Some, None, option_map, option_to_list, is_some, if◌then◌else◌, ◌==◌, refl, ap, sym, ◌∙◌, subst, All, Vec, Global}
 use Rattle.std.proofs.lemmas.List.{append_assoc}
 use Rattle.std.proofs.lemmas.List.Elements.{All-head, All-tail, All-cons, All-nil}
-use Rattle.naga_oil_ir.specs.ItemForm.{special_types}
+use Rattle.naga_oil_form.specs.ItemForm.{special_types}
 use Rattle.naga_oil_ir.specs.Parts.{parts}
 use Rattle.naga_oil_ir.specs.Rows.{Row, type_row, constant_row, override_row, global_row}
 use Rattle.naga_oil_ir.specs.ModuleValue.{SpecialValue, special_value, entry_value, function_value, no_items}
@@ -25,7 +25,7 @@ use Rattle.naga_oil_derive.specs.World.{value_of, world, named_world, name_at, s
 use Rattle.naga_oil_derive.specs.Copying.{Goes, Grows, places_of, goes_under}
 use Rattle.naga_oil_derive.specs.Derived.{Source, IsLaterSource}
 use Rattle.naga_oil_derive.proofs.TreeLemmas.{same_number}
-use Rattle.naga_oil_ir.proofs.LinkLemmas.{eqb_eq}
+use Rattle.naga_oil_form.proofs.LinkLemmas.{eqb_eq}
 use Rattle.naga_oil_derive.proofs.SpecialLemmas.{Entry, coded, entries_nested, more_case, special_set, special_others}
 
 -- ---- the module of nothing

@@ -7,7 +7,7 @@ use Rattle.std.proofs.lemmas.List.Sums.{fails_before_first}
 use Rattle.naga_oil_ir.specs.Places.{place_of, with_element}
 use Rattle.naga_oil_ir.specs.Rows.{Row}
 use Rattle.naga_oil_ir.specs.declared.span.Span.{Span}
-use Rattle.naga_oil_ir.proofs.LinkLemmas.{slice_get-append_at}
+use Rattle.naga_oil_form.proofs.LinkLemmas.{slice_get-append_at}
 use Rattle.naga_oil_derive.proofs.WorldLemmas.{rows}
 
 -- ---- one list

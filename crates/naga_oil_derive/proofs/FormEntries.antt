@@ -3,7 +3,7 @@ use Rattle.std.proofs.Common.{◌≡◌, ℕ, ◌<◌, List, length, map, Option
 use Rattle.std.proofs.lemmas.List.Elements.{All-weaker, All-map}
 use Rattle.naga_oil_ir.specs.ModuleValue.{ModuleValue, FunctionValue, EntryValue, entry_value, function_value}
 use Rattle.naga_oil_ir.specs.Rows.{Row}
-use Rattle.naga_oil_ir.specs.WellFormed.{IsExpressionThere, MeshForm, FunctionForm, EntryForm}
+use Rattle.naga_oil_form.specs.WellFormed.{IsExpressionThere, MeshForm, FunctionForm, EntryForm}
 use Rattle.naga_oil_ir.specs.declared.module.EntryPoint.{EntryPoint}
 use Rattle.naga_oil_ir.specs.declared.module.Function.{Function}
 use Rattle.naga_oil_ir.specs.declared.module.MeshInfo.{MeshInfo}

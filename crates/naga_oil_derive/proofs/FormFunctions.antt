@@ -4,12 +4,12 @@ use Rattle.std.specs.List.{flat_map}
 use Rattle.std.proofs.lemmas.List.Elements.{All-nil, All-cons, All-weaker, All-append, All-head, All-tail, All-map}
 use Rattle.std.proofs.lemmas.Option.{slice_get_within, slice_get-get_or, none-some, same_Some}
 use Rattle.naga_oil_ir.specs.Body.{Tokens, block_tokens}
-use Rattle.naga_oil_ir.specs.BodyForm.{kinds, named_of, operand_links, IsTokenFine}
-use Rattle.naga_oil_ir.specs.Links.{Links, linked}
+use Rattle.naga_oil_form.specs.BodyForm.{kinds, named_of, operand_links, IsTokenFine}
+use Rattle.naga_oil_form.specs.Links.{Links, linked}
 use Rattle.naga_oil_ir.specs.ModuleValue.{FunctionValue, function_value}
-use Rattle.naga_oil_ir.specs.NameForm.{Name}
+use Rattle.naga_oil_form.specs.NameForm.{Name}
 use Rattle.naga_oil_ir.specs.Rows.{named_place}
-use Rattle.naga_oil_ir.specs.WellFormed.{NamedThere, FunctionForm, FunctionsForm, WellFormed}
+use Rattle.naga_oil_form.specs.WellFormed.{NamedThere, FunctionForm, FunctionsForm, WellFormed}
 use Rattle.naga_oil_ir.specs.declared.module.Module.{Module}
 use Rattle.naga_oil_ir.specs.declared.module.Function.{Function}
 use Rattle.naga_oil_ir.specs.declared.module.FunctionArgument.{FunctionArgument}

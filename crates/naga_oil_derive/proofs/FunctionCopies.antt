@@ -7,10 +7,10 @@ use Rattle.naga_oil_ir.specs.Parts.{parts}
 use Rattle.naga_oil_ir.specs.Places.{place_of, with_element}
 use Rattle.naga_oil_ir.specs.Rows.{Text}
 use Rattle.naga_oil_ir.specs.Body.{Tokens, block_tokens}
-use Rattle.naga_oil_ir.specs.BodyForm.{kinds, operand_links}
-use Rattle.naga_oil_ir.specs.Links.{started}
+use Rattle.naga_oil_form.specs.BodyForm.{kinds, operand_links}
+use Rattle.naga_oil_form.specs.Links.{started}
 use Rattle.naga_oil_ir.specs.ModuleValue.{FunctionValue, ArgumentValue, LocalValue, expression_values, function_value}
-use Rattle.naga_oil_ir.specs.WellFormed.{initialisers}
+use Rattle.naga_oil_form.specs.WellFormed.{initialisers}
 use Rattle.naga_oil_ir.specs.declared.expression.Expression.{Expression}
 use Rattle.naga_oil_ir.specs.declared.module.Function.{Function}
 use Rattle.naga_oil_ir.specs.declared.module.FunctionResult.{FunctionResult}

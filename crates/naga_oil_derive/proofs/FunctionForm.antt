@@ -7,13 +7,13 @@ use Rattle.std.proofs.lemmas.List.Elements.{All-head, All-tail}
 use Rattle.std.proofs.lemmas.Option.{slice_get-map}
 use Rattle.naga_oil_ir.specs.Parts.{Parts}
 use Rattle.naga_oil_ir.specs.Body.{Tokens}
-use Rattle.naga_oil_ir.specs.BodyForm.{run, places, callee, external_kind, result_kind}
-use Rattle.naga_oil_ir.specs.Links.{Links, linked, AreEarlier, reach, trail, started, has, added}
+use Rattle.naga_oil_form.specs.BodyForm.{run, places, callee, external_kind, result_kind}
+use Rattle.naga_oil_form.specs.Links.{Links, linked, AreEarlier, reach, trail, started, has, added}
 use Rattle.naga_oil_ir.specs.ModuleValue.{FunctionValue}
 use Rattle.naga_oil_ir.specs.declared.span.Span.{Span}
 use Rattle.naga_oil_ir.specs.declared.tokens.Token.{Token}
 use Rattle.naga_oil_ir.specs.declared.tokens.Token.TheVariants.{Use, Give, GiveCall, Emitted}
-use Rattle.naga_oil_ir.proofs.LinkLemmas.{All-has, All-from_has, eqb_eq, eq_eqb, has-append, has-added, has-started, in_one, named_below, only}
+use Rattle.naga_oil_form.proofs.LinkLemmas.{All-has, All-from_has, eqb_eq, eq_eqb, has-append, has-added, has-started, in_one, named_below, only}
 use Rattle.naga_oil_walk.specs.Walk.{IsReachOrder, IsWithin, externals, brief, listed, Notes, AreNoted, AreWithin}
 use Rattle.naga_oil_walk.specs.Walks.{IsWalkOf}
 use Rattle.naga_oil_derive.specs.Copies.{Values, value_links}

@@ -6,12 +6,12 @@ use Rattle.std.proofs.lemmas.List.{length-map}
 use Rattle.std.proofs.lemmas.List.Elements.{All-weaker}
 use Rattle.std.proofs.lemmas.Option.{slice_get-map, none-some, same_Some}
 use Rattle.indexmap.specs.IndexMap.{IndexMap}
-use Rattle.naga_oil_ir.specs.Links.{Links}
+use Rattle.naga_oil_form.specs.Links.{Links}
 use Rattle.naga_oil_ir.specs.Body.{block_tokens}
-use Rattle.naga_oil_ir.specs.BodyForm.{kinds, named_of, callees, callee, operand_links, MayStand}
+use Rattle.naga_oil_form.specs.BodyForm.{kinds, named_of, callees, callee, operand_links, MayStand}
 use Rattle.naga_oil_ir.specs.ModuleValue.{ArgumentValue, FunctionValue, argument_value, function_value, expression_values}
 use Rattle.naga_oil_ir.specs.Parts.{Parts, parts}
-use Rattle.naga_oil_ir.specs.WellFormed.{initialisers}
+use Rattle.naga_oil_form.specs.WellFormed.{initialisers}
 use Rattle.naga_oil_ir.specs.declared.expression.Expression.{Expression}
 use Rattle.naga_oil_ir.specs.declared.module.Module.{Module}
 use Rattle.naga_oil_ir.specs.declared.module.Function.{Function}

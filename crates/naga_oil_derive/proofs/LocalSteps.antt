@@ -9,10 +9,10 @@ use Rattle.std.proofs.lemmas.List.{length-append, length-map, map-append}
 use Rattle.std.proofs.lemmas.Option.{none-some}
 use Rattle.naga_oil_ir.specs.Parts.{parts}
 use Rattle.naga_oil_ir.specs.Body.{block_tokens}
-use Rattle.naga_oil_ir.specs.BodyForm.{kinds, operand_links}
-use Rattle.naga_oil_ir.specs.Links.{Links, started}
+use Rattle.naga_oil_form.specs.BodyForm.{kinds, operand_links}
+use Rattle.naga_oil_form.specs.Links.{Links, started}
 use Rattle.naga_oil_ir.specs.ModuleValue.{expression_values, function_value}
-use Rattle.naga_oil_ir.specs.WellFormed.{initialisers}
+use Rattle.naga_oil_form.specs.WellFormed.{initialisers}
 use Rattle.naga_oil_ir.specs.declared.expression.Expression.{Expression}
 use Rattle.naga_oil_ir.specs.declared.module.Function.{Function}
 use Rattle.naga_oil_ir.specs.declared.span.Span.{Span}

@@ -7,10 +7,10 @@ use Rattle.std.proofs.lemmas.List.{append_assoc, map-append, length-append, leng
 use Rattle.std.proofs.lemmas.Option.{none-some, same_Some}
 use Rattle.naga_oil_ir.specs.Parts.{parts}
 use Rattle.naga_oil_ir.specs.Body.{Tokens}
-use Rattle.naga_oil_ir.specs.BodyForm.{run, places, kinds}
-use Rattle.naga_oil_ir.specs.Links.{Links, started}
+use Rattle.naga_oil_form.specs.BodyForm.{run, places, kinds}
+use Rattle.naga_oil_form.specs.Links.{Links, started}
 use Rattle.naga_oil_ir.specs.ModuleValue.{expression_values}
-use Rattle.naga_oil_ir.specs.WellFormed.{initialisers_of}
+use Rattle.naga_oil_form.specs.WellFormed.{initialisers_of}
 use Rattle.naga_oil_ir.specs.declared.expression.Expression.{Expression}
 use Rattle.naga_oil_ir.specs.declared.span.Span.{Span}
 use Rattle.naga_oil_ir.specs.declared.tokens.Token.{Token}

@@ -5,8 +5,8 @@ use Rattle.std.specs.Option.{option_eq, option_flatten}
 use Rattle.std.proofs.lemmas.Bool.{false≢true, ne_eqb}
 use Rattle.std.proofs.lemmas.List.{reverse-append}
 use Rattle.indexmap.specs.IndexMap.{insert_entry}
-use Rattle.naga_oil_ir.specs.Links.{has, added}
-use Rattle.naga_oil_ir.proofs.LinkLemmas.{eqb_eq, eq_eqb}
+use Rattle.naga_oil_form.specs.Links.{has, added}
+use Rattle.naga_oil_form.proofs.LinkLemmas.{eqb_eq, eq_eqb}
 use Rattle.naga_oil_derive.specs.Copies.{Table}
 use Rattle.naga_oil_derive.specs.CopiedFunction.{copy_function}
 use Rattle.naga_oil_derive.specs.CopiedFunctionLaw.{table_of, is_copied_to, named_copies, NameLaw}

@@ -7,13 +7,13 @@ use Rattle.std.proofs.lemmas.List.{length-append, length-map, length-replicate}
 use Rattle.std.proofs.lemmas.Option.{none-some, same_Some, slice_get_within}
 use Rattle.naga_oil_ir.specs.Parts.{Parts}
 use Rattle.naga_oil_ir.specs.Body.{Tokens}
-use Rattle.naga_oil_ir.specs.BodyForm.{places, made, callee, AreFine}
-use Rattle.naga_oil_ir.specs.Links.{Links, linked, AreEarlier, trail, added}
+use Rattle.naga_oil_form.specs.BodyForm.{places, made, callee, AreFine}
+use Rattle.naga_oil_form.specs.Links.{Links, linked, AreEarlier, trail, added}
 use Rattle.naga_oil_ir.specs.ModuleValue.{FunctionValue}
 use Rattle.naga_oil_ir.specs.declared.span.Span.{Span}
 use Rattle.naga_oil_ir.specs.declared.tokens.Token.{Token}
 use Rattle.naga_oil_ir.specs.declared.tokens.Token.TheVariants.{Emitted}
-use Rattle.naga_oil_ir.proofs.LinkLemmas.{slice_get-set_same, slice_get-set_other}
+use Rattle.naga_oil_form.proofs.LinkLemmas.{slice_get-set_same, slice_get-set_other}
 use Rattle.naga_oil_walk.specs.Walk.{externals, others, listed, brief, Notes, noted, notes_of, notes_after, AreWithin}
 use Rattle.naga_oil_derive.specs.Copies.{value_links}
 use Rattle.naga_oil_derive.specs.CopiedFunction.{notes_in}

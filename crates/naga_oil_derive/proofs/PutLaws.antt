@@ -13,7 +13,7 @@ use Rattle.naga_oil_ir.specs.declared.parts.Named.TheVariants.{Nothing, TypeOf, 
 use Rattle.naga_oil_ir.specs.declared.names.ItemPlace.{ItemPlace}
 use Rattle.naga_oil_ir.specs.declared.names.ItemPlace.TheVariants.{TypeItem, ConstantItem, OverrideItem, GlobalItem, ExpressionItem}
 use Rattle.naga_oil_ir.specs.declared.span.Span.{Span}
-use Rattle.naga_oil_ir.proofs.LinkLemmas.{slice_get-set_same, slice_get-set_other, slice_get-append_at}
+use Rattle.naga_oil_form.proofs.LinkLemmas.{slice_get-set_same, slice_get-set_other, slice_get-append_at}
 use Rattle.naga_oil_derive.specs.Equal.{row_eq, parts_eq}
 use Rattle.naga_oil_rename.specs.Renames.{rename, rename_place, rename_row, under_name}
 use Rattle.naga_oil_derive.specs.World.{Places, goes, world, span_at, shifted, Extends}

@@ -7,8 +7,8 @@ use Rattle.std.proofs.lemmas.List.{append_assoc, take-take, take_at, length-map,
 use Rattle.std.proofs.lemmas.Option.{none-some, same_Some, slice_get-get_or, slice_get-map, slice_get_past}
 use Rattle.naga_oil_ir.specs.Parts.{Parts}
 use Rattle.naga_oil_ir.specs.Body.{Tokens}
-use Rattle.naga_oil_ir.specs.BodyForm.{places}
-use Rattle.naga_oil_ir.specs.Links.{Links, trail, has, added}
+use Rattle.naga_oil_form.specs.BodyForm.{places}
+use Rattle.naga_oil_form.specs.Links.{Links, trail, has, added}
 use Rattle.naga_oil_ir.specs.ModuleValue.{FunctionValue}
 use Rattle.naga_oil_ir.specs.declared.span.Span.{Span}
 use Rattle.naga_oil_ir.specs.declared.tokens.Token.{Token}

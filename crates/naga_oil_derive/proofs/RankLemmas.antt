@@ -6,11 +6,11 @@ use Rattle.std.proofs.lemmas.List.Folds.{list_any-append}
 use Rattle.std.proofs.lemmas.List.{length-map}
 use Rattle.std.proofs.lemmas.List.Elements.{All-head, All-tail, All-cons, All-nil}
 use Rattle.std.proofs.lemmas.Option.{slice_get-map, slice_get_within}
-use Rattle.naga_oil_ir.specs.BodyForm.{operand_links, kinds}
+use Rattle.naga_oil_form.specs.BodyForm.{operand_links, kinds}
 use Rattle.naga_oil_ir.specs.Parts.{Parts, parts}
 use Rattle.naga_oil_ir.specs.Rows.{Row, Text, inner_row, type_row, constant_row, override_row, global_row, expression_row, member_type, size_name, named_place}
-use Rattle.naga_oil_ir.specs.Links.{Links, AreEarlier, linked, trail, has, is_marked, reaches}
-use Rattle.naga_oil_ir.specs.ItemForm.{IsThere as IsPlaceThere, type_at, types_named, types_of, type_links, is_override, pending, is_sized, initialiser, init_of_constant, init_of_override, ItemForm, IsGlobalKind, NamesForm, ExpressionForm}
+use Rattle.naga_oil_form.specs.Links.{Links, AreEarlier, linked, trail, has, is_marked, reaches}
+use Rattle.naga_oil_form.specs.ItemForm.{IsThere as IsPlaceThere, type_at, types_named, types_of, type_links, is_override, pending, is_sized, initialiser, init_of_constant, init_of_override, ItemForm, IsGlobalKind, NamesForm, ExpressionForm}
 use Rattle.naga_oil_ir.specs.declared.module.Module.{Module}
 use Rattle.naga_oil_ir.specs.declared.span.Span.{Span}
 use Rattle.naga_oil_ir.specs.declared.types.Type.{«Type» as TypeOfShader}
@@ -28,7 +28,7 @@ use Rattle.naga_oil_ir.specs.declared.parts.Named.{Named}
 use Rattle.naga_oil_ir.specs.declared.parts.Named.TheVariants.{Nothing, TypeOf, ConstantAt, OverrideAt, GlobalAt, LocalAt, ArgumentAt, FunctionAt}
 use Rattle.naga_oil_ir.specs.declared.names.ItemPlace.{ItemPlace}
 use Rattle.naga_oil_ir.specs.declared.names.ItemPlace.TheVariants.{TypeItem, ConstantItem, OverrideItem, GlobalItem, ExpressionItem}
-use Rattle.naga_oil_ir.proofs.LinkLemmas.{or_left, or_right, eqb_eq, All-has, All-from_has, trail-step, linked-map, marked-map}
+use Rattle.naga_oil_form.proofs.LinkLemmas.{or_left, or_right, eqb_eq, All-has, All-from_has, trail-step, linked-map, marked-map}
 use Rattle.naga_oil_derive.specs.World.{value_of, world}
 use Rattle.naga_oil_derive.specs.Collected.{depth}
 use Rattle.naga_oil_derive.specs.Copying.{IsThere, rank_behind, rank, IsBelowItem, AreRanked}

@@ -7,13 +7,13 @@ use Rattle.std.proofs.lemmas.List.Concat.{flat_map-append}
 use Rattle.std.proofs.lemmas.Option.{same_Some, slice_get_within}
 use Rattle.naga_oil_ir.specs.Parts.{Parts}
 use Rattle.naga_oil_ir.specs.Body.{Tokens}
-use Rattle.naga_oil_ir.specs.BodyForm.{places}
-use Rattle.naga_oil_ir.specs.Links.{Links, AreEarlier, trail, has}
+use Rattle.naga_oil_form.specs.BodyForm.{places}
+use Rattle.naga_oil_form.specs.Links.{Links, AreEarlier, trail, has}
 use Rattle.naga_oil_ir.specs.ModuleValue.{FunctionValue}
 use Rattle.naga_oil_ir.specs.declared.span.Span.{Span}
 use Rattle.naga_oil_ir.specs.declared.tokens.Token.{Token}
 use Rattle.naga_oil_ir.specs.declared.tokens.Token.TheVariants.{Use, Give, GiveCall, Emitted}
-use Rattle.naga_oil_ir.proofs.LinkLemmas.{same_bool, eqb_eq, eq_eqb, only, itself, All-has, has-append, has-added, has-started, in_one, in_all}
+use Rattle.naga_oil_form.proofs.LinkLemmas.{same_bool, eqb_eq, eq_eqb, only, itself, All-has, has-append, has-added, has-started, in_one, in_all}
 use Rattle.naga_oil_rename.specs.Renames.{Renames}
 use Rattle.naga_oil_walk.specs.Walk.{externals, listed}
 use Rattle.naga_oil_derive.specs.Copies.{Values, Table, place_under, copied, value_links, AreCopies}

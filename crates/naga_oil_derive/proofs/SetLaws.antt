@@ -9,7 +9,7 @@ use Rattle.naga_oil_ir.specs.ModuleValue.{ModuleValue, SpecialValue}
 use Rattle.naga_oil_ir.specs.declared.names.ItemPlace.{ItemPlace}
 use Rattle.naga_oil_ir.specs.declared.names.ItemPlace.TheVariants.{TypeItem, ConstantItem, OverrideItem, GlobalItem, ExpressionItem}
 use Rattle.naga_oil_ir.specs.declared.span.Span.{Span}
-use Rattle.naga_oil_ir.proofs.LinkLemmas.{eq_eqb}
+use Rattle.naga_oil_form.proofs.LinkLemmas.{eq_eqb}
 use Rattle.naga_oil_derive.specs.declared.special.SpecialKey.{SpecialKey}
 use Rattle.naga_oil_derive.specs.Tree.{Kept, ReadsAs}
 use Rattle.naga_oil_derive.specs.World.{Places, goes, world, Extends, named_world, kept_in, kept_of, special_at, special_entries, with_specials}

@@ -8,7 +8,7 @@ use Rattle.std.proofs.lemmas.List.Elements.{All-head, All-tail}
 use Rattle.std.proofs.lemmas.Map.Keys.{IsDistinct-head, IsDistinct-tail}
 use Rattle.indexmap.specs.IndexMap.{insert_entry}
 use Rattle.naga_oil_ir.specs.ModuleValue.{SpecialValue}
-use Rattle.naga_oil_ir.proofs.LinkLemmas.{eqb_eq, eq_eqb, slice_get-set_same, slice_get-set_other}
+use Rattle.naga_oil_form.proofs.LinkLemmas.{eqb_eq, eq_eqb, slice_get-set_same, slice_get-set_other}
 use Rattle.naga_oil_derive.specs.declared.special.SpecialKey.{SpecialKey}
 use Rattle.naga_oil_derive.specs.declared.special.SpecialKey.TheVariants.{RayDesc, RayIntersection, RayVertexReturn, Predeclared}
 use Rattle.naga_oil_derive.specs.World.{special_entry, special_entries, special_at, or_option, kept_in, LacksKey, HaveDistinctKeys, with_special, with_specials}

@@ -1,6 +1,6 @@
 -- What answered requests and imported functions are: laws of the values of a derived module.
 use Rattle.std.specs.Prelude.{ℕ, ◌≡◌, List, [], ◌∷◌, map, slice_get, Some, All, IsSome, IfSome}
-use Rattle.naga_oil_ir.specs.BodyForm.{callee, MayStand}
+use Rattle.naga_oil_form.specs.BodyForm.{callee, MayStand}
 use Rattle.naga_oil_ir.specs.ModuleValue.{FunctionValue}
 use Rattle.naga_oil_ir.specs.declared.span.Span.{Span}
 use Rattle.naga_oil_walk.specs.declared.walk.Request.{Request}

@@ -4,8 +4,8 @@ use Rattle.std.specs.List.{flat_map}
 use Rattle.std.specs.Map.{lookup, keys_of}
 use Rattle.std.specs.Option.{option_eq, option_flatten}
 use Rattle.naga_oil_ir.specs.Parts.{Parts}
-use Rattle.naga_oil_ir.specs.BodyForm.{callee, places, MayStand}
-use Rattle.naga_oil_ir.specs.Links.{has, added, trail}
+use Rattle.naga_oil_form.specs.BodyForm.{callee, places, MayStand}
+use Rattle.naga_oil_form.specs.Links.{has, added, trail}
 use Rattle.naga_oil_ir.specs.ModuleValue.{FunctionValue, expression_values}
 use Rattle.naga_oil_ir.specs.declared.module.Function.{Function}
 use Rattle.naga_oil_ir.specs.declared.span.Span.{Span}

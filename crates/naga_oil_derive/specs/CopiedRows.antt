@@ -1,7 +1,7 @@
 -- Copies of some functions and items, computed.
 use Rattle.std.specs.Prelude.{ℕ, ◌≡◌, List, [], ◌∷◌, map, Some, None, codes, refl}
 use Rattle.naga_oil_ir.specs.Body.{Tokens}
-use Rattle.naga_oil_ir.specs.Links as links
+use Rattle.naga_oil_form.specs.Links as links
 use Rattle.naga_oil_ir.specs.ModuleValue.{FunctionValue, expression_values}
 use Rattle.naga_oil_ir.specs.declared.expression.Expression.{Expression}
 use Rattle.naga_oil_ir.specs.declared.expression.Expression.TheVariants.{Literal, FunctionArgument, Splat, Unary, Binary}

@@ -3,8 +3,8 @@ use Rattle.std.specs.Prelude.{ℕ, ◌≡◌, ◌<◌, ◌≤◌, ◌+◌, ◌-�
 use Rattle.std.specs.List.{flat_map}
 use Rattle.std.specs.Option.{option_flatten}
 use Rattle.naga_oil_ir.specs.Parts.{Parts}
-use Rattle.naga_oil_ir.specs.Links.{Links, has, added}
-use Rattle.naga_oil_ir.specs.BodyForm.{run}
+use Rattle.naga_oil_form.specs.Links.{Links, has, added}
+use Rattle.naga_oil_form.specs.BodyForm.{run}
 use Rattle.naga_oil_ir.specs.declared.span.Span.{Span}
 use Rattle.naga_oil_rename.specs.Renames.{Renames, rename}
 use Rattle.naga_oil_walk.specs.Walk.{Notes}

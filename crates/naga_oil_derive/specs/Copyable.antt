@@ -1,7 +1,7 @@
 -- When the items of a module can be copied.
 use Rattle.std.specs.Prelude.{◌<◌, length, All}
-use Rattle.naga_oil_ir.specs.Links.{AreEarlier}
-use Rattle.naga_oil_ir.specs.ItemForm.{NamesForm, ExpressionForm, type_links, types_of, special_types}
+use Rattle.naga_oil_form.specs.Links.{AreEarlier}
+use Rattle.naga_oil_form.specs.ItemForm.{NamesForm, ExpressionForm, type_links, types_of, special_types}
 use Rattle.naga_oil_ir.specs.declared.module.Module.{Module}
 
 -- the items of a module can be copied: what they name is there, and nothing names what stands on it; so it is in each module that

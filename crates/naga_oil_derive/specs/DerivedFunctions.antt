@@ -4,8 +4,8 @@ use Rattle.std.specs.List.{flat_map}
 use Rattle.std.specs.Map.{lookup}
 use Rattle.indexmap.specs.IndexMap.{insert_entry}
 use Rattle.naga_oil_ir.specs.Rows.{Row, Text}
-use Rattle.naga_oil_ir.specs.Links.{Links}
-use Rattle.naga_oil_ir.specs.BodyForm.{callee, MayStand}
+use Rattle.naga_oil_form.specs.Links.{Links}
+use Rattle.naga_oil_form.specs.BodyForm.{callee, MayStand}
 use Rattle.naga_oil_ir.specs.ModuleValue.{ModuleValue, FunctionValue, LocalValue}
 use Rattle.naga_oil_ir.specs.declared.module.Module.{Module}
 use Rattle.naga_oil_ir.specs.declared.module.Function.{Function}

@@ -5,8 +5,8 @@ use Rattle.std.specs.List.{flat_map}
 use Rattle.std.specs.Option.{option_flatten}
 use Rattle.indexmap.specs.IndexMap.{insert_entry}
 use Rattle.naga_oil_ir.specs.Body.{Tokens}
-use Rattle.naga_oil_ir.specs.BodyForm.{places}
-use Rattle.naga_oil_ir.specs.Links.{started}
+use Rattle.naga_oil_form.specs.BodyForm.{places}
+use Rattle.naga_oil_form.specs.Links.{started}
 use Rattle.naga_oil_ir.specs.ModuleValue.{FunctionValue, ArgumentValue, LocalValue, local_value}
 use Rattle.naga_oil_ir.specs.declared.types.LocalVariable.{LocalVariable}
 use Rattle.naga_oil_ir.specs.declared.module.FunctionResult.{FunctionResult}

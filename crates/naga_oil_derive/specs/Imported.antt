@@ -2,8 +2,8 @@
 use Rattle.std.specs.Prelude.{ℕ, zero, suc, ◌<◌, ◌⊎◌, List, length, map, slice_get, IsSome, IfSome, All, String, string_bytes}
 use Rattle.std.specs.Global.{Global}
 use Rattle.naga_oil_ir.specs.Body.{block_tokens}
-use Rattle.naga_oil_ir.specs.BodyForm.{kinds, callees, operand_links, MayStand}
-use Rattle.naga_oil_ir.specs.WellFormed.{initialisers}
+use Rattle.naga_oil_form.specs.BodyForm.{kinds, callees, operand_links, MayStand}
+use Rattle.naga_oil_form.specs.WellFormed.{initialisers}
 use Rattle.naga_oil_ir.specs.declared.module.Module.{Module}
 use Rattle.naga_oil_ir.specs.declared.module.Function.{Function}
 use Rattle.naga_oil_derive.specs.Copying.{IsThere}

@@ -2,8 +2,8 @@
 use Rattle.std.specs.Prelude.{ℕ, zero, suc, ◌≡◌, ◌+◌, List, [], ◌∷◌, drop, slice_get, Option, Some, None, IsSome}
 use Rattle.std.specs.List.{sum_by}
 use Rattle.naga_oil_ir.specs.Body.{block_tokens}
-use Rattle.naga_oil_ir.specs.BodyForm.{kinds, callees, operand_links, MayStand}
-use Rattle.naga_oil_ir.specs.WellFormed.{initialisers}
+use Rattle.naga_oil_form.specs.BodyForm.{kinds, callees, operand_links, MayStand}
+use Rattle.naga_oil_form.specs.WellFormed.{initialisers}
 use Rattle.naga_oil_ir.specs.ModuleValue.{ModuleValue, FunctionValue, function_value}
 use Rattle.naga_oil_ir.specs.declared.module.Module.{Module}
 use Rattle.naga_oil_ir.specs.declared.module.Function.{Function}

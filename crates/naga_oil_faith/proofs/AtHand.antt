@@ -5,8 +5,8 @@ use Rattle.std.proofs.lemmas.Bool.{false≢true, or_cases}
 use Rattle.std.proofs.lemmas.List.Elements.{All-head, All-tail, All-nil, All-cons}
 use Rattle.std.proofs.lemmas.Option.{none-some, same_Some, slice_get-map}
 use Rattle.naga_oil_ir.specs.Body.{Tokens}
-use Rattle.naga_oil_ir.specs.BodyForm.{callee}
-use Rattle.naga_oil_ir.specs.Links.{Links, linked, reach, trail, has, added}
+use Rattle.naga_oil_form.specs.BodyForm.{callee}
+use Rattle.naga_oil_form.specs.Links.{Links, linked, reach, trail, has, added}
 use Rattle.naga_oil_ir.specs.ModuleValue.{FunctionValue, ArgumentValue, LocalValue}
 use Rattle.naga_oil_ir.specs.Parts.{Parts}
 use Rattle.naga_oil_ir.specs.Rows.{named_place}
@@ -16,7 +16,7 @@ use Rattle.naga_oil_ir.specs.declared.parts.Named.{Named}
 use Rattle.naga_oil_ir.specs.declared.span.Span.{Span}
 use Rattle.naga_oil_ir.specs.declared.tokens.Token.{Token}
 use Rattle.naga_oil_ir.specs.declared.tokens.Token.TheVariants.{Use, Give, GiveCall, Emitted, Callee}
-use Rattle.naga_oil_ir.proofs.LinkLemmas.{eqb_eq, has-added, has-append, has-started, in_one, only}
+use Rattle.naga_oil_form.proofs.LinkLemmas.{eqb_eq, has-added, has-append, has-started, in_one, only}
 use Rattle.naga_oil_walk.specs.declared.walk.Request.{Request}
 use Rattle.naga_oil_walk.specs.declared.walk.Request.TheVariants.{Item, Call}
 use Rattle.naga_oil_derive.specs.Copies.{value_links}

@@ -3,9 +3,9 @@ use Rattle.std.proofs.Common.{◌≡◌, ◌⊎◌, ℕ, zero, suc, ◌+◌, tru
 use Rattle.std.proofs.lemmas.List.Elements.{All-nil, All-cons}
 use Rattle.std.proofs.lemmas.Option.{none-some, same_Some}
 use Rattle.naga_oil_ir.specs.Body.{Tokens}
-use Rattle.naga_oil_ir.specs.BodyForm.{places}
-use Rattle.naga_oil_ir.specs.Links as links
-use Rattle.naga_oil_ir.specs.Links.{has}
+use Rattle.naga_oil_form.specs.BodyForm.{places}
+use Rattle.naga_oil_form.specs.Links as links
+use Rattle.naga_oil_form.specs.Links.{has}
 use Rattle.naga_oil_ir.specs.ModuleValue.{ModuleValue, FunctionValue, LocalValue, expression_values, no_items}
 use Rattle.naga_oil_ir.specs.Parts.{Parts}
 use Rattle.naga_oil_ir.specs.Rows.{Kind, Row, row, TypeKind}
@@ -15,7 +15,7 @@ use Rattle.naga_oil_ir.specs.declared.names.ItemPlace.TheVariants.{TypeItem}
 use Rattle.naga_oil_ir.specs.declared.span.Span.{Span}
 use Rattle.naga_oil_ir.specs.declared.tokens.Token.{Token}
 use Rattle.naga_oil_ir.specs.declared.tokens.Token.TheVariants.{Head, Use, GiveCall, Emitted, Callee}
-use Rattle.naga_oil_ir.proofs.LinkLemmas.{All-has}
+use Rattle.naga_oil_form.proofs.LinkLemmas.{All-has}
 use Rattle.naga_oil_derive.specs.Copies.{place_under}
 use Rattle.naga_oil_derive.specs.CopiedFunctionLaw.{EmitsAt}
 use Rattle.naga_oil_derive.specs.Functions.{begun}

@@ -4,15 +4,15 @@ use Rattle.std.specs.List.{flat_map}
 use Rattle.std.proofs.lemmas.Bool.{false≢true, or_cases, and_parts, ltb-true}
 use Rattle.std.proofs.lemmas.Option.{none-some, same_Some, slice_get-map}
 use Rattle.naga_oil_ir.specs.Body.{Tokens}
-use Rattle.naga_oil_ir.specs.BodyForm.{AreFine, IsFine, AreEmitted, callee, is_external, is_result, external_kind, result_kind, made, places}
-use Rattle.naga_oil_ir.specs.Links.{Links, linked, has}
+use Rattle.naga_oil_form.specs.BodyForm.{AreFine, IsFine, AreEmitted, callee, is_external, is_result, external_kind, result_kind, made, places}
+use Rattle.naga_oil_form.specs.Links.{Links, linked, has}
 use Rattle.naga_oil_ir.specs.Parts.{Parts}
 use Rattle.naga_oil_ir.specs.declared.parts.Named.{Named}
 use Rattle.naga_oil_ir.specs.declared.parts.Named.TheVariants.{Nothing, TypeOf, ConstantAt, OverrideAt, GlobalAt, LocalAt, ArgumentAt, FunctionAt}
 use Rattle.naga_oil_ir.specs.declared.span.Span.{Span}
 use Rattle.naga_oil_ir.specs.declared.tokens.Token.{Token}
 use Rattle.naga_oil_ir.specs.declared.tokens.Token.TheVariants.{Use, Give, GiveCall, Emitted, Callee}
-use Rattle.naga_oil_ir.proofs.LinkLemmas.{All-has, eqb_eq, has-added, has-append, only}
+use Rattle.naga_oil_form.proofs.LinkLemmas.{All-has, eqb_eq, has-added, has-append, only}
 use Rattle.naga_oil_derive.specs.Copies.{value_links}
 use Rattle.naga_oil_derive.specs.DerivedFunctions.{kinds_in, named_in}
 use Rattle.naga_oil_derive.specs.Functions.{begun}

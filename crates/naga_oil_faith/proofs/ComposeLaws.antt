@@ -3,8 +3,8 @@ use Rattle.std.proofs.Common.{◌≡◌, ⊎_elim, ℕ, ◌==◌, Bool, true, fa
 use Rattle.std.proofs.lemmas.Bool.{cases_Bool, false≢true, or_left, or_right}
 use Rattle.std.proofs.lemmas.List.{map-append}
 use Rattle.std.proofs.lemmas.Option.{same_Some, slice_get-map, slice_get_within}
-use Rattle.naga_oil_ir.specs.BodyForm.{places}
-use Rattle.naga_oil_ir.specs.Links.{has}
+use Rattle.naga_oil_form.specs.BodyForm.{places}
+use Rattle.naga_oil_form.specs.Links.{has}
 use Rattle.naga_oil_ir.specs.ModuleValue.{FunctionValue, ArgumentValue, LocalValue}
 use Rattle.naga_oil_ir.specs.Parts.{Parts}
 use Rattle.naga_oil_ir.specs.Rows.{Text}
@@ -14,7 +14,7 @@ use Rattle.naga_oil_ir.specs.declared.parts.Named.TheVariants.{Nothing, TypeOf, 
 use Rattle.naga_oil_ir.specs.declared.span.Span.{Span}
 use Rattle.naga_oil_ir.specs.declared.tokens.Token.{Token}
 use Rattle.naga_oil_ir.specs.declared.tokens.Token.TheVariants.{GiveCall, Callee, Emitted}
-use Rattle.naga_oil_ir.proofs.LinkLemmas.{eq_eqb}
+use Rattle.naga_oil_form.proofs.LinkLemmas.{eq_eqb}
 use Rattle.naga_oil_derive.specs.CopiedFunctionLaw.{EmitsAt}
 use Rattle.naga_oil_derive.specs.Functions.{argument_under, result_under, local_under, begun}
 use Rattle.naga_oil_rename.specs.Renames.{Renames, rename, rename_named, rename_token}

@@ -4,7 +4,7 @@ use Rattle.std.specs.Option.{option_flatten}
 use Rattle.std.proofs.lemmas.Bool.{false≢true}
 use Rattle.std.proofs.lemmas.List.Elements.{All-head, All-tail, All-weaker}
 use Rattle.std.proofs.lemmas.Option.{none-some, same_Some}
-use Rattle.naga_oil_ir.specs.BodyForm.{callee}
+use Rattle.naga_oil_form.specs.BodyForm.{callee}
 use Rattle.naga_oil_ir.specs.ModuleValue.{ModuleValue, FunctionValue}
 use Rattle.naga_oil_ir.specs.Rows.{Row, Text, named_place}
 use Rattle.naga_oil_ir.specs.declared.names.ItemPlace.{ItemPlace}

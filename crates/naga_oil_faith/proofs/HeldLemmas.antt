@@ -9,7 +9,7 @@ use Rattle.naga_oil_ir.specs.ModuleValue.{ModuleValue, FunctionValue}
 use Rattle.naga_oil_ir.specs.Rows.{Text}
 use Rattle.naga_oil_ir.specs.declared.names.ItemPlace.{ItemPlace}
 use Rattle.naga_oil_ir.specs.declared.span.Span.{Span}
-use Rattle.naga_oil_ir.proofs.LinkLemmas.{slice_get-append_within, slice_get-append_at}
+use Rattle.naga_oil_form.proofs.LinkLemmas.{slice_get-append_within, slice_get-append_at}
 use Rattle.naga_oil_walk.specs.declared.walk.Request.{Request}
 use Rattle.naga_oil_walk.specs.declared.walk.Request.TheVariants.{Item, Call}
 use Rattle.naga_oil_derive.specs.Derived.{Source, Derived, IsLaterSource, KeepsSource, Keeps, Imports, as_read}

@@ -4,9 +4,9 @@ use Rattle.std.specs.List.{filter}
 use Rattle.std.specs.Map.{keys_of}
 use Rattle.std.proofs.lemmas.Bool.{cases_Bool}
 use Rattle.std.proofs.lemmas.List.{map-append}
-use Rattle.naga_oil_ir.specs.Links.{has, added}
+use Rattle.naga_oil_form.specs.Links.{has, added}
 use Rattle.naga_oil_ir.specs.ModuleValue.{FunctionValue}
-use Rattle.naga_oil_ir.proofs.LinkLemmas.{only}
+use Rattle.naga_oil_form.proofs.LinkLemmas.{only}
 use Rattle.naga_oil_derive.specs.CopiedFunctionLaw.{reached_in}
 use Rattle.naga_oil_rename.specs.Renames.{Renames}
 use Rattle.naga_oil_walk.proofs.WalkLemmas.{added-append, added-holds, added-known}

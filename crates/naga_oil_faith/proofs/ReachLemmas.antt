@@ -5,14 +5,14 @@ use Rattle.std.proofs.lemmas.Bool.{cases_Bool, false≢true, or_cases, or_left, 
 use Rattle.std.proofs.lemmas.List.{map-append}
 use Rattle.std.proofs.lemmas.Option.{none-some, same_Some, slice_get-map}
 use Rattle.naga_oil_ir.specs.Body.{Tokens}
-use Rattle.naga_oil_ir.specs.BodyForm.{places}
-use Rattle.naga_oil_ir.specs.Links.{Links, linked, AreEarlier, reach, trail, has}
+use Rattle.naga_oil_form.specs.BodyForm.{places}
+use Rattle.naga_oil_form.specs.Links.{Links, linked, AreEarlier, reach, trail, has}
 use Rattle.naga_oil_ir.specs.ModuleValue.{FunctionValue, LocalValue}
 use Rattle.naga_oil_ir.specs.Parts.{Parts}
 use Rattle.naga_oil_ir.specs.declared.span.Span.{Span}
 use Rattle.naga_oil_ir.specs.declared.tokens.Token.{Token}
 use Rattle.naga_oil_ir.specs.declared.tokens.Token.TheVariants.{Use, Give, GiveCall, Emitted}
-use Rattle.naga_oil_ir.proofs.LinkLemmas.{eqb_eq, eq_eqb, has-append, has-started, in_all, in_one, itself, only, started-closed, trail-step}
+use Rattle.naga_oil_form.proofs.LinkLemmas.{eqb_eq, eq_eqb, has-append, has-started, in_all, in_one, itself, only, started-closed, trail-step}
 use Rattle.naga_oil_derive.specs.Copies.{value_links}
 use Rattle.naga_oil_derive.specs.CopiedFunctionLaw.{spoken, EmitsAt}
 use Rattle.naga_oil_derive.specs.DerivedFunctions.{initialisers_in}

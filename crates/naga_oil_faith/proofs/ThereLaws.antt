@@ -3,8 +3,8 @@ use Rattle.std.proofs.Common.{◌≡◌, ℕ, [], Option, Some, None, IfSome, op
 use Rattle.std.specs.Option.{option_flatten}
 use Rattle.std.proofs.lemmas.List.Elements.{All-head}
 use Rattle.std.proofs.lemmas.Option.{none-some, same_Some}
-use Rattle.naga_oil_ir.specs.BodyForm.{callee}
-use Rattle.naga_oil_ir.specs.Links.{has}
+use Rattle.naga_oil_form.specs.BodyForm.{callee}
+use Rattle.naga_oil_form.specs.Links.{has}
 use Rattle.naga_oil_ir.specs.ModuleValue.{ModuleValue, FunctionValue}
 use Rattle.naga_oil_ir.specs.Parts.{Parts}
 use Rattle.naga_oil_ir.specs.Rows.{Text, named_place}

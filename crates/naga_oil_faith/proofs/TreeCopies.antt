@@ -8,8 +8,8 @@ use Rattle.std.proofs.lemmas.List.{map-append, length-map}
 use Rattle.std.proofs.lemmas.List.Elements.{All-head}
 use Rattle.std.proofs.lemmas.Option.{none-some, same_Some, slice_get-map, slice_get_within}
 use Rattle.indexmap.specs.IndexMap.{insert_entry}
-use Rattle.naga_oil_ir.specs.BodyForm.{run, places}
-use Rattle.naga_oil_ir.specs.Links.{linked, has, added}
+use Rattle.naga_oil_form.specs.BodyForm.{run, places}
+use Rattle.naga_oil_form.specs.Links.{linked, has, added}
 use Rattle.naga_oil_ir.specs.ModuleValue.{ModuleValue, FunctionValue}
 use Rattle.naga_oil_ir.specs.Parts.{Parts}
 use Rattle.naga_oil_ir.specs.declared.names.ItemPlace.{ItemPlace}
@@ -19,7 +19,7 @@ use Rattle.naga_oil_ir.specs.declared.parts.Named.TheVariants.{Nothing, TypeOf, 
 use Rattle.naga_oil_ir.specs.declared.span.Span.{Span}
 use Rattle.naga_oil_ir.specs.declared.tokens.Token.{Token}
 use Rattle.naga_oil_ir.specs.declared.tokens.Token.TheVariants.{Emitted, GiveCall, Callee}
-use Rattle.naga_oil_ir.proofs.LinkLemmas.{All-has, All-from_has, eqb_eq, eq_eqb, has-added}
+use Rattle.naga_oil_form.proofs.LinkLemmas.{All-has, All-from_has, eqb_eq, eq_eqb, has-added}
 use Rattle.naga_oil_walk.specs.declared.walk.Request.TheVariants.{Item, Call}
 use Rattle.naga_oil_derive.specs.Copies.{Table, place_under, under_table}
 use Rattle.naga_oil_derive.specs.CopiedFunctionLaw.{MayBeCopied, reached_in, named_copies}

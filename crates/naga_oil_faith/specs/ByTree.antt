@@ -4,8 +4,8 @@ use Rattle.std.specs.List.{filter}
 use Rattle.std.specs.Map.{keys_of}
 use Rattle.naga_oil_ir.specs.Parts.{Parts}
 use Rattle.naga_oil_ir.specs.Rows.{Text, named_place}
-use Rattle.naga_oil_ir.specs.BodyForm.{callee, places}
-use Rattle.naga_oil_ir.specs.Links.{has, added}
+use Rattle.naga_oil_form.specs.BodyForm.{callee, places}
+use Rattle.naga_oil_form.specs.Links.{has, added}
 use Rattle.naga_oil_ir.specs.ModuleValue.{FunctionValue}
 use Rattle.naga_oil_ir.specs.declared.parts.Named.{Named}
 use Rattle.naga_oil_ir.specs.declared.names.ItemPlace.TheVariants.{TypeItem}

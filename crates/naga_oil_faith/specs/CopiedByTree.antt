@@ -1,7 +1,7 @@
 -- Which copies a derived module makes, told without handles.
 use Rattle.std.specs.Prelude.{ℕ, ◌≡◌, true, slice_get, Some, All, IfSome}
-use Rattle.naga_oil_ir.specs.BodyForm.{callee, is_result}
-use Rattle.naga_oil_ir.specs.Links.{has}
+use Rattle.naga_oil_form.specs.BodyForm.{callee, is_result}
+use Rattle.naga_oil_form.specs.Links.{has}
 use Rattle.naga_oil_ir.specs.ModuleValue.{ModuleValue, FunctionValue}
 use Rattle.naga_oil_ir.specs.Parts.{Parts}
 use Rattle.naga_oil_ir.specs.Rows.{Text}

@@ -1,7 +1,7 @@
 -- Copies in modules that get more.
 use Rattle.std.specs.Prelude.{ℕ, ◌≡◌, true, slice_get, Some, All, IfSome, IsSome}
-use Rattle.naga_oil_ir.specs.BodyForm.{callee}
-use Rattle.naga_oil_ir.specs.Links.{has}
+use Rattle.naga_oil_form.specs.BodyForm.{callee}
+use Rattle.naga_oil_form.specs.Links.{has}
 use Rattle.naga_oil_ir.specs.ModuleValue.{ModuleValue, FunctionValue}
 use Rattle.naga_oil_ir.specs.Parts.{Parts}
 use Rattle.naga_oil_ir.specs.Rows.{Row, Text, named_place}

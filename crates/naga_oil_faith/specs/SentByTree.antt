@@ -2,7 +2,7 @@
 use Rattle.std.specs.Prelude.{ℕ, ◌≡◌, ◌==◌, ◌||◌, Bool, slice_get, Some, bytes_eq, if◌then◌else◌}
 use Rattle.std.specs.Option.{option_eq}
 use Rattle.naga_oil_ir.specs.ModuleValue.{ModuleValue, FunctionValue}
-use Rattle.naga_oil_ir.specs.NameForm.{Name}
+use Rattle.naga_oil_form.specs.NameForm.{Name}
 use Rattle.naga_oil_ir.specs.Rows.{Text}
 use Rattle.naga_oil_ir.specs.declared.span.Span.{Span}
 use Rattle.naga_oil_redirect.specs.Redirected.{send, redirected, is_named}

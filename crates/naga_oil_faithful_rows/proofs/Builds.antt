@@ -3,7 +3,7 @@ use Rattle.std.proofs.Common.{◌≡◌, [], ◌∷◌, ◌++◌, refl, map, Som
 use lib.Utf8.{encode}
 use Rattle.std.specs.Prelude.{codes}
 use Rattle.std.specs.Str.{chars, is_utf8}
-use Rattle.naga_oil_ir.specs.Links.{trail}
+use Rattle.naga_oil_form.specs.Links.{trail}
 use Rattle.naga_oil_ir.specs.ModuleValue.{ModuleValue, no_items}
 use Rattle.naga_oil_ir.specs.Spans.{undefined}
 use Rattle.naga_oil_ir.specs.declared.backend.Capabilities.{Capabilities}

@@ -2,8 +2,8 @@
 use Rattle.std.proofs.Common.{◌≡◌, ◌⊎◌, ℕ, zero, suc, true, false, List, [], ◌∷◌, map, Some, None, slice_get, IfSome, inl, refl, ap, sym, ◌∙◌, subst, arith}
 use Rattle.std.proofs.lemmas.List.Elements.{All-nil, All-cons}
 use Rattle.std.proofs.lemmas.Option.{none-some, same_Some}
-use Rattle.naga_oil_ir.specs.BodyForm.{places}
-use Rattle.naga_oil_ir.specs.Links.{has, trail}
+use Rattle.naga_oil_form.specs.BodyForm.{places}
+use Rattle.naga_oil_form.specs.Links.{has, trail}
 use Rattle.naga_oil_ir.specs.ModuleValue.{FunctionValue, ArgumentValue}
 use Rattle.naga_oil_ir.specs.Parts.{Parts, expr}
 use Rattle.naga_oil_ir.specs.Rows.{Text}
@@ -13,7 +13,7 @@ use Rattle.naga_oil_ir.specs.declared.parts.Named.{Named}
 use Rattle.naga_oil_ir.specs.declared.span.Span.{Span}
 use Rattle.naga_oil_ir.specs.declared.tokens.Token.{Token}
 use Rattle.naga_oil_ir.specs.declared.tokens.Token.TheVariants.{Head, Absent, Use, Emitted, Callee}
-use Rattle.naga_oil_ir.proofs.LinkLemmas.{All-has}
+use Rattle.naga_oil_form.proofs.LinkLemmas.{All-has}
 use Rattle.naga_oil_rename.specs.Renames.{Renames, rename_named}
 use Rattle.naga_oil_walk.specs.Walk.{others}
 use Rattle.naga_oil_derive.specs.Copies.{place_under}

@@ -11,11 +11,11 @@ use Rattle.naga_oil_lines.specs.Cover.{cover}
 use Rattle.naga_oil_lines.specs.Decorate.{letters}
 use Rattle.naga_oil_lines.specs.Directives.{no_directives}
 use Rattle.naga_oil_lines.specs.DirectivesText.{in_order}
-use Rattle.naga_oil_lines.specs.Leaves.{parts, leaves_of, line_leaves}
-use Rattle.naga_oil_lines.specs.Substituted.{paths_for, path_text, mentions_at}
+use Rattle.naga_oil_imports.specs.Leaves.{parts, leaves_of, line_leaves}
+use Rattle.naga_oil_imports.specs.Substituted.{paths_for, path_text, mentions_at}
 use Rattle.naga_oil_lines.specs.Text.{past_word}
 use Rattle.naga_oil_lines.specs.Tokens.{lexemes, more_in_token, tail_len}
-use Rattle.naga_oil_lines.specs.Uses.{Use}
+use Rattle.naga_oil_imports.specs.Uses.{Use}
 use Rattle.naga_oil_pre.specs.Computing.{line_kinds}
 use Rattle.naga_oil_pre.specs.DirectiveLines.{cut_at, listed, treated, directive_of}
 use Rattle.naga_oil_pre.specs.Extracted.{taken_out, extracted}

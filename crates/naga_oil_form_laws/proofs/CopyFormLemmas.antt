@@ -5,12 +5,12 @@ use Rattle.std.proofs.lemmas.Bool.{false≢true}
 use Rattle.std.proofs.lemmas.List.{length-map}
 use Rattle.std.proofs.lemmas.List.Elements.{All-map}
 use Rattle.std.proofs.lemmas.Option.{same_Some, slice_get_within}
-use Rattle.naga_oil_ir.specs.BodyForm.{callee, is_result, MayStand, AreFine}
-use Rattle.naga_oil_ir.specs.Links.{Links, trail, has, started}
+use Rattle.naga_oil_form.specs.BodyForm.{callee, is_result, MayStand, AreFine}
+use Rattle.naga_oil_form.specs.Links.{Links, trail, has, started}
 use Rattle.naga_oil_ir.specs.ModuleValue.{FunctionValue, LocalValue}
 use Rattle.naga_oil_ir.specs.Parts.{Parts}
 use Rattle.naga_oil_ir.specs.declared.span.Span.{Span}
-use Rattle.naga_oil_ir.proofs.LinkLemmas.{or_left, or_right, has-append, in_all, All-has, All-from_has}
+use Rattle.naga_oil_form.proofs.LinkLemmas.{or_left, or_right, has-append, in_all, All-has, All-from_has}
 use Rattle.naga_oil_derive.specs.Copies.{Values, place_under, copied, under_table, value_links}
 use Rattle.naga_oil_derive.specs.CopiedFunction.{copy_function}
 use Rattle.naga_oil_derive.specs.CopiedFunctionLaw.{StandAlone, MayBeCopied, spoken}

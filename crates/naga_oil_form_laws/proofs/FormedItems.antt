@@ -4,9 +4,9 @@ use Rattle.std.specs.List.{flat_map, list_any, IsDistinct}
 use Rattle.std.proofs.lemmas.List.Elements.{All-nil, All-cons, All-head, All-tail, All-weaker, All-append, All-map}
 use Rattle.std.proofs.lemmas.List.Folds.{list_any_none}
 use Rattle.std.proofs.lemmas.Option.{slice_get-map}
-use Rattle.naga_oil_ir.specs.BodyForm.{operand_links}
-use Rattle.naga_oil_ir.specs.ItemForm.{IsThere as IsPlaceThere, NamesThere, types_named, types_of, type_links, is_sized, NamesForm, initialiser, init_of_constant, init_of_override, IsGlobalKind, ExpressionForm, special_types, is_unnamed, is_plain, ItemForm}
-use Rattle.naga_oil_ir.specs.Links.{AreEarlier, linked, reach, trail, has}
+use Rattle.naga_oil_form.specs.BodyForm.{operand_links}
+use Rattle.naga_oil_form.specs.ItemForm.{IsThere as IsPlaceThere, NamesThere, types_named, types_of, type_links, is_sized, NamesForm, initialiser, init_of_constant, init_of_override, IsGlobalKind, ExpressionForm, special_types, is_unnamed, is_plain, ItemForm}
+use Rattle.naga_oil_form.specs.Links.{AreEarlier, linked, reach, trail, has}
 use Rattle.naga_oil_ir.specs.ModuleValue.{ModuleValue}
 use Rattle.naga_oil_ir.specs.Parts.{parts}
 use Rattle.naga_oil_ir.specs.Rows.{Row, type_row, constant_row, override_row, global_row, expression_row, named_place}
@@ -19,7 +19,7 @@ use Rattle.naga_oil_ir.specs.declared.types.GlobalVariable.{GlobalVariable as Gl
 use Rattle.naga_oil_ir.specs.declared.expression.Expression.{Expression}
 use Rattle.naga_oil_ir.specs.declared.names.ItemPlace.{ItemPlace}
 use Rattle.naga_oil_ir.specs.declared.names.ItemPlace.TheVariants.{TypeItem, ConstantItem, OverrideItem, GlobalItem, ExpressionItem}
-use Rattle.naga_oil_ir.proofs.LinkLemmas.{or_left, or_right, linked-map}
+use Rattle.naga_oil_form.proofs.LinkLemmas.{or_left, or_right, linked-map}
 use Rattle.naga_oil_derive.specs.Tree.{World}
 use Rattle.naga_oil_derive.specs.World.{value_of, world, special_entries}
 use Rattle.naga_oil_derive.specs.Copyable.{CopyableItems}

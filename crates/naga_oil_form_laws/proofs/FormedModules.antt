@@ -8,13 +8,13 @@ use Rattle.std.proofs.lemmas.List.Elements.{All-weaker, All-map}
 use Rattle.std.proofs.lemmas.Option.{slice_get-map}
 use Rattle.naga_oil_marks.specs.Marks.{has_module_mark, with_decoration}
 use Rattle.naga_oil_ir.specs.Body.{block_tokens}
-use Rattle.naga_oil_ir.specs.BodyForm.{callee, kinds, callees, named_of, operand_links, IsSpanFine, MayStand}
-use Rattle.naga_oil_ir.specs.ItemForm.{special_types}
+use Rattle.naga_oil_form.specs.BodyForm.{callee, kinds, callees, named_of, operand_links, IsSpanFine, MayStand}
+use Rattle.naga_oil_form.specs.ItemForm.{special_types}
 use Rattle.naga_oil_ir.specs.ModuleValue.{ModuleValue, FunctionValue, ArgumentValue, LocalValue, argument_value, local_value, expression_values, function_value, entry_value}
-use Rattle.naga_oil_ir.specs.NameForm.{NameForm, function_name, entry_name as name_of_entry}
+use Rattle.naga_oil_form.specs.NameForm.{NameForm, function_name, entry_name as name_of_entry}
 use Rattle.naga_oil_ir.specs.Parts.{Parts, parts}
 use Rattle.naga_oil_ir.specs.Rows.{Row, Text, type_row, constant_row, override_row, global_row}
-use Rattle.naga_oil_ir.specs.WellFormed.{NamedThere, initialisers, FunctionForm, FunctionsForm, IsExpressionThere, MeshForm, EntryForm, SpanForm, WellFormed}
+use Rattle.naga_oil_form.specs.WellFormed.{NamedThere, initialisers, FunctionForm, FunctionsForm, IsExpressionThere, MeshForm, EntryForm, SpanForm, WellFormed}
 use Rattle.naga_oil_ir.specs.declared.expression.Expression.{Expression}
 use Rattle.naga_oil_ir.specs.declared.module.EntryPoint.{EntryPoint}
 use Rattle.naga_oil_ir.specs.declared.module.Function.{Function}
@@ -30,7 +30,7 @@ use Rattle.naga_oil_ir.specs.declared.types.GlobalVariable.{GlobalVariable as Gl
 use Rattle.naga_oil_ir.specs.declared.types.LocalVariable.{LocalVariable}
 use Rattle.naga_oil_ir.specs.declared.types.Override.{Override as OverrideItself}
 use Rattle.naga_oil_ir.specs.declared.types.Type.{«Type» as TypeOfShader}
-use Rattle.naga_oil_ir.proofs.LinkLemmas.{eqb_eq, both}
+use Rattle.naga_oil_form.proofs.LinkLemmas.{eqb_eq, both}
 use Rattle.naga_oil_derive.specs.World.{value_of, span_at}
 use Rattle.naga_oil_derive.specs.Copies.{value_links}
 use Rattle.naga_oil_derive.specs.DerivedFunctions.{kinds_in, named_in, initialisers_in}

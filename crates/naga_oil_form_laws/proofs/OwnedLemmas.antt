@@ -4,12 +4,12 @@ use Rattle.std.proofs.lemmas.List.{length-map, length-append}
 use Rattle.std.proofs.lemmas.List.Elements.{All-nil, All-weaker, All-map}
 use Rattle.std.proofs.lemmas.Option.{none-some, slice_get-map}
 use Rattle.naga_oil_marks.specs.Marks.{with_decoration}
-use Rattle.naga_oil_ir.specs.BodyForm.{IsSpanFine}
+use Rattle.naga_oil_form.specs.BodyForm.{IsSpanFine}
 use Rattle.naga_oil_ir.specs.ModuleValue.{ModuleValue, FunctionValue, ArgumentValue, function_value}
-use Rattle.naga_oil_ir.specs.NameForm.{function_name}
+use Rattle.naga_oil_form.specs.NameForm.{function_name}
 use Rattle.naga_oil_ir.specs.Parts.{Parts}
 use Rattle.naga_oil_ir.specs.Rows.{Row, Text}
-use Rattle.naga_oil_ir.specs.WellFormed.{WellFormed}
+use Rattle.naga_oil_form.specs.WellFormed.{WellFormed}
 use Rattle.naga_oil_ir.specs.declared.module.Function.{Function}
 use Rattle.naga_oil_ir.specs.declared.module.FunctionResult.{FunctionResult}
 use Rattle.naga_oil_ir.specs.declared.module.Module.{Module}

@@ -8,11 +8,11 @@ use Rattle.std.proofs.lemmas.List.Elements.{All-weaker, All-map}
 use Rattle.std.proofs.lemmas.Option.{slice_get-map}
 use Rattle.naga_oil_marks.specs.Marks.{with_decoration}
 use Rattle.naga_oil_ir.specs.Body.{block_tokens}
-use Rattle.naga_oil_ir.specs.BodyForm.{IsSpanFine, IsTokenFine}
+use Rattle.naga_oil_form.specs.BodyForm.{IsSpanFine, IsTokenFine}
 use Rattle.naga_oil_ir.specs.ModuleValue.{ModuleValue, FunctionValue, ArgumentValue, LocalValue, EntryValue, argument_value, local_value, function_value, entry_value}
-use Rattle.naga_oil_ir.specs.NameForm.{Name, function_name, entry_name as name_of_entry}
+use Rattle.naga_oil_form.specs.NameForm.{Name, function_name, entry_name as name_of_entry}
 use Rattle.naga_oil_ir.specs.Parts.{Parts, parts}
-use Rattle.naga_oil_ir.specs.WellFormed.{NamedThere, FunctionForm, FunctionsForm, IsExpressionThere, MeshForm, EntryForm, WellFormed}
+use Rattle.naga_oil_form.specs.WellFormed.{NamedThere, FunctionForm, FunctionsForm, IsExpressionThere, MeshForm, EntryForm, WellFormed}
 use Rattle.naga_oil_ir.specs.declared.expression.Expression.{Expression}
 use Rattle.naga_oil_ir.specs.declared.expression.Expression.TheVariants.{CallResult}
 use Rattle.naga_oil_ir.specs.declared.module.EntryPoint.{EntryPoint}
@@ -26,7 +26,7 @@ use Rattle.naga_oil_ir.specs.declared.span.Span.{Span}
 use Rattle.naga_oil_ir.specs.declared.tokens.Token.{Token}
 use Rattle.naga_oil_ir.specs.declared.tokens.Token.TheVariants.{At, Head, Plain, Flag, Absent, Open, Close, Use, Give, GiveCall, Emitted, Callee}
 use Rattle.naga_oil_ir.specs.declared.types.LocalVariable.{LocalVariable}
-use Rattle.naga_oil_ir.proofs.LinkLemmas.{eq_eqb}
+use Rattle.naga_oil_form.proofs.LinkLemmas.{eq_eqb}
 use Rattle.naga_oil_derive.specs.World.{value_of}
 use Rattle.naga_oil_derive.proofs.FormFunctions.{function_named}
 use Rattle.naga_oil_derive.proofs.FunctionLaws.{alone}

@@ -5,13 +5,13 @@ use Rattle.std.proofs.lemmas.Bool.{or_cases, false≢true, cases_Bool}
 use Rattle.std.proofs.lemmas.List.Elements.{All-nil, All-cons, All-head, All-tail}
 use Rattle.std.proofs.lemmas.Option.{slice_get-map}
 use Rattle.std.proofs.lemmas.Simd.{map-map}
-use Rattle.naga_oil_ir.specs.BodyForm.{IsSpanFine, kinds, operand_links}
-use Rattle.naga_oil_ir.specs.ItemForm.{IsThere as IsPlaceThere, type_at, types_named, types_of, type_links, is_override, pending, is_sized, initialiser, init_of_constant, init_of_override, IsGlobalKind, special_types, is_unnamed, is_plain, ItemForm}
-use Rattle.naga_oil_ir.specs.Links.{Links, AreEarlier, linked, trail, has, is_marked, reaches}
+use Rattle.naga_oil_form.specs.BodyForm.{IsSpanFine, kinds, operand_links}
+use Rattle.naga_oil_form.specs.ItemForm.{IsThere as IsPlaceThere, type_at, types_named, types_of, type_links, is_override, pending, is_sized, initialiser, init_of_constant, init_of_override, IsGlobalKind, special_types, is_unnamed, is_plain, ItemForm}
+use Rattle.naga_oil_form.specs.Links.{Links, AreEarlier, linked, trail, has, is_marked, reaches}
 use Rattle.naga_oil_ir.specs.ModuleValue.{ModuleValue}
 use Rattle.naga_oil_ir.specs.Parts.{parts}
 use Rattle.naga_oil_ir.specs.Rows.{Row, Text, inner_row, type_row, constant_row, override_row, global_row, expression_row, member_type, size_name, named_place}
-use Rattle.naga_oil_ir.specs.WellFormed.{SpanForm}
+use Rattle.naga_oil_form.specs.WellFormed.{SpanForm}
 use Rattle.naga_oil_ir.specs.declared.module.Module.{Module}
 use Rattle.naga_oil_ir.specs.declared.span.Span.{Span}
 use Rattle.naga_oil_ir.specs.declared.types.Type.{«Type» as TypeOfShader}
@@ -29,7 +29,7 @@ use Rattle.naga_oil_ir.specs.declared.parts.Named.{Named}
 use Rattle.naga_oil_ir.specs.declared.parts.Named.TheVariants.{Nothing, TypeOf, ConstantAt, OverrideAt, GlobalAt, LocalAt, ArgumentAt, FunctionAt}
 use Rattle.naga_oil_ir.specs.declared.names.ItemPlace.{ItemPlace}
 use Rattle.naga_oil_ir.specs.declared.names.ItemPlace.TheVariants.{TypeItem, ConstantItem, OverrideItem, GlobalItem, ExpressionItem}
-use Rattle.naga_oil_ir.proofs.LinkLemmas.{All-has, trail-step, linked-map, marked-map}
+use Rattle.naga_oil_form.proofs.LinkLemmas.{All-has, trail-step, linked-map, marked-map}
 use Rattle.naga_oil_derive.specs.declared.special.SpecialKey.TheVariants.{RayDesc, RayIntersection, RayVertexReturn}
 use Rattle.naga_oil_derive.specs.Tree.{World}
 use Rattle.naga_oil_derive.specs.World.{value_of, world, span_at, special_entry, special_entries}

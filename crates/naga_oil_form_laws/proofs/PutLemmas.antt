@@ -2,7 +2,7 @@
 use Rattle.std.proofs.Common.{◌≡◌, ⊎_elim, ℕ, zero, suc, ◌<◌, true, ◌||◌, List, [], ◌∷◌, Option, Some, None, option_map, slice_get, refl, ap, sym, ◌∙◌, subst, arith, All, IfSome}
 use Rattle.std.specs.List.{AllZip, list_any}
 use Rattle.std.proofs.lemmas.List.Elements.{All-nil, All-cons, All-head, All-tail}
-use Rattle.naga_oil_ir.specs.ItemForm.{is_override}
+use Rattle.naga_oil_form.specs.ItemForm.{is_override}
 use Rattle.naga_oil_ir.specs.Rows.{Row, parts_row}
 use Rattle.naga_oil_ir.specs.ModuleValue.{ModuleValue}
 use Rattle.naga_oil_ir.specs.declared.names.ItemPlace.{ItemPlace}

@@ -5,14 +5,14 @@ use Rattle.std.proofs.lemmas.Bool.{or_cases, false≢true, cases_Bool}
 use Rattle.std.proofs.lemmas.List.Elements.{All-nil, All-cons, All-head, All-tail, All-weaker}
 use Rattle.std.proofs.lemmas.List.Folds.{list_any-append}
 use Rattle.std.proofs.lemmas.Option.{slice_get-map}
-use Rattle.naga_oil_ir.specs.ItemForm.{type_at, types_named, is_override}
-use Rattle.naga_oil_ir.specs.Links.{Links, AreEarlier, linked, reach, trail, has, is_marked, reaches}
+use Rattle.naga_oil_form.specs.ItemForm.{type_at, types_named, is_override}
+use Rattle.naga_oil_form.specs.Links.{Links, AreEarlier, linked, reach, trail, has, is_marked, reaches}
 use Rattle.naga_oil_ir.specs.Rows.{Row}
 use Rattle.naga_oil_ir.specs.ModuleValue.{ModuleValue}
 use Rattle.naga_oil_ir.specs.declared.names.ItemPlace.{ItemPlace}
 use Rattle.naga_oil_ir.specs.declared.names.ItemPlace.TheVariants.{TypeItem, ConstantItem, OverrideItem, GlobalItem, ExpressionItem}
 use Rattle.naga_oil_ir.specs.declared.span.Span.{Span}
-use Rattle.naga_oil_ir.proofs.LinkLemmas.{eqb_eq, eq_eqb, or_left, or_right, or_false, trail-step, linked-map, marked-map}
+use Rattle.naga_oil_form.proofs.LinkLemmas.{eqb_eq, eq_eqb, or_left, or_right, or_false, trail-step, linked-map, marked-map}
 use Rattle.naga_oil_derive.specs.World.{world, special_entries}
 use Rattle.naga_oil_derive.specs.Collected.{depth}
 use Rattle.naga_oil_derive.specs.CopiedLaw.{HasAt, IsBelowIn, IsRankedBy, IsCopyable, AreSpecial}

@@ -4,8 +4,8 @@ use Rattle.std.specs.List.{flat_map}
 use Rattle.std.proofs.lemmas.Bool.{or_cases, false≢true, ltb-true}
 use Rattle.std.proofs.lemmas.List.Elements.{All-nil, All-cons, All-head, All-tail, All-weaker, All-append, All-map}
 use Rattle.naga_oil_ir.specs.Body.{Tokens}
-use Rattle.naga_oil_ir.specs.BodyForm.{callee, external_kind, result_kind, is_result, places, AreEmitted, made, IsFine, AreFine, IsTokenFine}
-use Rattle.naga_oil_ir.specs.Links.{Links, linked, reach, trail, has}
+use Rattle.naga_oil_form.specs.BodyForm.{callee, external_kind, result_kind, is_result, places, AreEmitted, made, IsFine, AreFine, IsTokenFine}
+use Rattle.naga_oil_form.specs.Links.{Links, linked, reach, trail, has}
 use Rattle.naga_oil_ir.specs.ModuleValue.{ModuleValue, FunctionValue, ArgumentValue, LocalValue}
 use Rattle.naga_oil_ir.specs.Parts.{Parts}
 use Rattle.naga_oil_ir.specs.Rows.{Row, named_place, parts_row}
@@ -17,7 +17,7 @@ use Rattle.naga_oil_ir.specs.declared.parts.Named.TheVariants.{Nothing, TypeOf, 
 use Rattle.naga_oil_ir.specs.declared.span.Span.{Span}
 use Rattle.naga_oil_ir.specs.declared.tokens.Token.{Token}
 use Rattle.naga_oil_ir.specs.declared.tokens.Token.TheVariants.{At, Head, Plain, Flag, Absent, Open, Close, Use, Give, GiveCall, Emitted, Callee}
-use Rattle.naga_oil_ir.proofs.LinkLemmas.{eqb_eq, has-append, has-added, has-started, in_one, only, both, All-has}
+use Rattle.naga_oil_form.proofs.LinkLemmas.{eqb_eq, has-append, has-added, has-started, in_one, only, both, All-has}
 use Rattle.naga_oil_walk.specs.declared.walk.Request.{Request}
 use Rattle.naga_oil_walk.specs.declared.walk.Request.TheVariants.{Item, Call}
 use Rattle.naga_oil_derive.specs.World.{world}

@@ -1,6 +1,6 @@
 -- Spans of copies lie within the texts of all modules.
 use Rattle.std.proofs.Common.{◌≡◌, ⊎_elim, ℕ, zero, suc, Bool, true, false, ◌==◌, ◌&&◌, if◌then◌else◌, List, [], ◌∷◌, ◌++◌, Option, Some, None, option_map, slice_get, refl, ap, sym, ◌∙◌, subst, arith}
-use Rattle.naga_oil_ir.specs.BodyForm.{IsSpanFine}
+use Rattle.naga_oil_form.specs.BodyForm.{IsSpanFine}
 use Rattle.naga_oil_ir.specs.Rows.{Row, parts_row}
 use Rattle.naga_oil_ir.specs.ModuleValue.{ModuleValue}
 use Rattle.naga_oil_ir.specs.declared.names.ItemPlace.{ItemPlace}

@@ -5,7 +5,7 @@ use Rattle.std.proofs.lemmas.Bool.{false≢true}
 use Rattle.std.proofs.lemmas.List.{append_assoc, length-append}
 use Rattle.std.proofs.lemmas.List.Elements.{All-nil, All-head, All-tail}
 use Rattle.std.proofs.lemmas.Option.{none-some}
-use Rattle.naga_oil_ir.specs.BodyForm.{is_result, IsSpanFine, IsTokenFine}
+use Rattle.naga_oil_form.specs.BodyForm.{is_result, IsSpanFine, IsTokenFine}
 use Rattle.naga_oil_ir.specs.ModuleValue.{ModuleValue, FunctionValue}
 use Rattle.naga_oil_ir.specs.declared.tokens.Token.TheVariants.{GiveCall}
 use Rattle.naga_oil_ir.specs.Rows.{Text}

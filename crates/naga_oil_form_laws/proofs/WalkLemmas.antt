@@ -6,15 +6,15 @@ use Rattle.std.proofs.lemmas.List.{length-map, length-append, map-append}
 use Rattle.std.proofs.lemmas.List.Elements.{All-nil, filter-append}
 use Rattle.std.proofs.lemmas.Option.{slice_get-map, slice_get_within}
 use Rattle.naga_oil_ir.specs.Body.{Tokens}
-use Rattle.naga_oil_ir.specs.BodyForm.{callee, external_kind, is_external, result_kind, is_result, run, places, is_known, AreEmitted, made, MayBeGiven, IsFine, AreFine}
-use Rattle.naga_oil_ir.specs.Links.{Links, linked, AreEarlier, reach, trail, has, added, started}
+use Rattle.naga_oil_form.specs.BodyForm.{callee, external_kind, is_external, result_kind, is_result, run, places, is_known, AreEmitted, made, MayBeGiven, IsFine, AreFine}
+use Rattle.naga_oil_form.specs.Links.{Links, linked, AreEarlier, reach, trail, has, added, started}
 use Rattle.naga_oil_ir.specs.Parts.{Parts}
 use Rattle.naga_oil_ir.specs.declared.parts.Named.{Named}
 use Rattle.naga_oil_ir.specs.declared.parts.Named.TheVariants.{Nothing, TypeOf, ConstantAt, OverrideAt, GlobalAt, LocalAt, ArgumentAt, FunctionAt}
 use Rattle.naga_oil_ir.specs.declared.span.Span.{Span}
 use Rattle.naga_oil_ir.specs.declared.tokens.Token.{Token}
 use Rattle.naga_oil_ir.specs.declared.tokens.Token.TheVariants.{At, Head, Plain, Flag, Absent, Use, Give, GiveCall, Emitted, Callee, Open, Close}
-use Rattle.naga_oil_ir.proofs.LinkLemmas.{eqb_eq, eq_eqb, or_left, or_right, has-append, only, in_one, in_all, All-has, All-from_has, has-added, has-started, started-closed, slice_get-append_within, slice_get-append_at}
+use Rattle.naga_oil_form.proofs.LinkLemmas.{eqb_eq, eq_eqb, or_left, or_right, has-append, only, in_one, in_all, All-has, All-from_has, has-added, has-started, started-closed, slice_get-append_within, slice_get-append_at}
 use Rattle.naga_oil_derive.specs.Copies.{Values, Table, place_under, copied, under_table, value_links, AreCopies}
 use Rattle.naga_oil_derive.specs.CopiedFunctionLaw.{spoken}
 use Rattle.naga_oil_derive.specs.Functions.{IsCovered, AreCovered}

@@ -1,6 +1,6 @@
 -- Which derived modules pass the test of form, and that each call keeps it: laws of the values of a derived module.
 use Rattle.std.specs.Prelude.{◌≡◌, ◌<◌, ◌≤◌, ℕ, [], length, slice_get, Option, Some, None, IfSome, IsSome}
-use Rattle.naga_oil_ir.specs.BodyForm.{IsSpanFine}
+use Rattle.naga_oil_form.specs.BodyForm.{IsSpanFine}
 use Rattle.naga_oil_ir.specs.ModuleValue.{ModuleValue, FunctionValue}
 use Rattle.naga_oil_ir.specs.Rows.{Text}
 use Rattle.naga_oil_ir.specs.declared.names.ItemPlace.{ItemPlace}

@@ -1,10 +1,10 @@
 -- Which entry points pass the test of form, and which modules, and that the module that is made does.
 use Rattle.std.specs.Prelude.{◌≡◌, ◌<◌, ◌≤◌, ℕ, nat_eq, List, [], length, slice_get, Option, Some, unwrap_or, codes, All, IfSome, IsSome}
 use Rattle.std.specs.List.{IsDistinct}
-use Rattle.naga_oil_ir.specs.ItemForm.{special_types}
+use Rattle.naga_oil_form.specs.ItemForm.{special_types}
 use Rattle.naga_oil_ir.specs.ModuleValue.{ModuleValue, EntryValue}
-use Rattle.naga_oil_ir.specs.WellFormed.{SpanForm, FunctionsForm, EntryForm, WellFormed}
-use Rattle.naga_oil_ir.specs.NameForm.{NameForm}
+use Rattle.naga_oil_form.specs.WellFormed.{SpanForm, FunctionsForm, EntryForm, WellFormed}
+use Rattle.naga_oil_form.specs.NameForm.{NameForm}
 use Rattle.naga_oil_ir.specs.declared.module.MeshInfo.{MeshInfo}
 use Rattle.naga_oil_ir.specs.declared.module.Module.{Module}
 use Rattle.naga_oil_derive.specs.CopiedEntry.{make_module}

@@ -1,7 +1,7 @@
 -- Which functions pass the test of form, and that their copies do.
 use Rattle.std.specs.Prelude.{◌≡◌, ◌<◌, ℕ, true, List, length, slice_get, Some, All, IfSome, IsSome}
 use Rattle.naga_oil_ir.specs.Body.{Tokens}
-use Rattle.naga_oil_ir.specs.BodyForm.{result_kind, IsSpanFine, IsTokenFine}
+use Rattle.naga_oil_form.specs.BodyForm.{result_kind, IsSpanFine, IsTokenFine}
 use Rattle.naga_oil_ir.specs.ModuleValue.{ModuleValue, FunctionValue}
 use Rattle.naga_oil_ir.specs.Parts.{Parts}
 use Rattle.naga_oil_ir.specs.Rows.{Text}

@@ -1,9 +1,9 @@
 -- Which items may stand in a module, told by what stands at its places.
 use Rattle.std.specs.Prelude.{◌≡◌, ◌⊎◌, ◌<◌, ℕ, zero, suc, Bool, true, false, not, nat_eq, ◌==◌, ◌||◌, if◌then◌else◌, map, Some, None, All, IfSome}
 use Rattle.std.specs.List.{list_any, IsDistinct}
-use Rattle.naga_oil_ir.specs.BodyForm.{IsSpanFine}
-use Rattle.naga_oil_ir.specs.ItemForm.{is_override, IsGlobalKind}
-use Rattle.naga_oil_ir.specs.Links.{has}
+use Rattle.naga_oil_form.specs.BodyForm.{IsSpanFine}
+use Rattle.naga_oil_form.specs.ItemForm.{is_override, IsGlobalKind}
+use Rattle.naga_oil_form.specs.Links.{has}
 use Rattle.naga_oil_ir.specs.ModuleValue.{ModuleValue, SpecialValue}
 use Rattle.naga_oil_ir.specs.Rows.{Row, Kind, TypeKind, ConstantKind, OverrideKind, GlobalKind, ExpressionKind}
 use Rattle.naga_oil_ir.specs.declared.names.ItemPlace.{ItemPlace}

@@ -1,10 +1,10 @@
 -- Modules whose items get other names, and whose entry points become functions, pass the test of form still.
 use Rattle.std.specs.Prelude.{◌≡◌, ℕ, List, [], ◌++◌, length, map, slice_get, None, Some, option_map, All, IsSome}
 use Rattle.naga_oil_marks.specs.Marks.{with_decoration}
-use Rattle.naga_oil_ir.specs.BodyForm.{IsSpanFine}
+use Rattle.naga_oil_form.specs.BodyForm.{IsSpanFine}
 use Rattle.naga_oil_ir.specs.ModuleValue.{ModuleValue, FunctionValue, ArgumentValue}
 use Rattle.naga_oil_ir.specs.Rows.{Row, Text}
-use Rattle.naga_oil_ir.specs.WellFormed.{WellFormed}
+use Rattle.naga_oil_form.specs.WellFormed.{WellFormed}
 use Rattle.naga_oil_ir.specs.declared.module.FunctionResult.{FunctionResult}
 use Rattle.naga_oil_ir.specs.declared.module.Module.{Module}
 use Rattle.naga_oil_ir.specs.declared.span.Span.{Span}

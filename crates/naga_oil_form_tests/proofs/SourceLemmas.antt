@@ -2,10 +2,10 @@
 use Rattle.std.proofs.Common.{◌≡◌, ℕ, ◌<◌, length, slice_get, Option, Some, None, IsSome, IfSome, option_map, refl, sym, subst, arith}
 use Rattle.std.specs.Borrow.{Bor}
 use Rattle.std.proofs.lemmas.Option.{none-some, same_Some}
-use Rattle.naga_oil_ir.specs.ItemForm.{IsThere}
+use Rattle.naga_oil_form.specs.ItemForm.{IsThere}
 use Rattle.naga_oil_ir.specs.ModuleValue.{ModuleValue, function_value}
-use Rattle.naga_oil_ir.specs.NameForm.{Name}
-use Rattle.naga_oil_ir.specs.WellFormed.{WellFormed}
+use Rattle.naga_oil_form.specs.NameForm.{Name}
+use Rattle.naga_oil_form.specs.WellFormed.{WellFormed}
 use Rattle.naga_oil_ir.specs.declared.module.Function.{Function}
 use Rattle.naga_oil_ir.specs.declared.module.Module.{Module}
 use Rattle.naga_oil_ir.specs.declared.names.ItemPlace.{ItemPlace}

@@ -8,6 +8,7 @@ mod functions;
 mod refused;
 
 use naga_oil_derive::DerivedModule;
+use naga_oil_form::check_form;
 use naga_oil_ir::{
     ArraySize, Constant, Expression, GlobalVariable, Handle, Index, ItemPlace, Module, Override,
     Span, Type, TypeInner, UniqueArena,
@@ -327,7 +328,7 @@ pub(crate) fn set<'a>(
     offset: usize,
     alloc: Global,
 ) -> Result<(), AllocError> {
-    match source.check_form(alloc, "", 100) {
+    match check_form(source, alloc, "", 100) {
         Ok(()) => derived.set_shader_source(source, offset),
         Err(_) => Err(AllocError),
     }

@@ -2,6 +2,7 @@
 //! one driver makes its module, asks, and compares.
 mod refused;
 
+use naga_oil_form::{FormFault, check_form};
 use naga_oil_ir::*;
 use naga_oil_redirect::redirect::{Pair, Redirector};
 use std::alloc::{AllocError, Global};
@@ -256,7 +257,7 @@ fn fill(module: &mut Module, case: &Case, alloc: Global) -> Result<(), AllocErro
 
 /// A redirector of a module that passes the test of form.
 fn redirector(module: Module, alloc: Global) -> Result<Redirector, FormFault> {
-    module.check_form(alloc, "", 0)?;
+    check_form(&module, alloc, "", 0)?;
     Ok(Redirector::new(alloc, module))
 }
 

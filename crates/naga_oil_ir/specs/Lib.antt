@@ -3,12 +3,8 @@ pub mod Spans
 pub mod Parts
 pub mod Rows
 pub mod Body
-pub mod Links
-pub mod ItemForm
-pub mod BodyForm
-pub mod NameForm
-pub mod WellFormed
 pub mod NameEntries
+pub mod Specials
 pub mod ModuleValue
 pub mod Backend
 pub mod RedirectFault

@@ -2,26 +2,17 @@
 //!
 //! `arena` holds items with spans, as a list or found by their hash, and `handle` names their places. `types`, `expression`,
 //! `statement` and `module` are the items. `parts`, `names` and `tokens` read an expression, an item and a body by one list each.
-//! `check_form` tests whether a module is well formed: its items in `form_items`, names in `form_names`, functions in
-//! `form_function` and their bodies in `body`, over `links` of what names what, each clause by a function of its own.
 //!
 //! An item is found in a `UniqueArena` in expected constant time, if the hasher spreads the items, and in an `Arena` by a
-//! walk over it. The tests of form take time in proportion to what they test.
+//! walk over it.
 #![tactic(auto)]
 
 pub mod arena;
 pub mod backend;
-pub mod body;
-pub mod check_form;
 pub mod expression;
-pub mod form;
-pub mod form_function;
-pub mod form_items;
-pub mod form_names;
 pub mod handle;
 pub mod kind;
 pub mod language;
-pub mod links;
 pub mod module;
 pub mod named_expressions;
 pub mod names;
@@ -34,7 +25,6 @@ pub mod types;
 
 pub use arena::{Arena, UniqueArena};
 pub use backend::{Backend, BackendRefusal, Capabilities, ParseFault, ValidFault, WriteFault};
-pub use check_form::FormFault;
 pub use expression::{Expression, ImageLoad, ImageQuery, ImageSample, Math, Operand, SampleLevel};
 pub use handle::{Handle, Index, Item, Places, Range};
 pub use language::ShaderLanguage;

@@ -1,6 +1,6 @@
 // A module, its functions and its entry points.
 ghost use Rattle.std.specs.Prelude.{◌≡◌, [], None};
-ghost use Rattle.naga_oil_ir.specs.ItemForm.{LacksSpecialTypes};
+ghost use Rattle.naga_oil_ir.specs.Specials.{LacksSpecialTypes};
 
 use super::*;
 use indexmap::IndexMap;

@@ -15,7 +15,13 @@ use Rattle.naga_oil_lines.specs.declared.wgsl_directives.RequiresDirective.{Requ
 use Rattle.naga_oil_lines.specs.declared.wgsl_directives.DiagnosticDirective.{DiagnosticDirective}
 use Rattle.naga_oil_lines.specs.Directives.{Diagnostic, Directives, enable_of, requires_of, diagnostic_of}
 use Rattle.naga_oil_lines.specs.DirectivesText.{with_name, in_order, names_of, names_line, diagnostic_line, with_empty_line, directive_lines, directives_text, SaysNothing}
-use Rattle.naga_oil_lines.proofs.UsesLemmas.{texts_again}
+
+-- texts that are the same one by one
+pub texts_again : (xs ys : List (String Global)) → AllZip (λ x y. string_bytes y ≡ string_bytes x) xs ys → map string_bytes ys ≡ map string_bytes xs
+texts_again [] [] h = refl
+texts_again [] (y ∷ ys) h = absurd h
+texts_again (x ∷ xs) [] h = absurd h
+texts_again (x ∷ xs) (y ∷ ys) h = (λ i. h.0 i ∷ texts_again xs ys h.1 i)
 
 -- ---- copies
 pub enable_again : (d : EnableDirective) (names : Vec (String Global) Global) → AllZip (λ x y. string_bytes y ≡ string_bytes x) d.extensions.items names.items

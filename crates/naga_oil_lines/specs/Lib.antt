@@ -1,12 +1,5 @@
 -- What the crate's contracts say.
 pub mod Text
-pub mod Declarations
-pub mod NameMarks
-pub mod Leaves
-pub mod ImportView
-pub mod Uses
-pub mod Substituted
-pub mod SubstituteFault
 pub mod Cover
 pub mod CoveredLines
 pub mod Tokens
@@ -18,9 +11,6 @@ pub mod Directives
 pub mod DirectivesText
 pub mod DirectivesRows
 pub mod DecorateRows
-pub mod ImportReader
-pub mod ImportRows
-pub mod Sites
 pub mod Undecorate
 pub mod UndecorateGrammar
 pub mod UndecorateRows

@@ -66,7 +66,7 @@ fn decorated_len(module_name: &str, item: &str) -> usize {
 }
 
 // Pushes the name of an item of a module.
-pub(crate) fn push_decorated(
+pub fn push_decorated(
     out: &mut String,
     module_name: &str,
     item: &str,

@@ -55,7 +55,7 @@ fn starts_name(c: char) -> bool
     }
 }
 
-pub(crate) fn starts_identifier(first: char) -> bool
+pub fn starts_identifier(first: char) -> bool
     ensures { result ≡ starts_identifier first }
 {
     starts_name(first) || first == '"'
@@ -126,7 +126,7 @@ fn gap_len(bytes: &[u8]) -> usize
 }
 
 // The front of a text where bytes of ASCII begin no identifier, and what follows it.
-pub(crate) fn split_gap(text: &str) -> (&str, &str)
+pub fn split_gap(text: &str) -> (&str, &str)
     ensures gap { result.0.now ≡ take (prefix_len is_gap_byte text.now) text.now }
     ensures rest { result.1.now ≡ drop (prefix_len is_gap_byte text.now) text.now }
 {
@@ -177,7 +177,7 @@ fn ends_identifier(text: &str) -> bool
 }
 
 // What is left of a text behind an identifier that begins with a character before it, and whether this is one word, which has no `:`.
-pub(crate) fn behind_identifier(first: char, text: &str) -> (&str, bool)
+pub fn behind_identifier(first: char, text: &str) -> (&str, bool)
     ensures chars { chars result.0.now ≡ drop (tail_len (first == 34) (chars text.now)) (chars text.now) }
     ensures suffix { (front : List ℕ) × (text.now ≡ front ++ result.0.now) × (IsTrue result.1 → list_any (λ b. b == 58) front ≡ false) }
     ensures utf8 { IsUtf8 result.0.now }

@@ -7,7 +7,7 @@ use Rattle.std.proofs.lemmas.Bool.Decides.{Decides-and, Decides-like, Decides-lt
 use Rattle.std.proofs.lemmas.List.Elements.{All-nil, All-cons, All-head, All-tail}
 use Rattle.std.proofs.lemmas.List.{map-id}
 use Rattle.std.proofs.lemmas.Option.{same_Some}
-use Rattle.naga_oil_ir.specs.Links.{Links, linked, AreEarlier, AtEach}
+use Rattle.naga_oil_form.specs.Links.{Links, linked, AreEarlier, AtEach}
 use Rattle.naga_oil_link.specs.FormItems.{are_distinct}
 use Rattle.naga_oil_link.specs.FormParts.{passes_if_there, are_earlier}
 

@@ -1,7 +1,7 @@
 -- What a call gives that tests the form, by the value of the test.
 use Rattle.std.proofs.Common.{◌≡◌, Bool, true, false, cond, Option, Some, None, Result, Ok, Err, OnOk, IfErr, Decides, refl, ap}
-use Rattle.naga_oil_ir.specs.declared.check_form.FormFault.{FormFault}
-use Rattle.naga_oil_ir.specs.declared.check_form.FormFault.TheVariants.{WrongForm, Memory}
+use Rattle.naga_oil_form.specs.declared.check_form.FormFault.{FormFault}
+use Rattle.naga_oil_form.specs.declared.check_form.FormFault.TheVariants.{WrongForm, Memory}
 use Rattle.naga_oil_link.specs.FormView.{GivesFormed}
 
 -- what a call tells by a test

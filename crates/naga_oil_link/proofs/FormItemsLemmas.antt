@@ -4,9 +4,9 @@ use Rattle.std.specs.List.{list_all, list_any}
 use Rattle.std.proofs.lemmas.Bool.Decides.{Decides-at, Decides-or}
 use Rattle.std.proofs.lemmas.Option.{slice_get-map}
 use Rattle.std.proofs.lemmas.Simd.{map-map}
-use Rattle.naga_oil_ir.specs.BodyForm.{operand_links}
-use Rattle.naga_oil_ir.specs.ItemForm.{IsThere, NamesThere, types_named, types_of, type_links, is_override, pending, is_sized, NamesWell, NamesForm, init_of_constant, init_of_override, initialiser, IsGlobalKind, ExpressionForm, special_types, is_unnamed, is_plain, SpecialForm, ItemForm}
-use Rattle.naga_oil_ir.specs.Links.{trail, has, reaches}
+use Rattle.naga_oil_form.specs.BodyForm.{operand_links}
+use Rattle.naga_oil_form.specs.ItemForm.{IsThere, NamesThere, types_named, types_of, type_links, is_override, pending, is_sized, NamesWell, NamesForm, init_of_constant, init_of_override, initialiser, IsGlobalKind, ExpressionForm, special_types, is_unnamed, is_plain, SpecialForm, ItemForm}
+use Rattle.naga_oil_form.specs.Links.{trail, has, reaches}
 use Rattle.naga_oil_ir.specs.ModuleValue.{module_value}
 use Rattle.naga_oil_ir.specs.Parts.{parts}
 use Rattle.naga_oil_ir.specs.Rows.{Row, Text, inner_row, type_row, constant_row, override_row, global_row, expression_row}

@@ -6,10 +6,10 @@ use Rattle.std.proofs.lemmas.Bool.Decides.{Decides-at}
 use Rattle.std.proofs.lemmas.List.{length-map}
 use Rattle.std.proofs.lemmas.Simd.{map-map}
 use Rattle.naga_oil_marks.specs.Marks.{with_decoration}
-use Rattle.naga_oil_ir.specs.BodyForm.{IsSpanFine}
+use Rattle.naga_oil_form.specs.BodyForm.{IsSpanFine}
 use Rattle.naga_oil_ir.specs.ModuleValue.{FunctionValue, EntryValue, module_value, function_value, entry_value}
-use Rattle.naga_oil_ir.specs.NameForm.{NameForm, function_name, entry_name}
-use Rattle.naga_oil_ir.specs.WellFormed.{FunctionForm, FunctionsForm, IsExpressionThere, MeshForm, EntryForm, SpanForm, WellFormed}
+use Rattle.naga_oil_form.specs.NameForm.{NameForm, function_name, entry_name}
+use Rattle.naga_oil_form.specs.WellFormed.{FunctionForm, FunctionsForm, IsExpressionThere, MeshForm, EntryForm, SpanForm, WellFormed}
 use Rattle.naga_oil_ir.specs.declared.module.EntryPoint.{EntryPoint}
 use Rattle.naga_oil_ir.specs.declared.module.Function.{Function}
 use Rattle.naga_oil_ir.specs.declared.module.MeshInfo.{MeshInfo}

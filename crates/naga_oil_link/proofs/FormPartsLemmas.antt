@@ -6,11 +6,11 @@ use Rattle.std.proofs.lemmas.List.{length-map}
 use Rattle.std.proofs.lemmas.List.Folds.{flat_map-map}
 use Rattle.std.proofs.lemmas.Simd.{map-map}
 use Rattle.naga_oil_ir.specs.Body.{Tokens, block_tokens}
-use Rattle.naga_oil_ir.specs.BodyForm.{kinds, callee, callees, operand_links, is_external, is_result, places, is_known, made, AreEmitted, MayBeGiven, IsFine, AreFine, IsSpanFine, IsTokenFine, MayStand}
-use Rattle.naga_oil_ir.specs.Links.{Links, linked, has, started}
+use Rattle.naga_oil_form.specs.BodyForm.{kinds, callee, callees, operand_links, is_external, is_result, places, is_known, made, AreEmitted, MayBeGiven, IsFine, AreFine, IsSpanFine, IsTokenFine, MayStand}
+use Rattle.naga_oil_form.specs.Links.{Links, linked, has, started}
 use Rattle.naga_oil_ir.specs.ModuleValue.{LocalValue, argument_value, local_value, expression_values, function_value, module_value}
 use Rattle.naga_oil_ir.specs.Parts.{Parts, parts}
-use Rattle.naga_oil_ir.specs.WellFormed.{NamedThere, FunctionForm, initialisers}
+use Rattle.naga_oil_form.specs.WellFormed.{NamedThere, FunctionForm, initialisers}
 use Rattle.naga_oil_ir.specs.declared.expression.Expression.{Expression}
 use Rattle.naga_oil_ir.specs.declared.module.Function.{Function}
 use Rattle.naga_oil_ir.specs.declared.module.Module.{Module}

@@ -28,8 +28,8 @@ use Rattle.naga_oil_derive.specs.DerivedValue.{set_source}
 use Rattle.naga_oil_derive.specs.World.{value_of}
 use Rattle.naga_oil_form_laws.specs.EntryForm.{IsModuleFormed}
 use Rattle.naga_oil_lines.specs.Text.{texts, is_among}
-use Rattle.naga_oil_lines.specs.Uses.{Import, import_of}
-use Rattle.naga_oil_lines.specs.declared.import_definition.ImportDefinition.{ImportDefinition}
+use Rattle.naga_oil_imports.specs.Uses.{Import, import_of}
+use Rattle.naga_oil_imports.specs.declared.import_definition.ImportDefinition.{ImportDefinition}
 use Rattle.naga_oil_link.specs.BuiltModule.{BuiltModule, Builds, built_of, builds_of}
 use Rattle.naga_oil_link.specs.ByName.{places_where}
 use Rattle.naga_oil_link.specs.CopiedBuild.{has_name_among}

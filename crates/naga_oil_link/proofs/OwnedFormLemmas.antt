@@ -6,11 +6,11 @@ use Rattle.std.proofs.lemmas.List.{append_cancel_right}
 use Rattle.std.proofs.lemmas.Option.{same_Some}
 use Rattle.std.proofs.lemmas.Slice.Eq.{bytes_eq-Decides}
 use Rattle.naga_oil_marks.specs.Marks.{with_decoration}
-use Rattle.naga_oil_ir.specs.BodyForm.{IsSpanFine}
+use Rattle.naga_oil_form.specs.BodyForm.{IsSpanFine}
 use Rattle.naga_oil_ir.specs.ModuleValue.{ModuleValue, FunctionValue, EntryValue, module_value}
 use Rattle.naga_oil_ir.specs.Rows.{Text}
 use Rattle.naga_oil_ir.specs.Spans.{undefined}
-use Rattle.naga_oil_ir.specs.WellFormed.{WellFormed}
+use Rattle.naga_oil_form.specs.WellFormed.{WellFormed}
 use Rattle.naga_oil_ir.specs.declared.module.Module.{Module}
 use Rattle.naga_oil_ir.specs.declared.span.Span.{Span}
 use Rattle.naga_oil_lines.specs.Text.{is_among}

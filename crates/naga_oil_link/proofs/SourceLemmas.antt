@@ -3,11 +3,11 @@ use Rattle.std.proofs.Common.{◌≡◌, inr, ℕ, zero, suc, ◌<◌, ◌≤◌
 use Rattle.std.proofs.lemmas.List.Elements.{All-nil, All-cons, All-head, All-tail, All-same, All-weaker}
 use Rattle.std.proofs.lemmas.Option.{slice_get_within, slice_get-get_or}
 use Rattle.naga_oil_ir.specs.Body.{block_tokens}
-use Rattle.naga_oil_ir.specs.BodyForm.{is_result, IsTokenFine}
-use Rattle.naga_oil_ir.specs.ItemForm.{IsThere}
+use Rattle.naga_oil_form.specs.BodyForm.{is_result, IsTokenFine}
+use Rattle.naga_oil_form.specs.ItemForm.{IsThere}
 use Rattle.naga_oil_ir.specs.ModuleValue.{ModuleValue, FunctionValue, function_value, module_value}
 use Rattle.naga_oil_ir.specs.Rows.{Row}
-use Rattle.naga_oil_ir.specs.WellFormed.{FunctionForm, FunctionsForm}
+use Rattle.naga_oil_form.specs.WellFormed.{FunctionForm, FunctionsForm}
 use Rattle.naga_oil_ir.specs.declared.module.Function.{Function}
 use Rattle.naga_oil_ir.specs.declared.module.Module.{Module}
 use Rattle.naga_oil_ir.specs.declared.names.ItemPlace.{ItemPlace}

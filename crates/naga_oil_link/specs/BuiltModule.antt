@@ -6,7 +6,7 @@ use Rattle.std.specs.declared.sync.Arc.{Arc}
 use Rattle.indexmap.specs.IndexMap.{IndexMap}
 use Rattle.naga_oil_ir.specs.ModuleValue.{ModuleValue, no_items}
 use Rattle.naga_oil_lines.specs.Text.{texts}
-use Rattle.naga_oil_lines.specs.Uses.{Import, import_of}
+use Rattle.naga_oil_imports.specs.Uses.{Import, import_of}
 use Rattle.naga_oil_link.specs.OwnPlaces.{OwnPlaces, own_of, nothing_own}
 use Rattle.naga_oil_link.specs.declared.module.ComposableModule.{ComposableModule}
 

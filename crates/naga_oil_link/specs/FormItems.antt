@@ -1,8 +1,8 @@
 -- The test of form of items by their rows, as values.
 use Rattle.std.specs.Prelude.{ℕ, Bool, true, false, not, ◌&&◌, ◌||◌, List, [], ◌∷◌, ◌++◌, length, map, slice_get, Option, Some, None, option_to_list, is_none, nat_eq, nat_lt}
 use Rattle.std.specs.List.{list_all, list_any, enumerate_from}
-use Rattle.naga_oil_ir.specs.ItemForm.{types_named, is_override}
-use Rattle.naga_oil_ir.specs.Links.{Links, trail, has, reaches}
+use Rattle.naga_oil_form.specs.ItemForm.{types_named, is_override}
+use Rattle.naga_oil_form.specs.Links.{Links, trail, has, reaches}
 use Rattle.naga_oil_ir.specs.ModuleValue.{ModuleValue, SpecialValue}
 use Rattle.naga_oil_ir.specs.Parts.{Parts}
 use Rattle.naga_oil_ir.specs.Rows.{Row, parts_row}

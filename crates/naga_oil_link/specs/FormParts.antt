@@ -3,8 +3,8 @@ use Rattle.std.specs.Prelude.{ℕ, Bool, true, not, ◌&&◌, List, [], ◌∷�
 use Rattle.std.specs.List.{list_all, enumerate_from}
 use Rattle.std.specs.Option.{option_eq}
 use Rattle.naga_oil_ir.specs.Body.{Tokens}
-use Rattle.naga_oil_ir.specs.BodyForm.{callee, is_external, is_result, places, is_known, made}
-use Rattle.naga_oil_ir.specs.Links.{Links, linked, has, started}
+use Rattle.naga_oil_form.specs.BodyForm.{callee, is_external, is_result, places, is_known, made}
+use Rattle.naga_oil_form.specs.Links.{Links, linked, has, started}
 use Rattle.naga_oil_ir.specs.ModuleValue.{ModuleValue, FunctionValue}
 use Rattle.naga_oil_ir.specs.Parts.{Parts}
 use Rattle.naga_oil_ir.specs.declared.parts.Named.{Named}

@@ -1,7 +1,7 @@
 -- What a call gives that tests the form of modules.
 use Rattle.std.specs.Prelude.{◌≡◌, Option, Some, None, Result, Ok, Err}
-use Rattle.naga_oil_ir.specs.declared.check_form.FormFault.{FormFault}
-use Rattle.naga_oil_ir.specs.declared.check_form.FormFault.TheVariants.{WrongForm, Memory}
+use Rattle.naga_oil_form.specs.declared.check_form.FormFault.{FormFault}
+use Rattle.naga_oil_form.specs.declared.check_form.FormFault.TheVariants.{WrongForm, Memory}
 
 -- a result, seen by view, is the value, wrong form where that is none, or want of memory
 abbrev pub GivesFormed : {X Y : Type 0} → (X → Y) → Result X FormFault → Option Y → Type 0

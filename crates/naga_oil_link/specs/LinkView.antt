@@ -9,7 +9,7 @@ use Rattle.naga_oil_derive.specs.DerivedValue.{import_item}
 use Rattle.naga_oil_derive.specs.Tree.{Kept}
 use Rattle.naga_oil_form_laws.specs.DerivedForm.{IsFormed}
 use Rattle.naga_oil_lines.specs.Text.{is_among}
-use Rattle.naga_oil_lines.specs.Uses.{Import}
+use Rattle.naga_oil_imports.specs.Uses.{Import}
 use Rattle.naga_oil_link.specs.BuiltModule.{BuiltModule, Builds}
 use Rattle.naga_oil_link.specs.Linked.{LinkState, passes, link_function, link_imports}
 use Rattle.naga_oil_link.specs.OwnPlaces.{OwnPlaces, is_own}

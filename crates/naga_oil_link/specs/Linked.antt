@@ -13,7 +13,7 @@ use Rattle.naga_oil_derive.specs.Derived.{Derived, nothing, cleared}
 use Rattle.naga_oil_derive.specs.DerivedValue.{import_item, import_function_if_new, set_source}
 use Rattle.naga_oil_lines.specs.DirectivesText.{in_order}
 use Rattle.naga_oil_lines.specs.Text.{texts, is_among}
-use Rattle.naga_oil_lines.specs.Uses.{Import}
+use Rattle.naga_oil_imports.specs.Uses.{Import}
 use Rattle.naga_oil_link.specs.BuiltModule.{BuiltModule, Builds}
 use Rattle.naga_oil_link.specs.OwnPlaces.{OwnPlaces, is_own}
 use Rattle.naga_oil_link.specs.Places.{places_of, name_at}

@@ -7,7 +7,7 @@ use Rattle.naga_oil_ir.specs.declared.names.ItemPlace.TheVariants.{ConstantItem}
 use Rattle.naga_oil_ir.specs.declared.span.Span.{Span}
 use Rattle.naga_oil_derive.specs.Derived.{Derived}
 use Rattle.naga_oil_lines.specs.DirectivesText.{in_order}
-use Rattle.naga_oil_lines.specs.Uses.{Import}
+use Rattle.naga_oil_imports.specs.Uses.{Import}
 use Rattle.naga_oil_link.specs.BuiltModule.{BuiltModule}
 use Rattle.naga_oil_link.specs.Linked.{LinkState, asked_of, links_place, links_function, link_within, link_import}
 use Rattle.naga_oil_link.specs.OwnPlaces.{OwnPlaces, nothing_own}

@@ -1,7 +1,7 @@
 //! The module that a build holds and its header, copied from what was parsed.
 ghost use Rattle.std.specs.Prelude.{◌≡◌, [], true, false, IfOk, IsSome, OnOk, fold, map, option_map, string_bytes};
 ghost use Rattle.naga_oil_ir.specs.Body.{block_tokens};
-ghost use Rattle.naga_oil_ir.specs.ItemForm.{IsThere};
+ghost use Rattle.naga_oil_form.specs.ItemForm.{IsThere};
 ghost use Rattle.naga_oil_ir.specs.ModuleValue.{argument_value, function_value, module_value};
 ghost use Rattle.naga_oil_derive.specs.CopiedEntry.{make_module};
 ghost use Rattle.naga_oil_derive.specs.Derived.{HasItem, Keeps};

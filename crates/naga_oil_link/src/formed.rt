@@ -1,7 +1,7 @@
 //! Modules that pass the test of form.
 ghost use Rattle.std.specs.Prelude.{◌≡◌, [], IfOk, OnOk, Some, None, if◌then◌else◌};
 ghost use Rattle.naga_oil_ir.specs.ModuleValue.{module_value, no_items};
-ghost use Rattle.naga_oil_ir.specs.WellFormed.{WellFormed};
+ghost use Rattle.naga_oil_form.specs.WellFormed.{WellFormed};
 ghost use Rattle.naga_oil_form_laws.specs.EntryForm.{IsModuleFormed};
 ghost use Rattle.naga_oil_link.specs.ByName.{HasItems};
 ghost use Rattle.naga_oil_link.specs.Form.{is_formed};
@@ -16,7 +16,7 @@ pub fn check_form(alloc: Global, of: &Module, decoration: &str, len: usize) -> F
     ensures form { OnOk result (WellFormed of.now decoration.now len) }
     ensures value { GivesFormed (λ done. done) result (if is_formed (module_value of.now) decoration.now len then Some tt else None) }
 {
-    of.check_form(alloc, decoration, len)
+    naga_oil_form::check_form(of, alloc, decoration, len)
 }
 
 // Gives back the room of an arena that its items don't need.

@@ -1,9 +1,9 @@
 //! The items of a parsed module: those whose names have no mark of a module are its own and get its decoration.
 ghost use Rattle.std.specs.Prelude.{◌≡◌, ◌≤◌, ◌++◌, ◌||◌, ℕ, All, IfOk, OnOk, fold, length, map, not, option_map, string_bytes};
 ghost use Rattle.std.specs.List.{flat_map};
-ghost use Rattle.naga_oil_ir.specs.ItemForm.{IsThere};
+ghost use Rattle.naga_oil_form.specs.ItemForm.{IsThere};
 ghost use Rattle.naga_oil_ir.specs.ModuleValue.{ModuleValue, argument_value, entry_value, function_value, module_value};
-ghost use Rattle.naga_oil_ir.specs.WellFormed.{WellFormed};
+ghost use Rattle.naga_oil_form.specs.WellFormed.{WellFormed};
 ghost use Rattle.naga_oil_form_laws.specs.EntryForm.{IsModuleFormed};
 ghost use Rattle.naga_oil_lines.specs.DirectivesText.{in_order, with_name};
 ghost use Rattle.naga_oil_lines.specs.Text.{texts, is_among};

@@ -2,7 +2,7 @@
 ghost use Rattle.std.specs.Prelude.{ℕ, List};
 ghost use Rattle.std.specs.Bool.{Decides};
 ghost use Rattle.naga_oil_ir.specs.ModuleValue.{module_value};
-ghost use Rattle.naga_oil_ir.specs.WellFormed.{WellFormed};
+ghost use Rattle.naga_oil_form.specs.WellFormed.{WellFormed};
 ghost use Rattle.naga_oil_ir.specs.declared.module.Module.{Module as ModuleOf};
 ghost use Rattle.naga_oil_link.specs.Form.{is_formed};
 

@@ -5,7 +5,7 @@ ghost use Rattle.naga_oil_derive.specs.Derived.{nothing};
 ghost use Rattle.naga_oil_form_laws.specs.EntryForm.{IsModuleFormed};
 ghost use Rattle.naga_oil_lines.specs.DirectivesText.{with_name, in_order};
 ghost use Rattle.naga_oil_lines.specs.Text.{texts};
-ghost use Rattle.naga_oil_lines.specs.Uses.{import_of};
+ghost use Rattle.naga_oil_imports.specs.Uses.{import_of};
 ghost use Rattle.naga_oil_link.specs.BuiltModule.{built_of, builds_of};
 ghost use Rattle.naga_oil_link.specs.ByName.{HasItems};
 ghost use Rattle.naga_oil_link.specs.CopySources.{CopiesFrom};
@@ -16,7 +16,7 @@ ghost use Rattle.naga_oil_link.specs.OwnPlaces.{own_of};
 use super::by_name::{Asked, NamedItems, add_named, wanted};
 use super::copied::{has_name_among, import_item};
 use super::*;
-use naga_oil_lines::ImportDefinition as Import;
+use naga_oil_imports::ImportDefinition as Import;
 
 /// The builds of a make by their names, each behind those that it imports. Each may be shared.
 pub type Builds = IndexMap<String, Arc<Build>>;

@@ -10,8 +10,8 @@ use Rattle.std.proofs.lemmas.Bool.{false≢true}
 use Rattle.std.proofs.lemmas.Simd.{map-map}
 use Rattle.naga_oil_marks.specs.Marks.{with_decoration}
 use Rattle.naga_oil_ir.specs.Body.{Tokens}
-use Rattle.naga_oil_ir.specs.BodyForm.{callee, is_external, is_result, places, is_known, made, AreEmitted, MayBeGiven, IsFine, AreFine, IsSpanFine, IsTokenFine, MayStand}
-use Rattle.naga_oil_ir.specs.Links.{Links, linked, has, started}
+use Rattle.naga_oil_form.specs.BodyForm.{callee, is_external, is_result, places, is_known, made, AreEmitted, MayBeGiven, IsFine, AreFine, IsSpanFine, IsTokenFine, MayStand}
+use Rattle.naga_oil_form.specs.Links.{Links, linked, has, started}
 use Rattle.naga_oil_ir.specs.ModuleValue.{ModuleValue, FunctionValue, EntryValue}
 use Rattle.naga_oil_ir.specs.Parts.{Parts}
 use Rattle.naga_oil_ir.specs.Rows.{Text}

@@ -5,9 +5,9 @@ use Rattle.std.proofs.lemmas.Bool.{or_cases, false≢true, cases_Bool}
 use Rattle.std.proofs.lemmas.Bool.Decides.{Decides-or}
 use Rattle.std.proofs.lemmas.List.{map-id}
 use Rattle.std.proofs.lemmas.List.Elements.{All-nil, All-cons, All-head, All-tail}
-use Rattle.naga_oil_ir.specs.BodyForm.{IsSpanFine}
-use Rattle.naga_oil_ir.specs.ItemForm.{type_at, types_named, is_override, IsGlobalKind}
-use Rattle.naga_oil_ir.specs.Links.{AreEarlier, linked, trail, has, is_marked}
+use Rattle.naga_oil_form.specs.BodyForm.{IsSpanFine}
+use Rattle.naga_oil_form.specs.ItemForm.{type_at, types_named, is_override, IsGlobalKind}
+use Rattle.naga_oil_form.specs.Links.{AreEarlier, linked, trail, has, is_marked}
 use Rattle.naga_oil_ir.specs.ModuleValue.{ModuleValue}
 use Rattle.naga_oil_ir.specs.Parts.{Parts}
 use Rattle.naga_oil_ir.specs.Rows.{Row, Kind, TypeKind, ConstantKind, OverrideKind, GlobalKind, ExpressionKind, parts_row, named_place}
@@ -16,7 +16,7 @@ use Rattle.naga_oil_ir.specs.declared.names.ItemPlace.TheVariants.{TypeItem, Con
 use Rattle.naga_oil_ir.specs.declared.parts.Named.{Named}
 use Rattle.naga_oil_ir.specs.declared.parts.Named.TheVariants.{Nothing, TypeOf, ConstantAt, OverrideAt, GlobalAt, LocalAt, ArgumentAt, FunctionAt}
 use Rattle.naga_oil_ir.specs.declared.span.Span.{Span}
-use Rattle.naga_oil_ir.proofs.LinkLemmas.{All-has, linked-map, marked-map}
+use Rattle.naga_oil_form.proofs.LinkLemmas.{All-has, linked-map, marked-map}
 use Rattle.naga_oil_derive.specs.Tree.{World}
 use Rattle.naga_oil_derive.specs.World.{world, span_at, special_entries}
 use Rattle.naga_oil_derive.specs.CopiedLaw.{place_number, kind_number, HasAt}

@@ -15,7 +15,7 @@ use Rattle.naga_oil_pre.specs.Reading.{braces_after, taken}
 use Rattle.naga_oil_pre.specs.Replaced.{Piece, plain, named, pieces, value_or, piece_text, name_of, hash_names, replaced, replaced_from}
 use Rattle.naga_oil_pre.specs.Scope.{is_active, is_open, level}
 use Rattle.naga_oil_pre.specs.Step.{Step, step, else_step, end_step, opened, scanned}
-use Rattle.naga_oil_lines.specs.Substituted.{substituted, sites, first_ambiguous, used_by}
+use Rattle.naga_oil_imports.specs.Substituted.{substituted, sites, first_ambiguous, used_by}
 use Rattle.naga_oil_pre.specs.Preprocessed as becomes
 use Rattle.naga_oil_pre.specs.Preprocessed.{Status, blanked, shown, imported, noted, Known, nothing_known, Output, written, passage, shown_passage, prepend_passage, prepend, end_status, condition_status, end_line, padded, spaces, tokens_of, preprocessed}
 use Rattle.naga_oil_pre.specs.Recorded.{condition_names, text_names, kind_names, line_names, names_of, is_recorded, AgreeOn}

@@ -16,10 +16,10 @@ use Rattle.naga_oil_lines.specs.declared.comment_strip_iter.CommentState.{Commen
 use Rattle.naga_oil_lines.specs.declared.comment_strip_iter.CommentState.TheVariants.{Code}
 use Rattle.naga_oil_lines.specs.Cover.{cover}
 use Rattle.naga_oil_lines.specs.CoveredLines.{covered_lines}
-use Rattle.naga_oil_lines.specs.Declarations.{Declared, with_path}
-use Rattle.naga_oil_lines.specs.Leaves.{Leaf, import_leaves, with_leaves}
-use Rattle.naga_oil_lines.specs.Substituted.{substituted, sites, first_ambiguous}
-use Rattle.naga_oil_lines.proofs.SubstitutedLines.{substituted_holds_no_newline}
+use Rattle.naga_oil_imports.specs.Declarations.{Declared, with_path}
+use Rattle.naga_oil_imports.specs.Leaves.{Leaf, import_leaves, with_leaves}
+use Rattle.naga_oil_imports.specs.Substituted.{substituted, sites, first_ambiguous}
+use Rattle.naga_oil_imports.proofs.SubstitutedLines.{substituted_holds_no_newline}
 use Rattle.naga_oil_pre.specs.declared.scope.ScopeLevel.{ScopeLevel}
 use Rattle.naga_oil_pre.specs.declared.shader_def.ShaderDefValue.{ShaderDefValue}
 use Rattle.naga_oil_pre.specs.declared.shader_def.ShaderDefValue.TheVariants as def

@@ -1,23 +1,23 @@
 -- What a line and the lines that it takes become, before what is left.
 use Rattle.std.specs.Prelude.{OnOk, IfErr, String}
 use Rattle.std.specs.declared.alloc.Global.{Global}
-use Rattle.naga_oil_lines.specs.declared.import_definition.ImportDefWithOffset.{ImportDefWithOffset}
+use Rattle.naga_oil_imports.specs.declared.import_definition.ImportDefWithOffset.{ImportDefWithOffset}
 use Rattle.std.proofs.Common.{◌≡◌, ℕ, zero, suc, ◌+◌, ◌<◌, ◌≤◌, ◌^◌, Bool, true, false, List, [], ◌∷◌, ◌++◌, map, length, replicate, refl, sym, ap, subst, ◌∙◌, append_assoc, append-nil, Option, Some, None, MatchOption, Result, Ok, Err, arith}
-use Rattle.naga_oil_lines.specs.Declarations.{Declared}
-use Rattle.naga_oil_lines.specs.Leaves.{Leaf, SyntaxFault, import_leaves, with_leaves, with_import as declared_behind}
-use Rattle.naga_oil_lines.specs.Uses.{Use, Uses, use_of, use_entry}
-use Rattle.naga_oil_lines.specs.Substituted.{Site, substituted, sites, first_ambiguous, is_refused, usize_sites, used_by}
+use Rattle.naga_oil_imports.specs.Declarations.{Declared}
+use Rattle.naga_oil_imports.specs.Leaves.{Leaf, SyntaxFault, import_leaves, with_leaves, with_import as declared_behind}
+use Rattle.naga_oil_imports.specs.Uses.{Use, Uses, use_of, use_entry}
+use Rattle.naga_oil_imports.specs.Substituted.{Site, substituted, sites, first_ambiguous, is_refused, usize_sites, used_by}
 use denote.Ref.{Bor}
 use Rattle.std.specs.Str.{IsUtf8, chars}
-use Rattle.naga_oil_lines.proofs.ImportPlaceLemmas.{fault_within}
-use Rattle.naga_oil_lines.proofs.SitePlaceLemmas.{sites_count}
+use Rattle.naga_oil_imports.proofs.ImportPlaceLemmas.{fault_within}
+use Rattle.naga_oil_imports.proofs.SitePlaceLemmas.{sites_count}
 use Rattle.naga_oil_lines.specs.Tokens.{lexemes}
-use Rattle.naga_oil_lines.specs.ImportView.{RefusesImport as Declines}
-use Rattle.naga_oil_lines.specs.declared.parse_imports.ImportFault.{ImportFault}
-use Rattle.naga_oil_lines.specs.declared.parse_imports.ImportFault.TheVariants.{Syntax, Memory as OutOfMemory}
-use Rattle.naga_oil_lines.specs.SubstituteFault.{RefusesUses}
-use Rattle.naga_oil_lines.specs.declared.substitute.SubstituteFault.{SubstituteFault}
-use Rattle.naga_oil_lines.specs.declared.substitute.SubstituteFault.TheVariants.{Ambiguous, Memory}
+use Rattle.naga_oil_imports.specs.ImportView.{RefusesImport as Declines}
+use Rattle.naga_oil_imports.specs.declared.parse_imports.ImportFault.{ImportFault}
+use Rattle.naga_oil_imports.specs.declared.parse_imports.ImportFault.TheVariants.{Syntax, Memory as OutOfMemory}
+use Rattle.naga_oil_imports.specs.SubstituteFault.{RefusesUses}
+use Rattle.naga_oil_imports.specs.declared.substitute.SubstituteFault.{SubstituteFault}
+use Rattle.naga_oil_imports.specs.declared.substitute.SubstituteFault.TheVariants.{Ambiguous, Memory}
 use Rattle.naga_oil_pre.specs.declared.scope.ScopeLevel.{ScopeLevel}
 use Rattle.naga_oil_pre.specs.declared.fault.ComposerErrorInner.{ComposerErrorInner}
 use Rattle.naga_oil_pre.specs.declared.preprocess.Treatment.{Treatment}

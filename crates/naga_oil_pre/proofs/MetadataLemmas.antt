@@ -5,11 +5,11 @@ use Rattle.std.specs.BTreeSet.{BTreeSet, contains_text}
 use Rattle.std.specs.List.{flat_map}
 use Rattle.std.proofs.lemmas.Grind.{flat_map-append}
 use Rattle.std.proofs.lemmas.List.{map_more, map_push}
-use Rattle.naga_oil_lines.specs.declared.import_definition.ImportDefinition.{ImportDefinition}
-use Rattle.naga_oil_lines.specs.declared.import_definition.ImportDefWithOffset.{ImportDefWithOffset}
+use Rattle.naga_oil_imports.specs.declared.import_definition.ImportDefinition.{ImportDefinition}
+use Rattle.naga_oil_imports.specs.declared.import_definition.ImportDefWithOffset.{ImportDefWithOffset}
 use Rattle.naga_oil_lines.specs.Directives.{Directives, directives_of}
-use Rattle.naga_oil_lines.specs.Leaves.{Leaf, SyntaxFault}
-use Rattle.naga_oil_lines.specs.Uses.{Import, import_of, use_of}
+use Rattle.naga_oil_imports.specs.Leaves.{Leaf, SyntaxFault}
+use Rattle.naga_oil_imports.specs.Uses.{Import, import_of, use_of}
 use Rattle.naga_oil_pre.specs.declared.metadata.PreprocessorMetaData.{PreprocessorMetaData}
 use Rattle.naga_oil_pre.specs.declared.fault.ComposerErrorInner.{ComposerErrorInner}
 use Rattle.naga_oil_pre.specs.Extracted.{extracted}

@@ -7,10 +7,10 @@ use Rattle.ucd_perl.proofs.Computing.{ucd_perl}
 use Rattle.unicode_ident.specs.Ident.{is_xid_start, is_xid_continue}
 use Rattle.unicode_ident.proofs.Computing.{unicode_ident}
 use Rattle.naga_oil_lines.specs.Cover.{cover}
-use Rattle.naga_oil_lines.specs.Leaves.{parts, leaves_of, line_leaves}
-use Rattle.naga_oil_lines.specs.Substituted.{paths_for, path_text, mentions_at}
+use Rattle.naga_oil_imports.specs.Leaves.{parts, leaves_of, line_leaves}
+use Rattle.naga_oil_imports.specs.Substituted.{paths_for, path_text, mentions_at}
 use Rattle.naga_oil_lines.specs.Tokens.{lexemes, more_in_token, tail_len}
-use Rattle.naga_oil_lines.specs.Uses.{Use}
+use Rattle.naga_oil_imports.specs.Uses.{Use}
 use Rattle.naga_oil_pre.specs.declared.shader_def.ShaderDefValue.{ShaderDefValue}
 use Rattle.naga_oil_pre.specs.declared.shader_def.ShaderDefValue.TheVariants as def
 use Rattle.naga_oil_pre.specs.Computing.{line_kinds}

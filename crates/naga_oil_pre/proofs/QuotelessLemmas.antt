@@ -10,7 +10,7 @@ use Rattle.std.proofs.lemmas.List.Elements.{All-cons, All-nil, All-head, All-tai
 use Rattle.unicode_ident.specs.Ident.{is_xid_start, is_xid_continue}
 use Rattle.unicode_ident.proofs.Computing.{unicode_ident}
 use Rattle.naga_oil_lines.specs.Tokens.{Lexeme, identifier, other, whitespace, tail_len, more_in_token, lexeme_at, lexemes, is_whitespace_lexeme, emit as emitted}
-use Rattle.naga_oil_lines.specs.Leaves.{SyntaxFault, Alias, no_alias, as_name, lacking, alias_after, alias_len, Part, head, leaf, close, nothing, wrong, before_brace, unit_part, unit_len, at_semicolon, mark_part, parts, is_open, open_heads, Leaf, part_leaves, at_end, is_old_head, then_leaves, leaves_of, behind_hash, behind_import, line_leaves, import_leaves, key_of}
+use Rattle.naga_oil_imports.specs.Leaves.{SyntaxFault, Alias, no_alias, as_name, lacking, alias_after, alias_len, Part, head, leaf, close, nothing, wrong, before_brace, unit_part, unit_len, at_semicolon, mark_part, parts, is_open, open_heads, Leaf, part_leaves, at_end, is_old_head, then_leaves, leaves_of, behind_hash, behind_import, line_leaves, import_leaves, key_of}
 use Rattle.naga_oil_pre.specs.declared.scope.ScopeLevel.{ScopeLevel}
 use Rattle.naga_oil_pre.specs.Line.{Line, source_lines}
 use Rattle.naga_oil_pre.specs.Kind.{LineKind, version, condition, endif, imports, import_path, define, other as other_line, kind_of}

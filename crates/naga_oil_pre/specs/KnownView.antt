@@ -1,8 +1,8 @@
 -- What the code knows of imports, and what it gives.
 use Rattle.std.specs.Prelude.{map, string_bytes}
-use Rattle.naga_oil_lines.specs.Declarations.{declared_of}
-use Rattle.naga_oil_lines.specs.NameMarks.{Covers}
-use Rattle.naga_oil_lines.specs.Uses.{uses_of, use_of}
+use Rattle.naga_oil_imports.specs.Declarations.{declared_of}
+use Rattle.naga_oil_imports.specs.NameMarks.{Covers}
+use Rattle.naga_oil_imports.specs.Uses.{uses_of, use_of}
 use Rattle.naga_oil_pre.specs.declared.imports.Imports.{Imports}
 use Rattle.naga_oil_pre.specs.declared.preprocess.PreprocessOutput.{PreprocessOutput}
 use Rattle.naga_oil_pre.specs.Preprocessed.{Known, Output}

@@ -6,7 +6,7 @@ use Rattle.unicode_ident.specs.Ident.{is_xid_start, is_xid_continue}
 use Rattle.unicode_ident.proofs.Computing.{unicode_ident}
 use Rattle.naga_oil_lines.specs.Cover.{cover}
 use Rattle.naga_oil_lines.specs.Tokens.{lexemes, more_in_token, tail_len}
-use Rattle.naga_oil_lines.specs.Leaves.{parts, leaves_of, line_leaves}
+use Rattle.naga_oil_imports.specs.Leaves.{parts, leaves_of, line_leaves}
 use Rattle.naga_oil_pre.specs.Computing.{line_kinds}
 use Rattle.naga_oil_pre.specs.Fault.{Definitions}
 use Rattle.naga_oil_pre.specs.Reading.{reading, read_block, read_arms}

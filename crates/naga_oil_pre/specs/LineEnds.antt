@@ -1,7 +1,7 @@
 -- How many line ends a text has, and the paths that its imports declare.
 use Rattle.std.specs.Prelude.{ℕ, ◌==◌, true, Result, Ok, Err, List, [], ◌∷◌, map, count_by}
 use Rattle.std.specs.List.{flat_map}
-use Rattle.naga_oil_lines.specs.Leaves.{Leaf, SyntaxFault, import_leaves}
+use Rattle.naga_oil_imports.specs.Leaves.{Leaf, SyntaxFault, import_leaves}
 use Rattle.naga_oil_pre.specs.Line.{source_lines}
 use Rattle.naga_oil_pre.specs.Fault.{Definitions}
 use Rattle.naga_oil_pre.specs.Reading.{reading}

@@ -1,9 +1,9 @@
 -- What is read of a text before any build: its import path, its uses, its defines and the names that it records.
 use Rattle.std.specs.Prelude.{ℕ, zero, suc, ◌+◌, Bool, if◌then◌else◌, List, [], ◌∷◌, map, bytes_eq, unwrap_or, Option, Some, None, Result, Ok, Err}
 use Rattle.naga_oil_lines.specs.Directives.{Directives}
-use Rattle.naga_oil_lines.specs.Leaves.{Leaf, SyntaxFault, import_leaves, with_leaves}
-use Rattle.naga_oil_lines.specs.Uses.{Import, Use}
-use Rattle.naga_oil_lines.specs.Substituted.{used_by}
+use Rattle.naga_oil_imports.specs.Leaves.{Leaf, SyntaxFault, import_leaves, with_leaves}
+use Rattle.naga_oil_imports.specs.Uses.{Import, Use}
+use Rattle.naga_oil_imports.specs.Substituted.{used_by}
 use Rattle.naga_oil_pre.specs.declared.shader_def.ShaderDefValue.{ShaderDefValue}
 use Rattle.naga_oil_pre.specs.Line.{Line, source_lines}
 use Rattle.naga_oil_pre.specs.Kind.{LineKind, version, condition, endif, imports, import_path, define, other, unversioned_kind_of}

@@ -4,7 +4,7 @@ use Rattle.std.specs.BTreeMap.{get_by_text}
 use Rattle.std.specs.BTreeSet.{BTreeSet, contains_text}
 use Rattle.std.specs.declared.alloc.Global.{Global}
 use Rattle.naga_oil_lines.specs.Directives.{directives_of}
-use Rattle.naga_oil_lines.specs.Uses.{use_of}
+use Rattle.naga_oil_imports.specs.Uses.{use_of}
 use Rattle.naga_oil_pre.specs.declared.metadata.Findings.{Findings}
 use Rattle.naga_oil_pre.specs.declared.metadata.PreprocessorMetaData.{PreprocessorMetaData}
 use Rattle.naga_oil_pre.specs.KnownView.{known_of}

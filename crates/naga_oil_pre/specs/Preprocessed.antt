@@ -3,10 +3,10 @@ use Rattle.std.specs.Prelude.{ℕ, ◌+◌, ◌-◌, Bool, true, false, ◌&&◌
 use Rattle.std.specs.List.{flat_map}
 use Rattle.std.specs.Str.{chars}
 use Rattle.naga_oil_lines.specs.Tokens.{Lexeme, lexemes}
-use Rattle.naga_oil_lines.specs.Declarations.{Declared}
-use Rattle.naga_oil_lines.specs.Leaves.{Leaf, SyntaxFault, import_leaves, with_leaves}
-use Rattle.naga_oil_lines.specs.Uses.{Use, Uses}
-use Rattle.naga_oil_lines.specs.Substituted.{substituted, sites, first_ambiguous, used_by}
+use Rattle.naga_oil_imports.specs.Declarations.{Declared}
+use Rattle.naga_oil_imports.specs.Leaves.{Leaf, SyntaxFault, import_leaves, with_leaves}
+use Rattle.naga_oil_imports.specs.Uses.{Use, Uses}
+use Rattle.naga_oil_imports.specs.Substituted.{substituted, sites, first_ambiguous, used_by}
 use Rattle.naga_oil_pre.specs.Line.{Line, source_lines, end_place}
 use Rattle.naga_oil_pre.specs.Kind.{LineKind, version, condition, endif, imports, import_path, define, other, kind_of}
 use Rattle.naga_oil_pre.specs.Fault.{Fault, else_without_condition, too_many_end_ifs, not_enough_end_ifs, invalid_version, invalid_import, Definitions, outcome, evaluated, holds}

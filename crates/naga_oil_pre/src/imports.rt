@@ -1,11 +1,11 @@
 // What imports declare, and what lines use of them.
 ghost use Rattle.std.specs.Prelude.{◌≡◌, ℕ, List, ◌+◌, ◌<◌, ◌≤◌, ◌^◌, ◌++◌, Some, None, Ok, length, string_bytes, replicate, false, OnOk, IfOk, IfErr};
 ghost use Rattle.std.specs.BTreeMap.{get_by_text};
-ghost use Rattle.naga_oil_lines.specs.Declarations.{declared_of};
-ghost use Rattle.naga_oil_lines.specs.Uses.{uses_of};
-ghost use Rattle.naga_oil_lines.specs.NameMarks.{Covers};
-ghost use Rattle.naga_oil_lines.specs.Leaves.{import_leaves, with_import};
-ghost use Rattle.naga_oil_lines.specs.Substituted.{substituted, sites, first_ambiguous, used_by};
+ghost use Rattle.naga_oil_imports.specs.Declarations.{declared_of};
+ghost use Rattle.naga_oil_imports.specs.Uses.{uses_of};
+ghost use Rattle.naga_oil_imports.specs.NameMarks.{Covers};
+ghost use Rattle.naga_oil_imports.specs.Leaves.{import_leaves, with_import};
+ghost use Rattle.naga_oil_imports.specs.Substituted.{substituted, sites, first_ambiguous, used_by};
 ghost use Rattle.naga_oil_pre.specs.Line.{Line, end_place};
 ghost use Rattle.naga_oil_pre.specs.View.{Fails};
 ghost use Rattle.naga_oil_pre.specs.Preprocessed.{Known, end_line, padded, blanks, import_text, tokens_of, using_tokens, imported_passage, shown_passage};
@@ -16,9 +16,9 @@ ghost use Rattle.naga_oil_pre.specs.SourceView.{line_of};
 
 use super::replace::replaced_text;
 use super::*;
-use naga_oil_lines::declared_names::DeclaredNames;
-use naga_oil_lines::parse_imports::{ImportFault, parse_imports};
-use naga_oil_lines::substitute::push_substituted;
+use naga_oil_imports::declared_names::DeclaredNames;
+use naga_oil_imports::parse_imports::{ImportFault, parse_imports};
+use naga_oil_imports::substitute::push_substituted;
 use naga_oil_lines::text::push_spaces;
 
 /// What the imports so far declare, and what the lines so far use of them.

@@ -2,11 +2,11 @@
 ghost use Rattle.std.specs.Prelude.{◌≡◌, ℕ, ◌+◌, ◌^◌, ◌<◌, ◌≤◌, ◌++◌, ◌∷◌, List, length, string_bytes, option_copied, option_map, map, true, unwrap_or, Some, Ok, OnOk, IfOk, IfErr};
 ghost use Rattle.std.specs.BTreeMap.{get_by_text};
 ghost use Rattle.std.specs.BTreeSet.{contains_text};
-ghost use Rattle.naga_oil_lines.specs.Declarations.{declared_of};
+ghost use Rattle.naga_oil_imports.specs.Declarations.{declared_of};
 ghost use Rattle.naga_oil_lines.specs.Directives.{directives_of};
-ghost use Rattle.naga_oil_lines.specs.Leaves.{import_leaves};
-ghost use Rattle.naga_oil_lines.specs.Substituted.{used_by};
-ghost use Rattle.naga_oil_lines.specs.Uses.{uses_of, use_of, import_of};
+ghost use Rattle.naga_oil_imports.specs.Leaves.{import_leaves};
+ghost use Rattle.naga_oil_imports.specs.Substituted.{used_by};
+ghost use Rattle.naga_oil_imports.specs.Uses.{uses_of, use_of, import_of};
 ghost use Rattle.naga_oil_pre.specs.Line.{source_lines};
 ghost use Rattle.naga_oil_pre.specs.KnownView.{HasMarks};
 ghost use Rattle.naga_oil_pre.specs.KindView.{line_kind_of};
@@ -22,7 +22,7 @@ ghost use Rattle.naga_oil_pre.specs.View.{Fails, Gives};
 use super::line_kind::unversioned_line_kind;
 use super::recorded::record_line_names;
 use super::*;
-use naga_oil_lines::declared_names::DeclaredNames;
+use naga_oil_imports::declared_names::DeclaredNames;
 
 /// What a registry needs of a text before any build.
 #[derive(Debug, Drop)]

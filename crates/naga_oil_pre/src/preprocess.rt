@@ -21,7 +21,7 @@ use super::imports::{blank_line, show_line, take_lines};
 use super::line_kind::line_kind;
 use super::scope::Scope;
 use super::*;
-use naga_oil_lines::declared_names::DeclaredNames;
+use naga_oil_imports::declared_names::DeclaredNames;
 
 /// What a text becomes.
 #[derive(Debug, Drop)]

@@ -7,10 +7,10 @@ use Rattle.std.proofs.lemmas.List.Elements.{All-nil, All-cons, All-head, All-tai
 use Rattle.std.proofs.lemmas.Option.{none-some, same_Some, slice_get-map, slice_get_within}
 use Rattle.std.proofs.lemmas.Slice.Eq.{bytes_eq-Decides}
 use Rattle.naga_oil_ir.specs.ModuleValue.{ModuleValue, FunctionValue, EntryValue}
-use Rattle.naga_oil_ir.specs.NameForm.{Name}
+use Rattle.naga_oil_form.specs.NameForm.{Name}
 use Rattle.naga_oil_ir.specs.Rows.{Text}
 use Rattle.naga_oil_ir.specs.declared.span.Span.{Span}
-use Rattle.naga_oil_ir.proofs.LinkLemmas.{eqb_eq, eq_eqb}
+use Rattle.naga_oil_form.proofs.LinkLemmas.{eqb_eq, eq_eqb}
 use Rattle.naga_oil_redirect.specs.Chain.{last_of, destination, SentInTurn, NoMore, OneMore, called, AreSent, IsSentFunction, IsSentEntry, IsSentDown, CallsWithin, HasNamedCalls}
 use Rattle.naga_oil_redirect.specs.ChainLaw.{PassesJust, SendsOn, SendsApart, ChainLaw, StepLaw, StartLaw}
 use Rattle.naga_oil_redirect.specs.Ordered.{callees_of, function_name_at}

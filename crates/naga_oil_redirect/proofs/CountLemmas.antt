@@ -1,8 +1,8 @@
 use Rattle.std.proofs.Common.{◌≡◌, ◌≢◌, ⊎_elim, ℕ, zero, suc, ◌+◌, ◌<◌, Bool, true, false, ◌==◌, List, [], ◌∷◌, ◌++◌, length, Option, Some, None, is_some, is_none, slice_set, refl, ap, sym, ◌∙◌, subst, arith}
 use Rattle.std.specs.Option.{option_flatten}
 use Rattle.std.proofs.lemmas.Bool.{or_cases, cases_Bool, false≢true}
-use Rattle.naga_oil_ir.specs.Links.{has}
-use Rattle.naga_oil_ir.proofs.LinkLemmas.{eqb_eq, eq_eqb, or_left, or_right, slice_get-set_same, slice_get-set_other}
+use Rattle.naga_oil_form.specs.Links.{has}
+use Rattle.naga_oil_form.proofs.LinkLemmas.{eqb_eq, eq_eqb, or_left, or_right, slice_get-set_same, slice_get-set_other}
 use Rattle.naga_oil_redirect.specs.Count.{bit, count, times}
 use Rattle.naga_oil_redirect.specs.Level.{known}
 

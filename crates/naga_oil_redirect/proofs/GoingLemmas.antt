@@ -4,8 +4,8 @@ use Rattle.std.specs.Option.{option_flatten}
 use Rattle.std.proofs.lemmas.Bool.{cases_lt, cases_eq, cases_Bool, lt-ltb, le-ltb, false≢true}
 use Rattle.std.proofs.lemmas.List.{get_or_past, length-replicate, length-map}
 use Rattle.std.proofs.lemmas.Option.{slice_get_past, slice_get_within}
-use Rattle.naga_oil_ir.specs.Links.{Links, linked, has}
-use Rattle.naga_oil_ir.proofs.LinkLemmas.{All-has, eqb_eq, eq_eqb, or_left, or_right}
+use Rattle.naga_oil_form.specs.Links.{Links, linked, has}
+use Rattle.naga_oil_form.proofs.LinkLemmas.{All-has, eqb_eq, eq_eqb, or_left, or_right}
 use Rattle.naga_oil_redirect.specs.Count.{bit, count, times}
 use Rattle.naga_oil_redirect.specs.Level.{StayWithin, above, level, levels, known}
 use Rattle.naga_oil_redirect.proofs.CountLemmas.{bit_self, bit_true, bit_false, times-push, count_all, count_some, count_none, some-bit, count-set, known-set_same, known-set_other}

@@ -3,8 +3,8 @@ use Rattle.std.specs.List.{list_any, IsDistinct, AllByRecursion}
 use Rattle.std.proofs.Math.Dec.{eqb}
 use Rattle.std.proofs.lemmas.Bool.{cases_Bool, cases_lt, or_cases, false≢true}
 use Rattle.std.proofs.lemmas.Map.Steps.{length-le_from_distinct_below}
-use Rattle.naga_oil_ir.specs.Links.{Links, linked, has}
-use Rattle.naga_oil_ir.proofs.LinkLemmas.{eqb_eq, eq_eqb, or_left, or_right, All-has}
+use Rattle.naga_oil_form.specs.Links.{Links, linked, has}
+use Rattle.naga_oil_form.proofs.LinkLemmas.{eqb_eq, eq_eqb, or_left, or_right, All-has}
 use Rattle.naga_oil_redirect.specs.Level.{StayWithin, above, level_below, level, Leads, Calls, Through, HasCycle}
 
 -- ---- what stands above some levels

@@ -2,8 +2,8 @@
 use Rattle.std.proofs.Common.{◌≡◌, ◌≢◌, ⊎_elim, ℕ, zero, suc, ◌+◌, ◌<◌, ◌≤◌, max, Bool, true, false, ◌==◌, ◌&&◌, nat_lt, if◌then◌else◌, List, [], ◌∷◌, ◌++◌, length, map, take, Option, Some, None, option_map, slice_set, get_or, add-zero, Vec, Global, refl, ap, sym, ◌∙◌, arith}
 use Rattle.std.proofs.lemmas.Bool.{cases_lt, cases_eq, lt-ltb, le-ltb}
 use Rattle.std.proofs.lemmas.List.{take_more, map_push, get_or-set_same, get_or-set_other}
-use Rattle.naga_oil_ir.specs.Links.{Links, lists, linked, has}
-use Rattle.naga_oil_ir.proofs.LinkLemmas.{eq_eqb, or_left, or_right, slice_get-set_same, linked-some}
+use Rattle.naga_oil_form.specs.Links.{Links, lists, linked, has}
+use Rattle.naga_oil_form.proofs.LinkLemmas.{eq_eqb, or_left, or_right, slice_get-set_same, linked-some}
 use Rattle.naga_oil_redirect.specs.Count.{bit, count, times}
 use Rattle.naga_oil_redirect.specs.Level.{above, known}
 use Rattle.naga_oil_redirect.proofs.CountLemmas.{differs, bit_self, bit_other, count-append, times-push}

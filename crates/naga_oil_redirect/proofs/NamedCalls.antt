@@ -10,13 +10,13 @@ use Rattle.std.proofs.lemmas.Slice.Eq.{bytes_eq-Decides}
 use Rattle.naga_oil_marks.specs.Marks.{with_decoration}
 use Rattle.naga_oil_ir.specs.Body.{block_tokens}
 use Rattle.naga_oil_ir.specs.ModuleValue.{ModuleValue, FunctionValue, function_value, EntryValue, entry_value, module_value}
-use Rattle.naga_oil_ir.specs.NameForm.{Name, function_name}
-use Rattle.naga_oil_ir.specs.WellFormed.{EntryForm}
+use Rattle.naga_oil_form.specs.NameForm.{Name, function_name}
+use Rattle.naga_oil_form.specs.WellFormed.{EntryForm}
 use Rattle.naga_oil_ir.specs.declared.module.EntryPoint.{EntryPoint}
 use Rattle.naga_oil_ir.specs.declared.module.Function.{Function}
 use Rattle.naga_oil_ir.specs.declared.module.Module.{Module}
 use Rattle.naga_oil_ir.specs.declared.span.Span.{Span}
-use Rattle.naga_oil_ir.proofs.LinkLemmas.{linked-map}
+use Rattle.naga_oil_form.proofs.LinkLemmas.{linked-map}
 use Rattle.naga_oil_derive.proofs.FormFunctions.{function_named}
 use Rattle.naga_oil_redirect.specs.Chain.{CallsWithin, HasNamedCalls}
 use Rattle.naga_oil_redirect.specs.ChainLaw.{SendsOn, SendsApart, KeepsSent}

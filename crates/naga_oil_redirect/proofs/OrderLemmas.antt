@@ -3,8 +3,8 @@ use Rattle.std.proofs.Common.{◌≡◌, ◌≢◌, ⊎_elim, ℕ, suc, ◌+◌,
 use Rattle.std.specs.List.{flat_map, filter, enumerate_from, range_with_len}
 use Rattle.std.proofs.lemmas.Bool.{cases_eq}
 use Rattle.std.proofs.lemmas.List.{take_more, length-take-le}
-use Rattle.naga_oil_ir.specs.Links.{Links, lists, linked}
-use Rattle.naga_oil_ir.proofs.LinkLemmas.{eq_eqb}
+use Rattle.naga_oil_form.specs.Links.{Links, lists, linked}
+use Rattle.naga_oil_form.proofs.LinkLemmas.{eq_eqb}
 use Rattle.naga_oil_redirect.specs.Level.{passing, is_level, by_level}
 use Rattle.naga_oil_redirect.proofs.CountLemmas.{differs}
 use Rattle.naga_oil_redirect.proofs.LevelLoops.{linked-set_same, linked-set_other}

@@ -4,10 +4,10 @@ use Rattle.std.proofs.lemmas.List.{length-map}
 use Rattle.std.proofs.lemmas.List.Elements.{All-map, All-nil, All-cons, All-head, All-tail, All-weaker}
 use Rattle.std.proofs.lemmas.Option.{slice_get-get_or}
 use Rattle.naga_oil_ir.specs.Body.{Tokens, block_tokens}
-use Rattle.naga_oil_ir.specs.BodyForm.{IsTokenFine}
-use Rattle.naga_oil_ir.specs.Links.{Links, linked}
+use Rattle.naga_oil_form.specs.BodyForm.{IsTokenFine}
+use Rattle.naga_oil_form.specs.Links.{Links, linked}
 use Rattle.naga_oil_ir.specs.ModuleValue.{FunctionValue, function_value}
-use Rattle.naga_oil_ir.specs.WellFormed.{FunctionForm, FunctionsForm, EntryForm, WellFormed}
+use Rattle.naga_oil_form.specs.WellFormed.{FunctionForm, FunctionsForm, EntryForm, WellFormed}
 use Rattle.naga_oil_ir.specs.declared.module.EntryPoint.{EntryPoint}
 use Rattle.naga_oil_ir.specs.declared.module.Function.{Function}
 use Rattle.naga_oil_ir.specs.declared.module.Module.{Module}

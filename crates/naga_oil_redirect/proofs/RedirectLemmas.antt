@@ -4,7 +4,7 @@ use Rattle.std.specs.List.{enumerate_from}
 use Rattle.std.proofs.lemmas.Simd.{map-map}
 use Rattle.std.specs.Cmp.Lexicographic.{pointwise}
 use Rattle.std.proofs.lemmas.List.{map-append, length-map, take_more, length-take-le, drop_more, drop_all, get_or-map}
-use Rattle.naga_oil_ir.specs.NameForm.{Name}
+use Rattle.naga_oil_form.specs.NameForm.{Name}
 use Rattle.naga_oil_ir.specs.ModuleValue.{ArgumentValue, argument_value, FunctionValue, function_value}
 use Rattle.naga_oil_ir.specs.declared.module.Function.{Function}
 use Rattle.naga_oil_ir.specs.declared.module.FunctionArgument.{FunctionArgument}
@@ -12,7 +12,7 @@ use Rattle.naga_oil_ir.specs.declared.span.Span.{Span}
 use Rattle.naga_oil_ir.specs.RedirectFault.{RedirectFault, not_found, argument_mismatch, return_type_mismatch}
 use Rattle.naga_oil_redirect.specs.Redirected.{function_values, is_named, found, found_from, matched, matching, compared, same_arguments, same_results, send, send_at}
 use Rattle.naga_oil_redirect.proofs.CountLemmas.{differs}
-use Rattle.naga_oil_ir.proofs.LinkLemmas.{eq_eqb}
+use Rattle.naga_oil_form.proofs.LinkLemmas.{eq_eqb}
 
 -- ---- found by name
 

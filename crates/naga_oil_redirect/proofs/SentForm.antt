@@ -9,13 +9,13 @@ use Rattle.std.proofs.lemmas.List.FromFn.{length-enumerate_from}
 use Rattle.std.proofs.lemmas.Option.{slice_get-map}
 use Rattle.std.proofs.lemmas.Simd.{map-map}
 use Rattle.naga_oil_ir.specs.Parts.{Parts, parts}
-use Rattle.naga_oil_ir.specs.Links.{Links}
+use Rattle.naga_oil_form.specs.Links.{Links}
 use Rattle.naga_oil_ir.specs.Rows.{Text}
 use Rattle.naga_oil_ir.specs.Body.{Tokens, block_tokens}
-use Rattle.naga_oil_ir.specs.BodyForm.{kinds, callee, named_of, operand_links, made, IsFine, AreFine, MayStand, IsSpanFine, IsTokenFine}
-use Rattle.naga_oil_ir.specs.NameForm.{Name}
+use Rattle.naga_oil_form.specs.BodyForm.{kinds, callee, named_of, operand_links, made, IsFine, AreFine, MayStand, IsSpanFine, IsTokenFine}
+use Rattle.naga_oil_form.specs.NameForm.{Name}
 use Rattle.naga_oil_marks.specs.Marks.{with_decoration}
-use Rattle.naga_oil_ir.specs.WellFormed.{NamedThere, initialisers, FunctionForm, MeshForm, IsExpressionThere, EntryForm}
+use Rattle.naga_oil_form.specs.WellFormed.{NamedThere, initialisers, FunctionForm, MeshForm, IsExpressionThere, EntryForm}
 use Rattle.naga_oil_ir.specs.ModuleValue.{ArgumentValue, argument_value, LocalValue, local_value, FunctionValue, function_value, EntryValue, entry_value}
 use Rattle.naga_oil_ir.specs.declared.expression.Expression.{Expression}
 use Rattle.naga_oil_ir.specs.declared.module.EntryPoint.{EntryPoint}

@@ -6,14 +6,14 @@ use Rattle.std.proofs.lemmas.List.{length-map}
 use Rattle.std.proofs.lemmas.List.Elements.{All-nil, All-head, All-tail}
 use Rattle.std.proofs.lemmas.Option.{none-some, same_Some, slice_get_within}
 use Rattle.std.proofs.lemmas.Slice.Eq.{bytes_eq-Decides}
-use Rattle.naga_oil_ir.specs.Links.{linked, has}
+use Rattle.naga_oil_form.specs.Links.{linked, has}
 use Rattle.naga_oil_ir.specs.ModuleValue.{ModuleValue, FunctionValue, EntryValue}
-use Rattle.naga_oil_ir.specs.NameForm.{Name}
+use Rattle.naga_oil_form.specs.NameForm.{Name}
 use Rattle.naga_oil_ir.specs.RedirectFault.{RedirectFault}
 use Rattle.naga_oil_ir.specs.Rows.{Text}
 use Rattle.naga_oil_ir.specs.declared.names.ItemPlace.{ItemPlace}
 use Rattle.naga_oil_ir.specs.declared.span.Span.{Span}
-use Rattle.naga_oil_ir.proofs.LinkLemmas.{All-has, has-append, only, linked-map, or_left, or_right, eq_eqb}
+use Rattle.naga_oil_form.proofs.LinkLemmas.{All-has, has-append, only, linked-map, or_left, or_right, eq_eqb}
 use Rattle.naga_oil_rename.specs.Renames.{Renames}
 use Rattle.naga_oil_derive.specs.Answered.{ImportState, goes_by, answer_all, with_function}
 use Rattle.naga_oil_derive.specs.CopiedEntry.{entry_names, import_items, place_entry, EntriesState, entries_state, copy_entry, copy_entries, module_of, module_by, make_module}

@@ -6,15 +6,15 @@ use Rattle.std.proofs.lemmas.List.Sums.{fold_more}
 use Rattle.std.proofs.lemmas.List.Elements.{All-nil, All-cons, All-head, All-tail}
 use Rattle.std.proofs.lemmas.Option.{slice_get_within, slice_get-get_or, slice_get-map, same_Some}
 use Rattle.naga_oil_ir.specs.Body.{Tokens, block_tokens}
-use Rattle.naga_oil_ir.specs.BodyForm.{IsTokenFine}
-use Rattle.naga_oil_ir.specs.Links.{linked, has}
+use Rattle.naga_oil_form.specs.BodyForm.{IsTokenFine}
+use Rattle.naga_oil_form.specs.Links.{linked, has}
 use Rattle.naga_oil_ir.specs.ModuleValue.{ModuleValue, FunctionValue, function_value, module_value}
-use Rattle.naga_oil_ir.specs.WellFormed.{FunctionForm}
+use Rattle.naga_oil_form.specs.WellFormed.{FunctionForm}
 use Rattle.naga_oil_ir.specs.declared.module.Function.{Function}
 use Rattle.naga_oil_ir.specs.declared.module.Module.{Module}
 use Rattle.naga_oil_ir.specs.declared.span.Span.{Span}
 use Rattle.naga_oil_ir.specs.declared.tokens.Token.TheVariants.{Callee}
-use Rattle.naga_oil_ir.proofs.LinkLemmas.{or_left, or_right, eq_eqb, has-append, only, linked-map}
+use Rattle.naga_oil_form.proofs.LinkLemmas.{or_left, or_right, eq_eqb, has-append, only, linked-map}
 use Rattle.naga_oil_derive.specs.World.{value_of}
 use Rattle.naga_oil_derive.specs.Answered.{import_copy}
 use Rattle.naga_oil_derive.specs.CopiedEntry.{make_module}

@@ -5,10 +5,10 @@ use Rattle.std.proofs.lemmas.Bool.{cases_lt, or_cases, false≢true}
 use Rattle.std.proofs.lemmas.List.{length-map}
 use Rattle.std.proofs.lemmas.List.Elements.{All-nil, All-append}
 use Rattle.std.proofs.lemmas.Option.{slice_get_within, same_Some}
-use Rattle.naga_oil_ir.specs.Links.{Links, linked, has}
+use Rattle.naga_oil_form.specs.Links.{Links, linked, has}
 use Rattle.naga_oil_ir.specs.ModuleValue.{FunctionValue}
 use Rattle.naga_oil_ir.specs.declared.span.Span.{Span}
-use Rattle.naga_oil_ir.proofs.LinkLemmas.{or_left, or_right, eqb_eq, eq_eqb, has-append, in_all, All-has}
+use Rattle.naga_oil_form.proofs.LinkLemmas.{or_left, or_right, eqb_eq, eq_eqb, has-append, in_all, All-has}
 use Rattle.naga_oil_redirect.specs.Level.{StayWithin, level, levels, passing, is_level, without_level, by_level}
 use Rattle.naga_oil_redirect.specs.Ordered.{callees_of, calls_of, ordering, ordered}
 use Rattle.naga_oil_redirect.proofs.CycleLemmas.{passing_within, passing_none, levels_at, long_levels}

@@ -3,7 +3,7 @@ use Rattle.std.proofs.Common.{◌≡◌, ◌∙◌, ℕ, zero, suc, ◌==◌, Bo
 use Rattle.std.specs.List.{flat_map}
 use Rattle.std.proofs.lemmas.List.Elements.{All-nil, All-cons, All-head, All-tail, All-append}
 use Rattle.naga_oil_ir.specs.Body.{Tokens}
-use Rattle.naga_oil_ir.specs.Links.{Links, linked, has}
+use Rattle.naga_oil_form.specs.Links.{Links, linked, has}
 use Rattle.naga_oil_ir.specs.ModuleValue.{ModuleValue, FunctionValue, ArgumentValue, LocalValue}
 use Rattle.naga_oil_ir.specs.Rows.{Row}
 use Rattle.naga_oil_ir.specs.Parts.{Parts}
@@ -13,7 +13,7 @@ use Rattle.naga_oil_ir.specs.declared.names.ItemPlace.TheVariants.{TypeItem, Con
 use Rattle.naga_oil_ir.specs.declared.parts.Named.{Named}
 use Rattle.naga_oil_ir.specs.declared.span.Span.{Span}
 use Rattle.naga_oil_ir.specs.declared.tokens.Token.TheVariants.{Callee}
-use Rattle.naga_oil_ir.proofs.LinkLemmas.{or_left, or_right, eq_eqb}
+use Rattle.naga_oil_form.proofs.LinkLemmas.{or_left, or_right, eq_eqb}
 use Rattle.naga_oil_walk.specs.Naming.{item_of, requested, requests_at, naming, names_from, token_names}
 use Rattle.naga_oil_walk.specs.Walk.{brief}
 use Rattle.naga_oil_walk.specs.declared.walk.Request.{Request}

@@ -1,7 +1,7 @@
 -- Calls of a base that are sent down a chain of replacements: where they go, told by names.
 use Rattle.std.specs.Prelude.{ℕ, ◌≡◌, ◌<◌, Bool, false, List, [], ◌∷◌, map, length, slice_get, Some, Ok, IsSome, All, bytes_eq, ◌||◌, if◌then◌else◌}
 use Rattle.naga_oil_ir.specs.ModuleValue.{ModuleValue, FunctionValue, EntryValue}
-use Rattle.naga_oil_ir.specs.NameForm.{Name}
+use Rattle.naga_oil_form.specs.NameForm.{Name}
 use Rattle.naga_oil_ir.specs.Rows.{Text}
 use Rattle.naga_oil_ir.specs.declared.span.Span.{Span}
 use Rattle.naga_oil_redirect.specs.Ordered.{callees_of, function_name_at}

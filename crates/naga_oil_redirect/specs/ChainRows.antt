@@ -1,7 +1,7 @@
 -- Chains of three replacements, computed.
 use Rattle.std.specs.Prelude.{◌≡◌, List, [], ◌∷◌, map, Some, codes, bytes_eq, ◌||◌, refl}
 use Rattle.naga_oil_ir.specs.ModuleValue.{ModuleValue}
-use Rattle.naga_oil_ir.specs.NameForm.{Name}
+use Rattle.naga_oil_form.specs.NameForm.{Name}
 use Rattle.naga_oil_redirect.specs.Chain.{destination, last_of, SentInTurn, NoMore, OneMore, none_omitted, called}
 use Rattle.naga_oil_redirect.specs.Redirected.{redirected}
 use Rattle.naga_oil_redirect.specs.PutInOrderRows.{calling, empty, module_of}

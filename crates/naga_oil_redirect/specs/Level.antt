@@ -2,7 +2,7 @@
 use Rattle.std.specs.Prelude.{◌≡◌, ℕ, zero, suc, ◌+◌, ◌<◌, max, Bool, true, false, List, [], ◌∷◌, map, length, All, Option, Some, None, option_map, is_none, slice_get, ◌==◌}
 use Rattle.std.specs.Option.{option_flatten}
 use Rattle.std.specs.List.{flat_map, filter, enumerate_from, range_with_len}
-use Rattle.naga_oil_ir.specs.Links.{Links, linked, has}
+use Rattle.naga_oil_form.specs.Links.{Links, linked, has}
 
 -- each function calls functions that are there
 abbrev pub StayWithin : Links → Type 0

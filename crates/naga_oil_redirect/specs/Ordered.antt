@@ -3,8 +3,8 @@ use Rattle.std.specs.Prelude.{ℕ, List, [], ◌∷◌, map, codes, Option, Some
 use Rattle.std.specs.List.{filter_map, join_by}
 use Rattle.std.specs.Option.{option_flatten}
 use Rattle.naga_oil_ir.specs.Body.{Tokens}
-use Rattle.naga_oil_ir.specs.Links.{Links}
-use Rattle.naga_oil_ir.specs.NameForm.{Name}
+use Rattle.naga_oil_form.specs.Links.{Links}
+use Rattle.naga_oil_form.specs.NameForm.{Name}
 use Rattle.naga_oil_ir.specs.ModuleValue.{FunctionValue}
 use Rattle.naga_oil_ir.specs.declared.span.Span.{Span}
 use Rattle.naga_oil_ir.specs.declared.tokens.Token.{Token}

@@ -1,7 +1,7 @@
 -- Modules with their functions in order, computed.
 use Rattle.std.specs.Prelude.{◌≡◌, ℕ, List, [], ◌∷◌, map, Some, None, Ok, Err, codes, refl}
 use Rattle.naga_oil_ir.specs.Body.{Tokens}
-use Rattle.naga_oil_ir.specs.Links as links
+use Rattle.naga_oil_form.specs.Links as links
 use Rattle.naga_oil_ir.specs.ModuleValue.{ModuleValue, FunctionValue, expression_values, no_items}
 use Rattle.naga_oil_ir.specs.RedirectFault.{circular_reference}
 use Rattle.naga_oil_ir.specs.declared.expression.Expression.{Expression}

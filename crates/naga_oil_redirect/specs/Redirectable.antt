@@ -1,7 +1,7 @@
 -- Modules whose calls can be sent to other functions.
 use Rattle.std.specs.Prelude.{[], length, All}
-use Rattle.naga_oil_ir.specs.NameForm.{NameForm}
-use Rattle.naga_oil_ir.specs.WellFormed.{FunctionForm, EntryForm}
+use Rattle.naga_oil_form.specs.NameForm.{NameForm}
+use Rattle.naga_oil_form.specs.WellFormed.{FunctionForm, EntryForm}
 use Rattle.naga_oil_ir.specs.declared.module.Module.{Module}
 use Rattle.naga_oil_derive.specs.Copyable.{CopyableItems}
 

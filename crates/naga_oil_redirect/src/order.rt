@@ -1,7 +1,7 @@
 //! The order of functions in which each stands behind what it calls, by their levels: 0 without calls, else 1 more than the
 //! greatest level of a callee. A function that calls itself, or leads to one that does, has none.
 ghost use Rattle.std.specs.Prelude.{◌≡◌, ◌+◌, ◌<◌, ◌≤◌, ◌==◌, if◌then◌else◌, [], ℕ, All, IfOk, IfSome, OnOk, length, map, get_or, replicate, nat_lt, ◌&&◌, ◌↔◌, IsErr, unwrap_or, option_map, string_bytes};
-ghost use Rattle.naga_oil_ir.specs.Links.{lists, linked};
+ghost use Rattle.naga_oil_form.specs.Links.{lists, linked};
 ghost use Rattle.naga_oil_redirect.specs.Count.{bit, times};
 ghost use Rattle.naga_oil_redirect.specs.Level.{StayWithin, above, known, levels, without_level, by_level, HasCycle};
 ghost use Rattle.naga_oil_ir.specs.Body.{block_tokens};

@@ -6,7 +6,7 @@ use Rattle.std.proofs.lemmas.Result.{err_from_is_err_and}
 use Rattle.std.specs.List.{flat_map, fold}
 use Rattle.std.specs.Result.{IsErrAnd}
 use Rattle.naga_oil_lines.specs.DirectivesText.{in_order, with_name}
-use Rattle.naga_oil_lines.specs.Uses.{Import, Use}
+use Rattle.naga_oil_imports.specs.Uses.{Import, Use}
 use Rattle.naga_oil_pre.specs.Fault.{Fault, too_many_modules}
 use Rattle.naga_oil_pre.specs.View.{fault_of, Fails, Gives}
 use Rattle.naga_oil_pre.specs.declared.fault.ComposerErrorInner.{ComposerErrorInner}

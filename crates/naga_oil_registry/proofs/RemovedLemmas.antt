@@ -9,7 +9,7 @@ use Rattle.std.specs.List.{list_any, list_all}
 use Rattle.std.specs.Ordering.{is_eq, nat_cmp}
 use Rattle.std.specs.Str.{bytes_eq}
 use Rattle.naga_oil_lines.specs.DirectivesText.{in_order}
-use Rattle.naga_oil_lines.specs.Uses.{Use}
+use Rattle.naga_oil_imports.specs.Uses.{Use}
 use Rattle.naga_oil_registry.specs.Definition.{Definition}
 use Rattle.naga_oil_registry.specs.Merged.{recorded_names}
 use Rattle.naga_oil_registry.specs.Registry.{registered, module_named, reaches, standing, removed, effective_names, IsRegistry}

@@ -2,7 +2,7 @@
 use Rattle.std.specs.Prelude.{◌≡◌, ℕ, ◌+◌, List, [], ◌∷◌, ◌++◌, map, Option, Some, None, Result, Ok, Err, false}
 use Rattle.std.specs.List.{flat_map}
 use Rattle.naga_oil_lines.specs.DirectivesText.{in_order}
-use Rattle.naga_oil_lines.specs.Uses.{Import, Use}
+use Rattle.naga_oil_imports.specs.Uses.{Import, Use}
 use Rattle.naga_oil_pre.specs.Fault.{Fault, decoration_in_source, bindings_exhausted, no_module_name, import_not_found, too_many_modules}
 use Rattle.naga_oil_pre.specs.Metadata.{Metadata, metadata}
 use Rattle.naga_oil_registry.specs.Definition.{Definition}

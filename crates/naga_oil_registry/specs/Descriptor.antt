@@ -2,7 +2,7 @@
 use Rattle.std.specs.Prelude.{ℕ, List, [], map, Option, None, option_map, string_bytes}
 use Rattle.naga_oil_ir.specs.declared.language.ShaderLanguage.{ShaderLanguage}
 use Rattle.naga_oil_ir.specs.declared.language.ShaderLanguage.TheVariants as language
-use Rattle.naga_oil_lines.specs.Uses.{Import, import_of}
+use Rattle.naga_oil_imports.specs.Uses.{Import, import_of}
 use Rattle.naga_oil_registry.specs.Definition.{Defs, defs_of}
 use Rattle.naga_oil_registry.specs.declared.descriptor.ShaderType.{ShaderType}
 use Rattle.naga_oil_registry.specs.declared.descriptor.ShaderType.TheVariants as shader

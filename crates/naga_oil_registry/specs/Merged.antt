@@ -3,7 +3,7 @@ use Rattle.std.specs.Prelude.{ℕ, List, fold}
 use Rattle.std.specs.BTreeMap.{insert_entry}
 use Rattle.std.specs.Cmp.Lexicographic.{slice_cmp}
 use Rattle.std.specs.Ordering.{nat_cmp}
-use Rattle.naga_oil_lines.specs.Uses.{Import, Use}
+use Rattle.naga_oil_imports.specs.Uses.{Import, Use}
 use Rattle.naga_oil_pre.specs.Line.{source_lines}
 use Rattle.naga_oil_pre.specs.Recorded.{names_of}
 use Rattle.naga_oil_pre.specs.declared.shader_def.ShaderDefValue.{ShaderDefValue}

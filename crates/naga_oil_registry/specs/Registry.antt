@@ -2,7 +2,7 @@
 use Rattle.std.specs.Prelude.{◌≡◌, ◌≤◌, ℕ, List, [], ◌∷◌, ◌++◌, Bool, true, false, not, ◌&&◌, ◌||◌, ◌==◌, Option, Some, unwrap_or, option_map, if◌then◌else◌, filter, find, bytes_eq}
 use Rattle.std.specs.List.{list_any, list_all, flat_map, range_with_len}
 use Rattle.naga_oil_lines.specs.DirectivesText.{in_order}
-use Rattle.naga_oil_lines.specs.Uses.{Use}
+use Rattle.naga_oil_imports.specs.Uses.{Use}
 use Rattle.naga_oil_pre.specs.Recorded.{is_recorded}
 use Rattle.naga_oil_lines.specs.Text.{is_among}
 use Rattle.naga_oil_registry.specs.Definition.{Definition}

@@ -2,7 +2,7 @@
 ghost use Rattle.std.specs.Prelude.{◌≡◌, ◌++◌, map, fold, IfOk, OnOk};
 ghost use Rattle.std.specs.List.{flat_map};
 ghost use Rattle.naga_oil_lines.specs.DirectivesText.{with_name};
-ghost use Rattle.naga_oil_lines.specs.Uses.{use_of, import_of};
+ghost use Rattle.naga_oil_imports.specs.Uses.{use_of, import_of};
 ghost use Rattle.naga_oil_registry.specs.Definition.{definition_of, defs_of};
 ghost use Rattle.naga_oil_lines.specs.Text.{texts};
 ghost use Rattle.naga_oil_registry.specs.Merged.{overwritten, merged, used_at_start};

@@ -12,8 +12,9 @@ use naga_oil::compose::{
 use naga_oil::derive::DerivedModule;
 use naga_oil::redirect::{RedirectError, Redirector};
 use naga_oil_front::Mini;
+use naga_oil_form::{FormFault, check_form};
 use naga_oil_ir::{
-    Arena, Constant, Expression, FormFault, Index, Module, Places, Span, Type, TypeInner,
+    Arena, Constant, Expression, Index, Module, Places, Span, Type, TypeInner,
     UniqueArena,
 };
 use naga_oil_lines::comment_strip_iter::CommentReplaceExt;
@@ -170,7 +171,7 @@ fn module_of(alloc: Global) -> Result<Module, AllocError> {
 fn checked(alloc: Global, module_: Module) -> Result<Module, FormFault>
     ensures { IfOk result (λ m. Redirectable m) }
 {
-    module_.check_form(alloc, "", 2)?;
+    check_form(&module_, alloc, "", 2)?;
     Ok(module_)
 }
 

@@ -4,8 +4,9 @@ mod refusals;
 mod refused;
 
 use naga_oil_front::Mini;
+use naga_oil_form::{FormFault, check_form};
 use naga_oil_ir::{
-    Backend, BackendRefusal, Capabilities, Expression, FormFault, Function, Index, Module, Operand,
+    Backend, BackendRefusal, Capabilities, Expression, Function, Index, Module, Operand,
     ShaderLanguage, Span, Statement,
 };
 use std::process::Abort;
@@ -274,7 +275,7 @@ fn reads_globals_and_locals(rt: HostRuntime) {
         ("return", 14, 0),
     ];
     says(&rt, f, &expressions, &statements, Span::new(10, 55));
-    assert_eq!(rt; read.check_form(rt.alloc(), "", LOCALS.len()), Ok(()));
+    assert_eq!(rt; check_form(read, rt.alloc(), "", LOCALS.len()), Ok(()));
 }
 
 // A stub, and an entry point that calls it.
@@ -322,7 +323,7 @@ fn has_form(
     form: Result<(), FormFault>,
 ) {
     let read = read(rt, text);
-    assert_eq!(rt; read.check_form(rt.alloc(), decoration, text.len()), form);
+    assert_eq!(rt; check_form(read, rt.alloc(), decoration, text.len()), form);
 }
 
 #[test]

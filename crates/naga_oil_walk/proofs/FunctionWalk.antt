@@ -8,17 +8,17 @@ use Rattle.std.proofs.lemmas.List.Concat.{flat_map-append}
 use Rattle.std.proofs.lemmas.List.Elements.{All-nil, All-cons}
 use Rattle.naga_oil_ir.specs.Parts.{parts}
 use Rattle.naga_oil_ir.specs.Body.{Tokens}
-use Rattle.naga_oil_ir.specs.BodyForm.{callees, IsReading, made, kinds, operand_links, external_kind, result_kind, IsFine, AreFine, MayStand}
-use Rattle.naga_oil_ir.specs.Links.{lists, Links, started, has, added, AreMarks}
-use Rattle.naga_oil_ir.specs.WellFormed.{initialisers_of, init_of}
+use Rattle.naga_oil_form.specs.BodyForm.{callees, IsReading, made, kinds, operand_links, external_kind, result_kind, IsFine, AreFine, MayStand}
+use Rattle.naga_oil_form.specs.Links.{lists, Links, started, has, added, AreMarks}
+use Rattle.naga_oil_form.specs.WellFormed.{initialisers_of, init_of}
 use Rattle.naga_oil_ir.specs.declared.expression.Expression.{Expression}
 use Rattle.naga_oil_ir.specs.declared.expression.Expression.TheVariants.{Literal, ZeroValue, Constant, Override, GlobalVariable, LocalVariable, FunctionArgument, CallResult, AtomicResult, WorkGroupUniformLoadResult, RayQueryProceedResult, SubgroupBallotResult, SubgroupOperationResult}
-use Rattle.naga_oil_ir.specs.declared.form.Reading.{Reading}
+use Rattle.naga_oil_form.specs.declared.form.Reading.{Reading}
 use Rattle.naga_oil_ir.specs.declared.types.LocalVariable.{LocalVariable as Local}
 use Rattle.naga_oil_ir.specs.declared.span.Span.{Span}
 use Rattle.naga_oil_ir.specs.declared.tokens.Token.{Token}
 use Rattle.naga_oil_ir.specs.declared.tokens.Token.TheVariants.{Use, Give, GiveCall, Emitted}
-use Rattle.naga_oil_ir.proofs.LinkLemmas.{All-from_has, All-has, has-append, marked_within}
+use Rattle.naga_oil_form.proofs.LinkLemmas.{All-from_has, All-has, has-append, marked_within}
 use Rattle.naga_oil_walk.specs.Walk.{IsReachOrder, IsWithin, brief, Notes, notes_after, AreWithin, AreNoted}
 use Rattle.naga_oil_walk.specs.Walks.{IsWalkOf}
 use Rattle.naga_oil_walk.proofs.WalkLemmas.{added-append}

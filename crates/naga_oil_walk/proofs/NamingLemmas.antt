@@ -6,9 +6,9 @@ use Rattle.std.proofs.lemmas.List.Concat.{flat_map-append}
 use Rattle.std.proofs.lemmas.List.Elements.{All-weaker, All-head, All-tail}
 use Rattle.std.proofs.lemmas.Bool.{or_cases, or_left, or_right}
 use Rattle.std.proofs.lemmas.Option.{slice_get_within}
-use Rattle.naga_oil_ir.specs.Links.{Links, linked, AreEarlier, has, added}
+use Rattle.naga_oil_form.specs.Links.{Links, linked, AreEarlier, has, added}
 use Rattle.naga_oil_ir.specs.declared.parts.Named.{Named}
-use Rattle.naga_oil_ir.proofs.LinkLemmas.{slice_get-append_within, slice_get-append_at, has-added, only, eq_eqb}
+use Rattle.naga_oil_form.proofs.LinkLemmas.{slice_get-append_within, slice_get-append_at, has-added, only, eq_eqb}
 use Rattle.naga_oil_walk.specs.Walk.{IsReachOrder}
 use Rattle.naga_oil_walk.proofs.WalkLemmas.{closed}
 use Rattle.naga_oil_ir.specs.declared.names.ItemPlace.{ItemPlace}

@@ -3,13 +3,13 @@ use Rattle.std.proofs.Common.{◌≡◌, ℕ, ◌+◌, ◌-◌, ◌<◌, ◌≤�
 use Rattle.std.specs.List.{flat_map}
 use Rattle.std.proofs.lemmas.List.{append-nil, take_more}
 use Rattle.std.proofs.lemmas.List.Elements.{filter-append}
-use Rattle.naga_oil_ir.specs.Links.{Links, linked, lists, has, added}
-use Rattle.naga_oil_ir.specs.BodyForm.{run, is_external, kinds, named_of, operand_links, IsReading}
+use Rattle.naga_oil_form.specs.Links.{Links, linked, lists, has, added}
+use Rattle.naga_oil_form.specs.BodyForm.{run, is_external, kinds, named_of, operand_links, IsReading}
 use Rattle.naga_oil_ir.specs.Body.{Tokens, block_tokens}
 use Rattle.naga_oil_ir.specs.declared.expression.Expression.{Expression}
 use Rattle.naga_oil_ir.specs.declared.module.Function.{Function}
 use Rattle.naga_oil_ir.specs.declared.types.LocalVariable.{LocalVariable}
-use Rattle.naga_oil_ir.specs.declared.form.Reading.{Reading}
+use Rattle.naga_oil_form.specs.declared.form.Reading.{Reading}
 use Rattle.naga_oil_ir.specs.declared.names.ItemPlace.{ItemPlace}
 use Rattle.naga_oil_ir.specs.declared.parts.Named.{Named}
 use Rattle.naga_oil_ir.specs.declared.span.Span.{Span}

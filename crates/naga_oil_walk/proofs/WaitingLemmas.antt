@@ -5,10 +5,10 @@ use Rattle.std.proofs.lemmas.Option.{none-some, same_Some}
 use Rattle.std.proofs.lemmas.List.{drop_more, length-append, append-nil}
 use Rattle.std.proofs.lemmas.List.Elements.{All-weaker, All-nil, All-more}
 use Rattle.std.proofs.lemmas.List.Sums.{sum_by_push}
-use Rattle.naga_oil_ir.specs.Links.{Links, linked, lists, AreEarlier, has, added, trail}
-use Rattle.naga_oil_ir.specs.declared.form.Reading.{Reading}
+use Rattle.naga_oil_form.specs.Links.{Links, linked, lists, AreEarlier, has, added, trail}
+use Rattle.naga_oil_form.specs.declared.form.Reading.{Reading}
 use Rattle.naga_oil_ir.specs.declared.parts.Named.{Named}
-use Rattle.naga_oil_ir.proofs.LinkLemmas.{All-has, itself, linked-at, trail-step}
+use Rattle.naga_oil_form.proofs.LinkLemmas.{All-has, itself, linked-at, trail-step}
 use Rattle.naga_oil_walk.specs.Walk.{IsReachOrder, Holds}
 use Rattle.naga_oil_walk.specs.Naming.{item_of, requests_at, names_from, IsAmong, Adds}
 use Rattle.naga_oil_walk.specs.Waiting.{next_place, Waits, AreWaiting, left, finish, finish_all, names_left, AsksOn, steps}

@@ -7,9 +7,9 @@ use Rattle.std.proofs.lemmas.List.Elements.{filter-append}
 use Rattle.naga_oil_ir.specs.Body.{Tokens}
 use Rattle.naga_oil_ir.specs.declared.tokens.Token.{Token}
 use Rattle.naga_oil_ir.specs.declared.tokens.Token.TheVariants.{Use, Give, GiveCall, Emitted}
-use Rattle.naga_oil_ir.specs.BodyForm.{places, is_external, is_result, is_known, AreEmitted, made, IsFine, AreFine}
-use Rattle.naga_oil_ir.specs.Links.{Links, linked, AreEarlier, trail, has, added}
-use Rattle.naga_oil_ir.proofs.LinkLemmas.{has-append, has-added, only, itself, trail-step, All-has}
+use Rattle.naga_oil_form.specs.BodyForm.{places, is_external, is_result, is_known, AreEmitted, made, IsFine, AreFine}
+use Rattle.naga_oil_form.specs.Links.{Links, linked, AreEarlier, trail, has, added}
+use Rattle.naga_oil_form.proofs.LinkLemmas.{has-append, has-added, only, itself, trail-step, All-has}
 use Rattle.naga_oil_walk.specs.Walk.{IsReachOrder, Holds, externals, others, listed, brief}
 use Rattle.naga_oil_walk.proofs.WalkLemmas.{added-append, added-known, added-keeps, added-holds, added-externals, IsReachOrder-add, trail_in}
 

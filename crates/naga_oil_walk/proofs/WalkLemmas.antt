@@ -9,9 +9,9 @@ use Rattle.std.proofs.lemmas.Option.{slice_get_within, none-some, same_Some}
 use Rattle.std.proofs.lemmas.List.Elements.{filter-append}
 use Rattle.naga_oil_ir.specs.Body.{Tokens}
 use Rattle.naga_oil_ir.specs.declared.tokens.Token.{Token}
-use Rattle.naga_oil_ir.specs.BodyForm.{run, is_external}
-use Rattle.naga_oil_ir.specs.Links.{Links, linked, AreEarlier, reach, trail, has, added, AreMarks}
-use Rattle.naga_oil_ir.proofs.LinkLemmas.{has-append, has-added, marked-set, or_false, only, itself, in_one, in_all, slice_get-append_within, slice_get-append_at, trail-step, eq_eqb}
+use Rattle.naga_oil_form.specs.BodyForm.{run, is_external}
+use Rattle.naga_oil_form.specs.Links.{Links, linked, AreEarlier, reach, trail, has, added, AreMarks}
+use Rattle.naga_oil_form.proofs.LinkLemmas.{has-append, has-added, marked-set, or_false, only, itself, in_one, in_all, slice_get-append_within, slice_get-append_at, trail-step, eq_eqb}
 use Rattle.naga_oil_walk.specs.Walk.{IsReachOrder, Holds, externals, Notes, noted, notes_of, notes_after, brief}
 
 -- ---- lists

@@ -8,9 +8,9 @@ use Rattle.std.proofs.lemmas.Option.{none-some, same_Some}
 use Rattle.naga_oil_ir.specs.Body.{Tokens}
 use Rattle.naga_oil_ir.specs.declared.tokens.Token.{Token}
 use Rattle.naga_oil_ir.specs.declared.tokens.Token.TheVariants.{Emitted}
-use Rattle.naga_oil_ir.specs.BodyForm.{run, places, AreEmitted, made, IsFine, AreFine}
-use Rattle.naga_oil_ir.specs.Links.{Links, linked, AreEarlier, has, added}
-use Rattle.naga_oil_ir.proofs.LinkLemmas.{has-append, slice_get-set_same, slice_get-set_other, eq_eqb}
+use Rattle.naga_oil_form.specs.BodyForm.{run, places, AreEmitted, made, IsFine, AreFine}
+use Rattle.naga_oil_form.specs.Links.{Links, linked, AreEarlier, has, added}
+use Rattle.naga_oil_form.proofs.LinkLemmas.{has-append, slice_get-set_same, slice_get-set_other, eq_eqb}
 use Rattle.naga_oil_walk.specs.Walk.{externals, others, brief, Notes, noted, notes_of, notes_after, StandsFrom, IsNoted, AreNoted, AreWithin}
 use Rattle.naga_oil_walk.proofs.WalkLemmas.{added-append}
 use Rattle.naga_oil_walk.proofs.WalkForm.{IsPlain, IsUnder, step, stand_range, under_externals, has_externals}

@@ -1,9 +1,9 @@
 -- What a function names, in the order of copying.
 use Rattle.std.specs.Prelude.{ℕ, zero, suc, ◌≡◌, List, [], ◌∷◌, ◌++◌, map, Option, Some, None, option_map, option_to_list, slice_get}
 use Rattle.std.specs.List.{flat_map}
-use Rattle.naga_oil_ir.specs.Links.{Links, linked}
+use Rattle.naga_oil_form.specs.Links.{Links, linked}
 use Rattle.naga_oil_ir.specs.Body.{block_tokens}
-use Rattle.naga_oil_ir.specs.BodyForm.{kinds, callee, named_of, operand_links}
+use Rattle.naga_oil_form.specs.BodyForm.{kinds, callee, named_of, operand_links}
 use Rattle.naga_oil_ir.specs.declared.module.Function.{Function}
 use Rattle.naga_oil_ir.specs.declared.types.LocalVariable.{LocalVariable}
 use Rattle.naga_oil_ir.specs.declared.span.Span.{Span}

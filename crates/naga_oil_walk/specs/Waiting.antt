@@ -1,8 +1,8 @@
 -- Places that are listed once what they name is.
 use Rattle.std.specs.Prelude.{ℕ, ◌≡◌, ◌+◌, ◌*◌, ◌<◌, ◌⊎◌, true, List, [], ◌∷◌, ◌++◌, drop, take, length, slice_get, Option, Some, None, All}
 use Rattle.std.specs.List.{flat_map}
-use Rattle.naga_oil_ir.specs.Links.{Links, linked, lists, has, added, trail}
-use Rattle.naga_oil_ir.specs.declared.form.Reading.{Reading}
+use Rattle.naga_oil_form.specs.Links.{Links, linked, lists, has, added, trail}
+use Rattle.naga_oil_form.specs.declared.form.Reading.{Reading}
 use Rattle.naga_oil_ir.specs.declared.names.ItemPlace.{ItemPlace}
 use Rattle.naga_oil_ir.specs.declared.parts.Named.{Named}
 use Rattle.naga_oil_walk.specs.Naming.{item_of, requests_at, names_from, IsAmong, Adds}

@@ -2,9 +2,9 @@
 use Rattle.std.specs.Prelude.{ℕ, ◌≡◌, ◌<◌, ◌≤◌, true, false, not, List, [], ◌∷◌, ◌++◌, take, length, slice_get, slice_set, Option, Some, is_none, nat_lt, ◌+◌, ◌||◌, if◌then◌else◌}
 use Rattle.std.specs.Option.{option_flatten}
 use Rattle.std.specs.List.{filter, flat_map}
-use Rattle.naga_oil_ir.specs.Links.{Links, linked, has, added, trail, started}
+use Rattle.naga_oil_form.specs.Links.{Links, linked, has, added, trail, started}
 use Rattle.naga_oil_ir.specs.Body.{Tokens}
-use Rattle.naga_oil_ir.specs.BodyForm.{is_external, places}
+use Rattle.naga_oil_form.specs.BodyForm.{is_external, places}
 use Rattle.naga_oil_ir.specs.declared.tokens.Token.{Token}
 use Rattle.naga_oil_ir.specs.declared.tokens.Token.TheVariants.{Use, Give, GiveCall, Emitted}
 

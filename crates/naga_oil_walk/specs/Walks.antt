@@ -1,10 +1,10 @@
 -- A walk over a function.
 use Rattle.std.specs.Prelude.{◌≡◌, ◌<◌, ℕ, true, List, [], length, slice_get, Some, None, All, replicate}
-use Rattle.naga_oil_ir.specs.Links.{Links, lists, AreEarlier, has, started}
+use Rattle.naga_oil_form.specs.Links.{Links, lists, AreEarlier, has, started}
 use Rattle.naga_oil_ir.specs.Body.{Tokens, block_tokens}
-use Rattle.naga_oil_ir.specs.BodyForm.{kinds, operand_links}
-use Rattle.naga_oil_ir.specs.WellFormed.{initialisers}
-use Rattle.naga_oil_ir.specs.declared.form.Reading.{Reading}
+use Rattle.naga_oil_form.specs.BodyForm.{kinds, operand_links}
+use Rattle.naga_oil_form.specs.WellFormed.{initialisers}
+use Rattle.naga_oil_form.specs.declared.form.Reading.{Reading}
 use Rattle.naga_oil_ir.specs.declared.module.Function.{Function}
 use Rattle.naga_oil_walk.specs.Walk.{walked, Notes, notes_after, IsReachOrder, AreNoted, AreWithin}
 use Rattle.naga_oil_ir.specs.declared.names.ItemPlace.{ItemPlace}

@@ -1,14 +1,14 @@
 //! The walk over a function, in the order of copying.
 ghost use Rattle.std.specs.Prelude.{◌≡◌, ◌<◌, ◌≤◌, ◌+◌, ◌∷◌, ◌++◌, ℕ, [], length, OnOk, All, IfOk, option_to_list};
 ghost use Rattle.std.specs.List.{flat_map, sum_by};
-ghost use Rattle.naga_oil_ir.specs.Links.{lists, linked, added, trail};
-ghost use Rattle.naga_oil_ir.specs.BodyForm.{places, kinds, callees, operand_links, MayStand};
+ghost use Rattle.naga_oil_form.specs.Links.{lists, linked, added, trail};
+ghost use Rattle.naga_oil_form.specs.BodyForm.{places, kinds, callees, operand_links, MayStand};
 ghost use Rattle.naga_oil_walk.specs.Walk.{IsReachOrder, externals, brief, IsWithin, notes_of, notes_after};
 ghost use Rattle.naga_oil_walk.specs.Walks.{IsOver, Walks};
 ghost use Rattle.naga_oil_walk.specs.Waiting.{AreWaiting, AsksOn, Awaits, finish, finish_all, names_left, steps};
 ghost use Rattle.naga_oil_walk.specs.Naming.{names_from, requests_at, asked, token_names, Adds, local_names, signature_names};
 ghost use Rattle.naga_oil_ir.specs.Body.{block_tokens};
-ghost use Rattle.naga_oil_ir.specs.WellFormed.{initialisers, initialisers_of};
+ghost use Rattle.naga_oil_form.specs.WellFormed.{initialisers, initialisers_of};
 
 use super::*;
 

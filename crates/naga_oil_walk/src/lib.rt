@@ -8,8 +8,8 @@ pub mod function_walk;
 pub mod walk;
 
 pub use function_walk::walk_function;
-use naga_oil_ir::form::{Reading, is_external, read};
-use naga_oil_ir::links::{is_marked, no_marks};
+use naga_oil_form::form::{Reading, is_external, read};
+use naga_oil_form::links::{is_marked, no_marks};
 use naga_oil_ir::names::named_item;
 use naga_oil_ir::*;
 use std::alloc::{AllocError, Global};

@@ -1,6 +1,6 @@
 //! What a walk over a function lists.
 ghost use Rattle.std.specs.Prelude.{◌≡◌, ◌<◌, ◌∷◌, ℕ, [], length, OnOk, IfOk, None, replicate};
-ghost use Rattle.naga_oil_ir.specs.Links.{added, has, AreMarks};
+ghost use Rattle.naga_oil_form.specs.Links.{added, has, AreMarks};
 ghost use Rattle.naga_oil_walk.specs.Walk.{noted};
 
 use super::*;

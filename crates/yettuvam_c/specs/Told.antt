@@ -3,7 +3,7 @@ use Rattle.std.specs.Prelude.{ℕ, pos, if◌then◌else◌, List, [], ◌∷◌
 use Rattle.naga_oil_lines.specs.Directives.{directives_of}
 use Rattle.naga_oil_lines.specs.DirectivesText.{directives_text}
 use Rattle.naga_oil_lines.specs.Text.{texts}
-use Rattle.naga_oil_lines.specs.Uses.{Use, use_of}
+use Rattle.naga_oil_imports.specs.Uses.{Use, use_of}
 use Rattle.naga_oil_pre.specs.Fault.{Fault}
 use Rattle.naga_oil_pre.specs.Preprocessed.{Output}
 use Rattle.naga_oil_pre.specs.declared.metadata.PreprocessorMetaData.{PreprocessorMetaData}

@@ -1,7 +1,7 @@
 // The parts that tell a text, its metadata or a fault.
 ghost use Rattle.std.specs.Prelude.{◌≡◌, ◌++◌, fold, map, flat_map, option_map, string_bytes, OnOk};
 ghost use Rattle.naga_oil_lines.specs.Text.{texts};
-ghost use Rattle.naga_oil_lines.specs.Uses.{use_of};
+ghost use Rattle.naga_oil_imports.specs.Uses.{use_of};
 ghost use Rattle.naga_oil_pre.specs.KnownView.{output_of};
 ghost use Rattle.naga_oil_pre.specs.View.{fault_of};
 ghost use Rattle.naga_oil_registry.specs.Definition.{defs_of};

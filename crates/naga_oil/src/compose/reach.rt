@@ -1,7 +1,7 @@
 //! How the modules that a text imports are built, each over the builds of what it imports itself.
 ghost use Rattle.std.specs.Prelude.{◌≡◌, ◌≤◌, ◌+◌, slice_get, drop, IfOk, OnOk, OnErr, Some, map, option_map, string_bytes};
 ghost use Rattle.std.specs.Arc.{arc_value};
-ghost use Rattle.naga_oil_lines.specs.Uses.{use_of};
+ghost use Rattle.naga_oil_imports.specs.Uses.{use_of};
 ghost use Rattle.naga_oil_pre.specs.KnownView.{output_of};
 ghost use Rattle.naga_oil_registry.specs.Definition.{definition_of, defs_of};
 ghost use Rattle.naga_oil_link.specs.BuiltModule.{built_of, builds_of};

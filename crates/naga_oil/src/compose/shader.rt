@@ -1,7 +1,7 @@
 //! What a make reads of a shader, and the definitions that it merges.
 ghost use Rattle.std.specs.Prelude.{◌≡◌, IfOk, map, Ok, Err, true, string_bytes};
 ghost use Rattle.naga_oil_lines.specs.Text.{texts};
-ghost use Rattle.naga_oil_lines.specs.Uses.{use_of};
+ghost use Rattle.naga_oil_imports.specs.Uses.{use_of};
 ghost use Rattle.naga_oil_pre.specs.MetadataView.{metadata_of};
 ghost use Rattle.naga_oil_pre.specs.View.{Gives};
 ghost use Rattle.naga_oil_registry.specs.Definition.{definition_of, defs_of};

@@ -6,8 +6,9 @@ ghost use Rattle.naga_oil_derive.specs.DerivedFunctions.{CanImport, CanCall};
 
 use crate::derive::{holds, set};
 use naga_oil_derive::DerivedModule;
+use naga_oil_form::{FormFault, check_form};
 use naga_oil_ir::{
-    Arena, Block, EntryPoint, Expression, FormFault, Function, FunctionArgument, Handle, Index,
+    Arena, Block, EntryPoint, Expression, Function, FunctionArgument, Handle, Index,
     LocalVariable, Module, NamedExpressions, Range, Span, Statement, Type, TypeInner,
 };
 use std::alloc::{AllocError, Global};
@@ -385,7 +386,7 @@ fn function_at<'a>(
     let Some(source) = derived.source() else {
         return Err(FormFault::WrongForm);
     };
-    source.check_form(alloc, "", 1000)?;
+    check_form(source, alloc, "", 1000)?;
     match source.functions.try_get(Index::new(place)) {
         Some(function) => Ok(function),
         None => Err(FormFault::WrongForm),
@@ -403,7 +404,7 @@ fn place_of(
     let Some(source) = derived.source() else {
         return Err(FormFault::WrongForm);
     };
-    source.check_form(alloc, "", 1000)?;
+    check_form(source, alloc, "", 1000)?;
     if place < source.functions.len() {
         return Ok(Index::new(place));
     }

@@ -2,6 +2,7 @@ mod every_kind;
 mod refused;
 
 use every_kind::{EVERY, expression_of, statement_of};
+use naga_oil_form::{FormFault, check_form};
 use naga_oil_ir::*;
 use std::alloc::{AllocError, Global};
 use std::process::Abort;
@@ -428,7 +429,7 @@ fn is_filled_taken(
 ) -> Result<bool, AllocError> {
     add_all(module, small, alloc)?;
     add_all(module, items, alloc)?;
-    match module.check_form(alloc, decoration, 10) {
+    match check_form(&module, alloc, decoration, 10) {
         Ok(()) => Ok(true),
         Err(FormFault::WrongForm) => Ok(false),
         Err(FormFault::Memory) => Err(AllocError),

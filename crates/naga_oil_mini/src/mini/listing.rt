@@ -1,6 +1,6 @@
 // What a text tells before any build, as lines.
 ghost use Rattle.std.specs.Prelude.{◌≡◌, ◌++◌, true, OnOk, IfOk, IfErr, map, string_bytes, option_map};
-ghost use Rattle.naga_oil_lines.specs.Uses.{import_of, use_of};
+ghost use Rattle.naga_oil_imports.specs.Uses.{import_of, use_of};
 ghost use Rattle.naga_oil_pre.specs.Metadata.{metadata};
 ghost use Rattle.naga_oil_pre.specs.MetadataView.{metadata_of};
 ghost use Rattle.naga_oil_pre.specs.Replaced.{value_text};
@@ -15,7 +15,7 @@ ghost use Rattle.naga_oil_mini.specs.Told.{Reports};
 use super::definitions::Definitions;
 use super::refusal::Refusal;
 use naga_oil::compose::report::report;
-use naga_oil_lines::{ImportDefWithOffset, ImportDefinition};
+use naga_oil_imports::{ImportDefWithOffset, ImportDefinition};
 use naga_oil_pre::{ComposerErrorInner, Preprocessor, PreprocessorMetaData, ShaderDefValue};
 use std::alloc::{AllocError, Global};
 use std::collections::BTreeSet;

@@ -12,7 +12,7 @@ use naga_oil::compose::{
 };
 use naga_oil_front::{Mini, NotWritten, module_text};
 use naga_oil_ir::Module;
-use naga_oil_lines::ImportDefinition;
+use naga_oil_imports::ImportDefinition;
 use std::alloc::{AllocError, Global};
 
 // What is told of an error.

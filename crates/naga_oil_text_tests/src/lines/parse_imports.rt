@@ -1,5 +1,5 @@
 use indexmap::IndexMap;
-use naga_oil_lines::parse_imports::parse_imports;
+use naga_oil_imports::parse_imports::parse_imports;
 use std::alloc::{AllocError, Global};
 use std::test::Fail;
 

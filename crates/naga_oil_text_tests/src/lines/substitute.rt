@@ -1,6 +1,6 @@
 use indexmap::IndexMap;
-use naga_oil_lines::parse_imports::substitute_identifiers;
-use naga_oil_lines::{ImportDefWithOffset, ImportDefinition};
+use naga_oil_imports::parse_imports::substitute_identifiers;
+use naga_oil_imports::{ImportDefWithOffset, ImportDefinition};
 use std::alloc::{AllocError, Global};
 use std::test::Fail;
 

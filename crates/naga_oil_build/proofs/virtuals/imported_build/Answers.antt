@@ -6,7 +6,7 @@ use Rattle.std.specs.Str.{bytes_eq}
 use Rattle.std.specs.String.{string_bytes}
 use Rattle.std.proofs.lemmas.Iterator.{YieldsList-from_slice}
 use Rattle.std.proofs.lemmas.Iterator.Search.{any_from_yields_List}
-use Rattle.naga_oil_lines.specs.Uses.{import_of}
+use Rattle.naga_oil_imports.specs.Uses.{import_of}
 use Rattle.naga_oil_link.specs.BuiltModule.{built_of, builds_of}
 use Rattle.naga_oil_build.proofs.OverridingLemmas.{found_build, shared_build, any_import, imported_then, imported_else}
 use Rattle.naga_oil_build.proofs.virtuals.imported_build.Goals as goal

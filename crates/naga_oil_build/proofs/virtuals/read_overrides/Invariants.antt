@@ -1,7 +1,7 @@
 use Rattle.std.proofs.Common.{◌≡◌, Option, Some, None, option_map, map, drop}
 use Rattle.std.specs.BTreeMap.{get}
 use Rattle.std.specs.Ordering.{nat_cmp}
-use Rattle.naga_oil_lines.specs.Uses.{import_of}
+use Rattle.naga_oil_imports.specs.Uses.{import_of}
 use Rattle.naga_oil_pre.specs.Fault.{Fault}
 use Rattle.naga_oil_pre.specs.View.{fault_of}
 use Rattle.naga_oil_link.specs.BuiltModule.{builds_of}

@@ -12,7 +12,7 @@ fn ask_entries(derived: &DerivedModule<'_>, alloc: Global) -> Result<(), FormFau
     let Some(source) = derived.source() else {
         return Err(FormFault::WrongForm);
     };
-    source.check_form(alloc, "", 1000)?;
+    check_form(source, alloc, "", 1000)?;
     Ok(())
 }
 

@@ -2,8 +2,9 @@
 use super::{function, mapped};
 use crate::derive::{holds, set};
 use naga_oil_derive::DerivedModule;
+use naga_oil_form::FormFault;
 use naga_oil_ir::{
-    Block, Constant, Expression, FormFault, Function, FunctionArgument, FunctionResult,
+    Block, Constant, Expression, Function, FunctionArgument, FunctionResult,
     GlobalVariable, Handle, ImageLoad, ImageQuery, ImageSample, Index, LocalVariable, Math, Module,
     Operand, Override, Range, RayQueryFunction, SampleLevel, Span, Statement, SwitchCase, Token,
     Type, TypeInner, push_block,

@@ -1,5 +1,5 @@
 use Rattle.std.proofs.Common.{◌≡◌, ◌++◌, length, All}
-use Rattle.naga_oil_ir.specs.ItemForm.{IsThere}
+use Rattle.naga_oil_form.specs.ItemForm.{IsThere}
 use Rattle.naga_oil_ir.specs.declared.names.ItemPlace.TheVariants.{TypeItem, ConstantItem, OverrideItem, GlobalItem}
 use Rattle.naga_oil_link.specs.Places.{places_from_first}
 use Rattle.naga_oil_link.proofs.items.places_of.Given as goal

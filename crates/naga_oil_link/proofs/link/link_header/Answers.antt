@@ -2,7 +2,7 @@ use Rattle.std.proofs.Common.{◌≡◌, true, length, map, subst, sym, ap, ◌�
 use Rattle.std.proofs.lemmas.List.{length-map}
 use Rattle.naga_oil_derive.specs.Derived.{Derived}
 use Rattle.naga_oil_derive.specs.World.{value_of}
-use Rattle.naga_oil_lines.specs.Uses.{import_of}
+use Rattle.naga_oil_imports.specs.Uses.{import_of}
 use Rattle.naga_oil_form_laws.specs.EntryForm.{IsModuleFormed}
 use Rattle.naga_oil_link.specs.BuiltModule.{builds_of}
 use Rattle.naga_oil_link.specs.Linked.{link_header}

@@ -1,8 +1,8 @@
 use Rattle.std.proofs.Common.{◌≡◌, false, length, List, map, subst, sym, ap, ◌∙◌, arith}
 use Rattle.std.proofs.lemmas.List.{length-map}
 use Rattle.naga_oil_derive.specs.World.{value_of}
-use Rattle.naga_oil_lines.specs.Uses.{import_of}
-use Rattle.naga_oil_lines.specs.declared.import_definition.ImportDefinition.{ImportDefinition}
+use Rattle.naga_oil_imports.specs.Uses.{import_of}
+use Rattle.naga_oil_imports.specs.declared.import_definition.ImportDefinition.{ImportDefinition}
 use Rattle.naga_oil_form_laws.proofs.FormedModules.{copied_from}
 use Rattle.naga_oil_link.specs.BuiltModule.{built_of, builds_of}
 use Rattle.naga_oil_link.specs.LinkView.{IsLinkFormed, LinksImports}

@@ -1,9 +1,9 @@
 use Rattle.std.proofs.Common.{◌||◌, arith, drop, map, string_bytes, ap, sym, ◌∙◌}
 use Rattle.std.proofs.lemmas.List.{length-map}
-use Rattle.naga_oil_lines.specs.Declarations.{declared_of}
-use Rattle.naga_oil_lines.specs.Leaves.{import_leaves}
-use Rattle.naga_oil_lines.specs.NameMarks.{has_mark, shares_slot, keys_of}
-use Rattle.naga_oil_lines.proofs.NameMarkLemmas.{covers_import}
+use Rattle.naga_oil_imports.specs.Declarations.{declared_of}
+use Rattle.naga_oil_imports.specs.Leaves.{import_leaves}
+use Rattle.naga_oil_imports.specs.NameMarks.{has_mark, shares_slot, keys_of}
+use Rattle.naga_oil_imports.proofs.NameMarkLemmas.{covers_import}
 use Rattle.naga_oil_pre.proofs.LoopLemmas.{syntax_within}
 use Rattle.naga_oil_pre.proofs.imports.declare.Goals as goal
 

@@ -1,8 +1,8 @@
 use Rattle.std.specs.Str.{chars}
-use Rattle.naga_oil_lines.specs.Declarations.{declared_of}
-use Rattle.naga_oil_lines.specs.Substituted.{sites, usize_sites}
+use Rattle.naga_oil_imports.specs.Declarations.{declared_of}
+use Rattle.naga_oil_imports.specs.Substituted.{sites, usize_sites}
 use Rattle.naga_oil_lines.specs.Tokens.{lexemes}
-use Rattle.naga_oil_lines.specs.Uses.{uses_of}
+use Rattle.naga_oil_imports.specs.Uses.{uses_of}
 use Rattle.naga_oil_pre.proofs.LoopLemmas.{never_ambiguous}
 use Rattle.naga_oil_pre.proofs.imports.push_shown.Goals as goal
 

@@ -1,8 +1,8 @@
 use Rattle.std.proofs.Common.{rules, arith, ◌≡◌, ℕ, ◌+◌, ◌<◌, ◌^◌, List, Some, Err, length, false, refl, sym, ap, ◌∙◌}
 use Rattle.std.specs.BTreeMap.{get_by_text}
-use Rattle.naga_oil_lines.specs.Declarations.{declared_of}
-use Rattle.naga_oil_lines.specs.Uses.{uses_of}
-use Rattle.naga_oil_lines.specs.Substituted.{sites, first_ambiguous, usize_sites, mentions_in, with_mentions}
+use Rattle.naga_oil_imports.specs.Declarations.{declared_of}
+use Rattle.naga_oil_imports.specs.Uses.{uses_of}
+use Rattle.naga_oil_imports.specs.Substituted.{sites, first_ambiguous, usize_sites, mentions_in, with_mentions}
 use Rattle.naga_oil_lines.specs.Tokens.{lexemes}
 use Rattle.std.specs.Str.{chars}
 use Rattle.naga_oil_pre.specs.Fault.{invalid_import}

@@ -1,5 +1,5 @@
 use Rattle.std.proofs.Common.{◌≡◌, ◌++◌, ◌∷◌, [], rules}
-use Rattle.naga_oil_lines.specs.Uses.{import_of, use_of}
+use Rattle.naga_oil_imports.specs.Uses.{import_of, use_of}
 use Rattle.naga_oil_pre.proofs.MetadataLemmas.{definitions_more}
 use Rattle.naga_oil_pre.proofs.metadata.definitions_of.Goals as goal
 

@@ -1,5 +1,5 @@
 use Rattle.std.proofs.Common.{◌≡◌, map, take}
-use Rattle.naga_oil_lines.specs.Uses.{import_of, use_of}
+use Rattle.naga_oil_imports.specs.Uses.{import_of, use_of}
 use Rattle.naga_oil_pre.proofs.metadata.definitions_of.Given as goal
 
 abbrev pub invariant-loop-used : goal.invariant-loop-used

@@ -1,5 +1,5 @@
 use Rattle.std.proofs.Common.{◌≡◌, ◌∷◌, refl, rules}
-use Rattle.naga_oil_lines.specs.Leaves.{import_leaves}
+use Rattle.naga_oil_imports.specs.Leaves.{import_leaves}
 use Rattle.naga_oil_pre.specs.MetadataView.{found_of}
 use Rattle.naga_oil_pre.specs.Preprocessed.{import_text}
 use Rattle.naga_oil_pre.specs.Reading.{braces_after, taken}

@@ -1,9 +1,9 @@
 use Rattle.std.proofs.Common.{rules, arith, ◌≡◌, ◌+◌, ◌<◌, ◌^◌, length, ap, ◌∙◌}
 use Rattle.std.specs.Str.{chars}
-use Rattle.naga_oil_lines.specs.Declarations.{declared_of}
-use Rattle.naga_oil_lines.specs.Substituted.{sites, usize_sites, mentions_in, with_mentions}
+use Rattle.naga_oil_imports.specs.Declarations.{declared_of}
+use Rattle.naga_oil_imports.specs.Substituted.{sites, usize_sites, mentions_in, with_mentions}
 use Rattle.naga_oil_lines.specs.Tokens.{lexemes}
-use Rattle.naga_oil_lines.specs.Uses.{uses_of}
+use Rattle.naga_oil_imports.specs.Uses.{uses_of}
 use Rattle.naga_oil_pre.specs.SourceView.{line_of}
 use Rattle.naga_oil_pre.proofs.LoopLemmas.{never_ambiguous, counted}
 use Rattle.naga_oil_pre.proofs.metadata.read_uses.Goals as goal

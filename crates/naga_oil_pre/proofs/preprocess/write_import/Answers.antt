@@ -1,7 +1,7 @@
 use Rattle.std.proofs.Common.{◌≡◌, ◌++◌, refl, rules, string_bytes, Ok}
 use Rattle.std.specs.Cow.{cow_str_bytes}
-use Rattle.naga_oil_lines.specs.Declarations.{declared_of}
-use Rattle.naga_oil_lines.specs.Leaves.{import_leaves, with_import}
+use Rattle.naga_oil_imports.specs.Declarations.{declared_of}
+use Rattle.naga_oil_imports.specs.Leaves.{import_leaves, with_import}
 use Rattle.naga_oil_pre.specs.KnownView.{known_of}
 use Rattle.naga_oil_pre.specs.SourceView.{line_of}
 use Rattle.naga_oil_pre.specs.Preprocessed.{end_line, import_text}

@@ -3,8 +3,8 @@ use Rattle.std.specs.List.{flat_map}
 use Rattle.std.specs.Option.{option_flatten}
 use Rattle.std.proofs.lemmas.List.{take_all}
 use Rattle.std.proofs.lemmas.Option.{slice_get-get_or}
-use Rattle.naga_oil_ir.specs.Links.{lists, linked}
-use Rattle.naga_oil_ir.proofs.LinkLemmas.{linked-at}
+use Rattle.naga_oil_form.specs.Links.{lists, linked}
+use Rattle.naga_oil_form.proofs.LinkLemmas.{linked-at}
 use Rattle.naga_oil_redirect.specs.Level.{known}
 use Rattle.naga_oil_redirect.proofs.OrderLemmas.{AreRounds, rounds_none, rounds_some, all_rounds}
 use Rattle.naga_oil_redirect.proofs.order.by_level.Goals as goal

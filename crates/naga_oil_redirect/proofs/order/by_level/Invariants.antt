@@ -1,6 +1,6 @@
 use Rattle.std.proofs.Common.{◌≡◌, ℕ, length, take}
 use Rattle.std.specs.List.{flat_map}
-use Rattle.naga_oil_ir.specs.Links.{lists, linked}
+use Rattle.naga_oil_form.specs.Links.{lists, linked}
 use Rattle.naga_oil_redirect.specs.Level.{passing, is_level}
 use Rattle.naga_oil_redirect.proofs.order.by_level.Given as goal
 

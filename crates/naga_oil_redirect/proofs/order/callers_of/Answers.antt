@@ -1,8 +1,8 @@
 use Rattle.std.proofs.Common.{◌∙◌, ⊎_elim, ℕ, ◌+◌, ◌<◌, ◌≤◌, ◌==◌, if◌then◌else◌, List, [], length, All, subst, sym, ap, arith}
 use Rattle.std.proofs.lemmas.Bool.{cases_lt}
 use Rattle.std.proofs.lemmas.List.{length-map}
-use Rattle.naga_oil_ir.specs.Links.{lists, linked}
-use Rattle.naga_oil_ir.proofs.LinkLemmas.{linked-at, linked_past}
+use Rattle.naga_oil_form.specs.Links.{lists, linked}
+use Rattle.naga_oil_form.proofs.LinkLemmas.{linked-at, linked_past}
 use Rattle.naga_oil_redirect.specs.Count.{times}
 use Rattle.naga_oil_redirect.proofs.LevelLoops.{IsTurned, turn_more}
 use Rattle.naga_oil_redirect.proofs.order.callers_of.Goals as goal

@@ -1,5 +1,5 @@
 use Rattle.std.proofs.Common.{◌≡◌, ◌<◌, ◌≤◌, ℕ, length}
-use Rattle.naga_oil_ir.specs.Links.{lists, linked}
+use Rattle.naga_oil_form.specs.Links.{lists, linked}
 use Rattle.naga_oil_redirect.specs.Count.{times}
 use Rattle.naga_oil_redirect.proofs.order.callers_of.Given as goal
 

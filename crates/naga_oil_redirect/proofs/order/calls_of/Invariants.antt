@@ -1,5 +1,5 @@
 use Rattle.std.proofs.Common.{◌≡◌, take}
-use Rattle.naga_oil_ir.specs.Links.{lists}
+use Rattle.naga_oil_form.specs.Links.{lists}
 use Rattle.naga_oil_redirect.specs.Ordered.{calls_of}
 use Rattle.naga_oil_redirect.specs.Redirected.{function_values}
 use Rattle.naga_oil_redirect.proofs.order.calls_of.Given as goal

@@ -1,6 +1,6 @@
 use Rattle.std.proofs.Common.{◌≡◌, ◌∙◌, ℕ, ◌+◌, ◌-◌, ◌==◌, if◌then◌else◌, [], ◌∷◌, get_or, length-set, ap, arith}
 use Rattle.std.proofs.lemmas.List.{get_or_read}
-use Rattle.naga_oil_ir.proofs.LinkLemmas.{eq_eqb}
+use Rattle.naga_oil_form.proofs.LinkLemmas.{eq_eqb}
 use Rattle.naga_oil_redirect.specs.Count.{times}
 use Rattle.naga_oil_redirect.proofs.CountLemmas.{differs}
 use Rattle.naga_oil_redirect.proofs.LevelLoops.{open_yet, within_from, left_more, ready_more, one_then, one_else}

@@ -1,8 +1,8 @@
 use Rattle.std.proofs.Common.{◌≡◌, ◌∙◌, ℕ, ◌<◌, ◌≤◌, List, Option, None, IfSome, nat_lt, ◌==◌, ◌&&◌, map, length, replicate, vec_len, ⊎_elim, slice_set, sym, ap, subst, arith, rules}
 use Rattle.std.proofs.lemmas.Bool.{cases_lt, false≢true}
 use Rattle.std.proofs.lemmas.List.{length-map, nil_from_length}
-use Rattle.naga_oil_ir.specs.Links.{lists, linked}
-use Rattle.naga_oil_ir.proofs.LinkLemmas.{linked-at}
+use Rattle.naga_oil_form.specs.Links.{lists, linked}
+use Rattle.naga_oil_form.proofs.LinkLemmas.{linked-at}
 use Rattle.naga_oil_redirect.specs.Count.{bit, times}
 use Rattle.naga_oil_redirect.specs.Level.{known, above}
 use Rattle.naga_oil_redirect.proofs.CountLemmas.{nones, nones-set}

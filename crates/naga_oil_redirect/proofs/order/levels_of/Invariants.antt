@@ -1,4 +1,4 @@
-use Rattle.naga_oil_ir.specs.Links.{lists}
+use Rattle.naga_oil_form.specs.Links.{lists}
 use Rattle.naga_oil_redirect.proofs.CountLemmas.{nones}
 use Rattle.naga_oil_redirect.proofs.GoingLemmas.{IsGoing}
 use Rattle.naga_oil_redirect.proofs.order.levels_of.Given as goal

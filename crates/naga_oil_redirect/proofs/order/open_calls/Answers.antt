@@ -1,6 +1,6 @@
 use Rattle.std.proofs.Common.{◌≡◌, ◌∙◌, ℕ, ◌+◌, ◌==◌, if◌then◌else◌, [], ◌∷◌, length, sym, ap, arith}
-use Rattle.naga_oil_ir.specs.Links.{lists, linked}
-use Rattle.naga_oil_ir.proofs.LinkLemmas.{linked-at}
+use Rattle.naga_oil_form.specs.Links.{lists, linked}
+use Rattle.naga_oil_form.proofs.LinkLemmas.{linked-at}
 use Rattle.naga_oil_redirect.specs.Count.{times}
 use Rattle.naga_oil_redirect.proofs.LevelLoops.{zero_more, one_then, one_else, counts_more}
 use Rattle.naga_oil_redirect.proofs.order.open_calls.Goals as goal

@@ -1,5 +1,5 @@
 use Rattle.std.proofs.Common.{◌≡◌, ◌==◌, ◌&&◌, ℕ, nat_lt, length, map, take}
-use Rattle.naga_oil_ir.specs.Links.{lists, linked}
+use Rattle.naga_oil_form.specs.Links.{lists, linked}
 use Rattle.naga_oil_redirect.specs.Count.{bit, times}
 use Rattle.naga_oil_redirect.proofs.order.open_calls.Given as goal
 

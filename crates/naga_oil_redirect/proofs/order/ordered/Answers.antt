@@ -1,6 +1,6 @@
 use Rattle.std.proofs.Common.{◌≡◌, ◌∙◌, ap, sym, length}
 use Rattle.std.proofs.lemmas.List.{length-map}
-use Rattle.naga_oil_ir.specs.Links.{lists}
+use Rattle.naga_oil_form.specs.Links.{lists}
 use Rattle.naga_oil_ir.specs.ModuleValue.{function_value}
 use Rattle.naga_oil_ir.specs.declared.module.Function.{Function}
 use Rattle.naga_oil_ir.specs.declared.span.Span.{Span}

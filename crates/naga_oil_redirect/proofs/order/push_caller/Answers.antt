@@ -1,5 +1,5 @@
 use Rattle.std.proofs.Common.{◌∙◌, ◌<◌, ◌++◌, ◌∷◌, [], get_or, length, length-set, sym, ap, arith}
-use Rattle.naga_oil_ir.proofs.LinkLemmas.{linked-at}
+use Rattle.naga_oil_form.proofs.LinkLemmas.{linked-at}
 use Rattle.naga_oil_redirect.proofs.LevelLoops.{push_more}
 use Rattle.naga_oil_redirect.proofs.order.push_caller.Goals as goal
 

@@ -1,5 +1,5 @@
 use Rattle.std.proofs.Common.{◌≡◌, ◌+◌, ◌==◌, if◌then◌else◌, ℕ, [], length, take}
-use Rattle.naga_oil_ir.specs.Links.{lists, linked}
+use Rattle.naga_oil_form.specs.Links.{lists, linked}
 use Rattle.naga_oil_redirect.specs.Count.{times}
 use Rattle.naga_oil_redirect.proofs.order.push_caller.Given as goal
 

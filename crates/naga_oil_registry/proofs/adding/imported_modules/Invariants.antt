@@ -1,5 +1,5 @@
 use Rattle.std.proofs.Common.{◌≡◌, map, drop}
-use Rattle.naga_oil_lines.specs.Uses.{use_of}
+use Rattle.naga_oil_imports.specs.Uses.{use_of}
 use Rattle.naga_oil_registry.specs.Added.{imported_among}
 use Rattle.naga_oil_registry.specs.Definition.{definition_of}
 use Rattle.naga_oil_registry.proofs.AddedLemmas.{with_found}

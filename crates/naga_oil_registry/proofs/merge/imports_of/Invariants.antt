@@ -1,5 +1,5 @@
 use Rattle.std.proofs.Common.{◌≡◌, map, take}
-use Rattle.naga_oil_lines.specs.Uses.{import_of, use_of}
+use Rattle.naga_oil_imports.specs.Uses.{import_of, use_of}
 use Rattle.naga_oil_registry.proofs.merge.imports_of.Given as goal
 
 abbrev pub invariant-loop-import : goal.invariant-loop-import

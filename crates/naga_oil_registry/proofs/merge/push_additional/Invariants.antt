@@ -1,5 +1,5 @@
 use Rattle.std.proofs.Common.{◌≡◌, ◌++◌, map, take}
-use Rattle.naga_oil_lines.specs.Uses.{use_of, import_of}
+use Rattle.naga_oil_imports.specs.Uses.{use_of, import_of}
 use Rattle.naga_oil_registry.specs.Merged.{used_at_start}
 use Rattle.naga_oil_registry.proofs.merge.push_additional.Given as goal
 

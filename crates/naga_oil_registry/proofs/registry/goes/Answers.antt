@@ -1,6 +1,6 @@
 use Rattle.std.proofs.Common.{map, sym, rules}
 use Rattle.std.proofs.lemmas.Bool.{or_from}
-use Rattle.naga_oil_lines.specs.Uses.{use_of}
+use Rattle.naga_oil_imports.specs.Uses.{use_of}
 use Rattle.naga_oil_registry.proofs.RemovedLemmas.{none-imported}
 use Rattle.naga_oil_registry.proofs.registry.goes.Goals as goal
 

@@ -1,7 +1,7 @@
 use Rattle.std.proofs.Common.{◌≤◌, ◌∙◌, ap, sym, refl, arith, ◌-◌}
 use Rattle.std.specs.List.{flat_map}
-use Rattle.naga_oil_ir.specs.Links.{lists, linked, added}
-use Rattle.naga_oil_ir.specs.BodyForm.{run}
+use Rattle.naga_oil_form.specs.Links.{lists, linked, added}
+use Rattle.naga_oil_form.specs.BodyForm.{run}
 use Rattle.naga_oil_walk.specs.Walk.{externals}
 use Rattle.naga_oil_walk.proofs.WalkLemmas.{added-externals, flat_run}
 use Rattle.naga_oil_walk.specs.Naming.{requests_at}

@@ -1,7 +1,7 @@
 use Rattle.std.proofs.Common.{◌≡◌, ◌≤◌, ◌-◌, ◌∙◌, ◌++◌, ◌∷◌, [], List, ℕ, sym, ap, subst, refl, arith}
 use Rattle.std.specs.List.{flat_map}
-use Rattle.naga_oil_ir.specs.Links.{lists, linked, added}
-use Rattle.naga_oil_ir.specs.BodyForm.{places, run}
+use Rattle.naga_oil_form.specs.Links.{lists, linked, added}
+use Rattle.naga_oil_form.specs.BodyForm.{places, run}
 use Rattle.naga_oil_walk.specs.Walk.{externals}
 use Rattle.naga_oil_walk.proofs.WalkLemmas.{added-append, added-run}
 use Rattle.naga_oil_walk.specs.Naming.{requests_at, Adds}

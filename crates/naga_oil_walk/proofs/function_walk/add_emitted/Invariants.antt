@@ -1,7 +1,7 @@
 use Rattle.std.proofs.Common.{◌≡◌, ◌-◌}
 use Rattle.std.specs.List.{flat_map}
-use Rattle.naga_oil_ir.specs.Links.{added}
-use Rattle.naga_oil_ir.specs.BodyForm.{run}
+use Rattle.naga_oil_form.specs.Links.{added}
+use Rattle.naga_oil_form.specs.BodyForm.{run}
 use Rattle.naga_oil_walk.specs.Walks.{IsOver}
 use Rattle.naga_oil_walk.specs.Naming.{requests_at, Adds}
 use Rattle.naga_oil_walk.proofs.function_walk.add_emitted.Given as goal

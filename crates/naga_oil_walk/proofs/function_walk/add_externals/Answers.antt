@@ -1,8 +1,8 @@
 use Rattle.std.proofs.Common.{ℕ, List, All, ◌<◌, ◌≡◌, length, take, get_or, ◌∙◌, sym, ap, ◌∷◌, [], arith, subst, refl, ◌+◌}
 use Rattle.std.proofs.lemmas.List.{take_all}
-use Rattle.naga_oil_ir.specs.Links.{lists, linked, added}
-use Rattle.naga_oil_ir.specs.BodyForm.{is_external}
-use Rattle.naga_oil_ir.proofs.LinkLemmas.{linked-at}
+use Rattle.naga_oil_form.specs.Links.{lists, linked, added}
+use Rattle.naga_oil_form.specs.BodyForm.{is_external}
+use Rattle.naga_oil_form.proofs.LinkLemmas.{linked-at}
 use Rattle.naga_oil_walk.specs.declared.walk.Walk.{Walk}
 use Rattle.naga_oil_walk.specs.Walk.{externals}
 use Rattle.naga_oil_walk.specs.Walks.{IsOver}

@@ -1,5 +1,5 @@
 use Rattle.std.proofs.Common.{◌≡◌, ◌∷◌, ◌++◌, [], List, ap, sym, subst, refl}
-use Rattle.naga_oil_ir.specs.Links.{lists, added}
+use Rattle.naga_oil_form.specs.Links.{lists, added}
 use Rattle.naga_oil_walk.specs.Naming.{token_names, Adds}
 use Rattle.naga_oil_walk.specs.Walks.{IsOver}
 use Rattle.naga_oil_walk.specs.declared.walk.Request.{Request}

@@ -1,6 +1,6 @@
 use Rattle.std.proofs.Common.{◌∙◌, ap, take, refl}
 use Rattle.std.specs.List.{flat_map}
-use Rattle.naga_oil_ir.specs.Links.{lists, added}
+use Rattle.naga_oil_form.specs.Links.{lists, added}
 use Rattle.naga_oil_walk.specs.Walk.{brief, notes_of, Notes}
 use Rattle.naga_oil_walk.proofs.WalkLemmas.{added-token, notes-more}
 use Rattle.naga_oil_walk.specs.Naming.{token_names}

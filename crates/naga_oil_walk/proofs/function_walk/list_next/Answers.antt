@@ -1,6 +1,6 @@
 use Rattle.std.proofs.Common.{◌≡◌, ◌<◌, ◌+◌, ◌∷◌, ◌++◌, ◌∙◌, ℕ, [], List, Vec, Global, Bool, length, ap, sym, subst, arith}
 use Rattle.std.specs.List.{sum_by}
-use Rattle.naga_oil_ir.specs.Links.{lists, linked, added}
+use Rattle.naga_oil_form.specs.Links.{lists, linked, added}
 use Rattle.naga_oil_walk.specs.Walk.{IsReachOrder, Holds}
 use Rattle.naga_oil_walk.specs.Walks.{IsOver}
 use Rattle.naga_oil_walk.specs.Waiting.{AreWaiting, AsksOn, Awaits, finish, finish_all, steps}

@@ -1,5 +1,5 @@
 use Rattle.std.proofs.Common.{rules, ◌≡◌, ◌∙◌, ◌++◌, ◌∷◌, [], List, refl, ap, sym, subst}
-use Rattle.naga_oil_ir.specs.Links.{lists}
+use Rattle.naga_oil_form.specs.Links.{lists}
 use Rattle.naga_oil_walk.specs.Naming.{Adds}
 use Rattle.naga_oil_walk.specs.Waiting.{AreWaiting, AsksOn, finish_all, names_left}
 use Rattle.naga_oil_walk.specs.declared.function_walk.Waiting.{Waiting}

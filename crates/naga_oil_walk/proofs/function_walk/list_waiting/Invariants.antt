@@ -1,6 +1,6 @@
 use Rattle.std.proofs.Common.{◌≡◌}
 use Rattle.std.specs.List.{sum_by}
-use Rattle.naga_oil_ir.specs.Links.{lists}
+use Rattle.naga_oil_form.specs.Links.{lists}
 use Rattle.naga_oil_walk.specs.Walk.{IsReachOrder}
 use Rattle.naga_oil_walk.specs.Walks.{IsOver}
 use Rattle.naga_oil_walk.specs.Waiting.{AreWaiting, AsksOn, finish_all, steps}

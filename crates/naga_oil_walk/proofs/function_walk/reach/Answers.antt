@@ -1,5 +1,5 @@
 use Rattle.std.proofs.Common.{◌≡◌, ◌∙◌, ◌++◌, ◌∷◌, [], ℕ, List, Bool, Vec, Global, length, ap, sym, subst}
-use Rattle.naga_oil_ir.specs.Links.{lists, added, trail}
+use Rattle.naga_oil_form.specs.Links.{lists, added, trail}
 use Rattle.naga_oil_walk.specs.Waiting.{AreWaiting, Awaits, finish_all, names_left}
 use Rattle.naga_oil_walk.specs.Naming.{requests_at, names_from, Adds}
 use Rattle.naga_oil_walk.specs.declared.function_walk.Waiting.{Waiting}

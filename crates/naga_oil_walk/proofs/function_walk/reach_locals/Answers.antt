@@ -1,7 +1,7 @@
 use Rattle.std.proofs.Common.{◌≡◌, ◌∙◌, ◌+◌, ◌<◌, ◌∷◌, [], ℕ, Option, All, ap, sym, subst, length, take, option_to_list, refl, arith}
 use Rattle.std.specs.List.{flat_map}
 use Rattle.std.proofs.lemmas.List.{append-nil}
-use Rattle.naga_oil_ir.specs.Links.{lists, added, trail}
+use Rattle.naga_oil_form.specs.Links.{lists, added, trail}
 use Rattle.naga_oil_ir.specs.declared.names.ItemPlace.TheVariants.{TypeItem}
 use Rattle.naga_oil_walk.specs.Walk.{IsReachOrder}
 use Rattle.naga_oil_walk.specs.Walks.{IsOver}

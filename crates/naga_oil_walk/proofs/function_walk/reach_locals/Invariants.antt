@@ -1,7 +1,7 @@
 use Rattle.std.proofs.Common.{◌≡◌, take}
 use Rattle.std.specs.List.{flat_map}
-use Rattle.naga_oil_ir.specs.Links.{lists, added, trail}
-use Rattle.naga_oil_ir.specs.WellFormed.{initialisers_of}
+use Rattle.naga_oil_form.specs.Links.{lists, added, trail}
+use Rattle.naga_oil_form.specs.WellFormed.{initialisers_of}
 use Rattle.naga_oil_walk.specs.Walk.{IsReachOrder}
 use Rattle.naga_oil_walk.specs.Walks.{IsOver}
 use Rattle.naga_oil_walk.specs.Naming.{local_names, Adds}

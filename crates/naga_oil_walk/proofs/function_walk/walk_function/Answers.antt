@@ -1,10 +1,10 @@
 use Rattle.std.proofs.Common.{◌≡◌, ◌∙◌, ap, sym, subst, length, All, List, [], ◌++◌, ℕ, Vec, Global, Option, None, replicate}
 use Rattle.std.specs.List.{flat_map}
 use Rattle.std.proofs.lemmas.List.{length-map}
-use Rattle.naga_oil_ir.specs.Links.{lists, trail, added, started}
+use Rattle.naga_oil_form.specs.Links.{lists, trail, added, started}
 use Rattle.naga_oil_ir.specs.Body.{Tokens, block_tokens}
-use Rattle.naga_oil_ir.specs.BodyForm.{callees, operand_links}
-use Rattle.naga_oil_ir.specs.WellFormed.{initialisers, initialisers_of}
+use Rattle.naga_oil_form.specs.BodyForm.{callees, operand_links}
+use Rattle.naga_oil_form.specs.WellFormed.{initialisers, initialisers_of}
 use Rattle.naga_oil_ir.specs.declared.types.LocalVariable.{LocalVariable}
 use Rattle.naga_oil_ir.specs.declared.span.Span.{Span}
 use Rattle.naga_oil_walk.specs.Walk.{IsWithin, brief, notes_after}

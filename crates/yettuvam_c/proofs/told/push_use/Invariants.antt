@@ -1,5 +1,5 @@
 use Rattle.std.proofs.Common.{◌≡◌, fold, map, drop, string_bytes}
-use Rattle.naga_oil_lines.specs.Uses.{use_of}
+use Rattle.naga_oil_imports.specs.Uses.{use_of}
 use Rattle.yettuvam_c.specs.Laid.{plain, with_part, laid_of}
 use Rattle.yettuvam_c.specs.Told.{use_parts}
 use Rattle.yettuvam_c.proofs.told.push_use.Given as goal

@@ -1,6 +1,6 @@
 use Rattle.std.proofs.Common.{◌≡◌, ℕ, List, [], map, sym, ap, ◌∙◌}
 use Rattle.std.proofs.lemmas.Simd.{map-map}
-use Rattle.naga_oil_lines.specs.Uses.{Import, use_of, import_of}
+use Rattle.naga_oil_imports.specs.Uses.{Import, use_of, import_of}
 use Rattle.naga_oil_link.specs.BuiltModule.{BuiltModule, Overriding, builds_of, nothing_built}
 use Rattle.naga_oil_registry.specs.Definition.{definition_of}
 use Rattle.naga_oil_build.specs.Build.{decoration_of}

@@ -1,7 +1,7 @@
 use Rattle.std.proofs.Common.{◌≡◌, ◌++◌, ◌∙◌, map, Ok, ap, sym}
 use Rattle.std.proofs.lemmas.Simd.{map-map}
 use Rattle.std.specs.BTreeMap.{get_by_text}
-use Rattle.naga_oil_lines.specs.Uses.{use_of, import_of}
+use Rattle.naga_oil_imports.specs.Uses.{use_of, import_of}
 use Rattle.naga_oil_pre.specs.KnownView.{output_of}
 use Rattle.naga_oil_pre.specs.Preprocessed.{preprocessed}
 use Rattle.naga_oil_registry.specs.Definition.{definition_of}

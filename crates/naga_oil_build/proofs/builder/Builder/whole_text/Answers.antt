@@ -1,7 +1,7 @@
 use Rattle.std.proofs.Common.{◌≡◌, ℕ, List, ◌++◌, length, map, Result, Ok, string_bytes, sym, ap, subst, ◌∙◌}
 use Rattle.naga_oil_lines.specs.Text.{texts}
-use Rattle.naga_oil_lines.specs.Uses.{import_of}
-use Rattle.naga_oil_lines.specs.declared.import_definition.ImportDefinition.{ImportDefinition}
+use Rattle.naga_oil_imports.specs.Uses.{import_of}
+use Rattle.naga_oil_imports.specs.declared.import_definition.ImportDefinition.{ImportDefinition}
 use Rattle.naga_oil_pre.specs.Fault.{Fault}
 use Rattle.naga_oil_pre.specs.View.{Fails}
 use Rattle.naga_oil_registry.specs.Definition.{definition_of}

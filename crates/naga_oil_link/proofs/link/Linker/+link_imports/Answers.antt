@@ -5,7 +5,7 @@ use Rattle.std.specs.Bool.{OnFalse}
 use Rattle.std.specs.BTreeSet.{insert_key}
 use Rattle.std.specs.List.{list_any}
 use Rattle.std.specs.Ordering.{nat_cmp}
-use Rattle.naga_oil_lines.specs.Uses.{import_of}
+use Rattle.naga_oil_imports.specs.Uses.{import_of}
 use Rattle.naga_oil_link.specs.BuiltModule.{BuiltModule, built_of, builds_of}
 use Rattle.naga_oil_link.specs.Linked.{asked_of, link_items}
 use Rattle.naga_oil_link.specs.LinkView.{IsLinkFormed, LinksImports}

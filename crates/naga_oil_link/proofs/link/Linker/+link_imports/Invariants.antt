@@ -1,5 +1,5 @@
 use Rattle.std.proofs.Common.{◌≡◌, map, take}
-use Rattle.naga_oil_lines.specs.Uses.{import_of}
+use Rattle.naga_oil_imports.specs.Uses.{import_of}
 use Rattle.naga_oil_link.specs.BuiltModule.{builds_of}
 use Rattle.naga_oil_link.specs.LinkView.{IsLinkFormed, LinksImports}
 use Rattle.naga_oil_link.proofs.link.Linker.+link_imports.Given as goal

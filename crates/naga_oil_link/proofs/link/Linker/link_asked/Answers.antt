@@ -1,7 +1,7 @@
 use Rattle.std.proofs.Common.{◌≡◌, ◌++◌, ℕ, List, map, Some, OnOk, subst, ◌∙◌}
 use Rattle.naga_oil_lines.specs.DirectivesText.{in_order}
 use Rattle.naga_oil_lines.specs.Text.{texts}
-use Rattle.naga_oil_lines.specs.Uses.{import_of}
+use Rattle.naga_oil_imports.specs.Uses.{import_of}
 use Rattle.naga_oil_link.specs.BuiltModule.{built_of}
 use Rattle.naga_oil_link.specs.Linked.{link_items}
 use Rattle.naga_oil_link.proofs.link.Linker.link_asked.Goals as goal

@@ -1,6 +1,6 @@
 use Rattle.std.proofs.Common.{◌≡◌, ◌++◌, map, take}
 use Rattle.std.specs.List.{flat_map}
-use Rattle.naga_oil_lines.specs.Uses.{use_of}
+use Rattle.naga_oil_imports.specs.Uses.{use_of}
 use Rattle.naga_oil_mini.specs.Listing.{import_line}
 use Rattle.naga_oil_mini.proofs.mini.listing.push_imports.Given as goal
 

@@ -2,9 +2,9 @@ use Rattle.std.proofs.Common.{◌≡◌, ◌∙◌, [], false, map, ap, refl, ru
 use Rattle.std.specs.List.{list_all}
 use Rattle.std.proofs.lemmas.Result.{err_from_is_err_and}
 use Rattle.std.proofs.lemmas.Option.{MatchOption-at_some}
-use Rattle.naga_oil_lines.specs.Declarations.{declared_of}
-use Rattle.naga_oil_lines.specs.NameMarks.{has_mark, keys_of}
-use Rattle.naga_oil_lines.specs.Uses.{uses_of, use_of}
+use Rattle.naga_oil_imports.specs.Declarations.{declared_of}
+use Rattle.naga_oil_imports.specs.NameMarks.{has_mark, keys_of}
+use Rattle.naga_oil_imports.specs.Uses.{uses_of, use_of}
 use Rattle.naga_oil_pre.specs.Scope.{is_open}
 use Rattle.naga_oil_pre.specs.KnownView.{known_of, output_of}
 use Rattle.naga_oil_pre.proofs.LineEndLemmas.{as_many_ends}

@@ -3,7 +3,7 @@ use borrow.Author.Tests.{tests}
 use Rattle.std.specs.List.{list_any}
 use Rattle.std.proofs.lemmas.Iterator.{YieldsList-from_slice}
 use Rattle.std.proofs.lemmas.Iterator.Search.{any_from_yields_List}
-use Rattle.naga_oil_lines.specs.Uses.{Use, use_of}
+use Rattle.naga_oil_imports.specs.Uses.{Use, use_of}
 use Rattle.naga_oil_registry.proofs.RegistryLemmas.{list_any_map}
 use Rattle.naga_oil_registry.proofs.definition.ComposableModuleDefinition.may_import.Goals as goal
 

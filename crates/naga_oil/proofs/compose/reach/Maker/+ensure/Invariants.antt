@@ -1,5 +1,5 @@
 use Rattle.std.proofs.Common.{◌≡◌, ◌+◌, ◌-◌, ◌*◌, length, map, drop}
-use Rattle.naga_oil_lines.specs.Uses.{import_of, use_of}
+use Rattle.naga_oil_imports.specs.Uses.{import_of, use_of}
 use Rattle.naga_oil_registry.specs.Definition.{definition_of, defs_of}
 use Rattle.naga_oil_link.specs.BuiltModule.{builds_of}
 use Rattle.naga_oil_build.specs.Held.{settings}

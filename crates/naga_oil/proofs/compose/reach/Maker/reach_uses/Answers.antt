@@ -1,5 +1,5 @@
 use Rattle.std.proofs.Common.{ap, subst, map, string_bytes}
-use Rattle.naga_oil_lines.specs.Uses.{use_of}
+use Rattle.naga_oil_imports.specs.Uses.{use_of}
 use Rattle.naga_oil_registry.specs.Definition.{Defs, definition_of, defs_of}
 use Rattle.naga_oil_link.specs.BuiltModule.{builds_of}
 use Rattle.naga_oil_build.specs.Held.{settings}

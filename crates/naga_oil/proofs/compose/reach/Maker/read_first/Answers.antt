@@ -1,6 +1,6 @@
 use Rattle.std.proofs.Common.{◌≡◌, List, Result, Ok, Err, map, ap, sym, subst, arith}
-use Rattle.naga_oil_lines.specs.Uses.{use_of}
-use Rattle.naga_oil_lines.specs.declared.import_definition.ImportDefWithOffset.{ImportDefWithOffset}
+use Rattle.naga_oil_imports.specs.Uses.{use_of}
+use Rattle.naga_oil_imports.specs.declared.import_definition.ImportDefWithOffset.{ImportDefWithOffset}
 use Rattle.naga_oil_pre.specs.KnownView.{output_of}
 use Rattle.naga_oil_registry.specs.Definition.{Defs, definition_of, defs_of}
 use Rattle.naga_oil_link.specs.BuiltModule.{Builds, builds_of}

@@ -1,5 +1,5 @@
 use Rattle.std.proofs.Common.{◌≡◌, ◌∙◌, ℕ, Bool, Option, Some, None, List, map, cond, sym, ap}
-use Rattle.naga_oil_lines.specs.Uses.{use_of}
+use Rattle.naga_oil_imports.specs.Uses.{use_of}
 use Rattle.naga_oil_registry.specs.Definition.{definition_of, defs_of}
 use Rattle.naga_oil.specs.MakeView.{rule_of}
 use Rattle.naga_oil.specs.Reach.{Unreached, missing}

@@ -1,0 +1,50 @@
+//! The test of form of a whole module.
+ghost use Rattle.std.specs.Prelude.{◌≡◌, IfErr, OnOk};
+ghost use Rattle.naga_oil_form.specs.WellFormed.{WellFormed};
+ghost use Rattle.naga_oil_form.specs.declared.check_form.FormFault.TheVariants.{WrongForm};
+
+use super::form_function::{entries_are_fine, functions_are_fine};
+use super::form_items::{items_are_fine, spans_are_fine};
+use super::form_names::names_are_fine;
+use naga_oil_ir::Module;
+use std::alloc::{AllocError, Global};
+
+/// Why a module isn't taken.
+#[derive(Clone, Copy, Debug, PartialEq, Eq)]
+pub enum FormFault {
+    /// The module doesn't pass the test of form.
+    WrongForm,
+    /// A growth of memory was refused.
+    Memory,
+}
+
+impl From<AllocError> for FormFault {
+    ghost use Rattle.std.specs.Prelude.{◌≡◌};
+    ghost use Rattle.naga_oil_form.specs.declared.check_form.FormFault.TheVariants.{Memory};
+
+    ghost from_gives = { λ _ e. e ≡ Memory };
+
+    fn from(_error: AllocError) -> FormFault {
+        FormFault::Memory
+    }
+}
+
+/// Tests the form of a module, whose functions' names get a decoration, over a text of so many bytes.
+pub fn check_form(
+    module: &Module,
+    alloc: Global,
+    decoration: &str,
+    text_len: usize,
+) -> Result<(), FormFault>
+    ensures ok { OnOk result (WellFormed module.now decoration.now text_len) }
+    ensures err { IfErr result (λ e. e ≡ WrongForm → WellFormed module.now decoration.now text_len → ⊥) }
+{
+    let items = items_are_fine(module, alloc)?;
+    let names = names_are_fine(module, decoration, alloc)?;
+    let functions = functions_are_fine(module, text_len, alloc)?;
+    let entries = entries_are_fine(module, text_len, alloc)?;
+    if items & names & functions & entries & spans_are_fine(module, text_len) {
+        return Ok(());
+    }
+    Err(FormFault::WrongForm)
+}

@@ -1,0 +1,107 @@
+// What the tests of form share: what expressions name, by their kinds.
+ghost use Rattle.std.specs.Prelude.{◌≡◌, ◌↔◌, ◌<◌, ℕ, IsTrue, IfOk, IfSome, All, map, slice_get, option_to_list};
+ghost use Rattle.std.specs.List.{flat_map};
+ghost use Rattle.naga_oil_form.specs.BodyForm.{IsSpanFine, IsTokenFine, IsReading, is_external, is_result, callee};
+
+use naga_oil_ir::{Expression, Named, Operand, Span, Token};
+use std::alloc::{AllocError, Global};
+
+/// What a test answers, unless it finds no memory.
+pub type Tested = Result<bool, AllocError>;
+
+/// Whether a span lies in a text of so many bytes.
+pub fn is_span_fine(span: Span, text_len: usize) -> bool
+    ensures { IsTrue result ↔ IsSpanFine text_len span }
+{
+    span.start <= span.end && span.end as usize <= text_len
+}
+
+/// Whether the spans of items lie in a text of so many bytes.
+pub fn are_spans_fine<T>(items: &[(T, Span)], text_len: usize) -> bool
+    ensures { IsTrue result ↔ All (λ e. IsSpanFine text_len e.1) items.now }
+{
+    items.iter().all(|item| is_span_fine(item.1, text_len))
+}
+
+fn is_token_fine(token: Token, calls_below: usize, text_len: usize) -> bool
+    ensures { IsTrue result ↔ IsTokenFine calls_below text_len token }
+{
+    match token {
+        Token::Callee(function) => function.index() < calls_below,
+        Token::At(span) => is_span_fine(span, text_len),
+        _ => true,
+    }
+}
+
+/// Whether a body's calls go to the first functions, so many of them, and its spans lie in a text of so many bytes.
+pub fn are_tokens_fine(tokens: &[Token], calls_below: usize, text_len: usize) -> bool
+    ensures { IsTrue result ↔ All (IsTokenFine calls_below text_len) tokens.now }
+{
+    tokens
+        .iter()
+        .all(|token| is_token_fine(*token, calls_below, text_len))
+}
+
+fn present(operands: &[Option<Operand>], alloc: Global) -> Result<Vec<usize>, AllocError>
+    ensures { IfOk result (λ v. v.items ≡ flat_map option_to_list operands.now) }
+{
+    let mut places = Vec::new(alloc);
+    for operand in operands {
+        let Some(handle) = operand else { continue };
+        places.push(handle.index())?;
+    }
+    Ok(places)
+}
+
+/// What the test of form looks at in expressions, of each one.
+#[derive(Drop)]
+pub struct Reading {
+    pub kinds: Vec<u64>,
+    pub named: Vec<Named>,
+    /// The operands that are there.
+    pub links: Vec<Vec<usize>>,
+}
+
+/// Reads expressions.
+pub fn read(items: &[(Expression, Span)], alloc: Global) -> Result<Reading, AllocError>
+    ensures { IfOk result (IsReading items.now) }
+{
+    let mut read = Reading {
+        kinds: Vec::new(alloc),
+        named: Vec::new(alloc),
+        links: Vec::new(alloc),
+    };
+    for entry in items {
+        let parts = entry.0.parts(alloc)?;
+        let operands = present(&parts.operands, alloc)?;
+        read.kinds.push(parts.kind)?;
+        read.named.push(parts.named)?;
+        read.links.push(operands)?;
+    }
+    Ok(read)
+}
+
+/// Whether an expression of this kind is external.
+pub fn is_external(kinds: &[u64], place: usize) -> bool
+    ensures { result ≡ is_external kinds.now place }
+{
+    kinds.get(place).is_some_and(|kind| *kind < 7)
+}
+
+/// Whether an expression of this kind is a result.
+pub fn is_result(kinds: &[u64], place: usize) -> bool
+    ensures { result ≡ is_result kinds.now place }
+{
+    kinds.get(place).is_some_and(|kind| 6 < *kind && *kind < 13)
+}
+
+/// Of an expression the function whose result it is.
+pub fn callee_at(named: &[Named], place: usize) -> Option<Option<usize>>
+    ensures { result ≡ slice_get (map callee named.now) place }
+{
+    match named.get(place) {
+        None => None,
+        Some(Named::FunctionAt(function)) => Some(Some(function.index())),
+        Some(_) => Some(None),
+    }
+}

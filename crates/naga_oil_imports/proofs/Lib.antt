@@ -1,0 +1,16 @@
+pub mod UsesLemmas
+pub mod SiteLemmas
+pub mod SitePlaceLemmas
+pub mod SettledLemmas
+pub mod SubstituteLemmas
+pub mod LeavesLemmas
+pub mod PartLemmas
+pub mod DeclarationLemmas
+pub mod ImportPlaceLemmas
+pub mod SubstitutedLines
+pub mod PassLemmas
+pub mod WritingLemmas
+pub mod RecordingLemmas
+pub mod GapLemmas
+pub mod PlainLemmas
+pub mod NameMarkLemmas

@@ -1,0 +1,10 @@
+pub mod Declarations
+pub mod NameMarks
+pub mod Leaves
+pub mod ImportView
+pub mod Uses
+pub mod Substituted
+pub mod SubstituteFault
+pub mod ImportReader
+pub mod ImportRows
+pub mod Sites

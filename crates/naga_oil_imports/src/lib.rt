@@ -1,0 +1,9 @@
+//! What import lines declare, and what the identifiers of a text stand for under them.
+#![tactic(auto)]
+
+pub mod declared_names;
+pub mod import_definition;
+pub mod parse_imports;
+pub mod substitute;
+
+pub use import_definition::{ImportDefWithOffset, ImportDefinition};

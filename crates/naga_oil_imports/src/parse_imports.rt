@@ -1,0 +1,428 @@
+//! Import lines: what they declare.
+ghost use Rattle.std.specs.Prelude.{false, ◌≡◌, ℕ, ◌<◌, ◌≤◌, ◌++◌, ◌∷◌, [], List, length, map, drop, Ok, Err, OnOk, OnErr, IfOk, IfErr, IfSome, MatchOption, unwrap_or, string_bytes};
+ghost use Rattle.std.specs.List.{concat};
+ghost use Rattle.naga_oil_imports.specs.Declarations.{Declared, declared_of, with_path};
+ghost use Rattle.std.specs.Str.{chars};
+ghost use Rattle.naga_oil_lines.specs.Tokens.{place_of, lexemes, emit};
+ghost use Rattle.naga_oil_lines.specs.Tokenizer.{lexeme_of};
+ghost use Rattle.naga_oil_imports.specs.Leaves.{leaf, close, behind_hash, behind_last_colons, before_brace, at_semicolon, alias_after, alias_len, key_of, unit_part, unit_len, brace_len, mark_part, parts, behind_import, line_leaves, import_leaves, with_import, with_leaves};
+ghost use Rattle.naga_oil_imports.specs.ImportReader.{at_start, step, may_end, without_path};
+ghost use Rattle.naga_oil_imports.specs.ImportView.{head_of, RefusesImport, alias_of, part_of, leaf_of, reader_of};
+
+pub use crate::substitute::{
+    SubstituteFault, push_substituted, record_identifiers, substitute_identifiers,
+};
+use naga_oil_lines::tokenizer::{Token, Tokenizer};
+use indexmap::IndexMap;
+use std::alloc::{AllocError, AllocFailed, Global};
+
+/// Why an import line is refused.
+#[derive(Debug, Drop, PartialEq, Eq)]
+pub enum ImportFault {
+    /// What is wrong with the line, and the place in bytes from the start of the text.
+    Syntax(&'static str, usize),
+    /// There was no memory for what the line declares.
+    Memory,
+}
+
+impl From<AllocError> for ImportFault {
+    ghost use Rattle.naga_oil_imports.specs.declared.parse_imports.ImportFault.TheVariants.{Memory};
+
+    ghost from_gives = { λ _ e. e ≡ Memory };
+
+    fn from(_error: AllocError) -> ImportFault {
+        ImportFault::Memory
+    }
+}
+
+impl<T: Drop> From<AllocFailed<T>> for ImportFault {
+    ghost use Rattle.naga_oil_imports.specs.declared.parse_imports.ImportFault.TheVariants.{Memory};
+
+    ghost from_gives = { λ _ e. e ≡ Memory };
+
+    fn from(_error: AllocFailed<T>) -> ImportFault {
+        ImportFault::Memory
+    }
+}
+
+// What follows a name: an `as` may lack its identifier.
+#[derive(Clone, Copy)]
+enum Alias<'a> {
+    NoAlias,
+    Name(&'a str),
+    Lacking(usize),
+}
+
+// A piece of an import line: a head by its name and whether the old form made it, a leaf by its key and name.
+#[derive(Clone, Copy)]
+enum Part<'a> {
+    Head(&'a str, bool),
+    Item(&'a str, &'a str),
+    Close(usize),
+    Nothing,
+    Wrong(&'static str, usize),
+}
+
+// An item that an import line names.
+#[derive(Drop)]
+struct Leaf {
+    key: String,
+    path: String,
+}
+
+// What has been read of an import line.
+#[derive(Drop)]
+struct ImportLine {
+    heads: Vec<String>,
+    has_old_form: bool,
+    leaves: Vec<Leaf>,
+}
+
+fn alias_len(alias: Alias<'_>) -> usize
+    ensures { result ≡ alias_len (alias_of alias.entry) }
+{
+    match alias {
+        Alias::NoAlias => 0,
+        Alias::Name(_) => 2,
+        Alias::Lacking(_) => 1,
+    }
+}
+
+fn alias_after<'a>(tokens: &[Token<'a>]) -> Alias<'a>
+    ensures alias { alias_of result ≡ alias_after (map lexeme_of tokens.now) }
+    ensures fits { alias_len (alias_of result) ≤ length tokens.now }
+{
+    let [first, behind @ ..] = tokens else {
+        return Alias::NoAlias;
+    };
+    let Token::Identifier(word, at) = first else {
+        return Alias::NoAlias;
+    };
+    if *word != "as" {
+        return Alias::NoAlias;
+    }
+    match behind {
+        [Token::Identifier(name, _), ..] => Alias::Name(name),
+        _ => Alias::Lacking(*at),
+    }
+}
+
+// What follows the last `::` of a name, else the name.
+fn last_segment(name: &str) -> &str
+    ensures { result.now ≡ unwrap_or (behind_last_colons name.now) name.now }
+{
+    match name.rsplit_once("::") {
+        Some((_, last)) => last,
+        None => name,
+    }
+}
+
+fn key_of<'a>(name: &'a str, alias: Alias<'a>) -> &'a str
+    ensures { result.now ≡ key_of name.now (alias_of alias.entry) }
+{
+    match alias {
+        Alias::Name(alias) => alias,
+        Alias::NoAlias | Alias::Lacking(_) => last_segment(name),
+    }
+}
+
+fn before_brace(name: &str, at: usize) -> Part<'_>
+    ensures { part_of result ≡ before_brace name.now at }
+{
+    if name.ends_with("::") {
+        Part::Head(name, false)
+    } else {
+        Part::Wrong("open brace must follow `::`", at)
+    }
+}
+
+fn unit_part<'a>(name: &'a str, alias: Alias<'a>, behind: &[Token<'a>]) -> Part<'a>
+    ensures { part_of result ≡ unit_part name.now (alias_of alias.entry) (map lexeme_of behind.now) }
+{
+    if let Alias::Lacking(at) = alias {
+        return Part::Wrong("expected identifier after `as`", at);
+    }
+    match behind {
+        [Token::Identifier(..), ..] => Part::Head(name, true),
+        [Token::Other('{', at), ..] => before_brace(name, *at),
+        _ => Part::Item(key_of(name, alias), name),
+    }
+}
+
+fn brace_len(tokens: &[Token<'_>]) -> usize
+    ensures len { result ≡ brace_len (map lexeme_of tokens.now) }
+    ensures fits { result ≤ length tokens.now }
+{
+    match tokens {
+        [Token::Other('{', _), ..] => 1,
+        _ => 0,
+    }
+}
+
+fn place_of(token: &Token<'_>) -> usize
+    ensures { result ≡ place_of (lexeme_of token.now) }
+{
+    match token {
+        Token::Identifier(_, at) | Token::Other(_, at) | Token::Whitespace(_, at) => *at,
+    }
+}
+
+fn at_semicolon<'a>(behind: &[Token<'a>]) -> Part<'a>
+    ensures { part_of result ≡ at_semicolon (map lexeme_of behind.now) }
+{
+    match behind {
+        [] => Part::Nothing,
+        [next, ..] => Part::Wrong("unexpected token after ';'", place_of(next)),
+    }
+}
+
+fn mark_part<'a>(mark: char, at: usize, behind: &[Token<'a>]) -> Part<'a>
+    ensures { part_of result ≡ mark_part mark at (map lexeme_of behind.now) }
+{
+    match mark {
+        ',' => Part::Nothing,
+        '}' => Part::Close(at),
+        '{' => Part::Wrong("open brace must follow `::`", at),
+        ';' => at_semicolon(behind),
+        _ => Part::Wrong("unexpected token", at),
+    }
+}
+
+// A unit with the `{` that it is before, and what is left behind it.
+fn unit<'t, 'a>(name: &'a str, behind: &'t [Token<'a>]) -> (Part<'a>, &'t [Token<'a>])
+    ensures part { part_of result.0 ≡ unit_part name.now (alias_after (map lexeme_of behind.now)) (drop (alias_len (alias_after (map lexeme_of behind.now))) (map lexeme_of behind.now)) }
+    ensures rest { map lexeme_of result.1.now ≡ drop (unit_len (map lexeme_of behind.now)) (map lexeme_of behind.now) }
+    ensures shorter { length result.1.now ≤ length behind.now }
+{
+    let alias = alias_after(behind);
+    let (_, after) = behind.split_at(alias_len(alias));
+    let (_, rest) = after.split_at(brace_len(after));
+    (unit_part(name, alias, after), rest)
+}
+
+// The part that the tokens begin with, and what is left behind it.
+fn next_part<'t, 'a>(tokens: &'t [Token<'a>]) -> Option<(Part<'a>, &'t [Token<'a>])>
+    ensures parts { MatchOption result (parts 0 (map lexeme_of tokens.now) ≡ []) (λ r. parts 0 (map lexeme_of tokens.now) ≡ part_of r.0 ∷ parts 0 (map lexeme_of r.1.now)) }
+    ensures shorter { IfSome result (λ r. length r.1.now < length tokens.now) }
+{
+    let Some((first, behind)) = tokens.split_first() else {
+        return None;
+    };
+    match first {
+        Token::Identifier(name, _) => Some(unit(name, behind)),
+        Token::Other(mark, at) => Some((mark_part(*mark, *at, behind), behind)),
+        Token::Whitespace(..) => Some((Part::Nothing, behind)),
+    }
+}
+
+// The tokens behind `#` and `import`, where the text ends at the place.
+fn behind_import<'t, 'a>(
+    tokens: &'t [Token<'a>],
+    end: usize,
+) -> Result<&'t [Token<'a>], ImportFault>
+    ensures ok { IfOk result (λ r. behind_import end (map lexeme_of tokens.now) ≡ Ok (map lexeme_of r.now)) }
+    ensures err { IfErr result (λ e. RefusesImport e (behind_import end (map lexeme_of tokens.now))) }
+{
+    let [first, behind @ ..] = tokens else {
+        return Err(ImportFault::Syntax("expected #import", end));
+    };
+    let Token::Other('#', _) = first else {
+        return Err(ImportFault::Syntax("expected `#import`", place_of(first)));
+    };
+    behind_hash(behind, end)
+}
+
+fn behind_hash<'t, 'a>(tokens: &'t [Token<'a>], end: usize) -> Result<&'t [Token<'a>], ImportFault>
+    ensures ok { IfOk result (λ r. behind_hash end (map lexeme_of tokens.now) ≡ Ok (map lexeme_of r.now)) }
+    ensures err { IfErr result (λ e. RefusesImport e (behind_hash end (map lexeme_of tokens.now))) }
+{
+    let [first, behind @ ..] = tokens else {
+        return Err(ImportFault::Syntax("expected `#import`", end));
+    };
+    let Token::Identifier(word, at) = first else {
+        return Err(ImportFault::Syntax("expected `#import`", place_of(first)));
+    };
+    if *word != "import" {
+        return Err(ImportFault::Syntax("expected `#import`", *at));
+    }
+    Ok(behind)
+}
+
+impl ImportLine {
+    fn new(alloc: Global) -> ImportLine
+        ensures { reader_of result ≡ at_start }
+    {
+        ImportLine {
+            heads: Vec::new(alloc),
+            has_old_form: false,
+            leaves: Vec::new(alloc),
+        }
+    }
+
+    fn push_head(&mut self, alloc: Global, name: &str, is_old: bool) -> Result<(), AllocError>
+        ensures { OnOk result (step (reader_of self.old) (head_of name.now is_old) ≡ Ok (reader_of self.new)) }
+    {
+        let mut text = String::from_str(alloc, name)?;
+        if is_old {
+            text.push_str("::")?;
+        }
+        self.heads.push(text)?;
+        self.has_old_form = self.has_old_form || is_old;
+        Ok(())
+    }
+
+    // The texts of all heads and the name.
+    fn path_of(&self, alloc: Global, name: &str) -> Result<String, AllocError>
+        ensures { IfOk result (λ t. string_bytes t ≡ concat (map string_bytes self.now.heads.items) ++ name.now) }
+    {
+        let mut path = String::new(alloc);
+        for head in &self.heads {
+            path.push_str(head.as_str())?;
+        }
+        path.push_str(name)?;
+        Ok(path)
+    }
+
+    fn push_leaf(&mut self, alloc: Global, key: &str, name: &str) -> Result<(), AllocError>
+        ensures { OnOk result (step (reader_of self.old) (leaf key.now name.now) ≡ Ok (reader_of self.new)) }
+    {
+        let path = self.path_of(alloc, name)?;
+        let key = String::from_str(alloc, key)?;
+        self.leaves.push(Leaf { key, path })?;
+        Ok(())
+    }
+
+    fn close(&mut self, at: usize) -> Result<(), ImportFault>
+        ensures ok { OnOk result (step (reader_of self.old) (close at) ≡ Ok (reader_of self.new)) }
+        ensures err { IfErr result (λ e. RefusesImport e (step (reader_of self.old) (close at))) }
+    {
+        match self.heads.pop() {
+            Some(_) => Ok(()),
+            None => Err(ImportFault::Syntax("close brace without open", at)),
+        }
+    }
+
+    fn take_part(&mut self, alloc: Global, part: Part<'_>) -> Result<(), ImportFault>
+        ensures ok { OnOk result (step (reader_of self.old) (part_of part.entry) ≡ Ok (reader_of self.new)) }
+        ensures err { IfErr result (λ e. RefusesImport e (step (reader_of self.old) (part_of part.entry))) }
+    {
+        match part {
+            Part::Head(name, is_old) => Ok(self.push_head(alloc, name, is_old)?),
+            Part::Item(key, name) => Ok(self.push_leaf(alloc, key, name)?),
+            Part::Close(at) => self.close(at),
+            Part::Nothing => Ok(()),
+            Part::Wrong(text, at) => Err(ImportFault::Syntax(text, at)),
+        }
+    }
+
+    fn may_end(&self) -> bool
+        ensures { result ≡ may_end (reader_of self.now) }
+    {
+        self.heads.len() <= if self.has_old_form { 1 } else { 0 }
+    }
+}
+
+fn tokens_of<'a>(alloc: Global, input: &'a str) -> Result<Vec<Token<'a>>, AllocError>
+    ensures { IfOk result (λ v. map lexeme_of v.items ≡ emit false (lexemes 0 0 (chars input.now))) }
+{
+    Tokenizer::new(input, false).collect(alloc)
+}
+
+// The leaves of a text as an import line.
+fn read_leaves(alloc: Global, input: &str) -> Result<Vec<Leaf>, ImportFault>
+    ensures ok { IfOk result (λ ls. import_leaves input.now ≡ Ok (map leaf_of ls.items)) }
+    ensures err { IfErr result (λ e. RefusesImport e (import_leaves input.now)) }
+{
+    let tokens = tokens_of(alloc, input)?;
+    let mut rest = behind_import(tokens.as_slice(), input.len())?;
+    let mut line = ImportLine::new(alloc);
+    while let Some((part, behind)) = next_part(rest) {
+        line.take_part(alloc, part)?;
+        rest = behind;
+    }
+    if !line.may_end() {
+        return Err(ImportFault::Syntax("missing close brace", input.len()));
+    }
+    Ok(line.leaves)
+}
+
+// Pushes a path at a key, and leaves the map as it was where there is no memory.
+fn push_path(
+    alloc: Global,
+    declared: &mut IndexMap<String, Vec<String>>,
+    key: &str,
+    path: &str,
+) -> Result<(), AllocError>
+    ensures ok { OnOk result (declared_of declared.new ≡ with_path (declared_of declared.old) key.now path.now) }
+    ensures err { OnErr result (declared_of declared.new ≡ declared_of declared.old) }
+{
+    let path = String::from_str(alloc, path)?;
+    if let Some(index) = declared.get_index_of(key) {
+        declared[index].push(path)?;
+        return Ok(());
+    }
+    let key = String::from_str(alloc, key)?;
+    let mut paths = Vec::new(alloc);
+    paths.push(path)?;
+    declared.insert(key, paths)?;
+    Ok(())
+}
+
+// Takes the last path at a key away.
+fn pop_path(declared: &mut IndexMap<String, Vec<String>>, key: &str)
+    ensures { declared_of declared.new ≡ without_path (declared_of declared.old) key.now }
+{
+    if let Some(index) = declared.get_index_of(key) {
+        declared[index].pop();
+    }
+}
+
+// Takes leaves back that were pushed last, where so many keys were there before.
+fn take_back(declared: &mut IndexMap<String, Vec<String>>, len: usize, leaves: &[Leaf])
+    ensures { (before : Declared) → length before ≡ len → declared_of declared.old ≡ with_leaves before (map leaf_of leaves.now) → declared_of declared.new ≡ before }
+{
+    let mut rest = leaves;
+    while let Some((last, front)) = rest.split_last() {
+        pop_path(declared, last.key.as_str());
+        rest = front;
+    }
+    declared.truncate(len);
+}
+
+// Pushes the path of each leaf at its key, or none where there is no memory for all.
+fn push_leaves(
+    alloc: Global,
+    declared: &mut IndexMap<String, Vec<String>>,
+    leaves: &[Leaf],
+) -> Result<(), AllocError>
+    ensures ok { OnOk result (declared_of declared.new ≡ with_leaves (declared_of declared.old) (map leaf_of leaves.now)) }
+    ensures err { OnErr result (declared_of declared.new ≡ declared_of declared.old) }
+{
+    let len = declared.len();
+    for (i, leaf) in leaves.iter().enumerate() {
+        if let Err(error) = push_path(alloc, declared, leaf.key.as_str(), leaf.path.as_str()) {
+            let (pushed, _) = leaves.split_at(i);
+            take_back(declared, len, pushed);
+            return Err(error);
+        }
+    }
+    Ok(())
+}
+
+/// Reads a text as an import line, as naga_oil's README shows them, and pushes the path of each item that it names at the item's key.
+///
+/// The key is the item's alias, else what follows the last `::` of its name, else its name. A new key goes last, and a path
+/// that a key already has is pushed again. A refusal leaves the map as it was.
+pub fn parse_imports(
+    alloc: Global,
+    input: &str,
+    declared_imports: &mut IndexMap<String, Vec<String>>,
+) -> Result<(), ImportFault>
+    ensures ok { OnOk result (with_import (declared_of declared_imports.old) (import_leaves input.now) ≡ Ok (declared_of declared_imports.new)) }
+    ensures fault { IfErr result (λ e. RefusesImport e (import_leaves input.now)) }
+    ensures unchanged { OnErr result (declared_of declared_imports.new ≡ declared_of declared_imports.old) }
+{
+    let leaves = read_leaves(alloc, input)?;
+    push_leaves(alloc, declared_imports, leaves.as_slice())?;
+    Ok(())
+}

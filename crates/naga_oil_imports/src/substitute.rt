@@ -1,0 +1,485 @@
+// Writes what identifiers stand for, and records what they use of imported modules.
+ghost use Rattle.std.specs.Prelude.{◌≡◌, ℕ, ◌+◌, ◌<◌, ◌≤◌, ◌^◌, ◌++◌, ◌∷◌, [], List, None, not, ◌&&◌, ◌||◌, ◌==◌, nat_lt, length, map, IfOk, IfErr, OnOk, OnErr, MatchOption, IsTrue, false};
+ghost use Rattle.std.specs.Cow.{cow_str_bytes};
+ghost use Rattle.std.specs.List.{flat_map, list_any};
+ghost use Rattle.std.specs.Str.{chars, IsUtf8};
+ghost use Rattle.std.specs.Str.Pattern.{LacksTextAt};
+ghost use Rattle.std.specs.String.{string_bytes};
+ghost use Rattle.naga_oil_imports.specs.Declarations.{declared_of, paths_of};
+ghost use Rattle.naga_oil_lines.specs.Decorate.{decorated_name};
+ghost use Rattle.naga_oil_imports.specs.NameMarks.{Covers};
+ghost use Rattle.naga_oil_imports.specs.SubstituteFault.{RefusesUses};
+ghost use Rattle.naga_oil_imports.specs.Substituted.{first_part, behind_first, longer_path, longer_paths, paths_for, path_text, mentions_at, with_mentions, Site, substituted, sites, usize_sites, mentions_in, first_ambiguous, BeginsUses};
+ghost use Rattle.naga_oil_imports.specs.Sites.{HasNoSite, FindsSite, is_own, keeps_behind};
+ghost use Rattle.naga_oil_lines.specs.Tokens.{lexemes};
+ghost use Rattle.naga_oil_imports.specs.Uses.{uses_of, with_use};
+
+use crate::declared_names::DeclaredNames;
+use naga_oil_lines::decorate::push_decorated;
+use crate::import_definition::ImportDefWithOffset;
+use naga_oil_lines::text::{split_first_char, text_before};
+use naga_oil_lines::tokenizer::{behind_identifier, split_gap, starts_identifier};
+use indexmap::IndexMap;
+use std::alloc::{AllocError, Global};
+use std::borrow::CowStr;
+
+/// Why identifiers are not substituted.
+#[derive(Debug, Drop, PartialEq, Eq)]
+pub enum SubstituteFault {
+    /// The identifier at this place, in bytes, stands for more than one path.
+    Ambiguous(usize),
+    Memory,
+}
+
+impl From<AllocError> for SubstituteFault {
+    ghost use Rattle.naga_oil_imports.specs.declared.substitute.SubstituteFault.TheVariants.{Memory};
+
+    ghost from_gives = { λ _ r. r ≡ Memory };
+
+    fn from(_error: AllocError) -> SubstituteFault {
+        SubstituteFault::Memory
+    }
+}
+
+// Records the use of an item at a place.
+fn record_use(
+    alloc: Global,
+    used_imports: &mut IndexMap<String, ImportDefWithOffset>,
+    module_name: &str,
+    item: &str,
+    place: usize,
+) -> Result<(), AllocError>
+    ensures ok { OnOk result (uses_of used_imports.new ≡ with_use (uses_of used_imports.old) module_name.now item.now place) }
+    ensures err { OnErr result (uses_of used_imports.new ≡ uses_of used_imports.old) }
+{
+    let item = String::from_str(alloc, item)?;
+    if let Some(used) = used_imports.get_mut(module_name) {
+        return used.push_item(item);
+    }
+    let key = String::from_str(alloc, module_name)?;
+    let first = ImportDefWithOffset::first_use(alloc, module_name, item, place)?;
+    used_imports.insert(key, first)?;
+    Ok(())
+}
+
+// The part of an identifier before its first `::`, and what follows that.
+fn split_identifier(name: &str) -> (&str, &str)
+    ensures first { result.0.now ≡ first_part name.now }
+    ensures behind { result.1.now ≡ behind_first name.now }
+{
+    match name.split_once("::") {
+        Some(parts) => parts,
+        None => (name, ""),
+    }
+}
+
+// A path and what follows it.
+fn longer_path<'a>(alloc: Global, path: &'a str, behind: &str) -> Result<CowStr<'a>, AllocError>
+    ensures { IfOk result (λ whole. cow_str_bytes whole ≡ longer_path path.now behind.now) }
+{
+    if behind.is_empty() {
+        return Ok(CowStr::Borrowed(path));
+    }
+    let mut whole = String::from_str(alloc, path)?;
+    whole.push_str("::")?;
+    whole.push_str(behind)?;
+    Ok(CowStr::Owned(whole))
+}
+
+// The path of an identifier that is not declared.
+fn own_path<'a>(identifier: &'a str, first: &'a str, behind: &str) -> &'a str
+    requires first { first.now ≡ first_part identifier.now }
+    requires behind { behind.now ≡ behind_first identifier.now }
+    ensures { result.now ≡ longer_path (first_part identifier.now) (behind_first identifier.now) }
+{
+    if behind.is_empty() { first } else { identifier }
+}
+
+// Whether an identifier behind such bytes is kept, where one in their place would be or not: their last one decides.
+fn keeps_behind(gap: &str, kept: bool) -> bool
+    ensures { result ≡ keeps_behind kept gap.now }
+{
+    match gap.as_bytes().last() {
+        Some(last) => *last == b'.' || *last == b'@',
+        None => kept,
+    }
+}
+
+/// An identifier that is substituted, with the text from it on and the text behind it. A word has no `:`.
+#[derive(Clone, Copy)]
+struct SiteText<'a> {
+    name: &'a str,
+    is_word: bool,
+    from: &'a str,
+    behind: &'a str,
+}
+
+// The first identifier of a text that is substituted.
+fn next_site(text: &str) -> Option<SiteText<'_>>
+    ensures { MatchOption result (HasNoSite text.now) (λ site. FindsSite text.now site.name.now site.is_word site.from.now site.behind.now) }
+{
+    let mut kept = false;
+    let mut rest = text;
+    while !rest.is_empty() {
+        let (gap, from) = split_gap(rest);
+        kept = keeps_behind(gap, kept);
+        let Some((first, more)) = split_first_char(from) else {
+            return None;
+        };
+        if !starts_identifier(first) {
+            kept = false;
+            rest = more;
+            continue;
+        }
+        let (behind, is_word) = behind_identifier(first, more);
+        if !kept {
+            return Some(SiteText {
+                name: text_before(from, behind),
+                is_word,
+                from,
+                behind,
+            });
+        }
+        kept = false;
+        rest = behind;
+    }
+    None
+}
+
+// How the identifiers of a text are substituted.
+#[derive(Clone, Copy)]
+struct Substitution<'a> {
+    alloc: Global,
+    declared_imports: &'a IndexMap<String, Vec<String>>,
+    names: &'a DeclaredNames,
+    allow_ambiguous: bool,
+    offset: usize,
+}
+
+impl Substitution<'_> {
+    // Writes a path that an identifier stands for, and records its use.
+    fn write_path(
+        &self,
+        identifier: &str,
+        path: &str,
+        place: usize,
+        used_imports: &mut IndexMap<String, ImportDefWithOffset>,
+        output: &mut String,
+    ) -> Result<(), AllocError>
+        ensures text { OnOk result (string_bytes output.new ≡ string_bytes output.old ++ path_text identifier.now path.now) }
+        ensures used { OnOk result (uses_of used_imports.new ≡ with_mentions (uses_of used_imports.old) (mentions_at place path.now)) }
+        ensures begun { OnErr result (BeginsUses (mentions_at place path.now) (uses_of used_imports.old) (uses_of used_imports.new)) }
+    {
+        if let Some((module_name, item)) = path.rsplit_once("::") {
+            record_use(self.alloc, used_imports, module_name, item, place)?;
+            return push_decorated(output, module_name, item);
+        }
+        if path.as_bytes().contains(&b'"') {
+            return output.push_str(identifier);
+        }
+        output.push_str(path)
+    }
+
+    // Writes the paths that an identifier stands for one after another, each with what follows, and records their uses.
+    fn write_paths(
+        &self,
+        identifier: &str,
+        paths: &[String],
+        behind: &str,
+        place: usize,
+        used_imports: &mut IndexMap<String, ImportDefWithOffset>,
+        output: &mut String,
+    ) -> Result<(), AllocError>
+        ensures text { OnOk result (string_bytes output.new ≡ string_bytes output.old ++ flat_map (path_text identifier.now) (longer_paths (map string_bytes paths.now) behind.now)) }
+        ensures used { OnOk result (uses_of used_imports.new ≡ with_mentions (uses_of used_imports.old) (flat_map (mentions_at place) (longer_paths (map string_bytes paths.now) behind.now))) }
+        ensures begun { OnErr result (BeginsUses (flat_map (mentions_at place) (longer_paths (map string_bytes paths.now) behind.now)) (uses_of used_imports.old) (uses_of used_imports.new)) }
+    {
+        for path in paths {
+            let whole = longer_path(self.alloc, path.as_str(), behind)?;
+            self.write_path(identifier, whole.as_str(), place, used_imports, output)?;
+        }
+        Ok(())
+    }
+
+    // Records the use that a path makes.
+    fn record_path(
+        &self,
+        path: &str,
+        place: usize,
+        used_imports: &mut IndexMap<String, ImportDefWithOffset>,
+    ) -> Result<(), AllocError>
+        ensures used { OnOk result (uses_of used_imports.new ≡ with_mentions (uses_of used_imports.old) (mentions_at place path.now)) }
+        ensures begun { OnErr result (BeginsUses (mentions_at place path.now) (uses_of used_imports.old) (uses_of used_imports.new)) }
+    {
+        if let Some((module_name, item)) = path.rsplit_once("::") {
+            record_use(self.alloc, used_imports, module_name, item, place)?;
+        }
+        Ok(())
+    }
+
+    // Records the uses that paths make one after another, each with what follows.
+    fn record_paths(
+        &self,
+        paths: &[String],
+        behind: &str,
+        place: usize,
+        used_imports: &mut IndexMap<String, ImportDefWithOffset>,
+    ) -> Result<(), AllocError>
+        ensures used { OnOk result (uses_of used_imports.new ≡ with_mentions (uses_of used_imports.old) (flat_map (mentions_at place) (longer_paths (map string_bytes paths.now) behind.now))) }
+        ensures begun { OnErr result (BeginsUses (flat_map (mentions_at place) (longer_paths (map string_bytes paths.now) behind.now)) (uses_of used_imports.old) (uses_of used_imports.new)) }
+    {
+        for path in paths {
+            let whole = longer_path(self.alloc, path.as_str(), behind)?;
+            self.record_path(whole.as_str(), place, used_imports)?;
+        }
+        Ok(())
+    }
+
+    // The paths that are declared for a name.
+    fn declared_paths(&self, name: &str) -> &[String]
+        requires { Covers self.now.names.now (declared_of self.now.declared_imports.now) }
+        ensures { map string_bytes result.now ≡ paths_of (declared_of self.now.declared_imports.now) name.now }
+    {
+        if !self.names.may_have(name) {
+            return &[];
+        }
+        match self.declared_imports.get(name) {
+            Some(paths) => paths.as_slice(),
+            None => &[],
+        }
+    }
+
+    // Whether there are too many paths for one identifier.
+    fn is_refused(&self, paths: &[String]) -> bool
+        ensures { result ≡ (not self.now.allow_ambiguous && nat_lt 1 (length paths.now)) }
+    {
+        !self.allow_ambiguous && paths.len() > 1
+    }
+
+    // Writes what an identifier stands for, and records its uses.
+    fn write_identifier(
+        &self,
+        identifier: &str,
+        place: usize,
+        used_imports: &mut IndexMap<String, ImportDefWithOffset>,
+        output: &mut String,
+    ) -> Result<(), SubstituteFault>
+        requires { Covers self.now.names.now (declared_of self.now.declared_imports.now) }
+        ensures text { let paths = paths_for (declared_of self.now.declared_imports.now) identifier.now in
+            let more = flat_map (path_text identifier.now) paths in
+            OnOk result (string_bytes output.new ≡ string_bytes output.old ++ more) }
+        ensures used { let declared = declared_of self.now.declared_imports.now in
+            let more = mentions_in declared (record { name = identifier.now; place = place } ∷ []) in
+            OnOk result (uses_of used_imports.new ≡ with_mentions (uses_of used_imports.old) more) }
+        ensures allowed { let declared = declared_of self.now.declared_imports.now in
+            let first = first_ambiguous declared self.now.allow_ambiguous (record { name = identifier.now; place = place } ∷ []) in
+            OnOk result (first ≡ None) }
+        ensures fault { let declared = declared_of self.now.declared_imports.now in
+            let refuses = RefusesUses declared self.now.allow_ambiguous (record { name = identifier.now; place = place } ∷ []) in
+            IfErr result (λ e. refuses (uses_of used_imports.old) (uses_of used_imports.new) e) }
+    {
+        let (first, behind) = split_identifier(identifier);
+        let paths = self.declared_paths(first);
+        if paths.is_empty() {
+            let path = own_path(identifier, first, behind);
+            self.write_path(identifier, path, place, used_imports, output)?;
+            return Ok(());
+        }
+        if self.is_refused(paths) {
+            return Err(SubstituteFault::Ambiguous(place));
+        }
+        self.write_paths(identifier, paths, behind, place, used_imports, output)?;
+        Ok(())
+    }
+
+    // Records the uses of what an identifier stands for.
+    fn record_identifier(
+        &self,
+        identifier: &str,
+        place: usize,
+        used_imports: &mut IndexMap<String, ImportDefWithOffset>,
+    ) -> Result<(), SubstituteFault>
+        requires { Covers self.now.names.now (declared_of self.now.declared_imports.now) }
+        ensures used { let declared = declared_of self.now.declared_imports.now in
+            let more = mentions_in declared (record { name = identifier.now; place = place } ∷ []) in
+            OnOk result (uses_of used_imports.new ≡ with_mentions (uses_of used_imports.old) more) }
+        ensures allowed { let declared = declared_of self.now.declared_imports.now in
+            let first = first_ambiguous declared self.now.allow_ambiguous (record { name = identifier.now; place = place } ∷ []) in
+            OnOk result (first ≡ None) }
+        ensures fault { let declared = declared_of self.now.declared_imports.now in
+            let refuses = RefusesUses declared self.now.allow_ambiguous (record { name = identifier.now; place = place } ∷ []) in
+            IfErr result (λ e. refuses (uses_of used_imports.old) (uses_of used_imports.new) e) }
+    {
+        let (first, behind) = split_identifier(identifier);
+        let paths = self.declared_paths(first);
+        if paths.is_empty() {
+            let path = own_path(identifier, first, behind);
+            self.record_path(path, place, used_imports)?;
+            return Ok(());
+        }
+        if self.is_refused(paths) {
+            return Err(SubstituteFault::Ambiguous(place));
+        }
+        self.record_paths(paths, behind, place, used_imports)?;
+        Ok(())
+    }
+
+    // Whether an identifier stands for itself alone.
+    fn is_own(&self, site: SiteText<'_>) -> bool
+        requires covers { Covers self.now.names.now (declared_of self.now.declared_imports.now) }
+        requires word { IsTrue site.is_word → list_any (λ b. b == 58) site.name.now ≡ false }
+        ensures { result ≡ is_own (declared_of self.now.declared_imports.now) site.entry.name.now }
+    {
+        (site.is_word || !site.name.as_bytes().contains(&b':'))
+            && self.declared_paths(site.name).is_empty()
+    }
+}
+
+// Whether the text has no `::`. Most texts have no `:` at all.
+fn lacks_colons(text: &str) -> bool
+    ensures { IsTrue result → (i : ℕ) → i ≤ length text.now → LacksTextAt (58 ∷ 58 ∷ []) text.now i }
+{
+    !text.as_bytes().contains(&b':') || !text.contains("::")
+}
+
+/// Writes a text behind what stands in `output`, its identifiers substituted as by `substitute_identifiers`, and records
+/// their uses alike. `names` marks each declared name. What `output` holds after a refusal is not promised.
+pub fn push_substituted(
+    alloc: Global,
+    output: &mut String,
+    input: &str,
+    offset: usize,
+    declared_imports: &IndexMap<String, Vec<String>>,
+    names: &DeclaredNames,
+    used_imports: &mut IndexMap<String, ImportDefWithOffset>,
+    allow_ambiguous: bool,
+) -> Result<(), SubstituteFault>
+    requires { Covers names.now (declared_of declared_imports.now) }
+    ensures text { let more = substituted (declared_of declared_imports.now) (lexemes 0 0 (chars input.now)) in
+        OnOk result (string_bytes output.new ≡ string_bytes output.old ++ more) }
+    ensures used { let found = usize_sites (sites offset (lexemes 0 0 (chars input.now))) in
+        let more = mentions_in (declared_of declared_imports.now) found in
+        OnOk result (uses_of used_imports.new ≡ with_mentions (uses_of used_imports.old) more) }
+    ensures allowed { let found = usize_sites (sites offset (lexemes 0 0 (chars input.now))) in
+        let first = first_ambiguous (declared_of declared_imports.now) allow_ambiguous found in
+        OnOk result (first ≡ None) }
+    ensures fault { let found = usize_sites (sites offset (lexemes 0 0 (chars input.now))) in
+        let refuses = RefusesUses (declared_of declared_imports.now) allow_ambiguous found in
+        IfErr result (λ e. refuses (uses_of used_imports.old) (uses_of used_imports.new) e) }
+{
+    if declared_imports.is_empty() && lacks_colons(input) {
+        output.push_str(input)?;
+        return Ok(());
+    }
+    let substitution = Substitution {
+        alloc,
+        declared_imports,
+        names,
+        allow_ambiguous,
+        offset,
+    };
+    let mut unwritten = input;
+    let mut rest = input;
+    while let Some(site) = next_site(rest) {
+        rest = site.behind;
+        if substitution.is_own(site) {
+            continue;
+        }
+        output.push_str(text_before(unwritten, site.from))?;
+        let place = offset.saturating_add(input.len() - site.from.len());
+        substitution.write_identifier(site.name, place, used_imports, output)?;
+        unwritten = rest;
+    }
+    output.push_str(unwritten)?;
+    Ok(())
+}
+
+/// Writes a text with what its identifiers stand for by the declared imports, and records in `used_imports` what they
+/// use, at their places, in bytes, counted from the offset; a place past the greatest `usize` is that. Behind `.` or `@`
+/// an identifier is kept. An identifier with several paths is refused, or these are written one after another.
+///
+/// After a refusal `used_imports` holds a beginning of the uses, and after `Ambiguous` those before its place.
+pub fn substitute_identifiers(
+    alloc: Global,
+    input: &str,
+    offset: usize,
+    declared_imports: &IndexMap<String, Vec<String>>,
+    used_imports: &mut IndexMap<String, ImportDefWithOffset>,
+    allow_ambiguous: bool,
+) -> Result<String, SubstituteFault>
+    ensures text { IfOk result (λ t. string_bytes t ≡ substituted (declared_of declared_imports.now) (lexemes 0 0 (chars input.now))) }
+    ensures used { let found = usize_sites (sites offset (lexemes 0 0 (chars input.now))) in
+        let more = mentions_in (declared_of declared_imports.now) found in
+        OnOk result (uses_of used_imports.new ≡ with_mentions (uses_of used_imports.old) more) }
+    ensures allowed { let found = usize_sites (sites offset (lexemes 0 0 (chars input.now))) in
+        let first = first_ambiguous (declared_of declared_imports.now) allow_ambiguous found in
+        OnOk result (first ≡ None) }
+    ensures fault { let found = usize_sites (sites offset (lexemes 0 0 (chars input.now))) in
+        let refuses = RefusesUses (declared_of declared_imports.now) allow_ambiguous found in
+        IfErr result (λ e. refuses (uses_of used_imports.old) (uses_of used_imports.new) e) }
+{
+    let mut names = DeclaredNames::new();
+    names.mark_from(declared_imports, 0);
+    let mut output = String::with_capacity(alloc, input.len())?;
+    push_substituted(
+        alloc,
+        &mut output,
+        input,
+        offset,
+        declared_imports,
+        &names,
+        used_imports,
+        allow_ambiguous,
+    )?;
+    Ok(output)
+}
+
+/// Records in `used_imports` what the identifiers of a text use, as `substitute_identifiers` does, and writes nothing.
+/// `names` marks each declared name.
+pub fn record_identifiers(
+    alloc: Global,
+    input: &str,
+    offset: usize,
+    declared_imports: &IndexMap<String, Vec<String>>,
+    names: &DeclaredNames,
+    used_imports: &mut IndexMap<String, ImportDefWithOffset>,
+    allow_ambiguous: bool,
+) -> Result<(), SubstituteFault>
+    requires { Covers names.now (declared_of declared_imports.now) }
+    ensures used { let found = usize_sites (sites offset (lexemes 0 0 (chars input.now))) in
+        let more = mentions_in (declared_of declared_imports.now) found in
+        OnOk result (uses_of used_imports.new ≡ with_mentions (uses_of used_imports.old) more) }
+    ensures allowed { let found = usize_sites (sites offset (lexemes 0 0 (chars input.now))) in
+        let first = first_ambiguous (declared_of declared_imports.now) allow_ambiguous found in
+        OnOk result (first ≡ None) }
+    ensures fault { let found = usize_sites (sites offset (lexemes 0 0 (chars input.now))) in
+        let refuses = RefusesUses (declared_of declared_imports.now) allow_ambiguous found in
+        IfErr result (λ e. refuses (uses_of used_imports.old) (uses_of used_imports.new) e) }
+{
+    if declared_imports.is_empty() && lacks_colons(input) {
+        return Ok(());
+    }
+    let substitution = Substitution {
+        alloc,
+        declared_imports,
+        names,
+        allow_ambiguous,
+        offset,
+    };
+    let mut rest = input;
+    while let Some(site) = next_site(rest) {
+        rest = site.behind;
+        if substitution.is_own(site) {
+            continue;
+        }
+        let before = input.len() - site.from.len();
+        let place = offset.saturating_add(before);
+        substitution.record_identifier(site.name, place, used_imports)?;
+    }
+    Ok(())
+}
+
+/// The place of a use is the sum of the offset and its place in the text wherever a `usize` holds the text's end.
+pub fn exact_places()
+    ensures { (offset : ℕ) (text : List ℕ) → IsUtf8 text → offset + length text < 2 ^ 64 → usize_sites (sites offset (lexemes 0 0 (chars text))) ≡ sites offset (lexemes 0 0 (chars text)) }
+{}

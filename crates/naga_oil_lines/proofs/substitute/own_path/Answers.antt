@@ -1,9 +1,0 @@
-use Rattle.std.proofs.Common.{◌<◌, length, subst, arith}
-use Rattle.std.proofs.lemmas.Bool.Decides.{nat_tests}
-use Rattle.naga_oil_lines.proofs.SettledLemmas.{own_whole}
-use Rattle.naga_oil_lines.proofs.substitute.own_path.Goals as goal
-
-pub returns-else-is_empty : goal.returns-else-is_empty
-returns-else-is_empty c =
-    let some : 0 < length c.args.behind.now = grind (arith, nat_tests) in
-    own_whole c.args.identifier.now (subst (λ l. 0 < length l) c.requires.behind some)

@@ -1,6 +1,0 @@
-use Rattle.naga_oil_lines.specs.Declarations.{declared_of}
-use Rattle.naga_oil_lines.proofs.NameMarkLemmas.{covers_all}
-use Rattle.naga_oil_lines.proofs.substitute.substitute_identifiers.Goals as goal
-
-pub push_substituted-requires : goal.push_substituted-requires
-push_substituted-requires c = covers_all c.new-names.result c.mark_from.new.self (declared_of c.args.declared_imports.now) c.mark_from.ensures
