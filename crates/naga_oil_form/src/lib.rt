@@ -12,4 +12,4 @@ pub mod form_items;
 pub mod form_names;
 pub mod links;
 
-pub use check_form::{FormFault, check_form};
+pub use check_form::FormFault;

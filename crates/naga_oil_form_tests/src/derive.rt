@@ -8,7 +8,7 @@ mod functions;
 mod refused;
 
 use naga_oil_derive::DerivedModule;
-use naga_oil_form::check_form;
+use naga_oil_form::check_form::check_form;
 use naga_oil_ir::{
     ArraySize, Constant, Expression, GlobalVariable, Handle, Index, ItemPlace, Module, Override,
     Span, Type, TypeInner, UniqueArena,

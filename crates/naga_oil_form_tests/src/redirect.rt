@@ -2,7 +2,7 @@
 //! one driver makes its module, asks, and compares.
 mod refused;
 
-use naga_oil_form::{FormFault, check_form};
+use naga_oil_form::check_form::{FormFault, check_form};
 use naga_oil_ir::*;
 use naga_oil_redirect::redirect::{Pair, Redirector};
 use std::alloc::{AllocError, Global};

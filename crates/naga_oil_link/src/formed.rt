@@ -16,7 +16,7 @@ pub fn check_form(alloc: Global, of: &Module, decoration: &str, len: usize) -> F
     ensures form { OnOk result (WellFormed of.now decoration.now len) }
     ensures value { GivesFormed (λ done. done) result (if is_formed (module_value of.now) decoration.now len then Some tt else None) }
 {
-    naga_oil_form::check_form(of, alloc, decoration, len)
+    naga_oil_form::check_form::check_form(of, alloc, decoration, len)
 }
 
 // Gives back the room of an arena that its items don't need.

@@ -6,7 +6,7 @@ ghost use Rattle.naga_oil_derive.specs.DerivedFunctions.{CanImport, CanCall};
 
 use crate::derive::{holds, set};
 use naga_oil_derive::DerivedModule;
-use naga_oil_form::{FormFault, check_form};
+use naga_oil_form::check_form::{FormFault, check_form};
 use naga_oil_ir::{
     Arena, Block, EntryPoint, Expression, Function, FunctionArgument, Handle, Index,
     LocalVariable, Module, NamedExpressions, Range, Span, Statement, Type, TypeInner,

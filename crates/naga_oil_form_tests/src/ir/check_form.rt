@@ -2,7 +2,7 @@ mod every_kind;
 mod refused;
 
 use every_kind::{EVERY, expression_of, statement_of};
-use naga_oil_form::{FormFault, check_form};
+use naga_oil_form::check_form::{FormFault, check_form};
 use naga_oil_ir::*;
 use std::alloc::{AllocError, Global};
 use std::process::Abort;
