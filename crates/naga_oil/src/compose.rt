@@ -23,6 +23,7 @@ use error::Told;
 pub use error::{ComposerError, ComposerErrorInner, EnsureImportsError, ErrSource};
 use indexmap::IndexMap;
 use naga_oil_build::{Builder, Unbuilt};
+pub use naga_oil_imports::{ImportDefWithOffset, ImportDefinition, parse_imports};
 pub use naga_oil_ir::{
     Backend, BackendRefusal, Capabilities, ParseFault, ShaderLanguage, ValidFault, WriteFault,
     backend,
@@ -32,7 +33,6 @@ pub use naga_oil_lines::decorate::{decode, decorated_name, undecorate};
 pub use naga_oil_lines::wgsl_directives::{
     DiagnosticDirective, EnableDirective, RequiresDirective, WgslDirectives,
 };
-pub use naga_oil_imports::{ImportDefWithOffset, ImportDefinition, parse_imports};
 pub use naga_oil_lines::{comment_strip_iter, decorate, tokenizer, wgsl_directives};
 pub use naga_oil_link::ComposableModule;
 use naga_oil_link::{Build, Builds, Overrides};

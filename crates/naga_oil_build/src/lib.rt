@@ -15,8 +15,8 @@ pub use builder::{Builder, Unbuilt};
 use indexmap::IndexMap;
 use naga_oil_form::FormFault;
 use naga_oil_ir::{
-    Arena, Backend, BackendRefusal, Capabilities, Constant, Function, GlobalVariable,
-    Module, ShaderLanguage, Span, StructMember, Type, TypeInner, UniqueArena,
+    Arena, Backend, BackendRefusal, Capabilities, Constant, Function, GlobalVariable, Module,
+    ShaderLanguage, Span, StructMember, Type, TypeInner, UniqueArena,
 };
 use naga_oil_lines::decorate::{decode, decorated_name};
 use naga_oil_link::link::link_header;

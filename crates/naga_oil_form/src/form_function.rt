@@ -5,8 +5,8 @@ ghost use Rattle.naga_oil_form.specs.WellFormed.{NamedThere, SignatureForm, Expr
 use super::body::may_stand;
 use super::form::{Tested, are_spans_fine, are_tokens_fine, read};
 use naga_oil_ir::{
-    EntryPoint, Expression, Function, FunctionArgument, FunctionResult, Handle, Index, LocalVariable, MeshInfo,
-    Module, Named, NamedExpressions, Span, Token, Type, push_block,
+    EntryPoint, Expression, Function, FunctionArgument, FunctionResult, Handle, Index,
+    LocalVariable, MeshInfo, Module, Named, NamedExpressions, Span, Token, Type, push_block,
 };
 use std::alloc::{AllocError, Global};
 

@@ -10,8 +10,10 @@ ghost use Rattle.naga_oil_form.specs.ItemForm.{types_of, type_at, type_links, is
 
 use super::form::{Tested, are_spans_fine, is_span_fine, read};
 use super::links::{any_marked, are_below, are_earlier, is_marked, marks_of, reached_from};
-use naga_oil_ir::{Expression, Index, ItemPlace, Module, Names, Span, SpecialTypes, Type, UniqueArena};
 use ItemPlace::{ConstantItem, ExpressionItem, GlobalItem, OverrideItem, TypeItem};
+use naga_oil_ir::{
+    Expression, Index, ItemPlace, Module, Names, Span, SpecialTypes, Type, UniqueArena,
+};
 use std::alloc::{AllocError, Global};
 use std::collections::HashSet;
 

@@ -12,8 +12,8 @@ ghost use Rattle.naga_oil_imports.specs.ImportView.{head_of, RefusesImport, alia
 pub use crate::substitute::{
     SubstituteFault, push_substituted, record_identifiers, substitute_identifiers,
 };
-use naga_oil_lines::tokenizer::{Token, Tokenizer};
 use indexmap::IndexMap;
+use naga_oil_lines::tokenizer::{Token, Tokenizer};
 use std::alloc::{AllocError, AllocFailed, Global};
 
 /// Why an import line is refused.

@@ -15,11 +15,11 @@ ghost use Rattle.naga_oil_lines.specs.Tokens.{lexemes};
 ghost use Rattle.naga_oil_imports.specs.Uses.{uses_of, with_use};
 
 use crate::declared_names::DeclaredNames;
-use naga_oil_lines::decorate::push_decorated;
 use crate::import_definition::ImportDefWithOffset;
+use indexmap::IndexMap;
+use naga_oil_lines::decorate::push_decorated;
 use naga_oil_lines::text::{split_first_char, text_before};
 use naga_oil_lines::tokenizer::{behind_identifier, split_gap, starts_identifier};
-use indexmap::IndexMap;
 use std::alloc::{AllocError, Global};
 use std::borrow::CowStr;
 

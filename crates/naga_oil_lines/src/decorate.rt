@@ -66,11 +66,7 @@ fn decorated_len(module_name: &str, item: &str) -> usize {
 }
 
 // Pushes the name of an item of a module.
-pub fn push_decorated(
-    out: &mut String,
-    module_name: &str,
-    item: &str,
-) -> Result<(), AllocError>
+pub fn push_decorated(out: &mut String, module_name: &str, item: &str) -> Result<(), AllocError>
     ensures { OnOk result (string_bytes out.new ≡ string_bytes out.old ++ decorated_name (Some module_name.now) item.now) }
 {
     out.push_str(item)?;

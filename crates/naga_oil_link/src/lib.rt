@@ -24,11 +24,11 @@ pub use link::Builds;
 pub use module::{Build, ComposableModule, Overrides};
 use naga_oil_derive::{DerivedModule, Tried};
 use naga_oil_form::FormFault;
-use naga_oil_ir::{
-    Arena, Constant, EntryPoint, Function, FunctionArgument, FunctionResult,
-    GlobalVariable, Handle, Index, Item, ItemPlace, Module, NamedExpressions, Override, Span, Type,
-};
 use naga_oil_imports::ImportDefinition;
+use naga_oil_ir::{
+    Arena, Constant, EntryPoint, Function, FunctionArgument, FunctionResult, GlobalVariable,
+    Handle, Index, Item, ItemPlace, Module, NamedExpressions, Override, Span, Type,
+};
 use naga_oil_marks::{add_decoration, has_module_mark};
 pub use own_items::OwnItems;
 use std::alloc::Global;

@@ -27,10 +27,10 @@ pub use descriptor::{
     ComposableModuleDescriptor, NagaModuleDescriptor, OwnedShaderDefs, ShaderType,
 };
 pub use marked::Marked;
+use naga_oil_imports::{ImportDefWithOffset, ImportDefinition};
 use naga_oil_ir::{RedirectError, ShaderLanguage, Span};
 use naga_oil_lines::decorate::undecorate;
 use naga_oil_lines::wgsl_directives::WgslDirectives;
-use naga_oil_imports::{ImportDefWithOffset, ImportDefinition};
 use naga_oil_marks::{DECORATION_OVERRIDE_PRE, DECORATION_PRE};
 use naga_oil_pre::{
     ComposerErrorInner as Inner, Preprocessor, PreprocessorMetaData, ShaderDefValue,

@@ -11,11 +11,10 @@ use naga_oil::compose::{
 };
 use naga_oil::derive::DerivedModule;
 use naga_oil::redirect::{RedirectError, Redirector};
-use naga_oil_front::Mini;
 use naga_oil_form::check_form::{FormFault, check_form};
+use naga_oil_front::Mini;
 use naga_oil_ir::{
-    Arena, Constant, Expression, Index, Module, Places, Span, Type, TypeInner,
-    UniqueArena,
+    Arena, Constant, Expression, Index, Module, Places, Span, Type, TypeInner, UniqueArena,
 };
 use naga_oil_lines::comment_strip_iter::CommentReplaceExt;
 use naga_oil_lines::tokenizer::{Token, Tokenizer};

@@ -3,8 +3,8 @@ mod changed;
 mod refusals;
 mod refused;
 
-use naga_oil_front::Mini;
 use naga_oil_form::check_form::{FormFault, check_form};
+use naga_oil_front::Mini;
 use naga_oil_ir::{
     Backend, BackendRefusal, Capabilities, Expression, Function, Index, Module, Operand,
     ShaderLanguage, Span, Statement,

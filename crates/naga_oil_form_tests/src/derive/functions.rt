@@ -8,8 +8,8 @@ use crate::derive::{holds, set};
 use naga_oil_derive::DerivedModule;
 use naga_oil_form::check_form::{FormFault, check_form};
 use naga_oil_ir::{
-    Arena, Block, EntryPoint, Expression, Function, FunctionArgument, Handle, Index,
-    LocalVariable, Module, NamedExpressions, Range, Span, Statement, Type, TypeInner,
+    Arena, Block, EntryPoint, Expression, Function, FunctionArgument, Handle, Index, LocalVariable,
+    Module, NamedExpressions, Range, Span, Statement, Type, TypeInner,
 };
 use std::alloc::{AllocError, Global};
 use std::test::Fail;

@@ -11,8 +11,8 @@ use naga_oil::compose::{
     ComposableModuleDescriptor, Composer, ComposerError, NagaModuleDescriptor, ShaderType,
 };
 use naga_oil_front::{Mini, NotWritten, module_text};
-use naga_oil_ir::Module;
 use naga_oil_imports::ImportDefinition;
+use naga_oil_ir::Module;
 use std::alloc::{AllocError, Global};
 
 // What is told of an error.

@@ -4,10 +4,10 @@ use crate::derive::{holds, set};
 use naga_oil_derive::DerivedModule;
 use naga_oil_form::FormFault;
 use naga_oil_ir::{
-    Block, Constant, Expression, Function, FunctionArgument, FunctionResult,
-    GlobalVariable, Handle, ImageLoad, ImageQuery, ImageSample, Index, LocalVariable, Math, Module,
-    Operand, Override, Range, RayQueryFunction, SampleLevel, Span, Statement, SwitchCase, Token,
-    Type, TypeInner, push_block,
+    Block, Constant, Expression, Function, FunctionArgument, FunctionResult, GlobalVariable,
+    Handle, ImageLoad, ImageQuery, ImageSample, Index, LocalVariable, Math, Module, Operand,
+    Override, Range, RayQueryFunction, SampleLevel, Span, Statement, SwitchCase, Token, Type,
+    TypeInner, push_block,
 };
 use std::alloc::{AllocError, Global};
 use std::test::Fail;
