@@ -31,19 +31,19 @@ impl From<AllocError> for FormFault {
 
 /// Tests the form of a module, whose functions' names get a decoration, over a text of so many bytes.
 pub fn check_form(
-    module: &Module,
+    of: &Module,
     alloc: Global,
     decoration: &str,
     text_len: usize,
 ) -> Result<(), FormFault>
-    ensures ok { OnOk result (WellFormed module.now decoration.now text_len) }
-    ensures err { IfErr result (λ e. e ≡ WrongForm → WellFormed module.now decoration.now text_len → ⊥) }
+    ensures ok { OnOk result (WellFormed of.now decoration.now text_len) }
+    ensures err { IfErr result (λ e. e ≡ WrongForm → WellFormed of.now decoration.now text_len → ⊥) }
 {
-    let items = items_are_fine(module, alloc)?;
-    let names = names_are_fine(module, decoration, alloc)?;
-    let functions = functions_are_fine(module, text_len, alloc)?;
-    let entries = entries_are_fine(module, text_len, alloc)?;
-    if items & names & functions & entries & spans_are_fine(module, text_len) {
+    let items = items_are_fine(of, alloc)?;
+    let names = names_are_fine(of, decoration, alloc)?;
+    let functions = functions_are_fine(of, text_len, alloc)?;
+    let entries = entries_are_fine(of, text_len, alloc)?;
+    if items & names & functions & entries & spans_are_fine(of, text_len) {
         return Ok(());
     }
     Err(FormFault::WrongForm)
