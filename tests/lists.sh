@@ -103,7 +103,7 @@ sed -n 's/^ *pub fn \([a-z_]*\).*/\1/p' crates/naga_oil/src/compose/composer.rt 
     crates/naga_oil/src/compose/error.rt crates/naga_oil_pre/src/preprocess.rt crates/naga_oil_pre/src/metadata.rt \
     crates/naga_oil_pre/src/directives.rt crates/naga_oil_derive/src/derive.rt crates/naga_oil_derive/src/derive/*.rt \
     crates/naga_oil_redirect/src/redirect.rt | sort -u | shown docs/FROM_NAGA_OIL.md 'the call'
-for errors in crates/naga_oil_pre/src/fault.rt crates/naga_oil_ir/src/redirect_error.rt; do
+for errors in crates/naga_oil_conditions/src/fault.rt crates/naga_oil_ir/src/redirect_error.rt; do
     sed -n '/^pub enum/,/^}/s/^    \([A-Z][A-Za-z]*\).*/\1/p' "$errors"
 done | sort -u | shown docs/FROM_NAGA_OIL.md 'the variant'
 

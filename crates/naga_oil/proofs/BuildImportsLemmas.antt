@@ -3,7 +3,7 @@ use Rattle.std.proofs.Common.{◌≡◌, ℕ, List, [], ◌++◌, map, length, n
 use Rattle.naga_oil_ir.specs.ModuleValue.{ModuleValue}
 use Rattle.naga_oil_ir.specs.declared.language.ShaderLanguage.{ShaderLanguage}
 use Rattle.naga_oil_imports.specs.Uses.{Import}
-use Rattle.naga_oil_pre.specs.Fault.{Fault}
+use Rattle.naga_oil_conditions.specs.Fault.{Fault}
 use Rattle.naga_oil_pre.specs.Preprocessed.{Output}
 use Rattle.naga_oil_registry.specs.Added.{◌>>=◌}
 use Rattle.naga_oil_registry.specs.Definition.{Definition}

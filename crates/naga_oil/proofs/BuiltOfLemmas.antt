@@ -5,7 +5,7 @@ use Rattle.naga_oil_ir.specs.Backend.{FrontEnd, FaultValue}
 use Rattle.naga_oil_ir.specs.ModuleValue.{ModuleValue}
 use Rattle.naga_oil_ir.specs.declared.language.ShaderLanguage.{ShaderLanguage}
 use Rattle.naga_oil_derive.specs.CopiedEntry.{make_module}
-use Rattle.naga_oil_pre.specs.Fault.{Fault, text_too_large, wrong_form}
+use Rattle.naga_oil_conditions.specs.Fault.{Fault, text_too_large, wrong_form}
 use Rattle.naga_oil_pre.specs.Preprocessed.{Output}
 use Rattle.naga_oil_registry.specs.Added.{◌>>=◌}
 use Rattle.naga_oil_registry.specs.Definition.{Definition, Defs}

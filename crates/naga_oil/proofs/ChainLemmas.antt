@@ -19,12 +19,12 @@ use Rattle.naga_oil_redirect.specs.PutInOrder.{put_in_order}
 use Rattle.naga_oil_redirect.specs.Redirected.{matched, redirected}
 use Rattle.naga_oil_ir.specs.declared.redirect_error.RedirectError.{RedirectError}
 use Rattle.naga_oil_ir.specs.declared.redirect_error.RedirectError.TheVariants as code
-use Rattle.naga_oil_pre.specs.Fault.{Fault, redirection}
-use Rattle.naga_oil_pre.specs.declared.fault.ComposerErrorInner.{ComposerErrorInner}
+use Rattle.naga_oil_conditions.specs.Fault.{Fault, redirection}
+use Rattle.naga_oil_conditions.specs.declared.fault.ComposerErrorInner.{ComposerErrorInner}
 use Rattle.naga_oil_lines.specs.Text.{is_among, texts}
 use Rattle.naga_oil_registry.specs.Added.{◌>>=◌}
 use Rattle.naga_oil_link.specs.BuiltModule.{Overriding}
-use Rattle.naga_oil_pre.specs.View.{fault_of, redirect_error}
+use Rattle.naga_oil_conditions.specs.View.{fault_of, redirect_error}
 use Rattle.naga_oil.specs.Chain.{sent_down, all_sent_down, put_in_order_as, chain_all, chain}
 
 -- ---- the functions that are omitted

@@ -10,7 +10,7 @@ use Rattle.naga_oil_ir.specs.ModuleValue.{ModuleValue, EntryValue}
 use Rattle.naga_oil_form.specs.NameForm.{Name}
 use Rattle.naga_oil_ir.specs.RedirectFault.{RedirectFault}
 use Rattle.naga_oil_lines.specs.Text.{is_among}
-use Rattle.naga_oil_pre.specs.Fault.{Fault}
+use Rattle.naga_oil_conditions.specs.Fault.{Fault}
 use Rattle.naga_oil_link.specs.BuiltModule.{BuiltModule, Builds, Overriding}
 use Rattle.naga_oil_link.specs.Linked.{link_whole}
 use Rattle.naga_oil_build.specs.Held.{Settings}

@@ -12,7 +12,7 @@ use Rattle.naga_oil_derive.specs.CopiedLaw.{HasAt}
 use Rattle.naga_oil_derive.specs.Tree.{World, tree}
 use Rattle.naga_oil_derive.specs.declared.special.SpecialKey.{SpecialKey}
 use Rattle.naga_oil_derive.specs.World.{world, special_at, special_entries, shifted}
-use Rattle.naga_oil_pre.specs.Fault.{Fault}
+use Rattle.naga_oil_conditions.specs.Fault.{Fault}
 use Rattle.naga_oil_registry.specs.Added.{read_source, ◌>>=◌}
 use Rattle.naga_oil_registry.specs.Definition.{Definition, Defs}
 use Rattle.naga_oil_registry.specs.Descriptor.{ShaderSource}

@@ -15,7 +15,7 @@ use Rattle.naga_oil.specs.Finish.{built_in_text, compose, finish}
 use Rattle.naga_oil.specs.LocalLaw.{AlikeIn, ImportsAlike, FinishLaw}
 use Rattle.naga_oil.specs.Refused.{Place, Refused, in_text, placed}
 use Rattle.naga_oil.specs.Validate.{fault_place, judge, validate}
-use Rattle.naga_oil_pre.specs.Fault.{shader_validation}
+use Rattle.naga_oil_conditions.specs.Fault.{shader_validation}
 use Rattle.naga_oil.proofs.BuildImportsLemmas.{build_imports}
 use Rattle.naga_oil.proofs.LocalLemmas.{build_alike, links_alike}
 

@@ -13,7 +13,7 @@ use Rattle.std.specs.Map.{keys_of}
 use Rattle.std.specs.Option.{IsSomeAnd, option_or}
 use Rattle.std.specs.Str.{bytes_eq}
 use Rattle.naga_oil_imports.specs.Uses.{Import, Use}
-use Rattle.naga_oil_pre.specs.Fault.{Fault}
+use Rattle.naga_oil_conditions.specs.Fault.{Fault}
 use Rattle.naga_oil_pre.specs.Preprocessed.{Output}
 use Rattle.naga_oil_registry.specs.Added.{◌>>=◌}
 use Rattle.naga_oil_registry.specs.Definition.{Definition}

@@ -4,9 +4,9 @@ use Rattle.std.proofs.Math.Nat.{min-eq_left}
 use Rattle.naga_oil_ir.specs.Backend.{FrontEnd}
 use Rattle.naga_oil_ir.specs.ModuleValue.{ModuleValue, module_value}
 use Rattle.naga_oil_ir.specs.declared.module.Module.{Module}
-use Rattle.naga_oil_pre.specs.Fault.{Fault}
-use Rattle.naga_oil_pre.specs.View.{fault_of, Fails}
-use Rattle.naga_oil_pre.specs.declared.fault.ComposerErrorInner.{ComposerErrorInner}
+use Rattle.naga_oil_conditions.specs.Fault.{Fault}
+use Rattle.naga_oil_conditions.specs.View.{fault_of, Fails}
+use Rattle.naga_oil_conditions.specs.declared.fault.ComposerErrorInner.{ComposerErrorInner}
 use Rattle.naga_oil_registry.specs.Added.{read_source, counter_behind, counter_after, ◌>>=◌}
 use Rattle.naga_oil_registry.specs.Definition.{Definition, Defs}
 use Rattle.naga_oil_registry.specs.Descriptor.{ShaderSource}

@@ -8,10 +8,10 @@ use Rattle.std.specs.Option.{option_eq, option_copied}
 use Rattle.std.specs.Ordering.{nat_cmp}
 use Rattle.std.specs.Str.{bytes_eq}
 use Rattle.std.specs.String.{string_cmp}
-use Rattle.naga_oil_pre.specs.Fault.{inconsistent_def}
-use Rattle.naga_oil_pre.specs.declared.shader_def.ShaderDefValue.{ShaderDefValue}
-use Rattle.naga_oil_pre.specs.declared.shader_def.ShaderDefValue.TheVariants as def
-use Rattle.naga_oil_pre.specs.contracts.shader_def.ShaderDefValuePartialEq.TheImpl.{ghosts}
+use Rattle.naga_oil_conditions.specs.Fault.{inconsistent_def}
+use Rattle.naga_oil_conditions.specs.declared.shader_def.ShaderDefValue.{ShaderDefValue}
+use Rattle.naga_oil_conditions.specs.declared.shader_def.ShaderDefValue.TheVariants as def
+use Rattle.naga_oil_conditions.specs.contracts.shader_def.ShaderDefValuePartialEq.TheImpl.{ghosts}
 use Rattle.naga_oil_registry.specs.Definition.{Defs}
 use Rattle.naga_oil_registry.specs.Merged.{with_def}
 use Rattle.naga_oil.specs.Shader.{value_of, same_value, has_value, agrees, defs_union}

@@ -1,8 +1,8 @@
 -- Answers whose faults lie at a place.
 use Rattle.std.proofs.Common.{◌≡◌, ◌∙◌, Option, Some, None, MatchOption, Result, Ok, Err, IsErrAnd, sym, ap, subst}
-use Rattle.naga_oil_pre.specs.Fault.{Fault}
-use Rattle.naga_oil_pre.specs.View.{fault_of, Fails, Gives}
-use Rattle.naga_oil_pre.specs.declared.fault.ComposerErrorInner.{ComposerErrorInner}
+use Rattle.naga_oil_conditions.specs.Fault.{Fault}
+use Rattle.naga_oil_conditions.specs.View.{fault_of, Fails, Gives}
+use Rattle.naga_oil_conditions.specs.declared.fault.ComposerErrorInner.{ComposerErrorInner}
 use Rattle.naga_oil_registry.specs.Added.{◌>>=◌}
 use Rattle.naga_oil.specs.MakeView.{PlacesAs}
 use Rattle.naga_oil.specs.Refused.{Place, Refused, Answers, Tells, refused_of, place_of, nowhere, placed}

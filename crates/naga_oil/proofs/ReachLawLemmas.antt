@@ -7,7 +7,7 @@ use Rattle.std.specs.List.{list_any, list_all, flat_map}
 use Rattle.std.specs.Str.{bytes_eq}
 use Rattle.naga_oil_lines.specs.Text.{is_among}
 use Rattle.naga_oil_imports.specs.Uses.{Use}
-use Rattle.naga_oil_pre.specs.Fault.{Fault}
+use Rattle.naga_oil_conditions.specs.Fault.{Fault}
 use Rattle.naga_oil_pre.specs.Preprocessed.{Output}
 use Rattle.naga_oil_pre.specs.Recorded.{is_recorded, AgreeOn}
 use Rattle.naga_oil_pre.proofs.Agreement.{recorded_names_decide}

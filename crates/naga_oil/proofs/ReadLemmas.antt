@@ -18,14 +18,14 @@ use Rattle.naga_oil_lines.specs.DirectivesText.{in_order}
 use Rattle.naga_oil_imports.specs.Leaves.{Leaf, SyntaxFault}
 use Rattle.naga_oil_lines.specs.Text.{is_among, texts}
 use Rattle.naga_oil_lines.proofs.NamesInOrder.{names_rise}
-use Rattle.naga_oil_pre.specs.DefineValue.{defined_value}
+use Rattle.naga_oil_conditions.specs.DefineValue.{defined_value}
 use Rattle.naga_oil_pre.specs.Extracted.{extracted}
-use Rattle.naga_oil_pre.specs.Fault.{Fault, Definitions}
-use Rattle.naga_oil_pre.specs.Kind.{LineKind, version, condition, endif, imports, import_path, define, other, unversioned_kind_of}
-use Rattle.naga_oil_pre.specs.Line.{Line, source_lines}
+use Rattle.naga_oil_conditions.specs.Fault.{Fault, Definitions}
+use Rattle.naga_oil_conditions.specs.Kind.{LineKind, version, condition, endif, imports, import_path, define, other, unversioned_kind_of}
+use Rattle.naga_oil_conditions.specs.Line.{Line, source_lines}
 use Rattle.naga_oil_pre.specs.Metadata.{Found, Metadata, metadata, metadata_behind, metadata_with, found_in, found_behind, nothing_found, defined_as, defined_behind, with_defines, with_import, going_on, left_open}
 use Rattle.naga_oil_pre.specs.Reading.{braces_after}
-use Rattle.naga_oil_pre.specs.declared.shader_def.ShaderDefValue.{ShaderDefValue}
+use Rattle.naga_oil_conditions.specs.declared.shader_def.ShaderDefValue.{ShaderDefValue}
 use Rattle.naga_oil_registry.specs.Added.{◌>>=◌}
 use Rattle.naga_oil_registry.specs.Definition.{Definition, Defs}
 use Rattle.naga_oil_registry.specs.Descriptor.{ShaderSource}

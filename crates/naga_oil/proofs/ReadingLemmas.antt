@@ -1,7 +1,7 @@
 -- The two readings of a shader, and what is made behind them.
 use Rattle.std.proofs.Common.{◌≡◌, ◌∙◌, ◌≤◌, ℕ, true, List, Result, Ok, Err, IsErrAnd, refl, sym, ap, arith}
 use Rattle.naga_oil_ir.specs.ModuleValue.{ModuleValue}
-use Rattle.naga_oil_pre.specs.Fault.{Fault}
+use Rattle.naga_oil_conditions.specs.Fault.{Fault}
 use Rattle.naga_oil_pre.specs.Metadata.{Metadata, metadata}
 use Rattle.naga_oil_pre.specs.Preprocessed.{Output}
 use Rattle.naga_oil_registry.specs.Added as registry

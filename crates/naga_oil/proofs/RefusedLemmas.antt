@@ -1,9 +1,9 @@
 -- What a refused call tells.
 use Rattle.std.proofs.Common.{◌≡◌, Option, Some, None, MatchOption, option_map, refl}
-use Rattle.naga_oil_pre.specs.Fault.{Fault}
-use Rattle.naga_oil_pre.specs.View.{fault_of}
-use Rattle.naga_oil_pre.specs.declared.fault.ComposerErrorInner.{ComposerErrorInner}
-use Rattle.naga_oil_pre.specs.declared.fault.ComposerErrorInner.TheVariants as code
+use Rattle.naga_oil_conditions.specs.Fault.{Fault}
+use Rattle.naga_oil_conditions.specs.View.{fault_of}
+use Rattle.naga_oil_conditions.specs.declared.fault.ComposerErrorInner.{ComposerErrorInner}
+use Rattle.naga_oil_conditions.specs.declared.fault.ComposerErrorInner.TheVariants as code
 use Rattle.naga_oil.specs.Refused.{Refused, Place}
 
 pub tells_nothing : (o : Option Refused) (P : Type 0) (Q : Refused → Type 0) → o ≡ None → P → MatchOption o P Q

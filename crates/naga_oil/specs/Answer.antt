@@ -2,7 +2,7 @@
 use Rattle.std.specs.Prelude.{ℕ, List, [], Some, None, Result, Ok, Err, if◌then◌else◌}
 use Rattle.naga_oil_ir.specs.ModuleValue.{ModuleValue}
 use Rattle.naga_oil_imports.specs.Uses.{Use}
-use Rattle.naga_oil_pre.specs.Fault.{Fault, import_not_found}
+use Rattle.naga_oil_conditions.specs.Fault.{Fault, import_not_found}
 use Rattle.naga_oil_pre.specs.Preprocessed.{Output}
 use Rattle.naga_oil_registry.specs.Added.{read_source}
 use Rattle.naga_oil_registry.specs.Definition.{Definition, Defs}

@@ -4,7 +4,7 @@ use Rattle.naga_oil_ir.specs.ModuleValue.{ModuleValue, EntryValue}
 use Rattle.naga_oil_redirect.specs.PutInOrder.{put_in_order}
 use Rattle.naga_oil_redirect.specs.Redirected.{matched, redirected}
 use Rattle.naga_oil_ir.specs.RedirectFault.{RedirectFault}
-use Rattle.naga_oil_pre.specs.Fault.{Fault, redirection}
+use Rattle.naga_oil_conditions.specs.Fault.{Fault, redirection}
 use Rattle.naga_oil_lines.specs.Text.{is_among}
 use Rattle.naga_oil_registry.specs.Added.{◌>>=◌}
 use Rattle.naga_oil_link.specs.BuiltModule.{Overriding}

@@ -7,7 +7,7 @@ use Rattle.std.specs.Map.{lookup}
 use Rattle.std.specs.Ordering.{nat_cmp}
 use Rattle.indexmap.specs.IndexMap.{insert_entry}
 use Rattle.naga_oil_imports.specs.Uses.{Use}
-use Rattle.naga_oil_pre.specs.Fault.{Fault, Definitions}
+use Rattle.naga_oil_conditions.specs.Fault.{Fault, Definitions}
 use Rattle.naga_oil_pre.specs.Preprocessed.{Output}
 use Rattle.naga_oil_registry.specs.Definition.{Definition, Defs}
 use Rattle.naga_oil_link.specs.BuiltModule.{BuiltModule, Builds}

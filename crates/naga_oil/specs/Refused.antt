@@ -1,8 +1,8 @@
 -- Where a fault lies, and what a refused call tells.
 use Rattle.std.specs.Prelude.{◌≡◌, ℕ, List, [], Option, Some, option_map, Result, Ok, Err, MatchOption, string_bytes}
-use Rattle.naga_oil_pre.specs.Fault.{Fault}
-use Rattle.naga_oil_pre.specs.View.{fault_of}
-use Rattle.naga_oil_pre.specs.declared.fault.ComposerErrorInner.{ComposerErrorInner}
+use Rattle.naga_oil_conditions.specs.Fault.{Fault}
+use Rattle.naga_oil_conditions.specs.View.{fault_of}
+use Rattle.naga_oil_conditions.specs.declared.fault.ComposerErrorInner.{ComposerErrorInner}
 use Rattle.naga_oil_registry.specs.Definition.{Defs, defs_of}
 use Rattle.naga_oil.specs.declared.compose.error.ErrSource.{ErrSource}
 use Rattle.naga_oil.specs.declared.compose.error.ErrSource.TheVariants as code

@@ -6,12 +6,12 @@ use Rattle.std.specs.Map.{lookup}
 use Rattle.std.specs.Ordering.{int_eq}
 use Rattle.naga_oil_lines.specs.DirectivesText.{in_order}
 use Rattle.naga_oil_imports.specs.Uses.{Use}
-use Rattle.naga_oil_pre.specs.Fault.{Fault, Definitions, import_not_found, inconsistent_def}
-use Rattle.naga_oil_pre.specs.Kind.{LineKind, define, unversioned_kind_of}
-use Rattle.naga_oil_pre.specs.Line.{source_lines}
+use Rattle.naga_oil_conditions.specs.Fault.{Fault, Definitions, import_not_found, inconsistent_def}
+use Rattle.naga_oil_conditions.specs.Kind.{LineKind, define, unversioned_kind_of}
+use Rattle.naga_oil_conditions.specs.Line.{source_lines}
 use Rattle.naga_oil_pre.specs.Metadata.{Metadata, metadata}
-use Rattle.naga_oil_pre.specs.declared.shader_def.ShaderDefValue.{ShaderDefValue}
-use Rattle.naga_oil_pre.specs.declared.shader_def.ShaderDefValue.TheVariants as def
+use Rattle.naga_oil_conditions.specs.declared.shader_def.ShaderDefValue.{ShaderDefValue}
+use Rattle.naga_oil_conditions.specs.declared.shader_def.ShaderDefValue.TheVariants as def
 use Rattle.naga_oil_registry.specs.Added.{◌>>=◌}
 use Rattle.naga_oil_registry.specs.Definition.{Defs, Definition}
 use Rattle.naga_oil_registry.specs.Descriptor.{ShaderSource, language_of}

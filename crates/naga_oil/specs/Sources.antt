@@ -1,7 +1,7 @@
 -- What the text of an error is called, what it is, and where it begins.
 use Rattle.std.specs.Prelude.{ℕ, List, [], Option, Some, None, Result, Ok, Err, string_bytes}
 use Rattle.std.specs.BTreeMap.{get_by_text}
-use Rattle.naga_oil_pre.specs.Fault.{Fault, Definitions}
+use Rattle.naga_oil_conditions.specs.Fault.{Fault, Definitions}
 use Rattle.naga_oil_pre.specs.Preprocessed.{Output, preprocessed}
 use Rattle.naga_oil_registry.specs.Definition.{Definition}
 use Rattle.naga_oil_registry.specs.Registry.{module_named}

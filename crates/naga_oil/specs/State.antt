@@ -3,7 +3,7 @@ use Rattle.std.specs.Prelude.{◌≡◌, ℕ, List, [], Bool, false, Option, Res
 use Rattle.std.specs.declared.alloc.AllocError.{AllocError}
 use Rattle.naga_oil_ir.specs.declared.backend.Capabilities.{Capabilities}
 use Rattle.naga_oil.specs.declared.compose.error.ComposerError.{ComposerError}
-use Rattle.naga_oil_pre.specs.View.{fault_of}
+use Rattle.naga_oil_conditions.specs.View.{fault_of}
 use Rattle.naga_oil_registry.specs.Added.{counter_after, shown_by, Enters}
 use Rattle.naga_oil.specs.Addition.{addition}
 use Rattle.naga_oil_registry.specs.Definition.{Definition}

@@ -2,7 +2,7 @@
 use Rattle.std.specs.Prelude.{◌≡◌, refl, pos, ℕ, true, false, List, [], ◌∷◌, map, codes, Some, None}
 use Rattle.naga_oil_ir.specs.declared.language.ShaderLanguage.TheVariants.{Wgsl}
 use Rattle.naga_oil_lines.specs.Directives.{no_directives}
-use Rattle.naga_oil_pre.specs.declared.shader_def.ShaderDefValue.TheVariants.{Bool, Int, UInt}
+use Rattle.naga_oil_conditions.specs.declared.shader_def.ShaderDefValue.TheVariants.{Bool, Int, UInt}
 use Rattle.naga_oil_registry.specs.Definition.{Definition, Defs}
 use Rattle.naga_oil_registry.specs.Registry.{reaches}
 use Rattle.naga_oil_link.specs.BuiltModule.{BuiltModule, nothing_built}

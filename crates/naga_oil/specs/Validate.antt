@@ -4,7 +4,7 @@ use Rattle.naga_oil_ir.specs.Backend.{FaultValue}
 use Rattle.naga_oil_ir.specs.ModuleValue.{ModuleValue}
 use Rattle.naga_oil_ir.specs.Spans.{bounds_of}
 use Rattle.naga_oil_ir.specs.declared.span.Span.{Span}
-use Rattle.naga_oil_pre.specs.Fault.{shader_validation}
+use Rattle.naga_oil_conditions.specs.Fault.{shader_validation}
 use Rattle.naga_oil_link.specs.BuiltModule.{BuiltModule, Builds}
 use Rattle.naga_oil_registry.specs.Definition.{Defs}
 use Rattle.naga_oil_build.specs.Held.{Settings}

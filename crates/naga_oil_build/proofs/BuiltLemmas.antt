@@ -1,7 +1,7 @@
 -- What a build's steps answer.
 use Rattle.std.proofs.Common.{◌≡◌, ◌++◌, List, map, Ok, refl}
 use Rattle.naga_oil_imports.specs.Uses.{Use}
-use Rattle.naga_oil_pre.specs.Fault.{Definitions}
+use Rattle.naga_oil_conditions.specs.Fault.{Definitions}
 use Rattle.naga_oil_pre.specs.Preprocessed.{Output, preprocessed}
 use Rattle.naga_oil_build.specs.Built.{preprocessed_of}
 use Rattle.naga_oil_registry.specs.Definition.{Definition}

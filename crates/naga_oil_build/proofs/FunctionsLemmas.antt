@@ -2,9 +2,9 @@
 use Rattle.std.proofs.Common.{◌≡◌, Bool, ℕ, List, Option, Some, None, option_map, MatchOption, Result, Ok, Err, refl, sym, ap, ◌∙◌}
 use Rattle.std.specs.Prelude.{codes}
 use Rattle.naga_oil_imports.specs.Uses.{Import}
-use Rattle.naga_oil_pre.specs.Fault.{Fault}
-use Rattle.naga_oil_pre.specs.View.{Fails, fault_of}
-use Rattle.naga_oil_pre.specs.declared.fault.ComposerErrorInner.{ComposerErrorInner}
+use Rattle.naga_oil_conditions.specs.Fault.{Fault}
+use Rattle.naga_oil_conditions.specs.View.{Fails, fault_of}
+use Rattle.naga_oil_conditions.specs.declared.fault.ComposerErrorInner.{ComposerErrorInner}
 use Rattle.naga_oil_link.specs.BuiltModule.{Builds, Overriding}
 use Rattle.naga_oil_registry.specs.Keywords.{MarkedFunction, covered_text, marked_in, with_edits}
 use Rattle.naga_oil_build.specs.Virtuals.{Overrides, Functions, names_of, blanked, virtuals_in, with_overrides, told_in, unless_fault, functions_in}

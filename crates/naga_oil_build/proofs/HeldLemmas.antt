@@ -7,9 +7,9 @@ use Rattle.naga_oil_ir.specs.ModuleValue.{ModuleValue}
 use Rattle.naga_oil_form.specs.declared.check_form.FormFault.{FormFault}
 use Rattle.naga_oil_form.specs.declared.check_form.FormFault.TheVariants.{WrongForm, Memory}
 use Rattle.naga_oil_ir.specs.declared.language.ShaderLanguage.{ShaderLanguage}
-use Rattle.naga_oil_pre.specs.Fault.{Fault, text_too_large, wrong_form}
-use Rattle.naga_oil_pre.specs.View.{Fails, Gives}
-use Rattle.naga_oil_pre.specs.declared.fault.ComposerErrorInner.{ComposerErrorInner}
+use Rattle.naga_oil_conditions.specs.Fault.{Fault, text_too_large, wrong_form}
+use Rattle.naga_oil_conditions.specs.View.{Fails, Gives}
+use Rattle.naga_oil_conditions.specs.declared.fault.ComposerErrorInner.{ComposerErrorInner}
 use Rattle.naga_oil_registry.specs.Added.{◌>>=◌}
 use Rattle.naga_oil_registry.proofs.NewDefinitionLemmas.{fails-through}
 use Rattle.naga_oil_link.specs.BuiltModule.{BuiltModule}

@@ -12,7 +12,7 @@ use Rattle.std.specs.declared.sync.Arc.{Arc}
 use Rattle.indexmap.specs.IndexMap.{insert_entry}
 use Rattle.naga_oil_imports.specs.Uses.{Import, import_of}
 use Rattle.naga_oil_imports.specs.declared.import_definition.ImportDefinition.{ImportDefinition}
-use Rattle.naga_oil_pre.specs.Fault.{not_virtual}
+use Rattle.naga_oil_conditions.specs.Fault.{not_virtual}
 use Rattle.naga_oil_lines.specs.Text.{is_among, texts}
 use Rattle.naga_oil_link.specs.BuiltModule.{BuiltModule, Builds, Overriding, built_of}
 use Rattle.naga_oil_build.specs.Overriding.{with_new, overridden, build_named}

@@ -12,9 +12,9 @@ use Rattle.std.specs.Str.Pattern.{RFindsText, FindsTextSuffix, LacksTextAt, Spli
 use Rattle.naga_oil_lines.specs.Decorate.{decoded}
 use Rattle.naga_oil_marks.specs.Marks.{module_mark}
 use Rattle.naga_oil_imports.specs.Uses.{Import}
-use Rattle.naga_oil_pre.specs.Fault.{Fault}
-use Rattle.naga_oil_pre.specs.View.{fault_of}
-use Rattle.naga_oil_pre.specs.declared.fault.ComposerErrorInner.{ComposerErrorInner}
+use Rattle.naga_oil_conditions.specs.Fault.{Fault}
+use Rattle.naga_oil_conditions.specs.View.{fault_of}
+use Rattle.naga_oil_conditions.specs.declared.fault.ComposerErrorInner.{ComposerErrorInner}
 use Rattle.naga_oil_link.specs.BuiltModule.{Builds, Overriding}
 use Rattle.naga_oil_registry.specs.Keywords.{MarkedFunction}
 use Rattle.naga_oil_build.specs.Overriding.{overridden}

@@ -26,10 +26,10 @@ use Rattle.naga_oil_ir.specs.declared.span.Span.{Span}
 use Rattle.naga_oil_ir.specs.Spans.{undefined}
 use Rattle.naga_oil_ir.specs.declared.types.StructMember.{StructMember}
 use Rattle.naga_oil_ir.specs.declared.types.Type.{«Type» as TypeOfShader}
-use Rattle.naga_oil_pre.specs.Fault.{Fault}
+use Rattle.naga_oil_conditions.specs.Fault.{Fault}
 use Rattle.naga_oil_lines.specs.Text.{is_among}
-use Rattle.naga_oil_pre.specs.View.{Fails, fault_of}
-use Rattle.naga_oil_pre.specs.declared.fault.ComposerErrorInner.{ComposerErrorInner}
+use Rattle.naga_oil_conditions.specs.View.{Fails, fault_of}
+use Rattle.naga_oil_conditions.specs.declared.fault.ComposerErrorInner.{ComposerErrorInner}
 use Rattle.naga_oil_build.specs.Built.{header_text, parsed_text}
 use Rattle.naga_oil_link.specs.BuiltModule.{BuiltModule}
 use Rattle.naga_oil_link.specs.OwnPlaces.{OwnPlaces}

@@ -6,7 +6,7 @@ use Rattle.naga_oil_lines.specs.Decorate.{decorated_name}
 use Rattle.naga_oil_lines.specs.Directives.{Directives}
 use Rattle.naga_oil_lines.specs.DirectivesText.{directives_text}
 use Rattle.naga_oil_imports.specs.Uses.{Import, Use}
-use Rattle.naga_oil_pre.specs.Fault.{Fault}
+use Rattle.naga_oil_conditions.specs.Fault.{Fault}
 use Rattle.naga_oil_pre.specs.Preprocessed.{Output}
 use Rattle.naga_oil_registry.specs.Added.{◌>>=◌}
 use Rattle.naga_oil_registry.specs.Definition.{Definition}

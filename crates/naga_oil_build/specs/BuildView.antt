@@ -2,8 +2,8 @@
 use Rattle.std.specs.Prelude.{◌≡◌, ℕ, Result, Ok, Err, MatchOption, String, string_bytes}
 use Rattle.std.specs.declared.alloc.Global.{Global}
 use Rattle.naga_oil_ir.specs.Backend.{FrontEnd}
-use Rattle.naga_oil_pre.specs.View.{fault_of}
-use Rattle.naga_oil_pre.specs.declared.fault.ComposerErrorInner.{ComposerErrorInner}
+use Rattle.naga_oil_conditions.specs.View.{fault_of}
+use Rattle.naga_oil_conditions.specs.declared.fault.ComposerErrorInner.{ComposerErrorInner}
 use Rattle.naga_oil_link.specs.BuiltModule.{built_of}
 use Rattle.naga_oil_link.specs.declared.module.ComposableModule.{ComposableModule}
 use Rattle.naga_oil_build.specs.Build.{Unbuilt, WholeText}

@@ -7,10 +7,10 @@ use Rattle.naga_oil_ir.specs.declared.backend.BackendRefusal.TheVariants as refu
 use Rattle.naga_oil_ir.specs.declared.backend.Capabilities.{Capabilities}
 use Rattle.naga_oil_ir.specs.declared.language.ShaderLanguage.{ShaderLanguage}
 use Rattle.naga_oil_ir.specs.declared.language.ShaderLanguage.TheVariants as language
-use Rattle.naga_oil_pre.specs.Fault.{Fault, Definitions, wgsl_parse, glsl_parse, wgsl_back, glsl_back, header_validation}
+use Rattle.naga_oil_conditions.specs.Fault.{Fault, Definitions, wgsl_parse, glsl_parse, wgsl_back, glsl_back, header_validation}
 use Rattle.naga_oil_pre.specs.Preprocessed.{Output, preprocessed}
-use Rattle.naga_oil_pre.specs.declared.fault.ComposerErrorInner.{ComposerErrorInner}
-use Rattle.naga_oil_pre.specs.declared.fault.ComposerErrorInner.TheVariants as code
+use Rattle.naga_oil_conditions.specs.declared.fault.ComposerErrorInner.{ComposerErrorInner}
+use Rattle.naga_oil_conditions.specs.declared.fault.ComposerErrorInner.TheVariants as code
 use Rattle.naga_oil_registry.specs.Added.{◌>>=◌}
 use Rattle.naga_oil_registry.specs.Definition.{Definition}
 use Rattle.naga_oil_registry.specs.Merged.{used_at_start}

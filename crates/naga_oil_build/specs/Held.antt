@@ -4,7 +4,7 @@ use Rattle.naga_oil_ir.specs.Backend.{FrontEnd}
 use Rattle.naga_oil_ir.specs.ModuleValue.{ModuleValue}
 use Rattle.naga_oil_ir.specs.declared.backend.Capabilities.{Capabilities}
 use Rattle.naga_oil_ir.specs.declared.language.ShaderLanguage.{ShaderLanguage}
-use Rattle.naga_oil_pre.specs.Fault.{Fault, text_too_large, wrong_form}
+use Rattle.naga_oil_conditions.specs.Fault.{Fault, text_too_large, wrong_form}
 use Rattle.naga_oil_registry.specs.Added.{◌>>=◌}
 use Rattle.naga_oil_link.specs.BuiltModule.{BuiltModule}
 use Rattle.naga_oil_link.specs.CopiedBuild.{copy_build, copies_special}

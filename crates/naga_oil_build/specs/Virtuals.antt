@@ -9,7 +9,7 @@ use Rattle.naga_oil_marks.specs.Marks.{module_mark, override_mark}
 use Rattle.naga_oil_lines.specs.DirectivesText.{with_name}
 use Rattle.naga_oil_lines.specs.Text.{◌>>=◌, is_among}
 use Rattle.naga_oil_imports.specs.Uses.{Import}
-use Rattle.naga_oil_pre.specs.Fault.{Fault, import_not_found, not_virtual}
+use Rattle.naga_oil_conditions.specs.Fault.{Fault, import_not_found, not_virtual}
 use Rattle.naga_oil_link.specs.BuiltModule.{BuiltModule, Overriding, Builds}
 use Rattle.naga_oil_registry.specs.Keywords.{MarkedFunction, covered_text, marked_in, put, with_edits}
 use Rattle.naga_oil_build.specs.Overriding.{build_named, overridden}

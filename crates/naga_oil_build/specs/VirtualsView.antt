@@ -8,9 +8,9 @@ use Rattle.std.specs.declared.alloc.Global.{Global}
 use Rattle.indexmap.specs.IndexMap.{IndexMap}
 use Rattle.naga_oil_lines.specs.Text.{texts}
 use Rattle.naga_oil_imports.specs.Uses.{import_of}
-use Rattle.naga_oil_pre.specs.Fault.{Fault}
-use Rattle.naga_oil_pre.specs.View.{fault_of}
-use Rattle.naga_oil_pre.specs.declared.fault.ComposerErrorInner.{ComposerErrorInner}
+use Rattle.naga_oil_conditions.specs.Fault.{Fault}
+use Rattle.naga_oil_conditions.specs.View.{fault_of}
+use Rattle.naga_oil_conditions.specs.declared.fault.ComposerErrorInner.{ComposerErrorInner}
 use Rattle.naga_oil_registry.specs.Keywords.{MarkedFunction}
 use Rattle.naga_oil_link.specs.BuiltModule.{Overriding, overriding_of, builds_of}
 use Rattle.naga_oil_build.specs.Virtuals.{Overrides, Functions, override_fault, with_override, with_overrides, functions_in}

@@ -8,7 +8,7 @@ use Rattle.naga_oil_ir.specs.Rows.{Row, Member, Kind, TypeKind, ConstantKind, Ov
 use Rattle.naga_oil_ir.specs.declared.backend.Capabilities.{Capabilities}
 use Rattle.naga_oil_ir.specs.declared.language.ShaderLanguage.TheVariants.{Wgsl, Glsl}
 use Rattle.naga_oil_ir.specs.declared.span.Span.{Span}
-use Rattle.naga_oil_pre.specs.Fault.{Fault, invalid_identifier}
+use Rattle.naga_oil_conditions.specs.Fault.{Fault, invalid_identifier}
 use Rattle.naga_oil_lines.specs.Text.{is_among}
 use Rattle.naga_oil_registry.specs.Added.{◌>>=◌}
 use Rattle.naga_oil_build.specs.Built.{header_text, parsed_text}

@@ -5,7 +5,7 @@ ghost use Rattle.naga_oil_ir.specs.ModuleValue.{module_value};
 ghost use Rattle.naga_oil_lines.specs.Text.{texts};
 ghost use Rattle.naga_oil_imports.specs.Uses.{import_of, use_of};
 ghost use Rattle.naga_oil_pre.specs.KnownView.{output_of};
-ghost use Rattle.naga_oil_pre.specs.View.{Gives};
+ghost use Rattle.naga_oil_conditions.specs.View.{Gives};
 ghost use Rattle.naga_oil_registry.specs.Definition.{definition_of};
 ghost use Rattle.naga_oil_link.specs.BuiltModule.{overriding_of, built_of, builds_of};
 ghost use Rattle.naga_oil_build.specs.Build.{decoration_of, first_lines, begin_build, write_header, write_heading, write_whole, from_offset, build};

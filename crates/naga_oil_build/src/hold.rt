@@ -3,7 +3,7 @@ ghost use Rattle.std.specs.Prelude.{◌≡◌, ◌<◌, IfOk, length, string_byt
 ghost use Rattle.naga_oil_ir.specs.ModuleValue.{module_value};
 ghost use Rattle.naga_oil_form.specs.WellFormed.{WellFormed};
 ghost use Rattle.naga_oil_form_laws.specs.EntryForm.{IsModuleFormed};
-ghost use Rattle.naga_oil_pre.specs.View.{Gives};
+ghost use Rattle.naga_oil_conditions.specs.View.{Gives};
 ghost use Rattle.naga_oil_link.specs.BuiltModule.{built_of};
 ghost use Rattle.naga_oil_link.specs.OwnPlaces.{own_of};
 ghost use Rattle.naga_oil_build.specs.Held.{parse_whole, copy_tested, hold};

@@ -2,7 +2,7 @@
 ghost use Rattle.std.specs.Prelude.{◌≡◌, ◌++◌, [], map, take, option_map, string_bytes, IfOk, OnOk};
 ghost use Rattle.naga_oil_ir.specs.ModuleValue.{module_value, function_value};
 ghost use Rattle.naga_oil_ir.specs.Rows.{type_row, constant_row, global_row, member_label};
-ghost use Rattle.naga_oil_pre.specs.View.{Gives};
+ghost use Rattle.naga_oil_conditions.specs.View.{Gives};
 ghost use Rattle.naga_oil_link.specs.BuiltModule.{built_of};
 ghost use Rattle.naga_oil_link.specs.OwnPlaces.{own_of};
 ghost use Rattle.naga_oil_lines.specs.Text.{texts};

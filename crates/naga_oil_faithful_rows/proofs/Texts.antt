@@ -16,14 +16,14 @@ use Rattle.naga_oil_imports.specs.Substituted.{paths_for, path_text, mentions_at
 use Rattle.naga_oil_lines.specs.Text.{past_word}
 use Rattle.naga_oil_lines.specs.Tokens.{lexemes, more_in_token, tail_len}
 use Rattle.naga_oil_imports.specs.Uses.{Use}
-use Rattle.naga_oil_pre.specs.Computing.{line_kinds}
+use Rattle.naga_oil_conditions.specs.Computing.{line_kinds}
 use Rattle.naga_oil_pre.specs.DirectiveLines.{cut_at, listed, treated, directive_of}
 use Rattle.naga_oil_pre.specs.Extracted.{taken_out, extracted}
 use Rattle.naga_oil_pre.specs.Metadata.{metadata}
 use Rattle.naga_oil_pre.specs.Preprocessed.{Output, preprocessed}
 use Rattle.naga_oil_pre.specs.Reading.{reading, read_block, read_arms}
 use Rattle.naga_oil_pre.specs.Recorded.{names_from, names_of}
-use Rattle.naga_oil_pre.specs.Replaced.{name_at, name_in_braces, hash_name, pieces, replaced_from, replaced, hash_names}
+use Rattle.naga_oil_conditions.specs.Replaced.{name_at, name_in_braces, hash_name, pieces, replaced_from, replaced, hash_names}
 use Rattle.naga_oil_registry.specs.Added.{read_source}
 use Rattle.naga_oil_registry.specs.Definition.{Definition}
 use Rattle.naga_oil_registry.specs.Sanitized.{first_decoration, sanitized}

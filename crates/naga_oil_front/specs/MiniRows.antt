@@ -11,7 +11,7 @@ use Rattle.naga_oil_ir.specs.Parts.{Parts}
 use Rattle.naga_oil_ir.specs.declared.span.Span.{Span}
 use Rattle.naga_oil_ir.specs.declared.tokens.Token.TheVariants.{At, Head, Use, Emitted}
 use Rattle.naga_oil_ir.specs.Spans.{undefined}
-use Rattle.naga_oil_pre.specs.Values.{read_u32}
+use Rattle.naga_oil_conditions.specs.Values.{read_u32}
 use Rattle.naga_oil_front.specs.BodyReader.{end_of}
 use Rattle.naga_oil_symbols.specs.Names.{last_place}
 use Rattle.naga_oil_front.specs.Order.{has_order}

@@ -14,8 +14,8 @@ use Rattle.std.proofs.lemmas.Cmp.{eq_by_cmp_equiv, nat_list_cmp_total}
 use Rattle.std.proofs.lemmas.Map.Keys.{IsDistinct-from_sorted}
 use Rattle.std.proofs.lemmas.Map.Made.{update_all_distinct}
 use Rattle.std.proofs.lemmas.Map.Text.{is_eq-slice_cmp}
-use Rattle.naga_oil_pre.specs.Fault.{Definitions}
-use Rattle.naga_oil_pre.specs.declared.shader_def.ShaderDefValue.{ShaderDefValue}
+use Rattle.naga_oil_conditions.specs.Fault.{Definitions}
+use Rattle.naga_oil_conditions.specs.declared.shader_def.ShaderDefValue.{ShaderDefValue}
 use Rattle.naga_oil_mini.specs.Printed.{overwritten}
 
 abbrev pub Entries : Type 0

@@ -1,12 +1,12 @@
 -- What words define.
 use Rattle.std.specs.Prelude.{ℕ, Bool, true, ◌==◌, if◌then◌else◌, nat_lt, List, [], ◌∷◌, length, slice_index, Option, Some, None, option_map, Result, Ok, Err}
 use Rattle.std.specs.List.{before_first, after_first, position_or_len}
-use Rattle.naga_oil_pre.specs.DefineValue.{defined_value}
-use Rattle.naga_oil_pre.specs.Fault.{Definitions}
-use Rattle.naga_oil_pre.specs.LineKinds.{is_name}
+use Rattle.naga_oil_conditions.specs.DefineValue.{defined_value}
+use Rattle.naga_oil_conditions.specs.Fault.{Definitions}
+use Rattle.naga_oil_conditions.specs.LineKinds.{is_name}
 use Rattle.naga_oil_pre.specs.Metadata.{with_definition}
-use Rattle.naga_oil_pre.specs.declared.shader_def.ShaderDefValue.{ShaderDefValue}
-use Rattle.naga_oil_pre.specs.declared.shader_def.ShaderDefValue.TheVariants as def
+use Rattle.naga_oil_conditions.specs.declared.shader_def.ShaderDefValue.{ShaderDefValue}
+use Rattle.naga_oil_conditions.specs.declared.shader_def.ShaderDefValue.TheVariants as def
 use Rattle.naga_oil_mini.specs.Words.{is_definition}
 
 -- the value that a word gives: that of a define, but with no sign `+`, and true for the empty text

@@ -4,7 +4,7 @@ use Rattle.naga_oil_mini.specs.Extra.{extra, help, version, metadata_of_file}
 use Rattle.naga_oil_mini.specs.Listing.{listing}
 use Rattle.naga_oil_mini.specs.Words.{asked}
 use Rattle.naga_oil_mini.specs.declared.mini.words.Task.TheVariants.{Preprocess}
-use Rattle.naga_oil_pre.specs.declared.shader_def.ShaderDefValue.TheVariants as def
+use Rattle.naga_oil_conditions.specs.declared.shader_def.ShaderDefValue.TheVariants as def
 
 -- ---- words
 pub help_asked : extra (codes "--help" ∷ []) ≡ Some help

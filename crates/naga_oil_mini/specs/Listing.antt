@@ -8,8 +8,8 @@ use Rattle.std.specs.Ordering.{nat_cmp}
 use Rattle.naga_oil_lines.specs.Text.{is_among}
 use Rattle.naga_oil_imports.specs.Uses.{Import}
 use Rattle.naga_oil_pre.specs.Metadata.{Metadata, metadata}
-use Rattle.naga_oil_pre.specs.Replaced.{value_text}
-use Rattle.naga_oil_pre.specs.declared.shader_def.ShaderDefValue.{ShaderDefValue}
+use Rattle.naga_oil_conditions.specs.Replaced.{value_text}
+use Rattle.naga_oil_conditions.specs.declared.shader_def.ShaderDefValue.{ShaderDefValue}
 use Rattle.naga_oil_registry.specs.Definition.{Defs}
 
 -- ---- lines

@@ -1,7 +1,7 @@
 -- What is printed of a text.
 use Rattle.std.specs.Prelude.{ℕ, true, List, Result, Ok, Err}
 use Rattle.std.specs.Option.{option_or}
-use Rattle.naga_oil_pre.specs.Fault.{Fault, Definitions}
+use Rattle.naga_oil_conditions.specs.Fault.{Fault, Definitions}
 use Rattle.naga_oil_pre.specs.Metadata.{Metadata, metadata}
 use Rattle.naga_oil_pre.specs.Preprocessed.{Output, preprocessed}
 

@@ -3,7 +3,7 @@ use Rattle.std.specs.Prelude.{◌≡◌, ℕ, List, ◌++◌, ◌∷◌, [], cod
 use Rattle.std.specs.Io.KnownBytes.{Appends}
 use Rattle.naga_oil_registry.specs.Report as written
 use Rattle.naga_oil_ir.specs.ModuleValue.{ModuleValue}
-use Rattle.naga_oil_pre.specs.Fault.{Definitions, Fault as FaultOfText}
+use Rattle.naga_oil_conditions.specs.Fault.{Definitions, Fault as FaultOfText}
 use Rattle.naga_oil_pre.specs.Metadata.{none_defined}
 use Rattle.naga_oil_mini.specs.Defined.{defined_by}
 use Rattle.naga_oil_mini.specs.Printed.{printed}

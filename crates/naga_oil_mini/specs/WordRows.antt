@@ -3,11 +3,11 @@ use lib.Utf8.{encode}
 use Rattle.std.specs.Prelude.{◌≡◌, refl, negsuc, true, false, Some, None, [], ◌∷◌, Ok, Err, codes}
 use Rattle.std.specs.Str.{chars}
 use Rattle.ucd_perl.proofs.Computing.{ucd_perl}
-use Rattle.naga_oil_pre.specs.DefineValue.{defined_value}
-use Rattle.naga_oil_pre.specs.LineKinds.{is_name}
+use Rattle.naga_oil_conditions.specs.DefineValue.{defined_value}
+use Rattle.naga_oil_conditions.specs.LineKinds.{is_name}
 use Rattle.naga_oil_pre.specs.Metadata.{none_defined, with_definition}
-use Rattle.naga_oil_pre.specs.Values.{read_u32, read_i32, read_bool}
-use Rattle.naga_oil_pre.specs.declared.shader_def.ShaderDefValue.TheVariants as def
+use Rattle.naga_oil_conditions.specs.Values.{read_u32, read_i32, read_bool}
+use Rattle.naga_oil_conditions.specs.declared.shader_def.ShaderDefValue.TheVariants as def
 use Rattle.naga_oil_mini.specs.Defined.{definition_word, defined_by}
 use Rattle.naga_oil_mini.specs.Words.{added_import, asked}
 use Rattle.naga_oil_mini.specs.declared.mini.words.Task.TheVariants.{Preprocess, Make}

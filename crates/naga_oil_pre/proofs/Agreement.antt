@@ -5,15 +5,15 @@ use Rattle.std.specs.List.{flat_map}
 use Rattle.std.specs.Str.{chars, encode_utf8_all}
 use Rattle.std.proofs.lemmas.Slice.Eq.{bytes_eq-Decides}
 use Rattle.std.proofs.lemmas.List.Folds.{list_any-append}
-use Rattle.naga_oil_pre.specs.declared.scope.ScopeLevel.{ScopeLevel}
-use Rattle.naga_oil_pre.specs.Line.{Line, source_lines, end_place}
+use Rattle.naga_oil_conditions.specs.declared.scope.ScopeLevel.{ScopeLevel}
+use Rattle.naga_oil_conditions.specs.Line.{Line, source_lines, end_place}
 use Rattle.naga_oil_lines.specs.Text.{◌>>=◌, is_among}
-use Rattle.naga_oil_pre.specs.LineKinds as grammar
-use Rattle.naga_oil_pre.specs.Kind.{LineKind, version, condition, endif, imports, import_path, define, other, kind_of, unversioned_kind_of, read_as, ◌or_else◌, Condition, defined, undefined, compares, otherwise}
-use Rattle.naga_oil_pre.specs.Fault.{Fault, invalid_version, invalid_import, Definitions, evaluated, comparison, is_met}
+use Rattle.naga_oil_conditions.specs.LineKinds as grammar
+use Rattle.naga_oil_conditions.specs.Kind.{LineKind, version, condition, endif, imports, import_path, define, other, kind_of, unversioned_kind_of, read_as, ◌or_else◌, Condition, defined, undefined, compares, otherwise}
+use Rattle.naga_oil_conditions.specs.Fault.{Fault, invalid_version, invalid_import, Definitions, evaluated, comparison, is_met}
 use Rattle.naga_oil_pre.specs.Reading.{braces_after, taken}
-use Rattle.naga_oil_pre.specs.Replaced.{Piece, plain, named, pieces, value_or, piece_text, name_of, hash_names, replaced, replaced_from}
-use Rattle.naga_oil_pre.specs.Scope.{is_active, is_open, level}
+use Rattle.naga_oil_conditions.specs.Replaced.{Piece, plain, named, pieces, value_or, piece_text, name_of, hash_names, replaced, replaced_from}
+use Rattle.naga_oil_conditions.specs.Scope.{is_active, is_open, level}
 use Rattle.naga_oil_pre.specs.Step.{Step, step, else_step, end_step, opened, scanned}
 use Rattle.naga_oil_imports.specs.Substituted.{substituted, sites, first_ambiguous, used_by}
 use Rattle.naga_oil_pre.specs.Preprocessed as becomes

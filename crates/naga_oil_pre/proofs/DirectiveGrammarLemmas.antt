@@ -12,10 +12,10 @@ use Rattle.std.proofs.lemmas.List.Folds.{length-prefix_len}
 use Rattle.std.proofs.lemmas.Bool.{and_parts}
 use Rattle.naga_oil_lines.specs.Text.{◌>>=◌, past_word}
 use Rattle.naga_oil_lines.proofs.TextLemmas.{past_word-append, past_word-some}
-use Rattle.naga_oil_pre.specs.LineGrammar.{IsRun}
+use Rattle.naga_oil_conditions.specs.LineGrammar.{IsRun}
 use Rattle.naga_oil_pre.specs.DirectiveLines.{Directive, enabling, requiring, treating, wrong, passing, ending, cut_at, begins_list, listed, treated, extensions, is_severity, unknown_severity, is_between, named, graded, directive_of}
 use Rattle.naga_oil_pre.specs.DirectiveGrammar.{IsUpTo, IsList, HasList, IsNaming, IsNameless, IsDiagnostic, IsNone, IsDirective}
-use Rattle.naga_oil_pre.proofs.RunLemmas.{some_is, bind_some, run-only, run-is}
+use Rattle.naga_oil_conditions.proofs.RunLemmas.{some_is, bind_some, run-only, run-is}
 
 -- ---- up to a byte
 behind_first : (before behind : List ℕ) (c n : ℕ) (text : List ℕ) → text ≡ before ++ (c ∷ behind) → n ≡ length before → drop (n + 1) text ≡ behind

@@ -14,7 +14,7 @@ use Rattle.naga_oil_lines.specs.Text.{BeginsWithChar}
 use Rattle.naga_oil_lines.specs.Text.{past_word}
 use Rattle.naga_oil_pre.specs.DirectiveLines.{Directive, enabling, requiring, wrong, cut_at, begins_list, listed, extensions, named, directive_of}
 use Rattle.naga_oil_lines.proofs.TextLemmas.{past_word-append, past_word-some, none_unless}
-use Rattle.naga_oil_pre.proofs.LineKindLemmas.{chars-none}
+use Rattle.naga_oil_conditions.proofs.LineKindLemmas.{chars-none}
 
 -- what `strip_prefix` says of the bytes
 pub past_word_bytes : (word text : List ℕ) (r : Option (Bor (List ℕ))) → MatchOption r (FindsTextPrefix word text None) (λ x. StripsPrefix (FindsTextPrefix word) text x.now)

@@ -10,9 +10,9 @@ use Rattle.std.proofs.lemmas.List.{nil_from_length}
 use Rattle.std.proofs.lemmas.Str.{length-encode, len_utf8_bounds}
 use Rattle.naga_oil_lines.specs.Directives.{Directives, no_directives}
 use Rattle.naga_oil_lines.proofs.LineLemmas.{lines_first}
-use Rattle.naga_oil_pre.specs.declared.fault.ComposerErrorInner.{ComposerErrorInner}
-use Rattle.naga_oil_pre.specs.Fault.{Fault}
-use Rattle.naga_oil_pre.specs.View.{Fails, fault_of}
+use Rattle.naga_oil_conditions.specs.declared.fault.ComposerErrorInner.{ComposerErrorInner}
+use Rattle.naga_oil_conditions.specs.Fault.{Fault}
+use Rattle.naga_oil_conditions.specs.View.{Fails, fault_of}
 use Rattle.naga_oil_pre.specs.DirectiveLines.{Directive, enabling, requiring, treating, wrong, passing, ending, directive_of}
 use Rattle.naga_oil_pre.specs.Extracted.{Extracted, kept, found, goes_on, ◌and◌, onto, taken_out, join_lines, extracted}
 

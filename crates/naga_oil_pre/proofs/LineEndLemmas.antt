@@ -20,19 +20,19 @@ use Rattle.naga_oil_imports.specs.Declarations.{Declared, with_path}
 use Rattle.naga_oil_imports.specs.Leaves.{Leaf, import_leaves, with_leaves}
 use Rattle.naga_oil_imports.specs.Substituted.{substituted, sites, first_ambiguous}
 use Rattle.naga_oil_imports.proofs.SubstitutedLines.{substituted_holds_no_newline}
-use Rattle.naga_oil_pre.specs.declared.scope.ScopeLevel.{ScopeLevel}
-use Rattle.naga_oil_pre.specs.declared.shader_def.ShaderDefValue.{ShaderDefValue}
-use Rattle.naga_oil_pre.specs.declared.shader_def.ShaderDefValue.TheVariants as def
-use Rattle.naga_oil_pre.specs.Line.{Line, placed, next_place, source_lines, end_place}
-use Rattle.naga_oil_pre.specs.Kind.{LineKind, version, condition, endif, imports, import_path, define, other, kind_of}
-use Rattle.naga_oil_pre.specs.Fault.{Fault, Definitions, evaluated}
+use Rattle.naga_oil_conditions.specs.declared.scope.ScopeLevel.{ScopeLevel}
+use Rattle.naga_oil_conditions.specs.declared.shader_def.ShaderDefValue.{ShaderDefValue}
+use Rattle.naga_oil_conditions.specs.declared.shader_def.ShaderDefValue.TheVariants as def
+use Rattle.naga_oil_conditions.specs.Line.{Line, placed, next_place, source_lines, end_place}
+use Rattle.naga_oil_conditions.specs.Kind.{LineKind, version, condition, endif, imports, import_path, define, other, kind_of}
+use Rattle.naga_oil_conditions.specs.Fault.{Fault, Definitions, evaluated}
 use Rattle.naga_oil_pre.specs.Reading.{reading, braces_after, taken, is_unclosed}
-use Rattle.naga_oil_pre.specs.Replaced.{plain, named, hash_name, pieces, piece_text, value_text, value_or, replaced_from, replaced}
+use Rattle.naga_oil_conditions.specs.Replaced.{plain, named, hash_name, pieces, piece_text, value_text, value_or, replaced_from, replaced}
 use Rattle.naga_oil_pre.specs.Preprocessed.{Status, blanked, shown, imported, noted, condition_status, stray_status, statuses, end_status, Known, nothing_known, Output, Passage, written, end_line, spaces, tokens_of, using_tokens, shown_text, shown_passage, imported_passage, import_text, passage, prepend, prepend_passage, preprocessed}
-use Rattle.naga_oil_pre.specs.Scope.{is_active, is_open}
+use Rattle.naga_oil_conditions.specs.Scope.{is_active, is_open}
 use Rattle.naga_oil_pre.specs.Step.{step, opened, scanned}
 use Rattle.naga_oil_pre.specs.LineEnds.{paths_among, paths_by, declared_paths}
-use Rattle.naga_oil_pre.proofs.ReplacedLemmas.{no_ends_in_both, no_ends_in_character, replaced_holds_no_newline}
+use Rattle.naga_oil_conditions.proofs.ReplacedLemmas.{no_ends_in_both, no_ends_in_character, replaced_holds_no_newline}
 use Rattle.naga_oil_pre.proofs.LineParts.{KeepsFront, holds_of_lines}
 use Rattle.naga_oil_pre.proofs.ReadingLemmas.{IsReading-reading}
 use Rattle.naga_oil_pre.proofs.Machine.{scanned_reading, scanned_statuses}

@@ -8,7 +8,7 @@ use Rattle.std.specs.Str.Lines.{lines, lines_of_parts, strip_carriage_return}
 use Rattle.std.proofs.lemmas.List.Elements.{All-cons, All-nil, All-head, All-tail}
 use Rattle.std.proofs.lemmas.List.Sums.{sum_by-cons}
 use Rattle.std.proofs.lemmas.List.Splits.{slice_split-cons_no, length-slice_split}
-use Rattle.naga_oil_pre.proofs.ReplacedLemmas.{no_ends_in_character}
+use Rattle.naga_oil_conditions.proofs.ReplacedLemmas.{no_ends_in_character}
 
 abbrev is_end : ℕ → Bool
 is_end b = eqb b 10

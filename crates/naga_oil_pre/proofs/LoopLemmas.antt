@@ -2,11 +2,11 @@
 use Rattle.std.specs.Prelude.{OnOk, IfErr, String}
 use Rattle.std.specs.declared.alloc.Global.{Global}
 use Rattle.naga_oil_imports.specs.declared.import_definition.ImportDefWithOffset.{ImportDefWithOffset}
-use Rattle.std.proofs.Common.{◌≡◌, ℕ, zero, suc, ◌+◌, ◌<◌, ◌≤◌, ◌^◌, Bool, true, false, List, [], ◌∷◌, ◌++◌, map, length, replicate, refl, sym, ap, subst, ◌∙◌, append_assoc, append-nil, Option, Some, None, MatchOption, Result, Ok, Err, arith}
+use Rattle.std.proofs.Common.{◌≡◌, ℕ, zero, suc, ◌+◌, ◌<◌, ◌≤◌, ◌^◌, true, false, List, [], ◌∷◌, ◌++◌, map, length, refl, sym, ap, subst, ◌∙◌, append_assoc, append-nil, Option, Some, None, MatchOption, Result, Ok, Err, arith}
 use Rattle.naga_oil_imports.specs.Declarations.{Declared}
 use Rattle.naga_oil_imports.specs.Leaves.{Leaf, SyntaxFault, import_leaves, with_leaves, with_import as declared_behind}
 use Rattle.naga_oil_imports.specs.Uses.{Use, Uses, use_of, use_entry}
-use Rattle.naga_oil_imports.specs.Substituted.{Site, substituted, sites, first_ambiguous, is_refused, usize_sites, used_by}
+use Rattle.naga_oil_imports.specs.Substituted.{Site, substituted, sites, first_ambiguous, usize_sites, used_by}
 use denote.Ref.{Bor}
 use Rattle.std.specs.Str.{IsUtf8, chars}
 use Rattle.naga_oil_imports.proofs.ImportPlaceLemmas.{fault_within}
@@ -18,20 +18,20 @@ use Rattle.naga_oil_imports.specs.declared.parse_imports.ImportFault.TheVariants
 use Rattle.naga_oil_imports.specs.SubstituteFault.{RefusesUses}
 use Rattle.naga_oil_imports.specs.declared.substitute.SubstituteFault.{SubstituteFault}
 use Rattle.naga_oil_imports.specs.declared.substitute.SubstituteFault.TheVariants.{Ambiguous, Memory}
-use Rattle.naga_oil_pre.specs.declared.scope.ScopeLevel.{ScopeLevel}
-use Rattle.naga_oil_pre.specs.declared.fault.ComposerErrorInner.{ComposerErrorInner}
+use Rattle.naga_oil_conditions.specs.declared.scope.ScopeLevel.{ScopeLevel}
+use Rattle.naga_oil_conditions.specs.declared.fault.ComposerErrorInner.{ComposerErrorInner}
 use Rattle.naga_oil_pre.specs.declared.preprocess.Treatment.{Treatment}
 use Rattle.naga_oil_pre.specs.declared.preprocess.Treatment.TheVariants.{Blank, Show, Import}
-use Rattle.naga_oil_pre.specs.Line.{Line, source_lines, end_place}
-use Rattle.naga_oil_pre.specs.Kind.{kind_of}
-use Rattle.naga_oil_pre.specs.Fault.{Fault, Definitions}
+use Rattle.naga_oil_conditions.specs.Line.{Line, source_lines, end_place}
+use Rattle.naga_oil_conditions.specs.Kind.{kind_of}
+use Rattle.naga_oil_conditions.specs.Fault.{Fault, Definitions}
 use Rattle.naga_oil_pre.specs.Reading.{braces_after, reading, taken, behind_taken}
-use Rattle.naga_oil_pre.specs.Replaced.{replaced}
-use Rattle.naga_oil_pre.specs.Preprocessed.{Status, blanked, shown, imported, noted, Known, nothing_known, Output, Passage, written, end_line, spaces, padded, blanks, import_text, tokens_of, using_tokens, shown_text, shown_passage, imported_passage, passage, prepend, prepend_passage, end_status, preprocessed}
+use Rattle.naga_oil_conditions.specs.Replaced.{replaced}
+use Rattle.naga_oil_pre.specs.Preprocessed.{Status, blanked, shown, imported, noted, Known, nothing_known, Output, Passage, written, end_line, spaces, padded, blanks, import_text, tokens_of, using_tokens, shown_passage, imported_passage, passage, prepend, prepend_passage, end_status, preprocessed}
 use Rattle.naga_oil_pre.specs.Step.{Step, step, opened, scanned}
-use Rattle.naga_oil_pre.specs.Scope.{is_open}
+use Rattle.naga_oil_conditions.specs.Scope.{is_open}
 use Rattle.naga_oil_pre.specs.Treatment.{status_of, open_after}
-use Rattle.naga_oil_pre.specs.View.{Fails, fault_of}
+use Rattle.naga_oil_conditions.specs.View.{Fails, fault_of}
 use Rattle.naga_oil_pre.proofs.Machine.{scanned_reading}
 use Rattle.naga_oil_pre.proofs.ReadingLemmas.{IsReading-reading}
 

@@ -1,13 +1,13 @@
 -- The loop gives what the reading says: by induction on the tree.
 use Rattle.std.proofs.Common.{◌≡◌, ℕ, zero, suc, Bool, true, false, ◌&&◌, ◌||◌, not, List, [], ◌∷◌, ◌++◌, map, refl, ap, sym, subst, ◌∙◌, append_assoc, append-nil}
-use Rattle.naga_oil_pre.specs.declared.scope.ScopeLevel.{ScopeLevel}
-use Rattle.naga_oil_pre.specs.declared.scope.ScopeLevel.TheVariants.{Active, PreviouslyActive, NotActive}
-use Rattle.naga_oil_pre.specs.Line.{Line}
-use Rattle.naga_oil_pre.specs.Kind.{LineKind, version, condition, endif, imports, import_path, define, other, kind_of}
-use Rattle.naga_oil_pre.specs.Fault.{Definitions, evaluated, outcome, is_met, holds}
+use Rattle.naga_oil_conditions.specs.declared.scope.ScopeLevel.{ScopeLevel}
+use Rattle.naga_oil_conditions.specs.declared.scope.ScopeLevel.TheVariants.{Active, PreviouslyActive, NotActive}
+use Rattle.naga_oil_conditions.specs.Line.{Line}
+use Rattle.naga_oil_conditions.specs.Kind.{LineKind, version, condition, endif, imports, import_path, define, other, kind_of}
+use Rattle.naga_oil_conditions.specs.Fault.{Definitions, evaluated, outcome, is_met, holds}
 use Rattle.naga_oil_pre.specs.Reading.{Block, nothing, line, import, chain, unclosed, Arms, last_arm, arm, lines_of, arm_lines, begins_arm, ends_chain, is_import, is_plain, braces_after, taken, Takes, is_nothing, IsBlock, AreArms, IsReading, is_unclosed}
 use Rattle.naga_oil_pre.specs.Preprocessed.{Status, blanked, imported, condition_status, plain_status, statuses, arm_statuses, written, nothing_known, end_status, read_so}
-use Rattle.naga_oil_pre.specs.Scope.{level, is_active_level, has_met, is_active, is_open}
+use Rattle.naga_oil_conditions.specs.Scope.{level, is_active_level, has_met, is_active, is_open}
 use Rattle.naga_oil_pre.specs.Step.{Step, step, opened, scanned}
 
 -- what a step gives, with the braces that it leaves open

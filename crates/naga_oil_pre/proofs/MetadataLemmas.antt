@@ -11,14 +11,14 @@ use Rattle.naga_oil_lines.specs.Directives.{Directives, directives_of}
 use Rattle.naga_oil_imports.specs.Leaves.{Leaf, SyntaxFault}
 use Rattle.naga_oil_imports.specs.Uses.{Import, import_of, use_of}
 use Rattle.naga_oil_pre.specs.declared.metadata.PreprocessorMetaData.{PreprocessorMetaData}
-use Rattle.naga_oil_pre.specs.declared.fault.ComposerErrorInner.{ComposerErrorInner}
+use Rattle.naga_oil_conditions.specs.declared.fault.ComposerErrorInner.{ComposerErrorInner}
 use Rattle.naga_oil_pre.specs.Extracted.{extracted}
-use Rattle.naga_oil_pre.specs.Line.{Line, source_lines}
+use Rattle.naga_oil_conditions.specs.Line.{Line, source_lines}
 use Rattle.naga_oil_pre.specs.MetadataView.{has_with, Gains, metadata_of}
 use Rattle.naga_oil_pre.specs.Preprocessed.{Passage, imported_passage, preprocessed}
 use Rattle.naga_oil_pre.specs.Reading.{braces_after, taken, behind_taken}
 use Rattle.naga_oil_pre.specs.Recorded.{line_names, names_of, is_recorded, AgreeOn}
-use Rattle.naga_oil_pre.specs.View.{Fails, fault_of}
+use Rattle.naga_oil_conditions.specs.View.{Fails, fault_of}
 use Rattle.naga_oil_pre.proofs.Agreement.{recorded_names_decide}
 use Rattle.naga_oil_pre.proofs.LoopLemmas.{taken_first, taken_none}
 use Rattle.naga_oil_pre.proofs.RecordedLemmas.{gained}
@@ -29,9 +29,9 @@ use Rattle.std.specs.Cmp.Lexicographic.{slice_cmp}
 use Rattle.std.specs.Ordering.{nat_cmp}
 use Rattle.std.specs.String.{string_cmp}
 use Rattle.std.proofs.lemmas.Map.Text.{btree_map_updates_text}
-use Rattle.naga_oil_pre.specs.declared.shader_def.ShaderDefValue.{ShaderDefValue}
-use Rattle.naga_oil_pre.specs.Fault.{Fault, Definitions}
-use Rattle.naga_oil_pre.specs.DefineValue.{defined_value}
+use Rattle.naga_oil_conditions.specs.declared.shader_def.ShaderDefValue.{ShaderDefValue}
+use Rattle.naga_oil_conditions.specs.Fault.{Fault, Definitions}
+use Rattle.naga_oil_conditions.specs.DefineValue.{defined_value}
 use Rattle.naga_oil_pre.specs.Metadata.{Found, Metadata, nothing_found, metadata_with, metadata_of_cleaned, metadata_behind, metadata, data_of, with_definition, defined_as, defined_behind, with_import, going_on, found_in}
 
 -- ---- defines

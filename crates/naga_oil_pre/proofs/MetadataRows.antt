@@ -11,14 +11,14 @@ use Rattle.naga_oil_imports.specs.Leaves.{parts, leaves_of, line_leaves}
 use Rattle.naga_oil_imports.specs.Substituted.{paths_for, path_text, mentions_at}
 use Rattle.naga_oil_lines.specs.Tokens.{lexemes, more_in_token, tail_len}
 use Rattle.naga_oil_imports.specs.Uses.{Use}
-use Rattle.naga_oil_pre.specs.declared.shader_def.ShaderDefValue.{ShaderDefValue}
-use Rattle.naga_oil_pre.specs.declared.shader_def.ShaderDefValue.TheVariants as def
-use Rattle.naga_oil_pre.specs.Computing.{line_kinds}
-use Rattle.naga_oil_pre.specs.DefineValue.{defined_value}
-use Rattle.naga_oil_pre.specs.Fault.{Fault, define_in_module, invalid_definition, invalid_import}
-use Rattle.naga_oil_pre.specs.Line.{source_lines}
+use Rattle.naga_oil_conditions.specs.declared.shader_def.ShaderDefValue.{ShaderDefValue}
+use Rattle.naga_oil_conditions.specs.declared.shader_def.ShaderDefValue.TheVariants as def
+use Rattle.naga_oil_conditions.specs.Computing.{line_kinds}
+use Rattle.naga_oil_conditions.specs.DefineValue.{defined_value}
+use Rattle.naga_oil_conditions.specs.Fault.{Fault, define_in_module, invalid_definition, invalid_import}
+use Rattle.naga_oil_conditions.specs.Line.{source_lines}
 use Rattle.naga_oil_pre.specs.Metadata.{Found, nothing_found, found_in}
-use Rattle.naga_oil_pre.specs.Values.{read_u32, read_i32, read_bool}
+use Rattle.naga_oil_conditions.specs.Values.{read_u32, read_i32, read_bool}
 
 -- a text of these lines
 text : List (List ℕ) → List ℕ

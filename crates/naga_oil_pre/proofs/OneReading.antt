@@ -1,8 +1,8 @@
 -- A text has one reading only.
 use Rattle.std.proofs.Common.{◌≡◌, ℕ, zero, suc, ◌+◌, ◌*◌, ◌≤◌, Bool, true, false, ◌&&◌, ◌||◌, not, List, [], ◌∷◌, ◌++◌, length, refl, ap, sym, subst, ◌∙◌, append_assoc, append-nil, arith, length-append}
-use Rattle.naga_oil_pre.specs.Line.{Line}
-use Rattle.naga_oil_pre.specs.Kind.{LineKind, version, condition, endif, imports, import_path, define, other, kind_of}
-use Rattle.naga_oil_pre.specs.Fault.{Definitions, holds}
+use Rattle.naga_oil_conditions.specs.Line.{Line}
+use Rattle.naga_oil_conditions.specs.Kind.{LineKind, version, condition, endif, imports, import_path, define, other, kind_of}
+use Rattle.naga_oil_conditions.specs.Fault.{Definitions, holds}
 use Rattle.naga_oil_pre.specs.Reading.{Block, nothing, line, import, chain, unclosed, Arms, last_arm, arm, lines_of, arm_lines, begins_arm, ends_chain, is_import, is_plain, braces_after, taken, behind_taken, Takes, is_nothing, IsBlock, AreArms, IsReading, Role, plain, opens, takes, leaves, role_of, role, Read, ReadArms, chain_read, unit_read, block_read, arms_on, arms_read, read_block, read_arms, reading}
 use Rattle.naga_oil_pre.proofs.ReadingLemmas.{Stops}
 

@@ -11,16 +11,16 @@ use Rattle.unicode_ident.specs.Ident.{is_xid_start, is_xid_continue}
 use Rattle.unicode_ident.proofs.Computing.{unicode_ident}
 use Rattle.naga_oil_lines.specs.Tokens.{Lexeme, identifier, other, whitespace, tail_len, more_in_token, lexeme_at, lexemes, is_whitespace_lexeme, emit as emitted}
 use Rattle.naga_oil_imports.specs.Leaves.{SyntaxFault, Alias, no_alias, as_name, lacking, alias_after, alias_len, Part, head, leaf, close, nothing, wrong, before_brace, unit_part, unit_len, at_semicolon, mark_part, parts, is_open, open_heads, Leaf, part_leaves, at_end, is_old_head, then_leaves, leaves_of, behind_hash, behind_import, line_leaves, import_leaves, key_of}
-use Rattle.naga_oil_pre.specs.declared.scope.ScopeLevel.{ScopeLevel}
-use Rattle.naga_oil_pre.specs.Line.{Line, source_lines}
-use Rattle.naga_oil_pre.specs.Kind.{LineKind, version, condition, endif, imports, import_path, define, other as other_line, kind_of}
-use Rattle.naga_oil_pre.specs.Fault.{Fault, Definitions, evaluated}
+use Rattle.naga_oil_conditions.specs.declared.scope.ScopeLevel.{ScopeLevel}
+use Rattle.naga_oil_conditions.specs.Line.{Line, source_lines}
+use Rattle.naga_oil_conditions.specs.Kind.{LineKind, version, condition, endif, imports, import_path, define, other as other_line, kind_of}
+use Rattle.naga_oil_conditions.specs.Fault.{Fault, Definitions, evaluated}
 use Rattle.naga_oil_pre.specs.Reading.{braces_after, taken}
 use Rattle.naga_oil_pre.specs.Preprocessed.{blanked, shown, imported, condition_status, stray_status, end_status, end_line, import_text}
-use Rattle.naga_oil_pre.specs.Scope.{is_active, is_open as has_open}
+use Rattle.naga_oil_conditions.specs.Scope.{is_active, is_open as has_open}
 use Rattle.naga_oil_pre.specs.Step.{step, opened, scanned}
 use Rattle.naga_oil_pre.specs.LineEnds.{paths_among, paths_by, declared_paths}
-use Rattle.naga_oil_pre.proofs.ReplacedLemmas.{no_ends_in_both, no_ends_in_text}
+use Rattle.naga_oil_conditions.proofs.ReplacedLemmas.{no_ends_in_both, no_ends_in_text}
 use Rattle.naga_oil_pre.proofs.LineEndLemmas.{paths_scanned}
 use Rattle.naga_oil_pre.proofs.QuotelessTexts.{Quoteless, none_quoted, both, empty, one_end, IsQuotelessLine, source_quoteless}
 

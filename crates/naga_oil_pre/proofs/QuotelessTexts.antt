@@ -17,7 +17,7 @@ use Rattle.naga_oil_lines.specs.declared.comment_strip_iter.Mark.{Mark}
 use Rattle.naga_oil_lines.specs.declared.comment_strip_iter.Mark.TheVariants.{LineComment, Open, Close, DoubleQuote}
 use Rattle.naga_oil_lines.specs.Cover.{Covered, with_front, spaces, plain, deeper, shallower, past_quote, mark_at, cover}
 use Rattle.naga_oil_lines.specs.CoveredLines.{covered_lines}
-use Rattle.naga_oil_pre.specs.Line.{Line, placed, next_place, source_lines}
+use Rattle.naga_oil_conditions.specs.Line.{Line, placed, next_place, source_lines}
 use Rattle.naga_oil_pre.proofs.LineParts.{KeepsFront, holds_of_lines}
 
 abbrev is_quote : ℕ → Bool

@@ -16,8 +16,8 @@ use Rattle.std.proofs.lemmas.Str.{chars-append, chars_from_encodes}
 use Rattle.naga_oil_pre.specs.MetadataView.{has_with, Gains}
 use Rattle.naga_oil_pre.specs.Recorded.{names_from}
 use Rattle.naga_oil_lines.specs.Text.{is_among}
-use Rattle.naga_oil_pre.specs.Replaced.{HashName, hash_name, pieces, name_of}
-use Rattle.naga_oil_pre.specs.Splits.{SplitsHashName, SplitsAtHash}
+use Rattle.naga_oil_conditions.specs.Replaced.{HashName, hash_name, pieces, name_of}
+use Rattle.naga_oil_conditions.specs.Splits.{SplitsHashName, SplitsAtHash}
 
 -- ---- what a set has
 or_assoc : (a b c : Bool) → ((a || b) || c) ≡ (a || (b || c))

@@ -5,9 +5,9 @@ use Rattle.std.specs.Prelude.{codes}
 use Rattle.std.specs.Str.{chars}
 use Rattle.ucd_perl.proofs.Computing.{ucd_perl}
 use Rattle.naga_oil_lines.specs.Cover.{cover}
-use Rattle.naga_oil_pre.specs.Computing.{line_kinds}
-use Rattle.naga_oil_pre.specs.Line.{source_lines}
-use Rattle.naga_oil_pre.specs.Replaced.{hash_names, pieces, hash_name, name_at, name_in_braces}
+use Rattle.naga_oil_conditions.specs.Computing.{line_kinds}
+use Rattle.naga_oil_conditions.specs.Line.{source_lines}
+use Rattle.naga_oil_conditions.specs.Replaced.{hash_names, pieces, hash_name, name_at, name_in_braces}
 use Rattle.naga_oil_pre.specs.Recorded.{names_of}
 
 -- a text of these lines

@@ -3,7 +3,7 @@
 use Rattle.std.specs.Prelude.{◌≡◌, ◌⊎◌, ℕ, true, false, ◌==◌, not, List, [], ◌∷◌, ◌++◌, codes}
 use Rattle.std.specs.Char.{is_whitespace}
 use Rattle.std.specs.Str.{byte, chars, trim, trim_start}
-use Rattle.naga_oil_pre.specs.LineGrammar.{IsRun}
+use Rattle.naga_oil_conditions.specs.LineGrammar.{IsRun}
 use Rattle.naga_oil_pre.specs.DirectiveLines.{Directive, enabling, requiring, treating, wrong, passing, ending, extensions, is_severity, unknown_severity, is_between}
 
 -- the bytes before the first byte c, and those behind it

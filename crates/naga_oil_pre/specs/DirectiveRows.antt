@@ -4,7 +4,7 @@ use Rattle.std.specs.Prelude.{◌≡◌, refl, [], ◌∷◌, codes, Ok, Err}
 use Rattle.std.specs.Str.{chars, trim_start, trim_end}
 use Rattle.naga_oil_lines.specs.Directives.{no_directives}
 use Rattle.naga_oil_lines.specs.Text.{past_word}
-use Rattle.naga_oil_pre.specs.Fault.{invalid_directive}
+use Rattle.naga_oil_conditions.specs.Fault.{invalid_directive}
 use Rattle.naga_oil_pre.specs.DirectiveLines.{cut_at, listed, treated, directive_of}
 use Rattle.naga_oil_pre.specs.Extracted.{taken_out, extracted}
 

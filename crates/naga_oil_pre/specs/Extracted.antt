@@ -4,7 +4,7 @@ use Rattle.std.specs.List.{join_with_byte}
 use Rattle.std.specs.Str.{trim}
 use Rattle.std.specs.Str.Lines.{lines}
 use Rattle.naga_oil_lines.specs.Directives.{Directives, no_directives}
-use Rattle.naga_oil_pre.specs.Fault.{Fault, invalid_directive}
+use Rattle.naga_oil_conditions.specs.Fault.{Fault, invalid_directive}
 use Rattle.naga_oil_pre.specs.DirectiveLines.{Directive, enabling, requiring, treating, wrong, passing, ending, directive_of}
 
 -- lines without directives, and the directives that they had

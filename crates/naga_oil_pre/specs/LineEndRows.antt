@@ -7,8 +7,8 @@ use Rattle.unicode_ident.proofs.Computing.{unicode_ident}
 use Rattle.naga_oil_lines.specs.Cover.{cover}
 use Rattle.naga_oil_lines.specs.Tokens.{lexemes, more_in_token, tail_len}
 use Rattle.naga_oil_imports.specs.Leaves.{parts, leaves_of, line_leaves}
-use Rattle.naga_oil_pre.specs.Computing.{line_kinds}
-use Rattle.naga_oil_pre.specs.Fault.{Definitions}
+use Rattle.naga_oil_conditions.specs.Computing.{line_kinds}
+use Rattle.naga_oil_conditions.specs.Fault.{Definitions}
 use Rattle.naga_oil_pre.specs.Reading.{reading, read_block, read_arms}
 use Rattle.naga_oil_pre.specs.LineEnds.{declared_paths}
 

@@ -2,8 +2,8 @@
 use Rattle.std.specs.Prelude.{ℕ, ◌==◌, true, Result, Ok, Err, List, [], ◌∷◌, map, count_by}
 use Rattle.std.specs.List.{flat_map}
 use Rattle.naga_oil_imports.specs.Leaves.{Leaf, SyntaxFault, import_leaves}
-use Rattle.naga_oil_pre.specs.Line.{source_lines}
-use Rattle.naga_oil_pre.specs.Fault.{Definitions}
+use Rattle.naga_oil_conditions.specs.Line.{source_lines}
+use Rattle.naga_oil_conditions.specs.Fault.{Definitions}
 use Rattle.naga_oil_pre.specs.Reading.{reading}
 use Rattle.naga_oil_pre.specs.Preprocessed.{Status, blanked, shown, imported, noted, import_text, statuses}
 

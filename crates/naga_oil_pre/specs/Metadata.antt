@@ -4,11 +4,11 @@ use Rattle.naga_oil_lines.specs.Directives.{Directives}
 use Rattle.naga_oil_imports.specs.Leaves.{Leaf, SyntaxFault, import_leaves, with_leaves}
 use Rattle.naga_oil_imports.specs.Uses.{Import, Use}
 use Rattle.naga_oil_imports.specs.Substituted.{used_by}
-use Rattle.naga_oil_pre.specs.declared.shader_def.ShaderDefValue.{ShaderDefValue}
-use Rattle.naga_oil_pre.specs.Line.{Line, source_lines}
-use Rattle.naga_oil_pre.specs.Kind.{LineKind, version, condition, endif, imports, import_path, define, other, unversioned_kind_of}
-use Rattle.naga_oil_pre.specs.Fault.{Fault, Definitions, invalid_definition, invalid_import, define_in_module}
-use Rattle.naga_oil_pre.specs.DefineValue.{defined_value}
+use Rattle.naga_oil_conditions.specs.declared.shader_def.ShaderDefValue.{ShaderDefValue}
+use Rattle.naga_oil_conditions.specs.Line.{Line, source_lines}
+use Rattle.naga_oil_conditions.specs.Kind.{LineKind, version, condition, endif, imports, import_path, define, other, unversioned_kind_of}
+use Rattle.naga_oil_conditions.specs.Fault.{Fault, Definitions, invalid_definition, invalid_import, define_in_module}
+use Rattle.naga_oil_conditions.specs.DefineValue.{defined_value}
 use Rattle.naga_oil_pre.specs.Extracted.{extracted}
 use Rattle.naga_oil_pre.specs.Reading.{braces_after, taken}
 use Rattle.naga_oil_pre.specs.Preprocessed.{Known, nothing_known, tokens_of, import_text}

@@ -7,11 +7,11 @@ use Rattle.naga_oil_imports.specs.Declarations.{Declared}
 use Rattle.naga_oil_imports.specs.Leaves.{Leaf, SyntaxFault, import_leaves, with_leaves}
 use Rattle.naga_oil_imports.specs.Uses.{Use, Uses}
 use Rattle.naga_oil_imports.specs.Substituted.{substituted, sites, first_ambiguous, used_by}
-use Rattle.naga_oil_pre.specs.Line.{Line, source_lines, end_place}
-use Rattle.naga_oil_pre.specs.Kind.{LineKind, version, condition, endif, imports, import_path, define, other, kind_of}
-use Rattle.naga_oil_pre.specs.Fault.{Fault, else_without_condition, too_many_end_ifs, not_enough_end_ifs, invalid_version, invalid_import, Definitions, outcome, evaluated, holds}
+use Rattle.naga_oil_conditions.specs.Line.{Line, source_lines, end_place}
+use Rattle.naga_oil_conditions.specs.Kind.{LineKind, version, condition, endif, imports, import_path, define, other, kind_of}
+use Rattle.naga_oil_conditions.specs.Fault.{Fault, else_without_condition, too_many_end_ifs, not_enough_end_ifs, invalid_version, invalid_import, Definitions, outcome, evaluated, holds}
 use Rattle.naga_oil_pre.specs.Reading.{Block, nothing, line, import, chain, unclosed, Arms, last_arm, arm, is_unclosed, reading}
-use Rattle.naga_oil_pre.specs.Replaced.{replaced}
+use Rattle.naga_oil_conditions.specs.Replaced.{replaced}
 
 -- what is to be done with a line
 pub data Status : Type 0 where

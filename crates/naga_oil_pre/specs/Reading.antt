@@ -1,8 +1,8 @@
 -- How a text is read: a tree of lines, imports and chains of arms.
 use Rattle.std.specs.Prelude.{◌≡◌, ℕ, zero, suc, ◌+◌, ◌-◌, ◌*◌, length, Bool, true, false, not, ◌&&◌, ◌||◌, ◌==◌, count_by, List, [], ◌∷◌, ◌++◌}
-use Rattle.naga_oil_pre.specs.Line.{Line}
-use Rattle.naga_oil_pre.specs.Kind.{LineKind, version, condition, endif, imports, import_path, define, other, kind_of}
-use Rattle.naga_oil_pre.specs.Fault.{Definitions, holds}
+use Rattle.naga_oil_conditions.specs.Line.{Line}
+use Rattle.naga_oil_conditions.specs.Kind.{LineKind, version, condition, endif, imports, import_path, define, other, kind_of}
+use Rattle.naga_oil_conditions.specs.Fault.{Definitions, holds}
 
 mutual
   -- units, one after another

@@ -2,10 +2,10 @@
 use Rattle.std.specs.Prelude.{◌≡◌, ℕ, Bool, true, List, [], ◌∷◌, ◌++◌}
 use Rattle.std.specs.List.{flat_map}
 use Rattle.naga_oil_lines.specs.Text.{is_among}
-use Rattle.naga_oil_pre.specs.Line.{Line, source_lines}
-use Rattle.naga_oil_pre.specs.Kind.{LineKind, version, condition, endif, imports, import_path, define, other, unversioned_kind_of, Condition, defined, undefined, compares, otherwise}
-use Rattle.naga_oil_pre.specs.Fault.{Definitions}
-use Rattle.naga_oil_pre.specs.Replaced.{hash_names, name_of, pieces}
+use Rattle.naga_oil_conditions.specs.Line.{Line, source_lines}
+use Rattle.naga_oil_conditions.specs.Kind.{LineKind, version, condition, endif, imports, import_path, define, other, unversioned_kind_of, Condition, defined, undefined, compares, otherwise}
+use Rattle.naga_oil_conditions.specs.Fault.{Definitions}
+use Rattle.naga_oil_conditions.specs.Replaced.{hash_names, name_of, pieces}
 
 -- the name that a condition asks for; a plain else asks for none
 abbrev pub condition_names : Condition → List (List ℕ)

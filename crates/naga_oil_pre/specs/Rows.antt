@@ -1,11 +1,11 @@
 -- Rows, computed.
 use Rattle.std.specs.Prelude.{◌≡◌, ℕ, refl, true, List, [], ◌∷◌, ◌++◌, codes, bytes_eq, if◌then◌else◌, map, Option, Some, None, replicate}
-use Rattle.naga_oil_pre.specs.declared.shader_def.ShaderDefValue.TheVariants as def
+use Rattle.naga_oil_conditions.specs.declared.shader_def.ShaderDefValue.TheVariants as def
 use Rattle.naga_oil_lines.specs.Cover.{cover}
-use Rattle.naga_oil_pre.specs.Computing.{line_kinds}
-use Rattle.naga_oil_pre.specs.Fault.{Definitions, Fault, comparison, not_enough_end_ifs, too_many_end_ifs, unknown_def, invalid_version}
+use Rattle.naga_oil_conditions.specs.Computing.{line_kinds}
+use Rattle.naga_oil_conditions.specs.Fault.{Definitions, Fault, comparison, not_enough_end_ifs, too_many_end_ifs, unknown_def, invalid_version}
 use Rattle.naga_oil_pre.specs.Reading.{reading, read_block, read_arms, is_unclosed}
-use Rattle.naga_oil_pre.specs.Line.{source_lines, end_place}
+use Rattle.naga_oil_conditions.specs.Line.{source_lines, end_place}
 use Rattle.naga_oil_pre.specs.Preprocessed.{Status, blanked, shown, imported, noted, spaces, statuses, end_status}
 
 none_defined : Definitions

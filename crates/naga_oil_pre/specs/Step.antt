@@ -1,12 +1,12 @@
 -- Line after line under the levels of the open chains, as the loop goes.
 use Rattle.std.specs.Prelude.{ℕ, zero, suc, Bool, true, false, if◌then◌else◌, List, [], ◌∷◌, Result}
-use Rattle.naga_oil_pre.specs.declared.scope.ScopeLevel.{ScopeLevel}
-use Rattle.naga_oil_pre.specs.Line.{Line}
-use Rattle.naga_oil_pre.specs.Kind.{LineKind, version, condition, endif, imports, import_path, define, other, kind_of}
-use Rattle.naga_oil_pre.specs.Fault.{Fault, too_many_end_ifs, Definitions, evaluated, is_met}
+use Rattle.naga_oil_conditions.specs.declared.scope.ScopeLevel.{ScopeLevel}
+use Rattle.naga_oil_conditions.specs.Line.{Line}
+use Rattle.naga_oil_conditions.specs.Kind.{LineKind, version, condition, endif, imports, import_path, define, other, kind_of}
+use Rattle.naga_oil_conditions.specs.Fault.{Fault, too_many_end_ifs, Definitions, evaluated, is_met}
 use Rattle.naga_oil_pre.specs.Reading.{braces_after, taken}
 use Rattle.naga_oil_pre.specs.Preprocessed.{Status, blanked, imported, noted, condition_status, stray_status, plain_status, end_status}
-use Rattle.naga_oil_pre.specs.Scope.{level, has_met, is_active, is_open}
+use Rattle.naga_oil_conditions.specs.Scope.{level, has_met, is_active, is_open}
 
 -- one line under the levels: what is to be done with it, and the levels behind it
 abbrev pub Step : Type 0

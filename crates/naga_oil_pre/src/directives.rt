@@ -11,7 +11,7 @@ ghost use Rattle.naga_oil_pre.specs.DirectiveLines as grammar;
 ghost use Rattle.naga_oil_pre.specs.DirectiveLines.{directive_of, unknown_severity};
 ghost use Rattle.naga_oil_pre.specs.DirectiveView.{line_directive_of};
 ghost use Rattle.naga_oil_pre.specs.Extracted.{kept, found, goes_on, ◌and◌, extracted};
-ghost use Rattle.naga_oil_pre.specs.View.{Gives};
+ghost use Rattle.naga_oil_conditions.specs.View.{Gives};
 
 use super::*;
 use naga_oil_lines::wgsl_directives::{DiagnosticDirective, EnableDirective, RequiresDirective};

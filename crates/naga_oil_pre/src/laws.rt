@@ -1,13 +1,13 @@
 // What holds of every text.
 ghost use Rattle.std.specs.Prelude.{◌≡◌, ◌↔◌, ℕ, List, codes};
-ghost use Rattle.naga_oil_pre.specs.Line.{Line};
-ghost use Rattle.naga_oil_pre.specs.LineKinds as grammar;
-ghost use Rattle.naga_oil_pre.specs.LineGrammar.{Reads, Tests, IsVersion, IsIfdef, IsIfndef, IsIf, IsElse, IsEndif, IsImport, IsImportPath, IsDefine};
-ghost use Rattle.naga_oil_pre.specs.Kind.{LineKind, kind_of, unversioned_kind_of};
-ghost use Rattle.naga_oil_pre.specs.KindGrammar.{IsKind, IsUnversionedKind};
+ghost use Rattle.naga_oil_conditions.specs.Line.{Line};
+ghost use Rattle.naga_oil_conditions.specs.LineKinds as grammar;
+ghost use Rattle.naga_oil_conditions.specs.LineGrammar.{Reads, Tests, IsVersion, IsIfdef, IsIfndef, IsIf, IsElse, IsEndif, IsImport, IsImportPath, IsDefine};
+ghost use Rattle.naga_oil_conditions.specs.Kind.{LineKind, kind_of, unversioned_kind_of};
+ghost use Rattle.naga_oil_conditions.specs.KindGrammar.{IsKind, IsUnversionedKind};
 ghost use Rattle.naga_oil_pre.specs.DirectiveLines.{Directive, directive_of};
 ghost use Rattle.naga_oil_pre.specs.DirectiveGrammar.{IsDirective};
-ghost use Rattle.naga_oil_pre.specs.Fault.{Definitions};
+ghost use Rattle.naga_oil_conditions.specs.Fault.{Definitions};
 ghost use Rattle.naga_oil_pre.specs.Reading.{Block, IsReading, reading};
 ghost use Rattle.naga_oil_pre.specs.Recorded.{is_recorded, AgreeOn};
 ghost use Rattle.naga_oil_pre.specs.Preprocessed.{preprocessed};

@@ -7,21 +7,21 @@ ghost use Rattle.naga_oil_lines.specs.Directives.{directives_of};
 ghost use Rattle.naga_oil_imports.specs.Leaves.{import_leaves};
 ghost use Rattle.naga_oil_imports.specs.Substituted.{used_by};
 ghost use Rattle.naga_oil_imports.specs.Uses.{uses_of, use_of, import_of};
-ghost use Rattle.naga_oil_pre.specs.Line.{source_lines};
+ghost use Rattle.naga_oil_conditions.specs.Line.{source_lines};
 ghost use Rattle.naga_oil_pre.specs.KnownView.{HasMarks};
-ghost use Rattle.naga_oil_pre.specs.KindView.{line_kind_of};
+ghost use Rattle.naga_oil_conditions.specs.KindView.{line_kind_of};
 ghost use Rattle.naga_oil_pre.specs.Metadata.{nothing_found, defined_behind, with_import, found_behind, left_open, going_on, found_in, metadata_of_cleaned, metadata, data_of};
 ghost use Rattle.naga_oil_pre.specs.MetadataView.{has_with, Gains, found_of, metadata_of};
 ghost use Rattle.naga_oil_pre.specs.Preprocessed.{end_line, import_text, tokens_of, preprocessed};
 ghost use Rattle.naga_oil_pre.specs.Reading.{braces_after, taken, behind_taken};
 ghost use Rattle.naga_oil_pre.specs.Recorded.{is_recorded, line_names, names_of, AgreeOn};
-ghost use Rattle.naga_oil_pre.specs.SourceView.{line_of};
-ghost use Rattle.naga_oil_pre.specs.Fault.{Definitions};
-ghost use Rattle.naga_oil_pre.specs.View.{Fails, Gives};
+ghost use Rattle.naga_oil_conditions.specs.SourceView.{line_of};
+ghost use Rattle.naga_oil_conditions.specs.Fault.{Definitions};
+ghost use Rattle.naga_oil_conditions.specs.View.{Fails, Gives};
 
-use super::line_kind::unversioned_line_kind;
 use super::recorded::record_line_names;
 use super::*;
+use naga_oil_conditions::line_kind::unversioned_line_kind;
 use naga_oil_imports::declared_names::DeclaredNames;
 
 /// What a registry needs of a text before any build.

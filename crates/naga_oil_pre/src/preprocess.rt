@@ -3,24 +3,24 @@ ghost use Rattle.std.specs.Prelude.{ℕ, List, ◌≡◌, ◌+◌, ◌∷◌, �
 ghost use Rattle.std.specs.Str.{NoCharPasses};
 ghost use Rattle.std.specs.Str.Lines.{lines};
 ghost use Rattle.std.specs.BTreeMap.{get_by_text};
-ghost use Rattle.naga_oil_pre.specs.Line.{Line, end_place};
-ghost use Rattle.naga_oil_pre.specs.Kind.{kind_of};
+ghost use Rattle.naga_oil_conditions.specs.Line.{Line, end_place};
+ghost use Rattle.naga_oil_conditions.specs.Kind.{kind_of};
 ghost use Rattle.naga_oil_pre.specs.Step.{step, opened, scanned};
-ghost use Rattle.naga_oil_pre.specs.Fault.{Definitions};
-ghost use Rattle.naga_oil_pre.specs.View.{Notes, Fails, Gives};
+ghost use Rattle.naga_oil_conditions.specs.Fault.{Definitions};
+ghost use Rattle.naga_oil_conditions.specs.View.{Fails, Gives};
 ghost use Rattle.naga_oil_pre.specs.Preprocessed.{imported, prepend, passage, written, preprocessed};
 ghost use Rattle.naga_oil_pre.specs.LineEnds.{line_ends, declared_paths};
 ghost use Rattle.naga_oil_pre.specs.KnownView.{known_of, output_of, HasMarks};
 ghost use Rattle.naga_oil_pre.specs.Reading.{taken};
-ghost use Rattle.naga_oil_pre.specs.Treatment.{status_of, open_after};
-ghost use Rattle.naga_oil_pre.specs.SourceView.{line_of};
-ghost use Rattle.naga_oil_pre.specs.declared.scope.ScopeLevel.{ScopeLevel};
+ghost use Rattle.naga_oil_pre.specs.Treatment.{status_of, open_after, Notes};
+ghost use Rattle.naga_oil_conditions.specs.SourceView.{line_of};
+ghost use Rattle.naga_oil_conditions.specs.declared.scope.ScopeLevel.{ScopeLevel};
 
-use super::condition::evaluate;
 use super::imports::{blank_line, show_line, take_lines};
-use super::line_kind::line_kind;
-use super::scope::Scope;
 use super::*;
+use naga_oil_conditions::condition::evaluate;
+use naga_oil_conditions::line_kind::line_kind;
+use naga_oil_conditions::scope::Scope;
 use naga_oil_imports::declared_names::DeclaredNames;
 
 /// What a text becomes.

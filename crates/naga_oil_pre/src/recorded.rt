@@ -1,14 +1,14 @@
 // Records the names that lines ask for.
 ghost use Rattle.std.specs.Prelude.{◌≡◌, ℕ, ◌∷◌, ◌≤◌, [], List, length, OnOk, IfOk};
 ghost use Rattle.std.specs.Str.{chars, IsUtf8};
-ghost use Rattle.naga_oil_pre.specs.KindView.{condition_of, line_kind_of};
+ghost use Rattle.naga_oil_conditions.specs.KindView.{condition_of, line_kind_of};
 ghost use Rattle.naga_oil_pre.specs.MetadataView.{has_with, Gains};
 ghost use Rattle.naga_oil_pre.specs.Recorded.{condition_names, text_names, kind_names, names_from};
-ghost use Rattle.naga_oil_pre.specs.Replaced.{hash_names};
-ghost use Rattle.naga_oil_pre.specs.SourceView.{line_of};
+ghost use Rattle.naga_oil_conditions.specs.Replaced.{hash_names};
+ghost use Rattle.naga_oil_conditions.specs.SourceView.{line_of};
 
-use super::replace::{split_at_hash, split_hash_name};
 use super::*;
+use naga_oil_conditions::replace::{split_at_hash, split_hash_name};
 
 // Records a name. One that is there takes no memory.
 fn record_name(alloc: Global, names: &mut BTreeSet<String>, name: &str) -> Result<(), AllocError>

@@ -5,7 +5,7 @@ use Rattle.std.specs.List.{list_all, flat_map, find, range_with_len}
 use Rattle.std.specs.Str.{bytes_eq}
 use Rattle.naga_oil_lines.specs.DirectivesText.{in_order}
 use Rattle.naga_oil_imports.specs.Uses.{Use}
-use Rattle.naga_oil_pre.specs.Fault.{Fault, import_not_found}
+use Rattle.naga_oil_conditions.specs.Fault.{Fault, import_not_found}
 use Rattle.naga_oil_registry.specs.Added.{Described, all_uses, with_module, imported_among, indexed, definition_over, new_definition, registry_with, ◌>>=◌}
 use Rattle.naga_oil_registry.specs.Definition.{Definition}
 use Rattle.naga_oil_registry.specs.Descriptor.{ModuleSource}

@@ -6,7 +6,7 @@ use Rattle.std.specs.Cmp.Lexicographic.{slice_cmp}
 use Rattle.std.specs.List.{AllZip}
 use Rattle.std.specs.Ordering.{nat_cmp, match_ordering}
 use Rattle.std.specs.String.{string_cmp}
-use Rattle.naga_oil_pre.specs.declared.shader_def.ShaderDefValue.{ShaderDefValue}
+use Rattle.naga_oil_conditions.specs.declared.shader_def.ShaderDefValue.{ShaderDefValue}
 use Rattle.naga_oil_lines.specs.DirectivesText.{with_name}
 use Rattle.naga_oil_registry.specs.Definition.{Defs}
 use Rattle.naga_oil_lines.specs.Text.{texts}

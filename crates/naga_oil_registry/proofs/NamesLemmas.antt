@@ -16,8 +16,8 @@ use Rattle.naga_oil_lines.specs.Directives.{Directives}
 use Rattle.naga_oil_lines.specs.DirectivesText.{with_name, in_order}
 use Rattle.naga_oil_lines.proofs.NamesInOrder.{names_rise}
 use Rattle.naga_oil_pre.specs.Extracted.{extracted}
-use Rattle.naga_oil_pre.specs.Fault.{Fault}
-use Rattle.naga_oil_pre.specs.Line.{source_lines}
+use Rattle.naga_oil_conditions.specs.Fault.{Fault}
+use Rattle.naga_oil_conditions.specs.Line.{source_lines}
 use Rattle.naga_oil_pre.specs.Metadata.{Found, Metadata, metadata, metadata_behind, metadata_with, found_in, nothing_found}
 use Rattle.naga_oil_pre.specs.Recorded.{is_recorded}
 use Rattle.naga_oil_lines.specs.Text.{is_among, texts}

@@ -7,9 +7,9 @@ use Rattle.std.specs.List.{flat_map, fold}
 use Rattle.std.specs.Result.{IsErrAnd}
 use Rattle.naga_oil_lines.specs.DirectivesText.{in_order, with_name}
 use Rattle.naga_oil_imports.specs.Uses.{Import, Use}
-use Rattle.naga_oil_pre.specs.Fault.{Fault, too_many_modules}
-use Rattle.naga_oil_pre.specs.View.{fault_of, Fails, Gives}
-use Rattle.naga_oil_pre.specs.declared.fault.ComposerErrorInner.{ComposerErrorInner}
+use Rattle.naga_oil_conditions.specs.Fault.{Fault, too_many_modules}
+use Rattle.naga_oil_conditions.specs.View.{fault_of, Fails, Gives}
+use Rattle.naga_oil_conditions.specs.declared.fault.ComposerErrorInner.{ComposerErrorInner}
 use Rattle.naga_oil_registry.specs.Added.{Described, all_uses, imported_among, indexed, definition_over, new_definition, ◌>>=◌}
 use Rattle.naga_oil_registry.specs.Definition.{Definition, Defs}
 use Rattle.naga_oil_registry.specs.Descriptor.{ModuleSource}

@@ -3,7 +3,7 @@ use Rattle.std.specs.Prelude.{◌≡◌, ℕ, ◌+◌, List, [], ◌∷◌, ◌+
 use Rattle.std.specs.List.{flat_map}
 use Rattle.naga_oil_lines.specs.DirectivesText.{in_order}
 use Rattle.naga_oil_imports.specs.Uses.{Import, Use}
-use Rattle.naga_oil_pre.specs.Fault.{Fault, decoration_in_source, bindings_exhausted, no_module_name, import_not_found, too_many_modules}
+use Rattle.naga_oil_conditions.specs.Fault.{Fault, decoration_in_source, bindings_exhausted, no_module_name, import_not_found, too_many_modules}
 use Rattle.naga_oil_pre.specs.Metadata.{Metadata, metadata}
 use Rattle.naga_oil_registry.specs.Definition.{Definition}
 use Rattle.naga_oil_registry.specs.Descriptor.{ModuleSource}

@@ -6,7 +6,7 @@ use Rattle.naga_oil_ir.specs.declared.language.ShaderLanguage.{ShaderLanguage}
 use Rattle.naga_oil_lines.specs.Text.{texts}
 use Rattle.naga_oil_imports.specs.Uses.{Import, Use, import_of, use_of}
 use Rattle.naga_oil_lines.specs.Directives.{Directives, directives_of}
-use Rattle.naga_oil_pre.specs.declared.shader_def.ShaderDefValue.{ShaderDefValue}
+use Rattle.naga_oil_conditions.specs.declared.shader_def.ShaderDefValue.{ShaderDefValue}
 use Rattle.naga_oil_registry.specs.declared.definition.ComposableModuleDefinition.{ComposableModuleDefinition}
 
 -- definitions of names, in the byte order of the names

@@ -3,7 +3,7 @@ use Rattle.std.specs.Prelude.{◌≡◌, refl, ℕ, pos, true, false, Some, None
 use Rattle.std.specs.Fmt.{digits}
 use Rattle.naga_oil_ir.specs.declared.language.ShaderLanguage.TheVariants.{Wgsl}
 use Rattle.naga_oil_lines.specs.Directives.{no_directives}
-use Rattle.naga_oil_pre.specs.declared.shader_def.ShaderDefValue.TheVariants.{Int}
+use Rattle.naga_oil_conditions.specs.declared.shader_def.ShaderDefValue.TheVariants.{Int}
 use Rattle.naga_oil_registry.specs.Definition.{Definition}
 use Rattle.naga_oil_registry.specs.Merged.{overwritten}
 use Rattle.naga_oil_registry.specs.Registry.{reaches, removed, free_among}

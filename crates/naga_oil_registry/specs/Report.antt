@@ -5,8 +5,8 @@ use Rattle.std.specs.List.{flat_map, suffix_len}
 use Rattle.naga_oil_ir.specs.RedirectFault.{RedirectFault, not_found, argument_mismatch, return_type_mismatch, circular_reference}
 use Rattle.naga_oil_ir.specs.declared.span.Span.{Span}
 use Rattle.naga_oil_lines.specs.Undecorate.{undecoration}
-use Rattle.naga_oil_pre.specs.Fault as fault
-use Rattle.naga_oil_pre.specs.Fault.{Fault}
+use Rattle.naga_oil_conditions.specs.Fault as fault
+use Rattle.naga_oil_conditions.specs.Fault.{Fault}
 use Rattle.naga_oil_registry.specs.Sanitized.{end_line}
 
 -- ---- what is wrong

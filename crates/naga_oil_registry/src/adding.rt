@@ -2,7 +2,7 @@
 ghost use Rattle.std.specs.Prelude.{◌≡◌, ℕ, List, IfOk, OnOk, OnErr, map, option_map, string_bytes};
 ghost use Rattle.std.specs.BTreeSet.{contains_text};
 ghost use Rattle.naga_oil_imports.specs.Uses.{use_of};
-ghost use Rattle.naga_oil_pre.specs.View.{Gives};
+ghost use Rattle.naga_oil_conditions.specs.View.{Gives};
 ghost use Rattle.naga_oil_registry.specs.Added.{described, imported_among, new_definition, shown_by, Enters};
 ghost use Rattle.naga_oil_registry.specs.Definition.{definition_of};
 ghost use Rattle.naga_oil_registry.specs.Descriptor.{module_source};

@@ -3,7 +3,7 @@ ghost use Rattle.std.specs.Prelude.{◌≡◌, ◌++◌, Some, map, string_bytes
 ghost use Rattle.std.specs.List.{flat_map};
 ghost use Rattle.naga_oil_ir.specs.RedirectFault.{redirect_fault};
 ghost use Rattle.naga_oil_ir.specs.Backend.{labels};
-ghost use Rattle.naga_oil_pre.specs.View.{fault_of, redirection_of};
+ghost use Rattle.naga_oil_conditions.specs.View.{fault_of, redirection_of};
 ghost use Rattle.naga_oil_registry.specs.Report.{message, fault_places, fault_notes, note_line, line_column, span_place, said_behind, place_line, span_lines, place_lines, report_text, report};
 ghost use Rattle.naga_oil_registry.specs.ReportView.{line_starts, report_places};
 

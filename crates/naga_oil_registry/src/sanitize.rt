@@ -1,6 +1,6 @@
 // A source as it is read: marks that it may not hold, its line ends, and the bindings that it asks for.
 ghost use Rattle.std.specs.Prelude.{◌≡◌, ◌∷◌, ◌++◌, ◌+◌, ◌-◌, ◌≤◌, ◌<◌, length, map, IfOk, option_map, string_bytes};
-ghost use Rattle.naga_oil_pre.specs.View.{Gives};
+ghost use Rattle.naga_oil_conditions.specs.View.{Gives};
 ghost use Rattle.naga_oil_registry.specs.Added.{read_source};
 ghost use Rattle.naga_oil_registry.specs.Sanitized.{first_decoration, line_feeds, end_last_line, binding, parts_around, auto_binding, within};
 

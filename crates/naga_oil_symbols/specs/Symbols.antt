@@ -2,7 +2,7 @@
 use Rattle.std.specs.Prelude.{ℕ, Bool, false, ◌||◌, ◌&&◌, ◌==◌, not, nat_lt, if◌then◌else◌, List, [], ◌∷◌, length, slice_index, Option, Some, None, map}
 use Rattle.std.specs.Char.{is_ascii_digit, is_ascii_alphanumeric}
 use Rattle.std.specs.List.{list_all}
-use Rattle.naga_oil_pre.specs.Values.{read_u32}
+use Rattle.naga_oil_conditions.specs.Values.{read_u32}
 use Rattle.naga_oil_symbols.specs.declared.symbol.Symbol.{Symbol as SymbolOfCode}
 use Rattle.naga_oil_symbols.specs.declared.symbol.Symbol.TheVariants as code
 

@@ -78,7 +78,7 @@ pub fn is_name(text: &str) -> bool
     }
 }
 
-#[tactic(auto, using(naga_oil_pre::proofs::ValueLemmas::parses_u32))]
+#[tactic(auto, using(naga_oil_conditions::proofs::ValueLemmas::parses_u32))]
 fn word(run: &str) -> Option<Symbol<'_>>
     ensures { option_map symbol_of result ≡ word_of run.now }
 {

@@ -3,9 +3,9 @@ use Rattle.std.proofs.Common.{◌≡◌, ℕ, zero, suc, ◌+◌, ◌<◌, List,
 use mathlib.Core.Logic.{inl, inr}
 use Rattle.std.specs.Str.{IsUtf8}
 use Rattle.std.proofs.lemmas.List.{drop_more}
-use Rattle.naga_oil_pre.specs.Fault.{Definitions}
+use Rattle.naga_oil_conditions.specs.Fault.{Definitions}
 use Rattle.naga_oil_pre.specs.Metadata.{none_defined, with_definition}
-use Rattle.naga_oil_pre.specs.declared.shader_def.ShaderDefValue.{ShaderDefValue}
+use Rattle.naga_oil_conditions.specs.declared.shader_def.ShaderDefValue.{ShaderDefValue}
 use Rattle.yettuvam_c.specs.Given.{given_value, defined_by, HasOther, RefusesOne, RefusesGiven, RefusesSource, Refuses}
 use Rattle.yettuvam_c.specs.declared.page.Definition.{Definition}
 use Rattle.yettuvam_c.specs.declared.page.Source.{Source}

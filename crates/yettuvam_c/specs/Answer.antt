@@ -1,6 +1,6 @@
 -- What the calls answer.
 use Rattle.std.specs.Prelude.{◌≡◌, ℕ, List, [], ◌∷◌, Bool, true, false, if◌then◌else◌, Result, Ok, Err, Some, MatchResult}
-use Rattle.naga_oil_pre.specs.Fault.{Fault, Definitions}
+use Rattle.naga_oil_conditions.specs.Fault.{Fault, Definitions}
 use Rattle.naga_oil_pre.specs.Metadata.{none_defined, metadata}
 use Rattle.naga_oil_pre.specs.MetadataView.{metadata_of}
 use Rattle.naga_oil_pre.specs.Preprocessed.{Output, preprocessed}

@@ -1,10 +1,10 @@
 -- What the definitions that a caller gives define.
 use Rattle.std.specs.Prelude.{◌≡◌, ℕ, zero, suc, ◌+◌, ◌==◌, ◌⊎◌, nat_lt, if◌then◌else◌, ℤ, pos, negsuc, Bool, true, false, List, [], ◌∷◌, Option, Some, None, Result, Ok, Err, ⊤}
 use Rattle.std.specs.Str.{IsUtf8}
-use Rattle.naga_oil_pre.specs.Fault.{Definitions}
+use Rattle.naga_oil_conditions.specs.Fault.{Definitions}
 use Rattle.naga_oil_pre.specs.Metadata.{none_defined, with_definition}
-use Rattle.naga_oil_pre.specs.declared.shader_def.ShaderDefValue.{ShaderDefValue}
-use Rattle.naga_oil_pre.specs.declared.shader_def.ShaderDefValue.TheVariants as def
+use Rattle.naga_oil_conditions.specs.declared.shader_def.ShaderDefValue.{ShaderDefValue}
+use Rattle.naga_oil_conditions.specs.declared.shader_def.ShaderDefValue.TheVariants as def
 use Rattle.yettuvam_c.specs.declared.page.Definition.{Definition}
 use Rattle.yettuvam_c.specs.declared.page.Source.{Source}
 use Rattle.yettuvam_c.specs.declared.given.Refusal.{Refusal}

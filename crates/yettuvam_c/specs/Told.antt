@@ -4,11 +4,11 @@ use Rattle.naga_oil_lines.specs.Directives.{directives_of}
 use Rattle.naga_oil_lines.specs.DirectivesText.{directives_text}
 use Rattle.naga_oil_lines.specs.Text.{texts}
 use Rattle.naga_oil_imports.specs.Uses.{Use, use_of}
-use Rattle.naga_oil_pre.specs.Fault.{Fault}
+use Rattle.naga_oil_conditions.specs.Fault.{Fault}
 use Rattle.naga_oil_pre.specs.Preprocessed.{Output}
 use Rattle.naga_oil_pre.specs.declared.metadata.PreprocessorMetaData.{PreprocessorMetaData}
-use Rattle.naga_oil_pre.specs.declared.shader_def.ShaderDefValue.{ShaderDefValue}
-use Rattle.naga_oil_pre.specs.declared.shader_def.ShaderDefValue.TheVariants as def
+use Rattle.naga_oil_conditions.specs.declared.shader_def.ShaderDefValue.{ShaderDefValue}
+use Rattle.naga_oil_conditions.specs.declared.shader_def.ShaderDefValue.TheVariants as def
 use Rattle.naga_oil_registry.specs.Definition.{defs_of}
 use Rattle.naga_oil_registry.specs.Report.{Places, no_place, byte, line, item, spans, fault_places, report}
 use Rattle.yettuvam_c.specs.Laid.{Part, plain}

@@ -1,7 +1,7 @@
 // What the calls answer.
 ghost use Rattle.std.specs.Prelude.{◌≡◌, MatchOption, IfOk, IfErr};
 ghost use Rattle.std.specs.BTreeMap.{get_by_text};
-ghost use Rattle.naga_oil_pre.specs.View.{fault_of};
+ghost use Rattle.naga_oil_conditions.specs.View.{fault_of};
 ghost use Rattle.yettuvam_c.specs.Given.{RefusesSource, Refuses};
 ghost use Rattle.yettuvam_c.specs.Answer.{told_of, fault_told, preprocess_told, IsMetadataTold, IsPreprocessed, IsMetadata, IsPut};
 

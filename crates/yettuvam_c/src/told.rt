@@ -3,7 +3,7 @@ ghost use Rattle.std.specs.Prelude.{◌≡◌, ◌++◌, fold, map, flat_map, op
 ghost use Rattle.naga_oil_lines.specs.Text.{texts};
 ghost use Rattle.naga_oil_imports.specs.Uses.{use_of};
 ghost use Rattle.naga_oil_pre.specs.KnownView.{output_of};
-ghost use Rattle.naga_oil_pre.specs.View.{fault_of};
+ghost use Rattle.naga_oil_conditions.specs.View.{fault_of};
 ghost use Rattle.naga_oil_registry.specs.Definition.{defs_of};
 ghost use Rattle.naga_oil_registry.specs.Report.{fault_places};
 ghost use Rattle.yettuvam_c.specs.Laid.{with_part, laid_of, part_of};

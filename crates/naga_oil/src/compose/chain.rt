@@ -3,7 +3,7 @@ ghost use Rattle.std.specs.Prelude.{◌≡◌, [], map, string_bytes};
 ghost use Rattle.naga_oil_ir.specs.ModuleValue.{EntryValue, entry_value, module_value};
 ghost use Rattle.naga_oil_form_laws.specs.EntryForm.{IsModuleFormed};
 ghost use Rattle.naga_oil_lines.specs.Text.{texts};
-ghost use Rattle.naga_oil_pre.specs.View.{Gives};
+ghost use Rattle.naga_oil_conditions.specs.View.{Gives};
 ghost use Rattle.naga_oil_link.specs.BuiltModule.{overriding_of};
 ghost use Rattle.naga_oil.specs.Chain.{with_stages, sent_down, all_sent_down, chain_all, chain};
 

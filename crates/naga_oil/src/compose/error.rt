@@ -1,7 +1,7 @@
 // Why a call is refused, and where.
 ghost use Rattle.std.specs.Prelude.{◌≡◌, MatchOption, Some, None, IfOk, string_bytes};
 ghost use Rattle.std.specs.Cow.{cow_str_bytes};
-ghost use Rattle.naga_oil_pre.specs.View.{fault_of};
+ghost use Rattle.naga_oil_conditions.specs.View.{fault_of};
 ghost use Rattle.naga_oil_registry.specs.Definition.{defs_of};
 ghost use Rattle.naga_oil.specs.Refused.{refused_of, place_of, nowhere, in_text, in_module, TellsAt};
 ghost use Rattle.naga_oil_registry.specs.Report.{report};

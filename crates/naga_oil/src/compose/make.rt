@@ -4,7 +4,7 @@ ghost use Rattle.naga_oil_ir.specs.Backend.{labels, valid_fault};
 ghost use Rattle.naga_oil_ir.specs.ModuleValue.{ModuleValue, module_value};
 ghost use Rattle.naga_oil_imports.specs.Uses.{use_of};
 ghost use Rattle.naga_oil_pre.specs.KnownView.{output_of};
-ghost use Rattle.naga_oil_pre.specs.View.{Gives};
+ghost use Rattle.naga_oil_conditions.specs.View.{Gives};
 ghost use Rattle.naga_oil_registry.specs.Definition.{definition_of, defs_of};
 ghost use Rattle.naga_oil_registry.specs.Descriptor.{shader_source};
 ghost use Rattle.naga_oil_registry.specs.Merged.{overwritten};

@@ -3,7 +3,7 @@ ghost use Rattle.std.specs.Prelude.{◌≡◌, IfOk, map, Ok, Err, true, string_
 ghost use Rattle.naga_oil_lines.specs.Text.{texts};
 ghost use Rattle.naga_oil_imports.specs.Uses.{use_of};
 ghost use Rattle.naga_oil_pre.specs.MetadataView.{metadata_of};
-ghost use Rattle.naga_oil_pre.specs.View.{Gives};
+ghost use Rattle.naga_oil_conditions.specs.View.{Gives};
 ghost use Rattle.naga_oil_registry.specs.Definition.{definition_of, defs_of};
 ghost use Rattle.naga_oil_registry.specs.Descriptor.{shader_source};
 ghost use Rattle.naga_oil.specs.Shader.{shader_definition, read_shader, imported, agrees, defs_union, defs_union_over, are_among, may_use};

@@ -3,8 +3,8 @@ ghost use Rattle.std.specs.Prelude.{◌≡◌, ◌++◌, true, OnOk, IfOk, IfErr
 ghost use Rattle.naga_oil_imports.specs.Uses.{import_of, use_of};
 ghost use Rattle.naga_oil_pre.specs.Metadata.{metadata};
 ghost use Rattle.naga_oil_pre.specs.MetadataView.{metadata_of};
-ghost use Rattle.naga_oil_pre.specs.Replaced.{value_text};
-ghost use Rattle.naga_oil_pre.specs.View.{Fails};
+ghost use Rattle.naga_oil_conditions.specs.Replaced.{value_text};
+ghost use Rattle.naga_oil_conditions.specs.View.{Fails};
 ghost use Rattle.naga_oil_registry.specs.Definition.{defs_of};
 ghost use Rattle.naga_oil_lines.specs.Text.{texts};
 ghost use Rattle.naga_oil_symbols.specs.Names.{texts_of};

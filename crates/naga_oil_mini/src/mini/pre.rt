@@ -1,7 +1,7 @@
 // A text behind preprocessing, under definitions and its own.
 ghost use Rattle.std.specs.Prelude.{◌≡◌, Ok, OnOk, IfOk, IfErr, string_bytes};
 ghost use Rattle.std.specs.BTreeMap.{get_by_text};
-ghost use Rattle.naga_oil_pre.specs.View.{Gives};
+ghost use Rattle.naga_oil_conditions.specs.View.{Gives};
 ghost use Rattle.naga_oil_pre.specs.MetadataView.{metadata_of};
 ghost use Rattle.naga_oil_pre.specs.Preprocessed.{preprocessed};
 ghost use Rattle.naga_oil_mini.specs.Printed.{overwritten, text_of, shown_text, printed};

@@ -1,7 +1,7 @@
 use Rattle.std.proofs.Common.{◌≡◌, ℕ, List, Option, Some, Result, Ok, drop, sym, ap, ◌∙◌, subst, rules, string_bytes}
 use Rattle.std.specs.BTreeMap.{get_by_text}
 use Rattle.std.specs.Prelude.{IfSome, IfOk}
-use Rattle.naga_oil_pre.specs.Fault.{Definitions}
+use Rattle.naga_oil_conditions.specs.Fault.{Definitions}
 use Rattle.naga_oil_pre.specs.Metadata.{none_defined}
 use Rattle.naga_oil_mini.specs.Defined.{defined_by}
 use Rattle.naga_oil_mini.specs.Told.{Shows, IsShown}

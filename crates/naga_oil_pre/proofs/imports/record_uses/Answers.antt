@@ -1,14 +1,14 @@
-use Rattle.std.proofs.Common.{rules, arith, ◌≡◌, ℕ, ◌+◌, ◌<◌, ◌^◌, List, Some, Err, length, false, refl, sym, ap, ◌∙◌}
+use Rattle.std.proofs.Common.{rules, arith, ◌≡◌, ◌+◌, ◌<◌, ◌^◌, Err, length, false, sym, ap, ◌∙◌}
 use Rattle.std.specs.BTreeMap.{get_by_text}
 use Rattle.naga_oil_imports.specs.Declarations.{declared_of}
 use Rattle.naga_oil_imports.specs.Uses.{uses_of}
 use Rattle.naga_oil_imports.specs.Substituted.{sites, first_ambiguous, usize_sites, mentions_in, with_mentions}
 use Rattle.naga_oil_lines.specs.Tokens.{lexemes}
 use Rattle.std.specs.Str.{chars}
-use Rattle.naga_oil_pre.specs.Fault.{invalid_import}
-use Rattle.naga_oil_pre.specs.Preprocessed.{using_tokens, shown_passage}
-use Rattle.naga_oil_pre.specs.Replaced.{replaced}
-use Rattle.naga_oil_pre.specs.SourceView.{line_of}
+use Rattle.naga_oil_conditions.specs.Fault.{invalid_import}
+use Rattle.naga_oil_pre.specs.Preprocessed.{shown_passage}
+use Rattle.naga_oil_conditions.specs.Replaced.{replaced}
+use Rattle.naga_oil_conditions.specs.SourceView.{line_of}
 use Rattle.naga_oil_pre.proofs.LoopLemmas.{counted, first_refused}
 use Rattle.naga_oil_pre.proofs.imports.record_uses.Goals as goal
 

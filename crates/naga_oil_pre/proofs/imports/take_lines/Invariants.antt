@@ -1,5 +1,5 @@
 use Rattle.std.proofs.Common.{◌≡◌, ◌++◌, ◌+◌, ◌^◌, ◌≤◌, length, string_bytes}
-use Rattle.naga_oil_pre.specs.Line.{end_place}
+use Rattle.naga_oil_conditions.specs.Line.{end_place}
 use Rattle.naga_oil_pre.specs.Reading.{taken, behind_taken}
 use Rattle.naga_oil_pre.specs.Preprocessed.{blanks, import_text}
 use Rattle.naga_oil_pre.proofs.imports.take_lines.Given as goal

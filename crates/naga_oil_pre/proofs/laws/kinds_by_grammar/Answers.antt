@@ -1,5 +1,5 @@
 use Rattle.std.specs.Prelude.{codes}
-use Rattle.naga_oil_pre.proofs.LineGrammarLemmas.{version-reads, version-is, ifdef-reads, ifdef-is, ifndef-reads, ifndef-is, if-reads, if-is, begins-reads, begins-is, import-reads, import-is, import_path-reads, import_path-is, define-reads, define-is}
+use Rattle.naga_oil_conditions.proofs.LineGrammarLemmas.{version-reads, version-is, ifdef-reads, ifdef-is, ifndef-reads, ifndef-is, if-reads, if-is, begins-reads, begins-is, import-reads, import-is, import_path-reads, import_path-is, define-reads, define-is}
 use Rattle.naga_oil_pre.proofs.laws.kinds_by_grammar.Goals as goal
 
 pub returns : goal.returns

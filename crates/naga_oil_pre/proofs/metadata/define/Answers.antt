@@ -1,6 +1,6 @@
 use Rattle.std.proofs.Common.{◌≡◌, Some, rules}
 use Rattle.std.specs.Option.{option_copied}
-use Rattle.naga_oil_pre.specs.DefineValue.{defined_value}
+use Rattle.naga_oil_conditions.specs.DefineValue.{defined_value}
 use Rattle.naga_oil_pre.proofs.MetadataLemmas.{defines_name}
 use Rattle.naga_oil_pre.proofs.metadata.define.Goals as goal
 

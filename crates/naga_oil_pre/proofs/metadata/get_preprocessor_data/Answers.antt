@@ -1,7 +1,7 @@
 use Rattle.std.proofs.Common.{◌≡◌, map, true, rules}
 use Rattle.naga_oil_imports.specs.Uses.{import_of, use_of}
 use Rattle.naga_oil_pre.specs.Metadata.{metadata}
-use Rattle.naga_oil_pre.specs.View.{fault_of}
+use Rattle.naga_oil_conditions.specs.View.{fault_of}
 use Rattle.naga_oil_pre.proofs.MetadataLemmas.{data_made, data_refused}
 use Rattle.naga_oil_pre.proofs.metadata.get_preprocessor_data.Goals as goal
 

@@ -3,7 +3,7 @@ use Rattle.naga_oil_imports.specs.Leaves.{import_leaves}
 use Rattle.naga_oil_pre.specs.MetadataView.{found_of}
 use Rattle.naga_oil_pre.specs.Preprocessed.{import_text}
 use Rattle.naga_oil_pre.specs.Reading.{braces_after, taken}
-use Rattle.naga_oil_pre.specs.SourceView.{line_of}
+use Rattle.naga_oil_conditions.specs.SourceView.{line_of}
 use Rattle.naga_oil_pre.proofs.LoopLemmas.{if_err}
 use Rattle.naga_oil_pre.proofs.MetadataLemmas.{import_refused}
 use Rattle.naga_oil_pre.proofs.metadata.read_import.Goals as goal

@@ -1,6 +1,6 @@
 use Rattle.naga_oil_pre.specs.MetadataView.{found_of}
 use Rattle.naga_oil_pre.specs.Reading.{braces_after}
-use Rattle.naga_oil_pre.specs.SourceView.{line_of}
+use Rattle.naga_oil_conditions.specs.SourceView.{line_of}
 use Rattle.naga_oil_pre.proofs.MetadataLemmas.{import_read, import_recorded, on_both}
 use Rattle.naga_oil_pre.proofs.metadata.read_kind.Goals as goal
 

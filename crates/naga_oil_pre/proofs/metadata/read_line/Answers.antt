@@ -1,7 +1,7 @@
 use Rattle.std.proofs.Common.{◌∙◌, rules}
-use Rattle.naga_oil_pre.specs.KindView.{line_kind_of}
+use Rattle.naga_oil_conditions.specs.KindView.{line_kind_of}
 use Rattle.naga_oil_pre.specs.Recorded.{kind_names}
-use Rattle.naga_oil_pre.specs.SourceView.{line_of}
+use Rattle.naga_oil_conditions.specs.SourceView.{line_of}
 use Rattle.naga_oil_pre.proofs.LoopLemmas.{on_ok}
 use Rattle.naga_oil_pre.proofs.MetadataLemmas.{line_recorded}
 use Rattle.naga_oil_pre.proofs.metadata.read_line.Goals as goal

@@ -1,7 +1,7 @@
 use Rattle.std.proofs.Common.{◌≡◌, ◌∙◌, ℕ, List, Ok, ap, map, refl, rules, string_bytes}
 use Rattle.std.specs.BTreeSet.{contains_text}
 use Rattle.naga_oil_imports.specs.Uses.{use_of}
-use Rattle.naga_oil_pre.specs.Line.{source_lines}
+use Rattle.naga_oil_conditions.specs.Line.{source_lines}
 use Rattle.naga_oil_pre.specs.Metadata.{found_in, nothing_found}
 use Rattle.naga_oil_pre.specs.MetadataView.{found_of}
 use Rattle.naga_oil_pre.specs.Recorded.{is_recorded}

@@ -1,5 +1,5 @@
 use Rattle.std.proofs.Common.{◌≡◌, ℕ, List, length}
-use Rattle.naga_oil_pre.specs.Line.{source_lines}
+use Rattle.naga_oil_conditions.specs.Line.{source_lines}
 use Rattle.naga_oil_pre.specs.KnownView.{HasMarks}
 use Rattle.naga_oil_pre.specs.Metadata.{nothing_found, found_in}
 use Rattle.naga_oil_pre.specs.MetadataView.{has_with, found_of}

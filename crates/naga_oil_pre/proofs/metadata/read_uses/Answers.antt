@@ -4,7 +4,7 @@ use Rattle.naga_oil_imports.specs.Declarations.{declared_of}
 use Rattle.naga_oil_imports.specs.Substituted.{sites, usize_sites, mentions_in, with_mentions}
 use Rattle.naga_oil_lines.specs.Tokens.{lexemes}
 use Rattle.naga_oil_imports.specs.Uses.{uses_of}
-use Rattle.naga_oil_pre.specs.SourceView.{line_of}
+use Rattle.naga_oil_conditions.specs.SourceView.{line_of}
 use Rattle.naga_oil_pre.proofs.LoopLemmas.{never_ambiguous, counted}
 use Rattle.naga_oil_pre.proofs.metadata.read_uses.Goals as goal
 

@@ -2,7 +2,7 @@ use Rattle.std.proofs.Common.{◌≡◌, ◌∷◌, ◌∙◌, arith, rules}
 use Rattle.std.proofs.lemmas.Grind.{common_steps}
 use Rattle.naga_oil_pre.specs.Reading.{taken}
 use Rattle.naga_oil_pre.specs.Recorded.{line_names, names_of}
-use Rattle.naga_oil_pre.specs.SourceView.{line_of}
+use Rattle.naga_oil_conditions.specs.SourceView.{line_of}
 use Rattle.naga_oil_pre.proofs.MetadataLemmas.{names_taken, none_taken, none_open}
 use Rattle.naga_oil_pre.proofs.RecordedLemmas.{gained, gains_all}
 use Rattle.naga_oil_pre.proofs.metadata.take_lines.Goals as goal

@@ -3,7 +3,7 @@ use Rattle.std.specs.Cow.{cow_str_bytes}
 use Rattle.naga_oil_imports.specs.Declarations.{declared_of}
 use Rattle.naga_oil_imports.specs.Leaves.{import_leaves, with_import}
 use Rattle.naga_oil_pre.specs.KnownView.{known_of}
-use Rattle.naga_oil_pre.specs.SourceView.{line_of}
+use Rattle.naga_oil_conditions.specs.SourceView.{line_of}
 use Rattle.naga_oil_pre.specs.Preprocessed.{end_line, import_text}
 use Rattle.naga_oil_pre.specs.Reading.{taken}
 use Rattle.naga_oil_pre.proofs.LoopLemmas.{import_turn, on_ok}

@@ -1,7 +1,7 @@
 use Rattle.std.proofs.lemmas.Result.{err_from_is_err_and}
 use Rattle.std.specs.BTreeMap.{get_by_text}
 use Rattle.naga_oil_pre.specs.KnownView.{known_of}
-use Rattle.naga_oil_pre.specs.SourceView.{line_of}
+use Rattle.naga_oil_conditions.specs.SourceView.{line_of}
 use Rattle.naga_oil_pre.proofs.LoopLemmas.{line_fails, import_fails, shown_fails, if_err}
 use Rattle.naga_oil_pre.proofs.preprocess.write_line.Goals as goal
 

@@ -2,7 +2,7 @@ use Rattle.std.proofs.Common.{ap, sym, ◌∙◌}
 use Rattle.std.specs.Str.{chars}
 use Rattle.naga_oil_pre.specs.MetadataView.{has_with}
 use Rattle.naga_oil_pre.specs.Recorded.{names_from}
-use Rattle.naga_oil_pre.specs.Replaced.{hash_names}
+use Rattle.naga_oil_conditions.specs.Replaced.{hash_names}
 use Rattle.naga_oil_pre.proofs.RecordedLemmas.{names_to_hash, no_names, gains_all}
 use Rattle.naga_oil_pre.proofs.recorded.record_hash_names.Goals as goal
 

@@ -1,6 +1,6 @@
 use Rattle.std.proofs.Common.{sym, ap, ◌∙◌}
 use Rattle.std.proofs.lemmas.Slice.Eq.{bytes_eq-Decides}
-use Rattle.naga_oil_pre.specs.Replaced.{hash_names}
+use Rattle.naga_oil_conditions.specs.Replaced.{hash_names}
 use Rattle.naga_oil_pre.proofs.RecordedLemmas.{gains_twice}
 use Rattle.naga_oil_pre.proofs.recorded.record_text_names.Goals as goal
 

@@ -1,5 +1,5 @@
 use Rattle.std.proofs.Common.{Some, string_bytes, append_assoc}
-use Rattle.naga_oil_pre.specs.Fault as fault
+use Rattle.naga_oil_conditions.specs.Fault as fault
 use Rattle.naga_oil_registry.specs.Report.{message}
 use Rattle.naga_oil_registry.proofs.WritingLemmas.{on_pushed}
 use Rattle.naga_oil_registry.proofs.report.push_redirection.Goals as goal

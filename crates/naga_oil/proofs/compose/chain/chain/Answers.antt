@@ -1,8 +1,8 @@
 use Rattle.std.proofs.Common.{◌≡◌, [], Result, sym, subst, ◌∙◌}
 use Rattle.std.proofs.lemmas.Bool.{true≢false}
 use Rattle.naga_oil_ir.specs.ModuleValue.{ModuleValue, module_value}
-use Rattle.naga_oil_pre.specs.Fault.{Fault}
-use Rattle.naga_oil_pre.specs.View.{Gives}
+use Rattle.naga_oil_conditions.specs.Fault.{Fault}
+use Rattle.naga_oil_conditions.specs.View.{Gives}
 use Rattle.naga_oil_link.specs.BuiltModule.{overriding_of}
 use Rattle.naga_oil.proofs.ChainLemmas.{chains, no_chains, none_overridden, some_overridden}
 use Rattle.naga_oil.proofs.compose.chain.chain.Goals as goal

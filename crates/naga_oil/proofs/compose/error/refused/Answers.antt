@@ -1,4 +1,4 @@
-use Rattle.naga_oil_pre.specs.View.{fault_of}
+use Rattle.naga_oil_conditions.specs.View.{fault_of}
 use Rattle.naga_oil.specs.Refused.{place_of, in_text}
 use Rattle.naga_oil.proofs.RefusedLemmas.{tells_nothing, none_is_memory, tells_fault}
 use Rattle.naga_oil.proofs.compose.error.refused.Goals as goal

@@ -5,7 +5,7 @@ use Rattle.std.specs.String.{string_bytes}
 use Rattle.std.proofs.lemmas.Iterator.{YieldsList-from_slice}
 use Rattle.std.proofs.lemmas.Iterator.Search.{find_from_yields_List}
 use Rattle.naga_oil_imports.specs.Uses.{use_of}
-use Rattle.naga_oil_pre.specs.Fault.{import_not_found}
+use Rattle.naga_oil_conditions.specs.Fault.{import_not_found}
 use Rattle.naga_oil_registry.specs.Definition.{definition_of}
 use Rattle.naga_oil.specs.Shader.{module_for}
 use Rattle.naga_oil_registry.specs.Registry.{module_named}

@@ -1,6 +1,6 @@
 use Rattle.std.proofs.Common.{ℕ, List, subst}
 use Rattle.naga_oil_pre.specs.KnownView.{output_of}
-use Rattle.naga_oil_pre.specs.View.{Fails}
+use Rattle.naga_oil_conditions.specs.View.{Fails}
 use Rattle.naga_oil_registry.specs.Definition.{definition_of}
 use Rattle.naga_oil_registry.proofs.NewDefinitionLemmas.{gives-refused}
 use Rattle.naga_oil_link.specs.BuiltModule.{BuiltModule, built_of, builds_of}

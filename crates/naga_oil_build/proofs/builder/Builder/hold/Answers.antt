@@ -1,7 +1,7 @@
 use Rattle.std.proofs.Common.{◌≡◌, List, ℕ, length, Ok, sym, ap, subst, ◌∙◌, arith}
 use Rattle.naga_oil_ir.specs.ModuleValue.{module_value}
 use Rattle.naga_oil_form.specs.WellFormed.{WellFormed}
-use Rattle.naga_oil_pre.specs.View.{Fails}
+use Rattle.naga_oil_conditions.specs.View.{Fails}
 use Rattle.naga_oil_registry.proofs.NewDefinitionLemmas.{gives-refused}
 use Rattle.naga_oil_link.specs.BuiltModule.{built_of}
 use Rattle.naga_oil_link.specs.OwnPlaces.{own_of}

@@ -1,7 +1,7 @@
 use Rattle.std.proofs.Common.{true, sym, ◌∙◌, string_bytes}
 use Rattle.naga_oil_registry.specs.Report.{report}
 use Rattle.naga_oil_pre.specs.Metadata.{metadata}
-use Rattle.naga_oil_pre.specs.View.{fault_of}
+use Rattle.naga_oil_conditions.specs.View.{fault_of}
 use Rattle.naga_oil_mini.proofs.ReportLemmas.{told}
 use Rattle.naga_oil_mini.proofs.mini.listing.listed_file.Goals as goal
 

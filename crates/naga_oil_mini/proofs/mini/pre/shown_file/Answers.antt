@@ -1,7 +1,7 @@
 use Rattle.std.proofs.Common.{sym, ◌∙◌, string_bytes}
 use Rattle.std.specs.BTreeMap.{get_by_text}
 use Rattle.naga_oil_registry.specs.Report.{report}
-use Rattle.naga_oil_pre.specs.View.{fault_of}
+use Rattle.naga_oil_conditions.specs.View.{fault_of}
 use Rattle.naga_oil_mini.specs.Printed.{printed}
 use Rattle.naga_oil_mini.proofs.ReportLemmas.{told}
 use Rattle.naga_oil_mini.proofs.mini.pre.shown_file.Goals as goal

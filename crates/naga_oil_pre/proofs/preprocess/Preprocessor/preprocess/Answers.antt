@@ -5,12 +5,12 @@ use Rattle.std.proofs.lemmas.Option.{MatchOption-at_some}
 use Rattle.naga_oil_imports.specs.Declarations.{declared_of}
 use Rattle.naga_oil_imports.specs.NameMarks.{has_mark, keys_of}
 use Rattle.naga_oil_imports.specs.Uses.{uses_of, use_of}
-use Rattle.naga_oil_pre.specs.Scope.{is_open}
+use Rattle.naga_oil_conditions.specs.Scope.{is_open}
 use Rattle.naga_oil_pre.specs.KnownView.{known_of, output_of}
 use Rattle.naga_oil_pre.proofs.LineEndLemmas.{as_many_ends}
 use Rattle.naga_oil_pre.proofs.QuotelessLemmas.{quoteless_paths}
 use Rattle.naga_oil_pre.proofs.LoopLemmas.{nothing_is, told_first, fails_first, uses_of_values, told_last}
-use Rattle.naga_oil_pre.proofs.SourceLemmas.{source_begins}
+use Rattle.naga_oil_conditions.proofs.SourceLemmas.{source_begins}
 use Rattle.naga_oil_pre.proofs.preprocess.Preprocessor.preprocess.Goals as goal
 
 pub loop-imports-init : goal.loop-imports-init

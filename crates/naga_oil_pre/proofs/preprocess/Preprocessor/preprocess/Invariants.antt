@@ -1,6 +1,6 @@
 use Rattle.std.proofs.Common.{◌≡◌, length, string_bytes}
 use Rattle.std.specs.BTreeMap.{get_by_text}
-use Rattle.naga_oil_pre.specs.Line.{source_lines, end_place}
+use Rattle.naga_oil_conditions.specs.Line.{source_lines, end_place}
 use Rattle.naga_oil_pre.specs.Step.{scanned}
 use Rattle.naga_oil_pre.specs.KnownView.{known_of, HasMarks}
 use Rattle.naga_oil_pre.specs.Preprocessed.{prepend, written, preprocessed}

@@ -1,7 +1,7 @@
 use Rattle.std.proofs.Common.{◌≡◌, ◌++◌, ◌∷◌, [], string_bytes, ap, ◌∙◌, rules}
 use Rattle.std.specs.List.{flat_map}
 use Rattle.std.specs.Prelude.{codes}
-use Rattle.naga_oil_pre.specs.View.{fault_of}
+use Rattle.naga_oil_conditions.specs.View.{fault_of}
 use Rattle.naga_oil_registry.specs.Report.{message, fault_places, fault_notes, note_line, place_lines, report_text}
 use Rattle.naga_oil_registry.specs.ReportView.{report_places}
 use Rattle.naga_oil_registry.specs.Sanitized.{end_line}

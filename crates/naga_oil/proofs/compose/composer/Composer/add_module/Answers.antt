@@ -1,5 +1,5 @@
 use Rattle.std.proofs.Common.{◌≡◌, ℕ, Bool, List, map, Option, Ok, Err, Bor, String, Global, option_map, option_copied, string_bytes, Some, None, ap, ◌∙◌, sym, subst}
-use Rattle.naga_oil_pre.specs.View.{Fails}
+use Rattle.naga_oil_conditions.specs.View.{Fails}
 use Rattle.std.specs.BTreeSet.{contains_text}
 use Rattle.naga_oil_registry.specs.Added.{Described, described, new_definition, shown_by}
 use Rattle.naga_oil_registry.specs.Definition.{Definition, definition_of}

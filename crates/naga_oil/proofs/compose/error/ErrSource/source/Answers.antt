@@ -1,8 +1,8 @@
 use Rattle.std.proofs.Common.{◌≡◌, List, [], ℕ, Option, Some, None, Result, Err, MatchOption, is_none, false, ap, ◌∙◌, sym, string_bytes}
 use Rattle.std.specs.BTreeMap.{get_by_text}
-use Rattle.naga_oil_pre.specs.Fault.{Fault}
+use Rattle.naga_oil_conditions.specs.Fault.{Fault}
 use Rattle.naga_oil_pre.specs.Preprocessed.{Output, preprocessed}
-use Rattle.naga_oil_pre.specs.View.{fault_of}
+use Rattle.naga_oil_conditions.specs.View.{fault_of}
 use Rattle.naga_oil_registry.specs.Definition.{definition_of}
 use Rattle.naga_oil_registry.specs.Registry.{module_named}
 use Rattle.naga_oil.specs.Sources.{text_given, text_under}

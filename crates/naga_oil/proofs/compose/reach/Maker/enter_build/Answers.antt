@@ -1,5 +1,5 @@
 use Rattle.std.proofs.Common.{◌∙◌, ap, sym, Err}
-use Rattle.naga_oil_pre.specs.View.{fault_of}
+use Rattle.naga_oil_conditions.specs.View.{fault_of}
 use Rattle.naga_oil_registry.specs.Definition.{definition_of}
 use Rattle.naga_oil_link.specs.BuiltModule.{builds_of}
 use Rattle.naga_oil_pre.specs.KnownView.{output_of}

@@ -1,6 +1,6 @@
 use Rattle.std.proofs.Common.{◌≡◌, ◌∙◌, Result, Ok, Err, map, ap, sym, subst, arith}
 use Rattle.naga_oil_ir.specs.ModuleValue.{module_value}
-use Rattle.naga_oil_pre.specs.Fault.{Fault}
+use Rattle.naga_oil_conditions.specs.Fault.{Fault}
 use Rattle.naga_oil_pre.specs.KnownView.{output_of}
 use Rattle.naga_oil_pre.specs.declared.preprocess.PreprocessOutput.{PreprocessOutput}
 use Rattle.naga_oil_registry.specs.Definition.{Defs, definition_of, defs_of}

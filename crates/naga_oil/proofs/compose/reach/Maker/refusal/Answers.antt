@@ -1,6 +1,6 @@
 use Rattle.std.proofs.Common.{◌∙◌, ap, sym, string_bytes}
-use Rattle.naga_oil_pre.specs.Fault.{Fault, import_not_found}
-use Rattle.naga_oil_pre.specs.declared.fault.ComposerErrorInner.TheVariants.{ImportNotFound}
+use Rattle.naga_oil_conditions.specs.Fault.{Fault, import_not_found}
+use Rattle.naga_oil_conditions.specs.declared.fault.ComposerErrorInner.TheVariants.{ImportNotFound}
 use Rattle.naga_oil_registry.specs.Definition.{defs_of}
 use Rattle.naga_oil.specs.Answer.{refusal}
 use Rattle.naga_oil.specs.MakeView.{unreached_of}

@@ -1,0 +1,16 @@
+pub mod Line
+pub mod LineKinds
+pub mod LineGrammar
+pub mod Kind
+pub mod KindGrammar
+pub mod Values
+pub mod DefineValue
+pub mod Fault
+pub mod Scope
+pub mod SourceView
+pub mod KindView
+pub mod View
+pub mod Replaced
+pub mod Splits
+pub mod Computing
+pub mod KindRows

@@ -1,0 +1,160 @@
+-- The kinds of lines as a grammar: the pieces that a line is made of, one behind the other. Each run is as long as it
+-- can be, each kind is read behind the line's `#`, and what follows its last piece is ignored.
+use Rattle.std.specs.Prelude.{◌≡◌, ℕ, Bool, true, false, List, [], ◌∷◌, ◌++◌, Option, Some, None, codes, encode_utf8_all, bytes_eq, ◌||◌, ◌⊎◌, ◌↔◌}
+use Rattle.std.specs.List.{list_all}
+use Rattle.std.specs.Char.{is_whitespace, is_not_whitespace, is_ascii_digit}
+use Rattle.naga_oil_conditions.specs.LineKinds.{is_name_char, is_value_char, is_operator_char}
+
+-- whether the characters begin with one of the class
+abbrev pub starts_in : (class : ℕ → Bool) → List ℕ → Bool
+starts_in class [] = false
+starts_in class (c ∷ cs) = class c
+
+-- characters of the class, as many as there are and perhaps none, and the rest
+pub record IsRun (class : ℕ → Bool) (cs run rest : List ℕ) : Type 0 where
+  pub whole : cs ≡ run ++ rest
+  pub inside : list_all class run ≡ true
+  pub stops : starts_in class rest ≡ false
+
+-- the text of such a run of at least one character, and the rest
+pub record IsWord (class : ℕ → Bool) (cs text rest : List ℕ) : Type 0 where
+  pub first : ℕ
+  pub more : List ℕ
+  pub run : IsRun class cs (first ∷ more) rest
+  pub spelled : text ≡ encode_utf8_all (first ∷ more)
+
+-- white space, perhaps none, and the rest
+abbrev pub IsBehindWhite : (cs rest : List ℕ) → Type 0
+IsBehindWhite cs rest = (white : List ℕ) × IsRun is_whitespace cs white rest
+
+-- white space, at least one character, and the rest
+abbrev pub IsBehindGap : (cs rest : List ℕ) → Type 0
+IsBehindGap cs rest = (c : ℕ) × (white : List ℕ) × IsRun is_whitespace cs (c ∷ white) rest
+
+-- the line's `#`, with perhaps white space before it, and the rest
+abbrev pub IsBehindHash : (line rest : List ℕ) → Type 0
+IsBehindHash line rest = IsBehindWhite line (codes "#" ++ rest)
+
+-- perhaps white space, the word, and the rest
+abbrev pub IsBehindKeyword : (word cs rest : List ℕ) → Type 0
+IsBehindKeyword word cs rest = IsBehindWhite cs (word ++ rest)
+
+-- the same with white space behind the word
+abbrev pub IsBehindDirective : (word cs rest : List ℕ) → Type 0
+IsBehindDirective word cs rest = (behind : List ℕ) × IsBehindKeyword word cs behind × IsBehindGap behind rest
+
+-- `else` and white space where the arm is a further one of its chain, and the rest
+abbrev pub IsBehindElse : (is_else : Bool) → (cs rest : List ℕ) → Type 0
+IsBehindElse true cs rest = (behind : List ℕ) × (cs ≡ codes "else" ++ behind) × IsBehindGap behind rest
+IsBehindElse false cs rest = cs ≡ rest
+
+-- perhaps white space and an `else`, the word of an arm, white space, and the rest
+pub record IsBehindArm (word : List ℕ) (is_else : Bool) (cs rest : List ℕ) : Type 0 where
+  pub start : List ℕ
+  pub behind : List ℕ
+  pub front : IsBehindWhite cs start
+  pub perhaps : IsBehindElse is_else start (word ++ behind)
+  pub gap : IsBehindGap behind rest
+
+-- perhaps `else`, the word, and a name
+pub record IsNamedArm (word : List ℕ) (is_else : Bool) (name cs : List ℕ) : Type 0 where
+  pub rest : List ℕ
+  pub more : List ℕ
+  pub arm : IsBehindArm word is_else cs rest
+  pub spelling : IsWord is_name_char rest name more
+
+-- `version` and digits; known are 440 and 450
+pub record IsVersion (known : Bool) (cs : List ℕ) : Type 0 where
+  pub behind : List ℕ
+  pub rest : List ℕ
+  pub number : List ℕ
+  pub more : List ℕ
+  pub word : cs ≡ codes "version" ++ behind
+  pub gap : IsBehindGap behind rest
+  pub digits : IsWord is_ascii_digit rest number more
+  pub knows : known ≡ (bytes_eq number (codes "440") || bytes_eq number (codes "450"))
+
+abbrev pub IsIfdef : (is_else : Bool) (name cs : List ℕ) → Type 0
+IsIfdef is_else name cs = IsNamedArm (codes "ifdef") is_else name cs
+
+abbrev pub IsIfndef : (is_else : Bool) (name cs : List ℕ) → Type 0
+IsIfndef is_else name cs = IsNamedArm (codes "ifndef") is_else name cs
+
+-- an operator, perhaps empty, and a value, with perhaps white space before each
+pub record IsOperation (operator value cs : List ℕ) : Type 0 where
+  pub start : List ℕ
+  pub sign : List ℕ
+  pub behind : List ℕ
+  pub rest : List ℕ
+  pub more : List ℕ
+  pub front : IsBehindWhite cs start
+  pub run : IsRun is_operator_char start sign behind
+  pub spelled : operator ≡ encode_utf8_all sign
+  pub white : IsBehindWhite behind rest
+  pub operand : IsWord is_value_char rest value more
+
+-- a name, and behind it an operator and a value
+pub record IsCompared (name operator value cs : List ℕ) : Type 0 where
+  pub rest : List ℕ
+  pub spelling : IsWord is_name_char cs name rest
+  pub operation : IsOperation operator value rest
+
+-- a name of two characters or more that no value follows: its last character is the value, and the operator is empty
+pub record IsCut (name operator value cs : List ℕ) : Type 0 where
+  pub first : ℕ
+  pub more : List ℕ
+  pub last : ℕ
+  pub rest : List ℕ
+  pub run : IsRun is_name_char cs (first ∷ (more ++ (last ∷ []))) rest
+  pub alone : (o v : List ℕ) → IsOperation o v rest → ⊥
+  pub front : name ≡ encode_utf8_all (first ∷ more)
+  pub empty : operator ≡ []
+  pub end : value ≡ encode_utf8_all (last ∷ [])
+
+-- perhaps `else`, `if`, and a name with an operator and a value
+pub record IsIf (is_else : Bool) (name operator value cs : List ℕ) : Type 0 where
+  pub rest : List ℕ
+  pub arm : IsBehindArm (codes "if") is_else cs rest
+  pub parts : IsCompared name operator value rest ⊎ IsCut name operator value rest
+
+-- `else`, and anything behind it
+abbrev pub IsElse : List ℕ → Type 0
+IsElse cs = (rest : List ℕ) × IsBehindKeyword (codes "else") cs rest
+
+-- `endif`, and anything behind it
+abbrev pub IsEndif : List ℕ → Type 0
+IsEndif cs = (rest : List ℕ) × IsBehindKeyword (codes "endif") cs rest
+
+-- `import` and white space
+abbrev pub IsImport : List ℕ → Type 0
+IsImport cs = (rest : List ℕ) × IsBehindDirective (codes "import") cs rest
+
+-- `define_import_path` and a path, of characters that are not white
+pub record IsImportPath (path cs : List ℕ) : Type 0 where
+  pub rest : List ℕ
+  pub more : List ℕ
+  pub word : IsBehindDirective (codes "define_import_path") cs rest
+  pub spelling : IsWord is_not_whitespace rest path more
+
+-- the value behind a define's name, if there is one
+abbrev pub IsDefineValue : Option (List ℕ) → List ℕ → Type 0
+IsDefineValue (Some value) cs = (more : List ℕ) × IsWord is_value_char cs value more
+IsDefineValue None cs = starts_in is_value_char cs ≡ false
+
+-- `define`, a name, and perhaps a value
+pub record IsDefine (name : List ℕ) (value : Option (List ℕ)) (cs : List ℕ) : Type 0 where
+  pub rest : List ℕ
+  pub behind : List ℕ
+  pub start : List ℕ
+  pub word : IsBehindDirective (codes "define") cs rest
+  pub spelling : IsWord is_name_char rest name behind
+  pub white : IsBehindWhite behind start
+  pub definition : IsDefineValue value start
+
+-- a reader gives groups exactly if the characters are written as the form of these groups says
+abbrev pub Reads : {A : Type 0} → (reader : List ℕ → Option A) → (form : A → List ℕ → Type 0) → Type 0
+Reads {A = A} reader form = (cs : List ℕ) (groups : A) → (reader cs ≡ Some groups) ↔ form groups cs
+
+-- a test holds exactly of the characters that are written as the form says
+abbrev pub Tests : (test : List ℕ → Bool) → (form : List ℕ → Type 0) → Type 0
+Tests test form = (cs : List ℕ) → (test cs ≡ true) ↔ form cs

@@ -1,0 +1,121 @@
+// Puts values in the place of the `#` names of a line.
+ghost use Rattle.std.specs.Prelude.{◌≡◌, ◌++◌, ◌∷◌, ◌≤◌, ◌==◌, length, string_bytes, OnOk, IfOk, IsOkAnd, MatchOption, None, false};
+ghost use Rattle.std.specs.BTreeMap.{get_by_text};
+ghost use Rattle.std.specs.Cow.{cow_str_bytes, IsBorrowedStr};
+ghost use Rattle.std.specs.List.{prefix_len};
+ghost use Rattle.std.specs.Str.{chars, IsUtf8, NoCharPasses};
+ghost use Rattle.naga_oil_lines.specs.Text.{BeginsWithChar};
+ghost use Rattle.naga_oil_conditions.specs.LineKinds.{is_name_char};
+ghost use Rattle.naga_oil_conditions.specs.Replaced as spec;
+ghost use Rattle.naga_oil_conditions.specs.Splits.{SplitsName, SplitsHashName, SplitsAtHash};
+
+use super::line_kind::{CharClass, behind_run};
+use super::*;
+
+// What follows this character, if the text begins with it.
+fn past_char(text: &str, wanted: char) -> Option<&str>
+    ensures { MatchOption result (spec.begins_with wanted (chars text.now) ≡ false) (λ rest. BeginsWithChar text.now wanted rest.now) }
+{
+    let (first, rest) = split_first_char(text)?;
+    if first == wanted { Some(rest) } else { None }
+}
+
+// The name that the text begins with, and what follows it.
+fn split_name(text: &str) -> Option<(&str, &str)>
+    ensures { MatchOption result (prefix_len is_name_char (chars text.now) ≡ 0) (λ r. SplitsName text.now r.0.now r.1.now) }
+{
+    let rest = behind_run(text, CharClass::Name);
+    let name = text_before(text, rest);
+    if name.is_empty() {
+        return None;
+    }
+    Some((name, rest))
+}
+
+/// The name behind a `#`, and what follows it.
+pub fn split_hash_name(text: &str) -> Option<(&str, &str)>
+    ensures { MatchOption result (spec.hash_name (chars text.now) ≡ None) (λ r. SplitsHashName text.now r.0.now r.1.now) }
+{
+    let start = after_whitespace(text);
+    let Some(inner) = past_char(start, '{') else {
+        return split_name(start);
+    };
+    let (name, closing) = split_name(inner)?;
+    let rest = past_char(closing, '}')?;
+    Some((name, rest))
+}
+
+fn push_value(out: &mut String, value: ShaderDefValue) -> Result<(), AllocError>
+    ensures { OnOk result (string_bytes out.new ≡ string_bytes out.old ++ spec.value_text value) }
+{
+    match value {
+        ShaderDefValue::Bool(b) => write!(out, "{b}"),
+        ShaderDefValue::Int(n) => write!(out, "{n}"),
+        ShaderDefValue::UInt(n) => write!(out, "{n}"),
+    }
+}
+
+/// The front of the text up to its first `#`, and what follows that.
+pub fn split_at_hash(text: &str) -> Option<(&str, &str)>
+    ensures { MatchOption result (NoCharPasses (λ c. c == 35) text.now) (λ r. SplitsAtHash text.now r.0.now r.1.now) }
+{
+    text.split_once('#')
+}
+
+// Writes what stands for a `#` and the name behind it, if there is one, and answers what is left.
+fn push_hash<'a>(
+    out: &mut String,
+    behind: &'a str,
+    definitions: &BTreeMap<String, ShaderDefValue>,
+) -> Result<&'a str, AllocError>
+    ensures value { let from = spec.replaced_from (get_by_text definitions.now) in
+        let whole = string_bytes out.old ++ from (35 ∷ chars behind.now) in
+        IfOk result (λ rest. string_bytes out.new ++ from (chars rest.now) ≡ whole) }
+    ensures utf8 { IfOk result (λ rest. IsUtf8 rest.now) }
+    ensures bound { IfOk result (λ rest. length rest.now ≤ length behind.now) }
+{
+    let Some((name, rest)) = split_hash_name(behind) else {
+        out.push('#')?;
+        return Ok(behind);
+    };
+    let Some(value) = definitions.get(name) else {
+        out.push('#')?;
+        out.push_str(text_before(behind, rest))?;
+        return Ok(rest);
+    };
+    push_value(out, *value)?;
+    Ok(rest)
+}
+
+/// Writes the line with its `#` names replaced.
+pub fn push_replaced(
+    out: &mut String,
+    line: &str,
+    definitions: &BTreeMap<String, ShaderDefValue>,
+) -> Result<(), AllocError>
+    ensures { OnOk result (string_bytes out.new ≡ string_bytes out.old ++ spec.replaced (get_by_text definitions.now) line.now) }
+{
+    let mut rest = line;
+    while let Some((front, behind)) = split_at_hash(rest) {
+        out.push_str(front)?;
+        rest = push_hash(out, behind, definitions)?;
+    }
+    out.push_str(rest)
+}
+
+/// The line with its `#` names replaced. A line without `#` is borrowed.
+pub fn replaced_text<'a>(
+    alloc: Global,
+    line: &'a str,
+    definitions: &BTreeMap<String, ShaderDefValue>,
+) -> Result<CowStr<'a>, AllocError>
+    ensures value { IfOk result (λ text. cow_str_bytes text ≡ spec.replaced (get_by_text definitions.now) line.now) }
+    ensures borrows { NoCharPasses (λ c. c == 35) line.now → IsOkAnd result (λ text. IsBorrowedStr text) }
+{
+    if !line.contains('#') {
+        return Ok(CowStr::Borrowed(line));
+    }
+    let mut out = String::new(alloc);
+    push_replaced(&mut out, line, definitions)?;
+    Ok(CowStr::Owned(out))
+}

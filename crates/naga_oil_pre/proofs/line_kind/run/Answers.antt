@@ -1,5 +1,0 @@
-use Rattle.naga_oil_lines.proofs.TextLemmas.{chars_before}
-use Rattle.naga_oil_pre.proofs.line_kind.run.Goals as goal
-
-pub returns : goal.returns
-returns c = chars_before _ _ _ _ c.text_before.ensures c.text_before.utf8 c.behind_run.ensures.chars
