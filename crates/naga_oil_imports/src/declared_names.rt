@@ -40,6 +40,7 @@ impl DeclaredNames {
     }
 
     /// Whether the slot of a name has a mark.
+    #[inline]
     pub fn may_have(&self, name: &str) -> bool
         ensures { result ≡ has_mark self.now name.now }
     {

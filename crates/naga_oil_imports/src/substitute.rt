@@ -115,6 +115,7 @@ struct SiteText<'a> {
 }
 
 // The first identifier of a text that is substituted.
+#[inline(always)]
 fn next_site(text: &str) -> Option<SiteText<'_>>
     ensures { MatchOption result (HasNoSite text.now) (λ site. FindsSite text.now site.name.now site.is_word site.from.now site.behind.now) }
 {
@@ -236,6 +237,7 @@ impl Substitution<'_> {
     }
 
     // The paths that are declared for a name.
+    #[inline]
     fn declared_paths(&self, name: &str) -> &[String]
         requires { Covers self.now.names.now (declared_of self.now.declared_imports.now) }
         ensures { map string_bytes result.now ≡ paths_of (declared_of self.now.declared_imports.now) name.now }
@@ -325,6 +327,7 @@ impl Substitution<'_> {
     }
 
     // Whether an identifier stands for itself alone.
+    #[inline]
     fn is_own(&self, site: SiteText<'_>) -> bool
         requires covers { Covers self.now.names.now (declared_of self.now.declared_imports.now) }
         requires word { IsTrue site.is_word → list_any (λ b. b == 58) site.name.now ≡ false }

@@ -11,6 +11,7 @@ pub mod Base32Lemmas
 pub mod DecorateLemmas
 pub mod DirectiveLemmas
 pub mod NamesInOrder
+pub mod ClassLemmas
 pub mod WordLemmas
 pub mod UndecorateLemmas
 pub mod MarkLemmas

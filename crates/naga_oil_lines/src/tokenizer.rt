@@ -72,14 +72,26 @@ fn goes_on_name(c: char) -> bool
     }
 }
 
-// Whether a byte goes on a name. Most of those are letters.
+const GAP: u8 = 1;
+
+const WORD: u8 = 2;
+
+// For each byte a digit, whose low two bits are the flags above.
+static CLASS: [u8; 256] = *b"\
+    11111111111111111111111111111111\
+    11011111111111113333333333111111\
+    12222222222222222222222222211113\
+    12222222222222222222222222211111\
+    00000000000000000000000000000000\
+    00000000000000000000000000000000\
+    00000000000000000000000000000000\
+    00000000000000000000000000000000";
+
+// Whether a byte goes on a name.
 fn is_word_byte(byte: u8) -> bool
     ensures { result ≡ is_word_byte byte }
 {
-    if byte.is_ascii_alphabetic() {
-        return true;
-    }
-    byte.is_ascii_digit() || byte == b'_'
+    CLASS[byte as usize] & WORD != 0
 }
 
 // How many bytes of names are at the front.
@@ -102,15 +114,11 @@ fn after_word(text: &str) -> &str
     rest
 }
 
-// Whether a byte is of ASCII and begins no identifier. Most of those are below the letters.
+// Whether a byte is of ASCII and begins no identifier.
 fn is_gap_byte(byte: u8) -> bool
     ensures { result ≡ is_gap_byte byte }
 {
-    if byte < b'A' {
-        byte != b'"'
-    } else {
-        byte < 128 && !byte.is_ascii_alphabetic()
-    }
+    CLASS[byte as usize] & GAP != 0
 }
 
 // How many bytes of that kind are at the front.
