@@ -10,7 +10,7 @@ pub mod ImportPlaceLemmas
 pub mod SubstitutedLines
 pub mod PassLemmas
 pub mod WritingLemmas
-pub mod RecordingLemmas
+pub mod WalkLemmas
 pub mod GapLemmas
 pub mod PlainLemmas
 pub mod NameMarkLemmas

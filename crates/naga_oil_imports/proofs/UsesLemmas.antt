@@ -1,5 +1,5 @@
 -- Uses of imported modules, as the code's map holds them.
-use Rattle.std.proofs.Common.{◌≡◌, ℕ, true, false, cond, List, [], ◌∷◌, map, Some, None, Result, Ok, Err, OnOk, OnErr, String, Vec, string_bytes, bytes_eq, refl, ap, subst, ◌∙◌}
+use Rattle.std.proofs.Common.{◌≡◌, ℕ, true, false, cond, List, [], ◌∷◌, map, Some, None, Result, Ok, Err, OnOk, OnErr, String, Vec, string_bytes, bytes_eq, ap, subst, ◌∙◌}
 use Rattle.std.specs.declared.alloc.Global.{Global}
 use Rattle.std.specs.declared.alloc.AllocError.{AllocError}
 use Rattle.std.specs.List.{AllZip}

@@ -155,9 +155,22 @@ struct Substitution<'a> {
     names: &'a DeclaredNames,
     allow_ambiguous: bool,
     offset: usize,
+    // Without it uses are recorded, and nothing is written.
+    writes: bool,
 }
 
 impl Substitution<'_> {
+    // Writes a text, if any is written.
+    fn write(&self, output: &mut String, text: &str) -> Result<(), AllocError>
+        ensures { IsTrue self.now.writes → OnOk result (string_bytes output.new ≡ string_bytes output.old ++ text.now) }
+    {
+        if self.writes {
+            output.push_str(text)
+        } else {
+            Ok(())
+        }
+    }
+
     // Writes a path that an identifier stands for, and records its use.
     fn write_path(
         &self,
@@ -167,18 +180,22 @@ impl Substitution<'_> {
         used_imports: &mut IndexMap<String, ImportDefWithOffset>,
         output: &mut String,
     ) -> Result<(), AllocError>
-        ensures text { OnOk result (string_bytes output.new ≡ string_bytes output.old ++ path_text identifier.now path.now) }
+        ensures text { let more = path_text identifier.now path.now in
+            IsTrue self.now.writes → OnOk result (string_bytes output.new ≡ string_bytes output.old ++ more) }
         ensures used { OnOk result (uses_of used_imports.new ≡ with_mentions (uses_of used_imports.old) (mentions_at place path.now)) }
         ensures begun { OnErr result (BeginsUses (mentions_at place path.now) (uses_of used_imports.old) (uses_of used_imports.new)) }
     {
         if let Some((module_name, item)) = path.rsplit_once("::") {
             record_use(self.alloc, used_imports, module_name, item, place)?;
-            return push_decorated(output, module_name, item);
+            if self.writes {
+                return push_decorated(output, module_name, item);
+            }
+            return Ok(());
         }
         if path.as_bytes().contains(&b'"') {
-            return output.push_str(identifier);
+            return self.write(output, identifier);
         }
-        output.push_str(path)
+        self.write(output, path)
     }
 
     // Writes the paths that an identifier stands for one after another, each with what follows, and records their uses.
@@ -191,47 +208,15 @@ impl Substitution<'_> {
         used_imports: &mut IndexMap<String, ImportDefWithOffset>,
         output: &mut String,
     ) -> Result<(), AllocError>
-        ensures text { OnOk result (string_bytes output.new ≡ string_bytes output.old ++ flat_map (path_text identifier.now) (longer_paths (map string_bytes paths.now) behind.now)) }
+        ensures text { let whole = longer_paths (map string_bytes paths.now) behind.now in
+            let more = flat_map (path_text identifier.now) whole in
+            IsTrue self.now.writes → OnOk result (string_bytes output.new ≡ string_bytes output.old ++ more) }
         ensures used { OnOk result (uses_of used_imports.new ≡ with_mentions (uses_of used_imports.old) (flat_map (mentions_at place) (longer_paths (map string_bytes paths.now) behind.now))) }
         ensures begun { OnErr result (BeginsUses (flat_map (mentions_at place) (longer_paths (map string_bytes paths.now) behind.now)) (uses_of used_imports.old) (uses_of used_imports.new)) }
     {
         for path in paths {
             let whole = longer_path(self.alloc, path.as_str(), behind)?;
             self.write_path(identifier, whole.as_str(), place, used_imports, output)?;
-        }
-        Ok(())
-    }
-
-    // Records the use that a path makes.
-    fn record_path(
-        &self,
-        path: &str,
-        place: usize,
-        used_imports: &mut IndexMap<String, ImportDefWithOffset>,
-    ) -> Result<(), AllocError>
-        ensures used { OnOk result (uses_of used_imports.new ≡ with_mentions (uses_of used_imports.old) (mentions_at place path.now)) }
-        ensures begun { OnErr result (BeginsUses (mentions_at place path.now) (uses_of used_imports.old) (uses_of used_imports.new)) }
-    {
-        if let Some((module_name, item)) = path.rsplit_once("::") {
-            record_use(self.alloc, used_imports, module_name, item, place)?;
-        }
-        Ok(())
-    }
-
-    // Records the uses that paths make one after another, each with what follows.
-    fn record_paths(
-        &self,
-        paths: &[String],
-        behind: &str,
-        place: usize,
-        used_imports: &mut IndexMap<String, ImportDefWithOffset>,
-    ) -> Result<(), AllocError>
-        ensures used { OnOk result (uses_of used_imports.new ≡ with_mentions (uses_of used_imports.old) (flat_map (mentions_at place) (longer_paths (map string_bytes paths.now) behind.now))) }
-        ensures begun { OnErr result (BeginsUses (flat_map (mentions_at place) (longer_paths (map string_bytes paths.now) behind.now)) (uses_of used_imports.old) (uses_of used_imports.new)) }
-    {
-        for path in paths {
-            let whole = longer_path(self.alloc, path.as_str(), behind)?;
-            self.record_path(whole.as_str(), place, used_imports)?;
         }
         Ok(())
     }
@@ -269,7 +254,7 @@ impl Substitution<'_> {
         requires { Covers self.now.names.now (declared_of self.now.declared_imports.now) }
         ensures text { let paths = paths_for (declared_of self.now.declared_imports.now) identifier.now in
             let more = flat_map (path_text identifier.now) paths in
-            OnOk result (string_bytes output.new ≡ string_bytes output.old ++ more) }
+            IsTrue self.now.writes → OnOk result (string_bytes output.new ≡ string_bytes output.old ++ more) }
         ensures used { let declared = declared_of self.now.declared_imports.now in
             let more = mentions_in declared (record { name = identifier.now; place = place } ∷ []) in
             OnOk result (uses_of used_imports.new ≡ with_mentions (uses_of used_imports.old) more) }
@@ -294,38 +279,6 @@ impl Substitution<'_> {
         Ok(())
     }
 
-    // Records the uses of what an identifier stands for.
-    fn record_identifier(
-        &self,
-        identifier: &str,
-        place: usize,
-        used_imports: &mut IndexMap<String, ImportDefWithOffset>,
-    ) -> Result<(), SubstituteFault>
-        requires { Covers self.now.names.now (declared_of self.now.declared_imports.now) }
-        ensures used { let declared = declared_of self.now.declared_imports.now in
-            let more = mentions_in declared (record { name = identifier.now; place = place } ∷ []) in
-            OnOk result (uses_of used_imports.new ≡ with_mentions (uses_of used_imports.old) more) }
-        ensures allowed { let declared = declared_of self.now.declared_imports.now in
-            let first = first_ambiguous declared self.now.allow_ambiguous (record { name = identifier.now; place = place } ∷ []) in
-            OnOk result (first ≡ None) }
-        ensures fault { let declared = declared_of self.now.declared_imports.now in
-            let refuses = RefusesUses declared self.now.allow_ambiguous (record { name = identifier.now; place = place } ∷ []) in
-            IfErr result (λ e. refuses (uses_of used_imports.old) (uses_of used_imports.new) e) }
-    {
-        let (first, behind) = split_identifier(identifier);
-        let paths = self.declared_paths(first);
-        if paths.is_empty() {
-            let path = own_path(identifier, first, behind);
-            self.record_path(path, place, used_imports)?;
-            return Ok(());
-        }
-        if self.is_refused(paths) {
-            return Err(SubstituteFault::Ambiguous(place));
-        }
-        self.record_paths(paths, behind, place, used_imports)?;
-        Ok(())
-    }
-
     // Whether an identifier stands for itself alone.
     #[inline]
     fn is_own(&self, site: SiteText<'_>) -> bool
@@ -335,6 +288,49 @@ impl Substitution<'_> {
     {
         (site.is_word || !site.name.as_bytes().contains(&b':'))
             && self.declared_paths(site.name).is_empty()
+    }
+
+    // Writes a text with what its identifiers stand for, and records their uses.
+    #[inline]
+    fn walk(
+        &self,
+        input: &str,
+        used_imports: &mut IndexMap<String, ImportDefWithOffset>,
+        output: &mut String,
+    ) -> Result<(), SubstituteFault>
+        requires { Covers self.now.names.now (declared_of self.now.declared_imports.now) }
+        ensures text { let declared = declared_of self.now.declared_imports.now in
+            let more = substituted declared (lexemes 0 0 (chars input.now)) in
+            IsTrue self.now.writes → OnOk result (string_bytes output.new ≡ string_bytes output.old ++ more) }
+        ensures used { let found = usize_sites (sites self.now.offset (lexemes 0 0 (chars input.now))) in
+            let more = mentions_in (declared_of self.now.declared_imports.now) found in
+            OnOk result (uses_of used_imports.new ≡ with_mentions (uses_of used_imports.old) more) }
+        ensures allowed { let declared = declared_of self.now.declared_imports.now in
+            let found = usize_sites (sites self.now.offset (lexemes 0 0 (chars input.now))) in
+            OnOk result (first_ambiguous declared self.now.allow_ambiguous found ≡ None) }
+        ensures fault { let declared = declared_of self.now.declared_imports.now in
+            let found = usize_sites (sites self.now.offset (lexemes 0 0 (chars input.now))) in
+            let refuses = RefusesUses declared self.now.allow_ambiguous found in
+            IfErr result (λ e. refuses (uses_of used_imports.old) (uses_of used_imports.new) e) }
+    {
+        if self.declared_imports.is_empty() && lacks_colons(input) {
+            self.write(output, input)?;
+            return Ok(());
+        }
+        let mut unwritten = input;
+        let mut rest = input;
+        while let Some(site) = next_site(rest) {
+            rest = site.behind;
+            if self.is_own(site) {
+                continue;
+            }
+            self.write(output, text_before(unwritten, site.from))?;
+            let place = self.offset.saturating_add(input.len() - site.from.len());
+            self.write_identifier(site.name, place, used_imports, output)?;
+            unwritten = rest;
+        }
+        self.write(output, unwritten)?;
+        Ok(())
     }
 }
 
@@ -370,31 +366,15 @@ pub fn push_substituted(
         let refuses = RefusesUses (declared_of declared_imports.now) allow_ambiguous found in
         IfErr result (λ e. refuses (uses_of used_imports.old) (uses_of used_imports.new) e) }
 {
-    if declared_imports.is_empty() && lacks_colons(input) {
-        output.push_str(input)?;
-        return Ok(());
-    }
     let substitution = Substitution {
         alloc,
         declared_imports,
         names,
         allow_ambiguous,
         offset,
+        writes: true,
     };
-    let mut unwritten = input;
-    let mut rest = input;
-    while let Some(site) = next_site(rest) {
-        rest = site.behind;
-        if substitution.is_own(site) {
-            continue;
-        }
-        output.push_str(text_before(unwritten, site.from))?;
-        let place = offset.saturating_add(input.len() - site.from.len());
-        substitution.write_identifier(site.name, place, used_imports, output)?;
-        unwritten = rest;
-    }
-    output.push_str(unwritten)?;
-    Ok(())
+    substitution.walk(input, used_imports, output)
 }
 
 /// Writes a text with what its identifiers stand for by the declared imports, and records in `used_imports` what they
@@ -459,27 +439,15 @@ pub fn record_identifiers(
         let refuses = RefusesUses (declared_of declared_imports.now) allow_ambiguous found in
         IfErr result (λ e. refuses (uses_of used_imports.old) (uses_of used_imports.new) e) }
 {
-    if declared_imports.is_empty() && lacks_colons(input) {
-        return Ok(());
-    }
     let substitution = Substitution {
         alloc,
         declared_imports,
         names,
         allow_ambiguous,
         offset,
+        writes: false,
     };
-    let mut rest = input;
-    while let Some(site) = next_site(rest) {
-        rest = site.behind;
-        if substitution.is_own(site) {
-            continue;
-        }
-        let before = input.len() - site.from.len();
-        let place = offset.saturating_add(before);
-        substitution.record_identifier(site.name, place, used_imports)?;
-    }
-    Ok(())
+    substitution.walk(input, used_imports, &mut String::new(alloc))
 }
 
 /// The place of a use is the sum of the offset and its place in the text wherever a `usize` holds the text's end.

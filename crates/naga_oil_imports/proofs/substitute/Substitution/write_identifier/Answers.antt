@@ -16,7 +16,7 @@ returns-then-is_empty-clause-text c =
     let empty : c.declared_paths-paths.result.now ≡ [] = nil_from_length _ (grind (arith, nat_tests)) in
     let none : paths_of declared (first_part name) ≡ [] = ap (paths_of declared) (sym c.split_identifier.ensures.first) ∙ sym c.declared_paths-paths.ensures ∙ ap (map string_bytes) empty in
     let own : paths_for declared name ≡ own_path name ∷ [] = paths_for_own declared name none in
-    c.in_ok-write_path.ensures.text
+    λ w. c.in_ok-write_path.ensures.text w
     ∙ ap (λ l. string_bytes c.args.output.now ++ l) (ap (path_text name) c.own_path-path.ensures ∙ sym (append-nil (path_text name (own_path name))) ∙ ap (flat_map (path_text name)) (sym own))
 
 pub returns-then-is_empty-clause-used : goal.returns-then-is_empty-clause-used
@@ -92,7 +92,7 @@ returns-clause-text c =
     let paths : paths_for declared name ≡ longer_paths (map string_bytes c.declared_paths-paths.result.now) (behind_first name) =
     paths_for_declared declared name (map string_bytes c.declared_paths-paths.result.now) (c.declared_paths-paths.ensures ∙ ap (paths_of declared) c.split_identifier.ensures.first)
     (omega (arith, some, length-map c.declared_paths-paths.result.now string_bytes)) in
-    c.in_ok-write_paths.ensures.text
+    λ w. c.in_ok-write_paths.ensures.text w
     ∙ ap (λ l. string_bytes c.args.output.now ++ flat_map (path_text name) l) (ap (longer_paths (map string_bytes c.declared_paths-paths.result.now)) c.split_identifier.ensures.behind ∙ sym paths)
 
 pub returns-clause-used : goal.returns-clause-used

@@ -25,9 +25,9 @@ loop-path-preserved c =
     c.as_str-in-loop-path.ensures.value ∙ c.in_ok-whole.ensures ∙ ap (λ p. longer_path p c.args.behind.now) c.as_str.ensures.value in
     let within : c.loop-path.path-index < length c.args.paths.now = omega arith in
     record {
-      text =
+      text = λ w.
           text_more (path_text c.args.identifier.now) c.args.behind.now c.args.paths.now c.loop-path.path-index c.path-item.result c.as_str-in-loop-path.result.now
-          (string_bytes c.args.output.now) (string_bytes c.loop-path.output) (string_bytes c.write_path.new.output) within c.path-item.is whole c.loop-path.invariant.text c.in_ok-write_path.ensures.text;
+          (string_bytes c.args.output.now) (string_bytes c.loop-path.output) (string_bytes c.write_path.new.output) within c.path-item.is whole (c.loop-path.invariant.text w) (c.in_ok-write_path.ensures.text w);
       used =
           uses_more (mentions_at c.args.place) c.args.behind.now c.args.paths.now c.loop-path.path-index c.path-item.result c.as_str-in-loop-path.result.now
           (uses_of c.args.used_imports.now) (uses_of c.loop-path.used_imports) (uses_of c.write_path.new.used_imports) within c.path-item.is whole c.loop-path.invariant.used c.in_ok-write_path.ensures.used;
