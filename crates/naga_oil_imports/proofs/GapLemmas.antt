@@ -1,5 +1,5 @@
 -- Bytes of ASCII that begin no identifier, one after another.
-use Rattle.std.proofs.Common.{◌≡◌, ℕ, suc, ◌+◌, ◌-◌, Bool, true, false, cond, eqb, ◌||◌, Some, List, [], ◌∷◌, ◌++◌, length, take, drop, get_or, refl, sym, ap, subst, ◌∙◌, arith}
+use Rattle.std.proofs.Common.{◌≡◌, ℕ, suc, ◌+◌, ◌-◌, ◌<◌, Bool, true, false, cond, eqb, ◌||◌, Some, List, [], ◌∷◌, ◌++◌, length, take, drop, get_or, refl, sym, ap, subst, ◌∙◌, arith}
 use Rattle.std.specs.Char.{encode_utf8}
 use Rattle.std.specs.List.{prefix_len, slice_get}
 use Rattle.std.specs.Str.{IsUtf8}
@@ -66,6 +66,21 @@ none_keeps (b ∷ bs) c more first =
     elim (is_gap_byte b) as (λ w. is_gap_byte b ≡ w → BeginsWithChar (drop (cond w (1 + n) 0) (b ∷ bs)) c more → (eqb c 46 || eqb c 64) ≡ false) [
       | true ↦ rw one (λ e f. none_keeps bs c more f)
       | false ↦ λ e f. rw (not_first b bs c more f e 46 refl, not_first b bs c more f e 64 refl) refl
+    ] refl first
+
+-- behind such bytes each character of ASCII begins an identifier
+pub ascii_starts : (bs : List ℕ) (c : ℕ) (more : List ℕ) → BeginsWithChar (drop (prefix_len is_gap_byte bs) bs) c more → c < 128 → starts_identifier c ≡ true
+ascii_starts [] c more first ascii = absurd (omega (arith, first.shorter))
+ascii_starts (b ∷ bs) c more first ascii =
+    let n = prefix_len is_gap_byte bs in
+    let one : 1 + n ≡ suc n = omega arith in
+    elim (is_gap_byte b) as (λ w. is_gap_byte b ≡ w → BeginsWithChar (drop (cond w (1 + n) 0) (b ∷ bs)) c more → starts_identifier c ≡ true) [
+      | true ↦ rw one (λ e f. ascii_starts bs c more f ascii)
+      | false ↦ λ e f.
+          let same : b ∷ bs ≡ c ∷ more = f.bytes ∙ ap (λ l. l ++ more) (encode_ascii c ascii) in
+          let is : b ≡ c = cc in
+          let stop : is_gap_byte c ≡ false = subst (λ k. is_gap_byte k ≡ false) is e in
+          rw (is_xid_start-ascii c ascii) (grind (arith, nat_tests, stop))
     ] refl first
 
 -- the same behind what was passed before, and a character behind it

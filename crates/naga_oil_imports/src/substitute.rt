@@ -1,5 +1,5 @@
 // Writes what identifiers stand for, and records what they use of imported modules.
-ghost use Rattle.std.specs.Prelude.{◌≡◌, ℕ, ◌+◌, ◌<◌, ◌≤◌, ◌^◌, ◌++◌, ◌∷◌, [], List, None, not, ◌&&◌, ◌||◌, ◌==◌, nat_lt, length, map, IfOk, IfErr, OnOk, OnErr, MatchOption, IsTrue, false};
+ghost use Rattle.std.specs.Prelude.{◌≡◌, ℕ, ◌+◌, ◌<◌, true, ◌≤◌, ◌^◌, ◌++◌, ◌∷◌, [], List, None, not, ◌&&◌, ◌||◌, ◌==◌, nat_lt, length, map, IfOk, IfErr, OnOk, OnErr, MatchOption, IsTrue, false};
 ghost use Rattle.std.specs.Cow.{cow_str_bytes};
 ghost use Rattle.std.specs.List.{flat_map, list_any};
 ghost use Rattle.std.specs.Str.{chars, IsUtf8};
@@ -11,7 +11,7 @@ ghost use Rattle.naga_oil_imports.specs.NameMarks.{Covers};
 ghost use Rattle.naga_oil_imports.specs.SubstituteFault.{RefusesUses};
 ghost use Rattle.naga_oil_imports.specs.Substituted.{first_part, behind_first, longer_path, longer_paths, paths_for, path_text, mentions_at, with_mentions, Site, substituted, sites, usize_sites, mentions_in, first_ambiguous, BeginsUses};
 ghost use Rattle.naga_oil_imports.specs.Sites.{HasNoSite, FindsSite, is_own, keeps_behind};
-ghost use Rattle.naga_oil_lines.specs.Tokens.{lexemes};
+ghost use Rattle.naga_oil_lines.specs.Tokens.{lexemes, starts_identifier};
 ghost use Rattle.naga_oil_imports.specs.Uses.{uses_of, with_use};
 
 use crate::declared_names::DeclaredNames;
@@ -105,6 +105,14 @@ fn keeps_behind(gap: &str, kept: bool) -> bool
     }
 }
 
+// Whether a character begins an identifier, where each one of ASCII does, as behind a gap.
+fn starts_behind_gap(first: char) -> bool
+    requires { first < 128 → starts_identifier first ≡ true }
+    ensures { result ≡ starts_identifier first }
+{
+    first.is_ascii() || starts_identifier(first)
+}
+
 /// An identifier that is substituted, with the text from it on and the text behind it. A word has no `:`.
 #[derive(Clone, Copy)]
 struct SiteText<'a> {
@@ -127,7 +135,7 @@ fn next_site(text: &str) -> Option<SiteText<'_>>
         let Some((first, more)) = split_first_char(from) else {
             return None;
         };
-        if !starts_identifier(first) {
+        if !starts_behind_gap(first) {
             kept = false;
             rest = more;
             continue;

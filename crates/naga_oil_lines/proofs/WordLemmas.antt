@@ -1,5 +1,5 @@
 -- Runs of bytes of ASCII.
-use Rattle.std.proofs.Common.{◌≡◌, ◌≢◌, ℕ, zero, suc, ◌+◌, ◌<◌, Bool, true, false, cond, List, [], ◌∷◌, ◌++◌, length, take, drop, get_or, refl, sym, ap, subst, ◌∙◌, arith, inl, inr, eqb, append_assoc, append-nil}
+use Rattle.std.proofs.Common.{◌≡◌, ◌≢◌, ℕ, zero, suc, ◌+◌, ◌<◌, Bool, true, false, cond, List, [], ◌∷◌, ◌++◌, take, drop, get_or, refl, sym, ap, subst, ◌∙◌, arith, inl, inr, eqb, append_assoc, append-nil}
 use Rattle.std.specs.Char.{encode_utf8}
 use Rattle.std.specs.List.{prefix_len, list_any}
 use borrow.Author.Tests.{ne_eqb}
@@ -10,7 +10,7 @@ use Rattle.std.proofs.lemmas.List.{take-append-drop, get_or-take, get_or_past, a
 use Rattle.std.proofs.lemmas.List.Elements.{All-from_get_or}
 use Rattle.std.proofs.lemmas.List.Folds.{length-prefix_len, list_any_none, list_any-append}
 use Rattle.std.proofs.lemmas.Bool.{cases_lt}
-use Rattle.std.proofs.lemmas.List.Sums.{prefix_len_passes, prefix_len-le-length, prefix_len_stops, prefix_len-drop_no, prefix_len-drop_all}
+use Rattle.std.proofs.lemmas.List.Sums.{prefix_len_passes, prefix_len-le-length}
 use Rattle.unicode_ident.proofs.Computing.{unicode_ident}
 use Rattle.naga_oil_lines.specs.Text.{BeginsWithChar}
 use Rattle.naga_oil_lines.specs.Tokens.{starts_identifier}
@@ -66,14 +66,6 @@ after_run (b ∷ bs) cs =
 
 pub after_word : (bs : List ℕ) → after false (chars (drop (prefix_len is_word_byte bs) bs)) ≡ after false (chars bs)
 after_word bs = sym (ap (after false) (chars_run is_word_byte word_ascii bs) ∙ after_run bs (chars (drop (prefix_len is_word_byte bs) bs)))
-
--- no word goes on behind a word
-pub no_word_behind : (bs : List ℕ) → prefix_len is_word_byte (drop (prefix_len is_word_byte bs) bs) ≡ 0
-no_word_behind bs =
-    elim (cases_lt (prefix_len is_word_byte bs) (length bs)) [
-      | inl h ↦ prefix_len-drop_no is_word_byte bs (prefix_len is_word_byte bs) 0 h (prefix_len_stops is_word_byte bs 0 h)
-      | inr h ↦ prefix_len-drop_all is_word_byte bs (prefix_len is_word_byte bs) (omega (arith, h))
-    ]
 
 -- an identifier ends before such a byte
 pub ends_after : (bs : List ℕ) → IsUtf8 bs → ends_identifier bs ≡ true → after false (chars bs) ≡ chars bs

@@ -76,12 +76,14 @@ const GAP: u8 = 1;
 
 const WORD: u8 = 2;
 
-// For each byte a digit, whose low two bits are the flags above.
+const END: u8 = 4;
+
+// For each byte a digit, whose low three bits are the flags above.
 static CLASS: [u8; 256] = *b"\
-    11111111111111111111111111111111\
-    11011111111111113333333333111111\
-    12222222222222222222222222211113\
-    12222222222222222222222222211111\
+    55555555555555555555555555555555\
+    55055555555555553333333333155555\
+    52222222222222222222222222255553\
+    52222222222222222222222222255555\
     00000000000000000000000000000000\
     00000000000000000000000000000000\
     00000000000000000000000000000000\
@@ -173,14 +175,13 @@ fn after_identifier(text: &str, begins_quoted: bool) -> &str
     rest
 }
 
-// Whether no identifier goes on behind a word: nothing is there, or a byte of ASCII that is no part of one.
+// Whether no identifier goes on: nothing is there, or a byte of ASCII that is no part of one.
 fn ends_identifier(text: &str) -> bool
-    requires { prefix_len is_word_byte text.now ≡ 0 }
     ensures { result ≡ ends_identifier text.now }
 {
     match text.as_bytes() {
         [] => true,
-        [first, ..] => *first < 128 && *first != b'"' && *first != b':',
+        [first, ..] => CLASS[*first as usize] & END != 0,
     }
 }
 

@@ -1,10 +1,11 @@
 use Rattle.std.proofs.Common.{true, false, sym, subst, ap, ◌∙◌, length, length-append, arith}
 use Rattle.std.proofs.lemmas.List.{nil_from_length}
 use Rattle.naga_oil_imports.specs.Sites.{Passes}
+use Rattle.naga_oil_lines.specs.Text.{BeginsWithChar}
 use Rattle.naga_oil_lines.proofs.TokenLemmas.{suffix_behind_char}
 use Rattle.naga_oil_lines.proofs.WordLemmas.{identifier_lacks_colon}
 use Rattle.naga_oil_imports.proofs.PassLemmas.{passes_none, passes_more, kept_passes, identifier_first}
-use Rattle.naga_oil_imports.proofs.GapLemmas.{passes_gap, passes_behind_gap}
+use Rattle.naga_oil_imports.proofs.GapLemmas.{ascii_starts, passes_gap, passes_behind_gap}
 use Rattle.naga_oil_imports.proofs.substitute.next_site.Goals as goal
 
 pub loop-rest-init : goal.loop-rest-init
@@ -16,13 +17,16 @@ returns-in_default c =
     let before = passes_gap c.loop-rest.rest.now _ _ s.gap s.rest _ _ _ c.loop-rest.invariant.text c.keeps_behind-kept.ensures c.loop-rest.invariant.passes in
     (c.keeps_behind-kept.result, subst (λ l. Passes false c.args.text.now c.keeps_behind-kept.result l) (nil_from_length _ c.in_default.ensures) before)
 
-pub loop-rest-preserved-then-not-starts_identifier : goal.loop-rest-preserved-then-not-starts_identifier
-loop-rest-preserved-then-not-starts_identifier c =
+pub loop-rest-preserved-then-not-starts_behind_gap : goal.loop-rest-preserved-then-not-starts_behind_gap
+loop-rest-preserved-then-not-starts_behind_gap c =
     let e = c.in-Some.ensures in
     let s = c.split_gap.ensures in
     let before = passes_gap c.loop-rest.rest.now _ _ s.gap s.rest _ _ _ c.loop-rest.invariant.text c.keeps_behind-kept.ensures c.loop-rest.invariant.passes in
-    let one = passes_behind_gap c.loop-rest.rest.now _ _ s.gap s.rest c.keeps_behind-kept.result _ _ e (sym c.starts_identifier.ensures ∙ c.if-not-starts_identifier.true) in
+    let one = passes_behind_gap c.loop-rest.rest.now _ _ s.gap s.rest c.keeps_behind-kept.result _ _ e (sym c.starts_behind_gap.ensures ∙ c.if-not-starts_behind_gap.true) in
     record { text = e.utf8; passes = passes_more _ _ _ _ _ _ before one }
+
+pub starts_behind_gap-requires : goal.starts_behind_gap-requires
+starts_behind_gap-requires c ascii = ascii_starts c.loop-rest.rest.now _ _ (subst (λ l. BeginsWithChar l c.in-Some.first c.in-Some.more.now) c.split_gap.ensures.rest c.in-Some.ensures) ascii
 
 pub text_before-requires : goal.text_before-requires
 text_before-requires c = suffix_behind_char _ _ _ _ _ c.in-Some.ensures c.behind_identifier-is_word.ensures.suffix.1
@@ -31,7 +35,7 @@ pub returns-then-not-kept : goal.returns-then-not-kept
 returns-then-not-kept c =
     let b = c.behind_identifier-is_word.ensures in
     let s = c.split_gap.ensures in
-    let starts = sym c.starts_identifier.ensures ∙ c.if-not-starts_identifier.false in
+    let starts = sym c.starts_behind_gap.ensures ∙ c.if-not-starts_behind_gap.false in
     let before = passes_gap c.loop-rest.rest.now _ _ s.gap s.rest _ _ _ c.loop-rest.invariant.text c.keeps_behind-kept.ensures c.loop-rest.invariant.passes in
     record {
       before = subst (λ k. Passes false c.args.text.now k c.split_gap.result.1.now) c.if-not-kept.true before;
@@ -49,7 +53,7 @@ loop-rest-preserved c =
     let name = suffix_behind_char _ _ _ _ _ c.in-Some.ensures b.suffix.1 in
     let before = passes_gap c.loop-rest.rest.now _ _ s.gap s.rest _ _ _ c.loop-rest.invariant.text c.keeps_behind-kept.ensures c.loop-rest.invariant.passes in
     let one : Passes true c.split_gap.result.1.now false c.behind_identifier-is_word.result.0.now =
-    kept_passes _ _ _ _ _ c.in-Some.ensures (sym c.starts_identifier.ensures ∙ c.if-not-starts_identifier.false) name.1 b.utf8 b.chars in
+    kept_passes _ _ _ _ _ c.in-Some.ensures (sym c.starts_behind_gap.ensures ∙ c.if-not-starts_behind_gap.false) name.1 b.utf8 b.chars in
     record {
       text = b.utf8;
       passes = passes_more _ _ _ _ _ _ (subst (λ k. Passes false c.args.text.now k c.split_gap.result.1.now) c.if-not-kept.false before) one;

@@ -5,11 +5,8 @@ use Rattle.std.specs.Str.{chars}
 use Rattle.std.proofs.lemmas.List.{take-append-drop}
 use Rattle.naga_oil_lines.specs.Words.{is_word_byte}
 use Rattle.naga_oil_lines.proofs.TokenLemmas.{after, suffix_more}
-use Rattle.naga_oil_lines.proofs.WordLemmas.{after_word, no_word_behind, ends_after, word_lacks_colon}
+use Rattle.naga_oil_lines.proofs.WordLemmas.{after_word, ends_after, word_lacks_colon}
 use Rattle.naga_oil_lines.proofs.tokenizer.behind_identifier.Goals as goal
-
-pub ends_identifier-requires : goal.ends_identifier-requires
-ends_identifier-requires c = rw c.after_word-word.ensures (no_word_behind c.args.text.now)
 
 pub returns-then-ends_identifier-clause-chars : goal.returns-then-ends_identifier-clause-chars
 returns-then-ends_identifier-clause-chars c =
