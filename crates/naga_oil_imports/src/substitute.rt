@@ -170,7 +170,8 @@ struct Substitution<'a> {
 impl Substitution<'_> {
     // Writes a text, if any is written.
     fn write(&self, output: &mut String, text: &str) -> Result<(), AllocError>
-        ensures { IsTrue self.now.writes → OnOk result (string_bytes output.new ≡ string_bytes output.old ++ text.now) }
+        ensures { let written = string_bytes output.old ++ text.now in
+            IsTrue self.now.writes → OnOk result (string_bytes output.new ≡ written) }
     {
         if self.writes {
             output.push_str(text)
@@ -189,7 +190,8 @@ impl Substitution<'_> {
         output: &mut String,
     ) -> Result<(), AllocError>
         ensures text { let more = path_text identifier.now path.now in
-            IsTrue self.now.writes → OnOk result (string_bytes output.new ≡ string_bytes output.old ++ more) }
+            let written = string_bytes output.old ++ more in
+            IsTrue self.now.writes → OnOk result (string_bytes output.new ≡ written) }
         ensures used { OnOk result (uses_of used_imports.new ≡ with_mentions (uses_of used_imports.old) (mentions_at place path.now)) }
         ensures begun { OnErr result (BeginsUses (mentions_at place path.now) (uses_of used_imports.old) (uses_of used_imports.new)) }
     {
@@ -218,7 +220,8 @@ impl Substitution<'_> {
     ) -> Result<(), AllocError>
         ensures text { let whole = longer_paths (map string_bytes paths.now) behind.now in
             let more = flat_map (path_text identifier.now) whole in
-            IsTrue self.now.writes → OnOk result (string_bytes output.new ≡ string_bytes output.old ++ more) }
+            let written = string_bytes output.old ++ more in
+            IsTrue self.now.writes → OnOk result (string_bytes output.new ≡ written) }
         ensures used { OnOk result (uses_of used_imports.new ≡ with_mentions (uses_of used_imports.old) (flat_map (mentions_at place) (longer_paths (map string_bytes paths.now) behind.now))) }
         ensures begun { OnErr result (BeginsUses (flat_map (mentions_at place) (longer_paths (map string_bytes paths.now) behind.now)) (uses_of used_imports.old) (uses_of used_imports.new)) }
     {
@@ -262,7 +265,8 @@ impl Substitution<'_> {
         requires { Covers self.now.names.now (declared_of self.now.declared_imports.now) }
         ensures text { let paths = paths_for (declared_of self.now.declared_imports.now) identifier.now in
             let more = flat_map (path_text identifier.now) paths in
-            IsTrue self.now.writes → OnOk result (string_bytes output.new ≡ string_bytes output.old ++ more) }
+            let written = string_bytes output.old ++ more in
+            IsTrue self.now.writes → OnOk result (string_bytes output.new ≡ written) }
         ensures used { let declared = declared_of self.now.declared_imports.now in
             let more = mentions_in declared (record { name = identifier.now; place = place } ∷ []) in
             OnOk result (uses_of used_imports.new ≡ with_mentions (uses_of used_imports.old) more) }
@@ -299,7 +303,7 @@ impl Substitution<'_> {
     }
 
     // Writes a text with what its identifiers stand for, and records their uses.
-    #[inline]
+    #[inline(always)]
     fn walk(
         &self,
         input: &str,
@@ -309,8 +313,10 @@ impl Substitution<'_> {
         requires { Covers self.now.names.now (declared_of self.now.declared_imports.now) }
         ensures text { let declared = declared_of self.now.declared_imports.now in
             let more = substituted declared (lexemes 0 0 (chars input.now)) in
-            IsTrue self.now.writes → OnOk result (string_bytes output.new ≡ string_bytes output.old ++ more) }
-        ensures used { let found = usize_sites (sites self.now.offset (lexemes 0 0 (chars input.now))) in
+            let written = string_bytes output.old ++ more in
+            IsTrue self.now.writes → OnOk result (string_bytes output.new ≡ written) }
+        ensures used { let tokens = lexemes 0 0 (chars input.now) in
+            let found = usize_sites (sites self.now.offset tokens) in
             let more = mentions_in (declared_of self.now.declared_imports.now) found in
             OnOk result (uses_of used_imports.new ≡ with_mentions (uses_of used_imports.old) more) }
         ensures allowed { let declared = declared_of self.now.declared_imports.now in
