@@ -27,9 +27,10 @@ use Rattle.naga_oil_conditions.specs.Kind.{kind_of}
 use Rattle.naga_oil_conditions.specs.Fault.{Fault, Definitions}
 use Rattle.naga_oil_pre.specs.Reading.{braces_after, reading, taken, behind_taken}
 use Rattle.naga_oil_conditions.specs.Replaced.{replaced}
-use Rattle.naga_oil_pre.specs.Preprocessed.{Status, blanked, shown, imported, noted, Known, nothing_known, Output, Passage, written, end_line, spaces, padded, blanks, import_text, tokens_of, using_tokens, shown_passage, imported_passage, passage, prepend, prepend_passage, end_status, preprocessed}
+use Rattle.naga_oil_pre.specs.Preprocessed.{Status, blanked, shown, imported, noted, Known, nothing_known, Output, Passage, written, end_line, spaces, padded, blanks, import_text, tokens_of, using_tokens, ambiguous, shown_passage, imported_passage, passage, prepend, prepend_passage, end_status, preprocessed}
 use Rattle.naga_oil_pre.specs.Step.{Step, step, opened, scanned}
 use Rattle.naga_oil_conditions.specs.Scope.{is_open}
+use Rattle.naga_oil_pre.specs.KnownView.{TellsRefused}
 use Rattle.naga_oil_pre.specs.Treatment.{status_of, open_after}
 use Rattle.naga_oil_conditions.specs.View.{Fails, fault_of}
 use Rattle.naga_oil_pre.proofs.Machine.{scanned_reading}
@@ -89,10 +90,17 @@ pub never_ambiguous : (declared : Declared) (ss : List Site) (old new : Uses) (e
 never_ambiguous declared ss old new (Ambiguous p) place h e = let none = none_refused declared ss in let some = h.0 in cc
 never_ambiguous declared ss old new Memory place h e = cc
 
--- the place of the first ambiguous identifier
-pub first_refused : (declared : Declared) (ss : List Site) (old new : Uses) (e : SubstituteFault) (place : ℕ) → RefusesUses declared false ss old new e → e ≡ Ambiguous place → first_ambiguous declared false ss ≡ Some place
-first_refused declared ss old new (Ambiguous p) place h e = let same : p ≡ place = cc in h.0 ∙ ap (λ n. Some n) same
-first_refused declared ss old new Memory place h e = cc
+fault_alike : (o : Option Fault) (place : ℕ) → MatchOption o (Unit {0}) (λ f. f ≡ ambiguous place) → (let r : Result Passage Fault = Err (ambiguous place) in MatchOption o (Unit {0}) (λ f. r ≡ Err f))
+fault_alike None place h = tt
+fault_alike (Some f) place h = ap Err (sym h)
+
+-- what is told of a shown line whose identifiers aren't substituted
+pub uses_refused : (defs : Definitions) (known : Known) (l : Line) (declared : Declared) (ss all : List Site) (old new : Uses) (f : SubstituteFault) (e : ComposerErrorInner) → ss ≡ all
+    → RefusesUses declared false ss old new f → TellsRefused e f → Fails e (shown_passage defs known l (first_ambiguous declared false all))
+uses_refused defs known l declared ss all old new (Ambiguous place) e same h told =
+    let first : first_ambiguous declared false all ≡ Some place = ap (first_ambiguous declared false) (sym same) ∙ h.0 in
+    rw first (fault_alike (fault_of e) place told)
+uses_refused defs known l declared ss all old new Memory e same h told = rw told tt
 
 -- the identifiers of a text whose end is a number of the machine
 pub counted : (offset : ℕ) (text whole : List ℕ) → IsUtf8 text → text ≡ whole → offset + length text < 2 ^ 64 → usize_sites (sites offset (lexemes 0 0 (chars text))) ≡ sites offset (tokens_of whole)

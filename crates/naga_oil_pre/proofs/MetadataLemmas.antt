@@ -96,7 +96,7 @@ unfolding names_of
 all_recorded set left records e h name = sym (or_false (contains_text set name)) ∙ ap (λ ls. has_with set (names_of ls) name) (sym e) ∙ h name
 
 -- ---- imports
-found_behind_taken : (allow : Bool) (found : Found) (n : ℕ) (ls : List Line) → found_in allow found n ls ≡ found_in allow found 0 (behind_taken n ls)
+pub found_behind_taken : (allow : Bool) (found : Found) (n : ℕ) (ls : List Line) → found_in allow found n ls ≡ found_in allow found 0 (behind_taken n ls)
 found_behind_taken allow found zero ls = refl
 found_behind_taken allow found (suc n) [] = refl
 found_behind_taken allow found (suc n) (l ∷ ls) = found_behind_taken allow found (braces_after (suc n) l.covered) ls

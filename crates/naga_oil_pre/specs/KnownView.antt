@@ -1,11 +1,15 @@
 -- What the code knows of imports, and what it gives.
-use Rattle.std.specs.Prelude.{map, string_bytes}
+use Rattle.std.specs.Prelude.{◌≡◌, None, MatchOption, map, string_bytes}
 use Rattle.naga_oil_imports.specs.Declarations.{declared_of}
 use Rattle.naga_oil_imports.specs.NameMarks.{Covers}
 use Rattle.naga_oil_imports.specs.Uses.{uses_of, use_of}
+use Rattle.naga_oil_imports.specs.declared.substitute.SubstituteFault.{SubstituteFault}
+use Rattle.naga_oil_imports.specs.declared.substitute.SubstituteFault.TheVariants.{Ambiguous, Memory}
+use Rattle.naga_oil_conditions.specs.declared.fault.ComposerErrorInner.{ComposerErrorInner}
+use Rattle.naga_oil_conditions.specs.View.{fault_of}
 use Rattle.naga_oil_pre.specs.declared.imports.Imports.{Imports}
 use Rattle.naga_oil_pre.specs.declared.preprocess.PreprocessOutput.{PreprocessOutput}
-use Rattle.naga_oil_pre.specs.Preprocessed.{Known, Output}
+use Rattle.naga_oil_pre.specs.Preprocessed.{Known, Output, ambiguous}
 
 abbrev pub known_of : Imports → Known
 known_of i = record { declared = declared_of i.declared; uses = uses_of i.used }
@@ -16,3 +20,8 @@ HasMarks i = Covers i.names (declared_of i.declared)
 
 abbrev pub output_of : PreprocessOutput → Output
 output_of o = record { text = string_bytes o.preprocessed_source; uses = map use_of o.imports.items }
+
+-- an error is told of a refused substitution: its ambiguous identifier, or want of memory
+abbrev pub TellsRefused : ComposerErrorInner → SubstituteFault → Type 0
+TellsRefused e (Ambiguous place) = MatchOption (fault_of e) (Unit {0}) (λ f. f ≡ ambiguous place)
+TellsRefused e Memory = fault_of e ≡ None

@@ -82,6 +82,19 @@ found_in allow_defines found zero (l ∷ more) =
     going_on (found_behind allow_defines found l (unversioned_kind_of l.covered) more) (λ next. found_in allow_defines next (left_open l (unversioned_kind_of l.covered)) more)
 found_in allow_defines found (suc n) (l ∷ more) = found_in allow_defines found (braces_after (suc n) l.covered) more
 
+-- the defines of what is found
+abbrev pub defines_of : Result Found Fault → Result Definitions Fault
+defines_of (Ok found) = Ok found.defines
+defines_of (Err f) = Err f
+
+-- nothing is found but these defines
+abbrev pub defining : Definitions → Found
+defining defs = record nothing_found { defines = defs }
+
+-- what is defined behind lines, where these defines stand before them; or the earliest fault
+abbrev pub own_defines : (allow_defines : Bool) → Definitions → List Line → Result Definitions Fault
+own_defines allow_defines defs lines = defines_of (found_in allow_defines (defining defs) 0 lines)
+
 -- what a registry needs of a text
 pub record Metadata : Type 0 where
   -- the import path
@@ -117,3 +130,8 @@ metadata allow_defines text = metadata_behind allow_defines (extracted text)
 abbrev pub data_of : Result Metadata Fault → Option (List ℕ) × List Import × Definitions
 data_of (Ok m) = (m.name, map (λ u. u.import) m.uses, m.defines)
 data_of (Err f) = (None, [], none_defined)
+
+-- the cleaned source and the defines, or the fault
+abbrev pub source_and_defines : Result Metadata Fault → Result (List ℕ × Definitions) Fault
+source_and_defines (Ok m) = Ok (m.cleaned, m.defines)
+source_and_defines (Err f) = Err f

@@ -106,9 +106,13 @@ blanks ls = flat_map (λ l. end_line (spaces l)) ls
 abbrev pub Passage : Type 0
 Passage = List ℕ × Known
 
+-- the fault of an identifier that stands for several paths
+abbrev pub ambiguous : ℕ → Fault
+ambiguous place = invalid_import (codes "Ambiguous import path for item") place
+
 -- a shown line; the place is that of its first ambiguous identifier, if it has one
 abbrev pub shown_passage : Definitions → Known → Line → (ambiguous : Option ℕ) → Result Passage Fault
-shown_passage defs known l (Some place) = Err (invalid_import (codes "Ambiguous import path for item") place)
+shown_passage defs known l (Some place) = Err (ambiguous place)
 shown_passage defs known l None = Ok (end_line (shown_text defs known l), record known { uses = used_by known.declared l.at (using_tokens defs l) known.uses })
 
 -- the first line of an import that has these leaves

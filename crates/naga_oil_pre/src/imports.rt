@@ -11,7 +11,7 @@ ghost use Rattle.naga_oil_conditions.specs.View.{Fails};
 ghost use Rattle.naga_oil_pre.specs.Preprocessed.{Known, end_line, padded, blanks, import_text, tokens_of, using_tokens, imported_passage, shown_passage};
 ghost use Rattle.naga_oil_conditions.specs.Replaced.{replaced};
 ghost use Rattle.naga_oil_pre.specs.Reading.{braces_after, taken, behind_taken};
-ghost use Rattle.naga_oil_pre.specs.KnownView.{HasMarks};
+ghost use Rattle.naga_oil_pre.specs.KnownView.{HasMarks, TellsRefused};
 ghost use Rattle.naga_oil_conditions.specs.SourceView.{line_of};
 
 use super::*;
@@ -132,6 +132,19 @@ pub fn take_lines(
     Ok(())
 }
 
+// The fault of a text whose identifiers aren't substituted.
+fn ambiguous(alloc: Global, fault: SubstituteFault) -> ComposerErrorInner
+    ensures { TellsRefused result fault }
+{
+    let SubstituteFault::Ambiguous(place) = fault else {
+        return ComposerErrorInner::Memory;
+    };
+    match String::from_str(alloc, "Ambiguous import path for item") {
+        Ok(text) => ComposerErrorInner::ImportParseError(text, place),
+        Err(_) => ComposerErrorInner::Memory,
+    }
+}
+
 // Records what a shown line uses, by its covered line with its values.
 fn record_uses(
     alloc: Global,
@@ -163,11 +176,7 @@ fn record_uses(
         false,
     ) {
         Ok(()) => Ok(()),
-        Err(SubstituteFault::Ambiguous(place)) => Err(ComposerErrorInner::ImportParseError(
-            String::from_str(alloc, "Ambiguous import path for item")?,
-            place,
-        )),
-        Err(SubstituteFault::Memory) => Err(ComposerErrorInner::Memory),
+        Err(fault) => Err(ambiguous(alloc, fault)),
     }
 }
 
@@ -206,11 +215,7 @@ fn write_uses(
         false,
     ) {
         Ok(()) => Ok(()),
-        Err(SubstituteFault::Ambiguous(place)) => Err(ComposerErrorInner::ImportParseError(
-            String::from_str(alloc, "Ambiguous import path for item")?,
-            place,
-        )),
-        Err(SubstituteFault::Memory) => Err(ComposerErrorInner::Memory),
+        Err(fault) => Err(ambiguous(alloc, fault)),
     }
 }
 

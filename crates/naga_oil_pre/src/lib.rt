@@ -5,11 +5,13 @@
 //! - `preprocess`: the pass itself.
 //! - `directives`: the directives that a text begins with, taken out.
 //! - `imports`: what imports declare, and what lines use of them.
+//! - `defines`: what a text defines.
 //! - `metadata`: what a text tells before any build.
 //! - `recorded`: the names on which a text's preprocessing may depend.
 //! - `laws`: what holds of every text.
 #![tactic(auto)]
 
+mod defines;
 mod directives;
 mod imports;
 pub mod laws;

@@ -19,6 +19,7 @@ ghost use Rattle.naga_oil_conditions.specs.SourceView.{line_of};
 ghost use Rattle.naga_oil_conditions.specs.Fault.{Definitions};
 ghost use Rattle.naga_oil_conditions.specs.View.{Fails, Gives};
 
+use super::defines::define;
 use super::recorded::record_line_names;
 use super::*;
 use naga_oil_conditions::line_kind::unversioned_line_kind;
@@ -49,32 +50,6 @@ struct Findings {
     imports: Imports,
     defines: BTreeMap<String, ShaderDefValue>,
     names: BTreeSet<String>,
-}
-
-// Defines a name, in place of what it was, if defines are allowed.
-fn define(
-    alloc: Global,
-    allow_defines: bool,
-    name: &str,
-    value: Option<&str>,
-    offset: usize,
-    defines: &mut BTreeMap<String, ShaderDefValue>,
-) -> Result<(), ComposerErrorInner>
-    ensures ok { OnOk result (defined_behind allow_defines (get_by_text defines.old) offset name.now (option_copied value.entry) ≡ Ok (get_by_text defines.new)) }
-    ensures err { IfErr result (λ e. Fails e (defined_behind allow_defines (get_by_text defines.old) offset name.now (option_copied value.entry))) }
-{
-    if !allow_defines {
-        return Err(ComposerErrorInner::DefineInModule(offset));
-    }
-    let Some(defined) = defined_value(value) else {
-        return Err(ComposerErrorInner::InvalidShaderDefDefinitionValue {
-            name: String::from_str(alloc, name)?,
-            value: String::from_str(alloc, value.unwrap_or(""))?,
-            pos: offset,
-        });
-    };
-    defines.insert(String::from_str(alloc, name)?, defined)?;
-    Ok(())
 }
 
 // Records what a line uses by its covered line, as it stands.

@@ -91,6 +91,40 @@ fn reads_defines(rt: HostRuntime) -> Result<(), Fail> {
     tells(rt.alloc(), true, &DEFINES)
 }
 
+// The cleaned source of a text and its defines, or its fault.
+fn shown_defines(alloc: Global, source: &str, allow_defines: bool) -> Result<String, AllocError> {
+    match Preprocessor.get_preprocessor_defines(alloc, source, allow_defines) {
+        Ok((cleaned, defines)) => format!(in alloc; "{cleaned:?} {defines:?}"),
+        Err(fault) => format!(in alloc; "{fault:?}"),
+    }
+}
+
+static OWN_DEFINES: [(&str, &str); 4] = [
+    ("", "\"\" {}"),
+    (
+        "enable f16;\n#ifdef B\n#define A 1\n#import a::{\"\n#define X\n\"}\n#A f::h();\n#define A -2",
+        "\"\\n#ifdef B\\n#define A 1\\n#import a::{\\\"\\n#define X\\n\\\"}\\n#A f::h();\\n#define A -2\" {\"A\": Int(-2)}",
+    ),
+    (
+        "#import a::{b,\n#define X\nc}\n#define Y z",
+        "ImportParseError(\"unexpected token\", 15)",
+    ),
+    (
+        "#import a\n#define A x1",
+        "InvalidShaderDefDefinitionValue { name: \"A\", value: \"x1\", pos: 10 }",
+    ),
+];
+
+#[test]
+fn reads_defines_alone(rt: HostRuntime) -> Result<(), Fail> {
+    for (source, want) in &OWN_DEFINES {
+        if !is(shown_defines(rt.alloc(), source, true), want) {
+            return Err(Fail::from(*source));
+        }
+    }
+    Ok(())
+}
+
 static FAULTS: [(&str, &str); 5] = [
     ("#define A", "DefineInModule(0)"),
     ("enable f16;\n#define A x1", "DefineInModule(1)"),

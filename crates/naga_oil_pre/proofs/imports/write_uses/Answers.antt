@@ -1,15 +1,14 @@
-use Rattle.std.proofs.Common.{rules, arith, ◌≡◌, ◌+◌, ◌<◌, ◌^◌, Err, length, false, sym, ap, ◌∙◌}
+use Rattle.std.proofs.Common.{rules, arith, ◌≡◌, ◌+◌, ◌<◌, ◌^◌, length, false, sym, ap, ◌∙◌}
 use Rattle.std.specs.BTreeMap.{get_by_text}
 use Rattle.naga_oil_imports.specs.Declarations.{declared_of}
 use Rattle.naga_oil_imports.specs.Uses.{uses_of}
 use Rattle.naga_oil_imports.specs.Substituted.{sites, first_ambiguous, usize_sites, mentions_in, with_mentions}
 use Rattle.naga_oil_lines.specs.Tokens.{lexemes}
 use Rattle.std.specs.Str.{chars}
-use Rattle.naga_oil_conditions.specs.Fault.{invalid_import}
-use Rattle.naga_oil_pre.specs.Preprocessed.{shown_passage}
+use Rattle.naga_oil_pre.specs.Preprocessed.{tokens_of}
 use Rattle.naga_oil_conditions.specs.Replaced.{replaced}
 use Rattle.naga_oil_conditions.specs.SourceView.{line_of}
-use Rattle.naga_oil_pre.proofs.LoopLemmas.{counted, first_refused}
+use Rattle.naga_oil_pre.proofs.LoopLemmas.{counted, uses_refused}
 use Rattle.naga_oil_pre.proofs.imports.write_uses.Goals as goal
 
 pub returns-in-Ok-clause-ok : goal.returns-in-Ok-clause-ok
@@ -29,15 +28,12 @@ returns-in-Ok-clause-used c =
     c.in-Ok.ensures.used
     ∙ ap (λ ss. with_mentions (uses_of c.args.imports.now.used) (mentions_in (declared_of c.args.imports.now.declared) ss)) (counted c.args.line.now.offset text whole c.as_str-2.utf8 same fits)
 
-pub returns-in-Err-Ambiguous-clause-err : goal.returns-in-Err-Ambiguous-clause-err
-returns-in-Err-Ambiguous-clause-err c = λ known.
+pub returns-clause-err : goal.returns-clause-err
+returns-clause-err c = λ known.
     let text = c.as_str-2.result.now in
     let whole = replaced (get_by_text c.args.definitions.now) (line_of c.args.line.now).covered in
     let same : text ≡ whole = search rules in
     let fits : c.args.line.now.offset + length text < 2 ^ 64 = search (rules, arith) in
-    let declared = declared_of c.args.imports.now.declared in
-    let found = first_refused declared (usize_sites (sites c.args.line.now.offset (lexemes 0 0 (chars text)))) (uses_of c.args.imports.now.used) (uses_of c.push_substituted.new.used_imports)
-    c.in-Err-Ambiguous.field-0 c.in-Err-Ambiguous.place c.in-Err-Ambiguous.ensures.fault c.in-Err-Ambiguous.field-0-is in
-    ap (shown_passage (get_by_text c.args.definitions.now) known (line_of c.args.line.now))
-    (ap (first_ambiguous declared false) (sym (counted c.args.line.now.offset text whole c.as_str-2.utf8 same fits)) ∙ found)
-    ∙ ap (λ s. Err (invalid_import s c.in-Err-Ambiguous.place)) (sym c.in_ok-from_str-in-Err-Ambiguous.ensures.ok)
+    uses_refused (get_by_text c.args.definitions.now) known (line_of c.args.line.now) (declared_of c.args.imports.now.declared)
+    (usize_sites (sites c.args.line.now.offset (lexemes 0 0 (chars text)))) (sites c.args.line.now.offset (tokens_of whole)) (uses_of c.args.imports.now.used) (uses_of c.push_substituted.new.used_imports)
+    c.in-Err.fault c.ambiguous.result (counted c.args.line.now.offset text whole c.as_str-2.utf8 same fits) c.in-Err.ensures.fault c.ambiguous.ensures

@@ -2,7 +2,7 @@ use Rattle.std.proofs.Common.{◌≡◌, Some, rules}
 use Rattle.std.specs.Option.{option_copied}
 use Rattle.naga_oil_conditions.specs.DefineValue.{defined_value}
 use Rattle.naga_oil_pre.proofs.MetadataLemmas.{defines_name}
-use Rattle.naga_oil_pre.proofs.metadata.define.Goals as goal
+use Rattle.naga_oil_pre.proofs.defines.define.Goals as goal
 
 pub returns-clause-ok : goal.returns-clause-ok
 returns-clause-ok c =
