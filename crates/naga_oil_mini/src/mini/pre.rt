@@ -2,7 +2,6 @@
 ghost use Rattle.std.specs.Prelude.{◌≡◌, Ok, OnOk, IfOk, IfErr, string_bytes};
 ghost use Rattle.std.specs.BTreeMap.{get_by_text};
 ghost use Rattle.naga_oil_conditions.specs.View.{Gives};
-ghost use Rattle.naga_oil_pre.specs.MetadataView.{metadata_of};
 ghost use Rattle.naga_oil_pre.specs.Preprocessed.{preprocessed};
 ghost use Rattle.naga_oil_mini.specs.Printed.{overwritten, text_of, shown_text, printed};
 ghost use Rattle.naga_oil_mini.specs.Told.{Reports};
@@ -10,7 +9,7 @@ ghost use Rattle.naga_oil_mini.specs.Told.{Reports};
 use super::definitions::{Definitions, define};
 use super::refusal::Refusal;
 use naga_oil::compose::report::report;
-use naga_oil_pre::{ComposerErrorInner, Preprocessor, PreprocessorMetaData};
+use naga_oil_pre::{ComposerErrorInner, Preprocessor};
 use std::alloc::{AllocError, Global};
 
 // Defines what the text's own defines say, in place of what was.
@@ -25,17 +24,18 @@ fn overwrite(definitions: &mut Definitions, own: Definitions) -> Result<(), Allo
     Ok(())
 }
 
-// The cleaned source of metadata behind preprocessing, under the definitions overwritten by its own.
+// A cleaned source behind preprocessing, under the definitions overwritten by its own.
 fn shown(
     alloc: Global,
-    metadata: PreprocessorMetaData,
+    cleaned: &str,
+    own: Definitions,
     mut definitions: Definitions,
 ) -> Result<String, ComposerErrorInner>
-    ensures { Gives string_bytes result (shown_text (get_by_text definitions) (Ok (metadata_of metadata))) }
+    ensures { let said = Ok (cleaned.now, get_by_text own) in
+        Gives string_bytes result (shown_text (get_by_text definitions) said) }
 {
-    overwrite(&mut definitions, metadata.defines)?;
-    let source = metadata.cleaned_source.as_str();
-    let output = Preprocessor.preprocess(alloc, source, &definitions)?;
+    overwrite(&mut definitions, own)?;
+    let output = Preprocessor.preprocess(alloc, cleaned, &definitions)?;
     Ok(output.preprocessed_source)
 }
 
@@ -48,8 +48,8 @@ pub fn preprocessed(
 ) -> Result<String, ComposerErrorInner>
     ensures { Gives string_bytes result (printed (get_by_text definitions) text.now) }
 {
-    let metadata = Preprocessor.get_preprocessor_metadata(alloc, text, true)?;
-    shown(alloc, metadata, definitions)
+    let (cleaned, own) = Preprocessor.get_preprocessor_defines(alloc, text, true)?;
+    shown(alloc, cleaned.as_str(), own, definitions)
 }
 
 /// The same; of a fault what is told of the file.
