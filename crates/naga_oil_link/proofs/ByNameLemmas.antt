@@ -1,5 +1,5 @@
 -- Places of items by their names, and what is linked at them.
-use Rattle.std.proofs.Common.{◌≡◌, ℕ, zero, suc, ◌+◌, ◌<◌, List, [], ◌∷◌, ◌++◌, length, map, map-id, append-nil, Bool, true, false, ◌||◌, ◌&&◌, if◌then◌else◌, Some, None, option_map, slice_get, get_or, refl, sym, ap, subst, ◌∙◌, All, Ordering, Less, Equal, Greater, bytes_eq, arith}
+use Rattle.std.proofs.Common.{◌≡◌, ℕ, zero, suc, ◌+◌, ◌<◌, List, [], ◌∷◌, ◌++◌, length, map, map-id, append-nil, Bool, true, false, ◌||◌, ◌&&◌, if◌then◌else◌, Some, None, option_map, slice_get, get_or, refl, sym, ap, subst, ◌∙◌, All, String, Vec, Global, string_bytes, Ordering, Less, Equal, Greater, bytes_eq, arith}
 use Rattle.std.proofs.lemmas.Bool.Decides.{nat_tests}
 use Rattle.std.proofs.lemmas.Cmp.{nat_cmp_total}
 use Rattle.std.proofs.lemmas.List.Elements.{All-append, All-from_get_or, All-map}
@@ -16,7 +16,9 @@ use Rattle.std.specs.List.{list_any, filter, flat_map, range_with_len, AllByRecu
 use Rattle.std.specs.List.Sorted.{IsStrictlySortedBy, IsStrictlyIncreasing}
 use Rattle.std.specs.Cmp.{nat_cmp_is}
 use Rattle.std.specs.Ordering.{nat_cmp, is_eq, match_ordering, ordering_reverse}
-use Rattle.std.specs.Option.{option_flatten}
+use Rattle.std.specs.Cmp.Lexicographic.{slice_cmp}
+use Rattle.std.specs.Map.{lookup}
+use Rattle.std.specs.Option.{option_flatten, option_map_or}
 use Rattle.std.proofs.lemmas.Slice.Eq.{bytes_eq-Decides}
 use Rattle.naga_oil_form.specs.ItemForm.{IsThere}
 use Rattle.naga_oil_ir.specs.ModuleValue.{module_value}
@@ -222,14 +224,23 @@ names_noted names n index all h = subst (λ (m : ℕ). IsIndexBefore names m ind
 pub text_there : {X : Type 0} (name : X → Text) (xs : List X) (k : ℕ) (x : X) → slice_get xs k ≡ Some x → text_at (map name xs) k ≡ name x
 text_there name xs k x at = ap option_flatten (slice_get-map name xs k ∙ ap (option_map name) at)
 
+-- an index of nothing has no places
+nothing_at : (es : List (String Global × Vec ℕ Global)) (n : List ℕ) → length es ≡ 0 → option_map_or (λ places. places.items) (lookup (is_at (λ k. slice_cmp nat_cmp n (string_bytes k))) es) [] ≡ []
+nothing_at [] n none = refl
+nothing_at (e ∷ es) n none = absurd (omega arith)
+
+pub nothing_by : (index : ByName) → length index.entries ≡ 0 → (names : List (List ℕ)) → flat_map (places_by index) names ≡ []
+nothing_by index none [] = refl
+nothing_by index none (n ∷ ns) = ap (λ ks. ks ++ flat_map (places_by index) ns) (nothing_at index.entries n none) ∙ nothing_by index none ns
+
 -- ---- what is asked for
 
 -- by none all are
 pub all_wanted : (index : ByName) (count : ℕ) (keys : List ℕ) → keys ≡ with_places [] (range_with_len 0 count) → ArePlacesWhere (is_wanted None) index count keys
 all_wanted index count keys h names is long = h ∙ ap (λ n. with_places [] (range_with_len 0 n)) (sym long) ∙ every_place names
 
-pub some_wanted : (index : ByName) (count : ℕ) (keys : List ℕ) (asked : List (List ℕ)) → keys ≡ with_places [] (flat_map (places_by index) asked) → ArePlacesWhere (is_wanted (Some asked)) index count keys
-some_wanted index count keys asked h names is long = h ∙ only_named names (places_by index) asked is
+pub some_wanted : (index : ByName) (count : ℕ) (keys : List ℕ) (asked : List (List ℕ)) → keys ≡ with_places [] (flat_map (places_by index) asked) → ArePlacesWhere (is_wanted (Some (in_order asked))) index count keys
+some_wanted index count keys asked h names is long = h ∙ only_named names (places_by index) asked is ∙ (λ i. places_where (passes (λ n. sym (among-in_order asked n) i)) names)
 
 -- with the functions that override others
 pub functions_wanted : (b : BuiltModule) (asked : Asked) (index : ByName) (count : ℕ) (before keys : List ℕ) (others : List (List ℕ)) → others ≡ in_order (overriding_names b) → ArePlacesWhere (is_wanted asked) index count before → keys ≡ with_places before (flat_map (places_by index) others) → ArePlacesWhere (is_wanted_function b asked) index count keys

@@ -1,5 +1,5 @@
 -- What is copied and linked of modules of good form is of good form.
-use Rattle.std.proofs.Common.{◌≡◌, ℕ, zero, suc, ◌<◌, ◌+◌, ◌*◌, Bool, true, false, List, [], ◌∷◌, ◌++◌, length, map, fold, Option, Some, None, Result, Ok, Err, IfOk, option_map, if◌then◌else◌, refl, sym, ap, ◌∙◌, subst, arith, All}
+use Rattle.std.proofs.Common.{◌≡◌, ℕ, zero, suc, ◌<◌, ◌+◌, ◌*◌, Bool, true, false, List, [], ◌∷◌, ◌++◌, length, map, fold, Some, None, Result, Ok, Err, IfOk, option_map, if◌then◌else◌, refl, sym, ap, ◌∙◌, subst, arith, All}
 use Rattle.std.specs.List.{filter, range_with_len}
 use Rattle.std.proofs.lemmas.List.Elements.{All-nil, All-cons, All-append, All-filter, All-head, All-tail}
 use Rattle.naga_oil_ir.specs.ModuleValue.{ModuleValue, FunctionValue, module_value}
@@ -15,7 +15,7 @@ use Rattle.naga_oil_derive.specs.DerivedFunctions.{Meanings, meant}
 use Rattle.naga_oil_derive.specs.DerivedValue.{import_function, set_source}
 use Rattle.naga_oil_derive.specs.Tree.{Kept}
 use Rattle.naga_oil_derive.specs.World.{kept_of, value_of}
-use Rattle.naga_oil_form_laws.specs.DerivedForm.{IsFormed, MayCome}
+use Rattle.naga_oil_form_laws.specs.DerivedForm.{MayCome}
 use Rattle.naga_oil_form_laws.specs.EntryForm.{IsModuleFormed}
 use Rattle.naga_oil_form_laws.specs.TurnForm.{IsFormedOf, KeepsFormed, IsKnownIn, import_functions, stub}
 use Rattle.naga_oil_form_laws.proofs.FormedLemmas.{nothing_is, source_cleared}

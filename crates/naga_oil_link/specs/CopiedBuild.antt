@@ -1,5 +1,5 @@
 -- The module that a build holds, and its header: copies of what was parsed, as values.
-use Rattle.std.specs.Prelude.{ℕ, Bool, true, false, ◌++◌, List, fold, option_map, nat_lt, length, Option, Some, None, if◌then◌else◌}
+use Rattle.std.specs.Prelude.{ℕ, Bool, true, false, ◌++◌, List, fold, filter, option_map, nat_lt, length, Some, None, if◌then◌else◌}
 use Rattle.naga_oil_ir.specs.ModuleValue.{ModuleValue, FunctionValue}
 use Rattle.naga_oil_ir.specs.Rows.{Text}
 use Rattle.naga_oil_ir.specs.declared.names.ItemPlace.{ItemPlace}
@@ -83,13 +83,32 @@ abbrev pub has_name_among : List (List ℕ) → Text → Bool
 has_name_among names None = false
 has_name_among names (Some n) = is_among names n
 
--- a function is copied with what it calls, if its name is among these
-abbrev pub copy_with_body : (names : List (List ℕ)) → Derived → FunctionValue × Span → Derived
-copy_with_body names d f = if has_name_among names f.0.name then import_function d f.0 f.1 else d
+-- those of these names
+abbrev pub functions_among : (names : List (List ℕ)) → List (FunctionValue × Span) → List (FunctionValue × Span)
+functions_among names fs = filter (λ f. has_name_among names f.0.name) fs
 
--- a function is copied without its body, if its name is among these
+-- a function is copied with what it calls
+abbrev pub with_function : Derived → FunctionValue × Span → Derived
+with_function d f = import_function d f.0 f.1
+
+-- the same, if its name is among these
+abbrev pub copy_with_body : (names : List (List ℕ)) → Derived → FunctionValue × Span → Derived
+copy_with_body names d f = if has_name_among names f.0.name then with_function d f else d
+
+-- a function is copied without its body
+abbrev pub with_stub : Derived → FunctionValue × Span → Derived
+with_stub d f = import_function d (stub_of f.0) f.1
+
+-- the same, if its name is among these
 abbrev pub copy_stub : (names : List (List ℕ)) → Derived → FunctionValue × Span → Derived
-copy_stub names d f = if has_name_among names f.0.name then import_function d (stub_of f.0) f.1 else d
+copy_stub names d f = if has_name_among names f.0.name then with_stub d f else d
+
+-- copies with these functions too, and without their bodies
+abbrev pub with_functions : List (FunctionValue × Span) → OwnCopies → OwnCopies
+with_functions fs c = record c { derived = fold with_function c.derived fs }
+
+abbrev pub with_stubs : List (FunctionValue × Span) → OwnCopies → OwnCopies
+with_stubs fs c = record c { derived = fold with_stub c.derived fs }
 
 -- ---- the module and its header
 

@@ -1,6 +1,7 @@
 -- What modules are copied from.
-use Rattle.std.specs.Prelude.{◌≡◌, ℕ, [], slice_get, Some, None}
-use Rattle.naga_oil_ir.specs.ModuleValue.{FunctionValue}
+use Rattle.std.specs.Prelude.{◌≡◌, ℕ, List, [], map, slice_get, Some, None}
+use Rattle.std.specs.Borrow.{Bor}
+use Rattle.naga_oil_ir.specs.ModuleValue.{FunctionValue, function_value}
 use Rattle.naga_oil_ir.specs.declared.module.Function.{Function}
 use Rattle.naga_oil_ir.specs.declared.module.Module.{Module}
 use Rattle.naga_oil_ir.specs.declared.span.Span.{Span}
@@ -21,6 +22,13 @@ CopiesFrom m d = IsSource m d
 -- a function of a module, with its span
 abbrev pub IsFunctionOf : Module → Function × Span → Type 0
 IsFunctionOf m e = (k : ℕ) × (slice_get m.functions k ≡ Some e)
+
+-- a function, and several, as values
+abbrev pub shown_function : Function × Span → FunctionValue × Span
+shown_function e = (function_value e.0, e.1)
+
+abbrev pub shown_functions : List (Bor (Function × Span)) → List (FunctionValue × Span)
+shown_functions es = map (λ e. shown_function e.now) es
 
 -- a function's name, arguments and result alone
 abbrev pub stub_of : FunctionValue → FunctionValue

@@ -1,9 +1,6 @@
 -- One module out of builds: what is linked of each, and in which order, as values.
-use Rattle.std.specs.Prelude.{◌*◌, ◌++◌, ◌&&◌, ◌||◌, ℕ, Bool, true, false, List, [], ◌∷◌, fold, map, reverse, Option, Some, None, option_map, bytes_eq, if◌then◌else◌, String}
-use Rattle.std.specs.Borrow.{Bor}
-use Rattle.std.specs.BTreeSet.{BTreeSet}
+use Rattle.std.specs.Prelude.{◌*◌, ◌++◌, ◌&&◌, ◌||◌, ℕ, Bool, true, false, List, [], ◌∷◌, fold, map, reverse, Option, Some, None, option_map, bytes_eq, if◌then◌else◌}
 use Rattle.std.specs.List.{flat_map, filter}
-use Rattle.std.specs.declared.alloc.Global.{Global}
 use Rattle.naga_oil_ir.specs.ModuleValue.{ModuleValue, FunctionValue}
 use Rattle.naga_oil_ir.specs.Rows.{Text}
 use Rattle.naga_oil_ir.specs.declared.names.ItemPlace.{ItemPlace}
@@ -17,6 +14,7 @@ use Rattle.naga_oil_imports.specs.Uses.{Import}
 use Rattle.naga_oil_link.specs.BuiltModule.{BuiltModule, Builds}
 use Rattle.naga_oil_link.specs.OwnPlaces.{OwnPlaces, is_own}
 use Rattle.naga_oil_link.specs.Places.{places_of, name_at}
+use Rattle.naga_oil_link.specs.declared.by_name.AskedItems.{AskedItems}
 
 -- ---- one build
 
@@ -24,9 +22,13 @@ use Rattle.naga_oil_link.specs.Places.{places_of, name_at}
 abbrev pub Asked : Type 0
 Asked = Option (List (List ℕ))
 
--- names as they are asked for by a set, if there is one
-abbrev pub asked_names : Option (Bor (BTreeSet (String Global))) → Asked
-asked_names asked = option_map (λ names. texts names.now.keys) asked
+-- the decorated names of items
+abbrev pub decorated_names : AskedItems → List (List ℕ)
+decorated_names asked = map (λ item. item ++ asked.decoration.now) (texts asked.items.now)
+
+-- the same in byte order, if items are asked for
+abbrev pub asked_names : Option AskedItems → Asked
+asked_names asked = option_map (λ a. in_order (decorated_names a)) asked
 
 -- whether there is a name, which passes a test
 abbrev pub passes : (List ℕ → Bool) → Text → Bool

@@ -1,18 +1,25 @@
 //! The items of a module by their names.
-ghost use Rattle.std.specs.Prelude.{◌≡◌, ◌++◌, [], ◌∷◌, ℕ, List, IfOk, OnOk, map, option_map, if◌then◌else◌};
+ghost use Rattle.std.specs.Prelude.{◌≡◌, ◌++◌, [], ◌∷◌, ℕ, List, IfOk, OnOk, map, option_map, string_bytes, if◌then◌else◌};
 ghost use Rattle.std.specs.List.{flat_map, range_with_len};
 ghost use Rattle.naga_oil_ir.specs.ModuleValue.{module_value};
 ghost use Rattle.naga_oil_link.specs.ByName.{places_by, with_places, is_name, IsIndexOf, names_of_functions, HasItems};
 ghost use Rattle.naga_oil_lines.specs.Text.{texts};
-ghost use Rattle.naga_oil_link.specs.Linked.{asked_names, is_wanted};
+ghost use Rattle.naga_oil_link.specs.Linked.{decorated_names, asked_names, is_wanted};
 ghost use Rattle.naga_oil_link.specs.Places.{name_at};
 ghost use Rattle.naga_oil_link.specs.Wanted.{ArePlacesWhere};
 
 use super::items::{name_at, named, places_of};
 use super::*;
 
-/// The decorated names that are asked for; by none all are.
-pub type Asked<'a> = Option<&'a Names>;
+/// The items that are asked for, and what stands behind their names.
+#[derive(Clone, Copy)]
+pub struct AskedItems<'a> {
+    pub items: &'a [String],
+    pub decoration: &'a str,
+}
+
+/// What is asked for; by none all is.
+pub type Asked<'a> = Option<AskedItems<'a>>;
 
 /// Places in a list of items by the items' names.
 pub type ByName = BTreeMap<String, Vec<usize>>;
@@ -99,6 +106,34 @@ pub fn add_named(places: &mut Places, index: &ByName, names: &Names) -> Tried
     Ok(())
 }
 
+// Writes a decorated name in place of another text.
+fn decorate(text: &mut String, name: &str, decoration: &str) -> Tried
+    ensures { OnOk result (string_bytes text.new ≡ name.now ++ decoration.now) }
+{
+    text.clear();
+    text.push_str(name)?;
+    text.push_str(decoration)
+}
+
+// Adds the places of the items that are asked for.
+fn add_asked(alloc: Global, places: &mut Places, index: &ByName, asked: AskedItems<'_>) -> Tried
+    ensures { let more = flat_map (places_by index.now) (decorated_names asked.entry) in
+        OnOk result (places.new.keys ≡ with_places places.old.keys more) }
+{
+    if index.is_empty() {
+        return Ok(());
+    }
+    let mut name = String::new(alloc);
+    for item in asked.items {
+        decorate(&mut name, item.as_str(), asked.decoration)?;
+        let Some(others) = index.get(name.as_str()) else {
+            continue;
+        };
+        add_places(places, others)?;
+    }
+    Ok(())
+}
+
 // The places before an end.
 fn all_places(alloc: Global, end: usize) -> Tried<Places>
     ensures { IfOk result (λ places. places.keys ≡ with_places [] (range_with_len 0 end)) }
@@ -114,10 +149,10 @@ fn all_places(alloc: Global, end: usize) -> Tried<Places>
 pub fn wanted(alloc: Global, index: &ByName, count: usize, asked: Asked) -> Tried<Places>
     ensures { IfOk result (λ places. ArePlacesWhere (is_wanted (asked_names asked.entry)) index.now count places.keys) }
 {
-    let Some(names) = asked else {
+    let Some(asked) = asked else {
         return all_places(alloc, count);
     };
     let mut places = Places::new(alloc);
-    add_named(&mut places, index, names)?;
+    add_asked(alloc, &mut places, index, asked)?;
     Ok(places)
 }

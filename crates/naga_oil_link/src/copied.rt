@@ -1,5 +1,5 @@
 //! The module that a build holds and its header, copied from what was parsed.
-ghost use Rattle.std.specs.Prelude.{◌≡◌, [], true, false, IfOk, IsSome, OnOk, fold, map, option_map, string_bytes};
+ghost use Rattle.std.specs.Prelude.{◌≡◌, [], true, false, All, IfOk, IsSome, OnOk, fold, map, option_map, string_bytes};
 ghost use Rattle.naga_oil_ir.specs.Body.{block_tokens};
 ghost use Rattle.naga_oil_form.specs.ItemForm.{IsThere};
 ghost use Rattle.naga_oil_ir.specs.ModuleValue.{argument_value, function_value, module_value};
@@ -10,8 +10,8 @@ ghost use Rattle.naga_oil_derive.specs.DerivedValue.{import_item};
 ghost use Rattle.naga_oil_form_laws.specs.EntryForm.{IsModuleFormed};
 ghost use Rattle.naga_oil_lines.specs.Text.{texts};
 ghost use Rattle.naga_oil_link.specs.BuiltModule.{built_of};
-ghost use Rattle.naga_oil_link.specs.CopiedBuild.{copies_of, nothing_copied, decorated_type, went_to, import_own, copy_own, copy_other, copy_at, copy_places, copy_with_body, copy_stub, copy_header, copy_whole, have_special, put_header, put_whole, copy_build, copies_special, has_name_among};
-ghost use Rattle.naga_oil_link.specs.CopySources.{CopiesFrom, IsFunctionOf, stub_of};
+ghost use Rattle.naga_oil_link.specs.CopiedBuild.{copies_of, nothing_copied, decorated_type, went_to, import_own, copy_own, copy_other, copy_at, copy_places, with_function, with_stub, functions_among, with_stubs, with_functions, have_special, put_header, put_whole, copy_build, copies_special, has_name_among};
+ghost use Rattle.naga_oil_link.specs.CopySources.{CopiesFrom, IsFunctionOf, stub_of, shown_function, shown_functions};
 ghost use Rattle.naga_oil_link.specs.OwnPlaces.{own_of};
 ghost use Rattle.naga_oil_link.specs.Places.{places_of, name_at};
 
@@ -207,71 +207,89 @@ impl<'m> OwnCopies<'m> {
         }
     }
 
-    // Copies a function with what it calls, if it has one of these names.
-    fn copy_function(&mut self, source: &Module, item: &(Function, Span), names: &Names) -> Tried
+    // Copies a function with what it calls.
+    fn copy_function(&mut self, source: &Module, item: &(Function, Span)) -> Tried
         requires function { IsFunctionOf source.now item.now }
         requires source { CopiesFrom source.now self.old.derived }
         ensures source { CopiesFrom source.now self.new.derived }
-        ensures value { OnOk result (self.new.derived ≡ copy_with_body (texts names.now.keys) self.old.derived (function_value item.now.0, item.now.1)) }
+        ensures value { let copied = with_function self.old.derived (shown_function item.now) in
+            OnOk result (self.new.derived ≡ copied) }
         ensures own { self.new.own ≡ self.old.own }
     {
         let (function, span) = item;
-        if has_name_among(function, names) {
-            self.derived.import_function(function, *span)?;
+        self.derived.import_function(function, *span)?;
+        Ok(())
+    }
+
+    // The same of some functions.
+    fn copy_functions(&mut self, source: &Module, functions: &[&(Function, Span)]) -> Tried
+        requires functions { All (λ f. IsFunctionOf source.now f.now) functions.now }
+        requires source { CopiesFrom source.now self.old.derived }
+        ensures source { CopiesFrom source.now self.new.derived }
+        ensures value { let functions = shown_functions functions.now in
+            OnOk result (self.new.derived ≡ fold with_function self.old.derived functions) }
+        ensures own { self.new.own ≡ self.old.own }
+    {
+        for item in functions {
+            self.copy_function(source, item)?;
         }
         Ok(())
     }
 
-    // The same of all functions.
-    fn copy_functions(&mut self, source: &Module, names: &Names) -> Tried
-        requires { CopiesFrom source.now self.old.derived }
-        ensures source { CopiesFrom source.now self.new.derived }
-        ensures value { let functions = (module_value source.now).functions in
-            OnOk result (self.new.derived ≡ fold (copy_with_body (texts names.now.keys)) self.old.derived functions) }
-        ensures own { self.new.own ≡ self.old.own }
-    {
-        for item in source.functions.as_slice() {
-            self.copy_function(source, item, names)?;
-        }
-        Ok(())
-    }
-
-    // Copies a function without its body, if it has one of these names.
-    fn copy_stub(
-        &mut self,
-        alloc: Global,
-        source: &Module,
-        item: &(Function, Span),
-        names: &Names,
-    ) -> Tried
+    // Copies a function without its body.
+    fn copy_stub(&mut self, alloc: Global, source: &Module, item: &(Function, Span)) -> Tried
         requires function { IsFunctionOf source.now item.now }
         requires source { CopiesFrom source.now self.old.derived }
         ensures source { CopiesFrom source.now self.new.derived }
-        ensures value { OnOk result (self.new.derived ≡ copy_stub (texts names.now.keys) self.old.derived (function_value item.now.0, item.now.1)) }
+        ensures value { let copied = with_stub self.old.derived (shown_function item.now) in
+            OnOk result (self.new.derived ≡ copied) }
         ensures own { self.new.own ≡ self.old.own }
     {
         let (function, span) = item;
-        if !has_name_among(function, names) {
-            return Ok(());
-        }
         let stub = stub(alloc, function)?;
         self.derived.import_function(&stub, *span)?;
         Ok(())
     }
 
-    // The same of all functions.
-    fn copy_stubs(&mut self, alloc: Global, source: &Module, names: &Names) -> Tried
-        requires { CopiesFrom source.now self.old.derived }
+    // The same of some functions.
+    fn copy_stubs(
+        &mut self,
+        alloc: Global,
+        source: &Module,
+        functions: &[&(Function, Span)],
+    ) -> Tried
+        requires functions { All (λ f. IsFunctionOf source.now f.now) functions.now }
+        requires source { CopiesFrom source.now self.old.derived }
         ensures source { CopiesFrom source.now self.new.derived }
-        ensures value { let functions = (module_value source.now).functions in
-            OnOk result (self.new.derived ≡ fold (copy_stub (texts names.now.keys)) self.old.derived functions) }
+        ensures value { let functions = shown_functions functions.now in
+            OnOk result (self.new.derived ≡ fold with_stub self.old.derived functions) }
         ensures own { self.new.own ≡ self.old.own }
     {
-        for item in source.functions.as_slice() {
-            self.copy_stub(alloc, source, item, names)?;
+        for item in functions {
+            self.copy_stub(alloc, source, item)?;
         }
         Ok(())
     }
+}
+
+// The functions of a source that have one of these names.
+fn functions_among<'m>(
+    alloc: Global,
+    source: &'m Module,
+    names: &Names,
+) -> Tried<Vec<&'m (Function, Span)>>
+    ensures there { IfOk result (λ fs. All (λ f. IsFunctionOf source.now f.now) fs.items) }
+    ensures functions { let functions = (module_value source.now).functions in
+        let among = functions_among (texts names.now.keys) functions in
+        IfOk result (λ fs. shown_functions fs.items ≡ among) }
+{
+    let mut functions = Vec::new(alloc);
+    for item in source.functions.as_slice() {
+        if has_name_among(&item.0, names) {
+            functions.push(item)?;
+        }
+    }
+    Ok(functions)
 }
 
 // The own items of a source, and maybe all its types.
@@ -294,36 +312,42 @@ fn copy_places<'m>(
     Ok(copies)
 }
 
-// The header: the own items, and the functions of these names without their bodies.
+// The header: the own items, and some functions without their bodies.
 fn copy_header<'m>(
     alloc: Global,
     source: &'m Module,
     own: &OwnItems,
     decoration: &str,
-    names: &Names,
+    functions: &[&(Function, Span)],
 ) -> Tried<OwnCopies<'m>>
-    requires { IsModuleFormed (module_value source.now) }
-    ensures { IfOk result (λ c. copies_of c ≡ copy_header (module_value source.now) (own_of own.now) decoration.now (texts names.now.keys)) }
+    requires form { IsModuleFormed (module_value source.now) }
+    requires functions { All (λ f. IsFunctionOf source.now f.now) functions.now }
+    ensures { let copies = copy_places false (module_value source.now) (own_of own.now) in
+        let copied = with_stubs (shown_functions functions.now) (copies decoration.now) in
+        IfOk result (λ c. copies_of c ≡ copied) }
 {
     let mut copies = copy_places(alloc, source, own, decoration, false)?;
-    copies.copy_stubs(alloc, source, names)?;
+    copies.copy_stubs(alloc, source, functions)?;
     Ok(copies)
 }
 
-// The module: all types, the own items, and the functions of these names with what they call.
+// The module: all types, the own items, and some functions with what they call.
 fn copy_whole<'m>(
     alloc: Global,
     source: &'m Module,
     own: &OwnItems,
     decoration: &str,
-    names: &Names,
+    functions: &[&(Function, Span)],
 ) -> Tried<OwnCopies<'m>>
-    requires { IsModuleFormed (module_value source.now) }
+    requires form { IsModuleFormed (module_value source.now) }
+    requires functions { All (λ f. IsFunctionOf source.now f.now) functions.now }
     ensures source { IfOk result (λ c. CopiesFrom source.now c.derived) }
-    ensures value { IfOk result (λ c. copies_of c ≡ copy_whole (module_value source.now) (own_of own.now) decoration.now (texts names.now.keys)) }
+    ensures value { let copies = copy_places true (module_value source.now) (own_of own.now) in
+        let copied = with_functions (shown_functions functions.now) (copies decoration.now) in
+        IfOk result (λ c. copies_of c ≡ copied) }
 {
     let mut copies = copy_places(alloc, source, own, decoration, true)?;
-    copies.copy_functions(source, names)?;
+    copies.copy_functions(source, functions)?;
     Ok(copies)
 }
 
@@ -368,8 +392,9 @@ pub fn copy_build(alloc: Global, source: &Module, own: &OwnItems, built: &mut Bu
         OnOk result (built_of built.new ≡ copied) }
 {
     let decoration = built.decorated_name.as_str();
-    let header = copy_header(alloc, source, own, decoration, &built.owned_functions)?;
-    let whole = copy_whole(alloc, source, own, decoration, &built.owned_functions)?;
+    let functions = functions_among(alloc, source, &built.owned_functions)?;
+    let header = copy_header(alloc, source, own, decoration, &functions)?;
+    let whole = copy_whole(alloc, source, own, decoration, &functions)?;
     put_header(alloc, header, built)?;
     put_whole(alloc, whole, built)
 }

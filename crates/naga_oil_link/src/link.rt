@@ -1,5 +1,5 @@
 //! One module out of builds: what is asked for of each, behind what that imports.
-ghost use Rattle.std.specs.Prelude.{◌≡◌, ◌++◌, [], IfOk, OnOk, fold, map, slice_get};
+ghost use Rattle.std.specs.Prelude.{◌≡◌, [], IfOk, OnOk, fold, map, slice_get};
 ghost use Rattle.naga_oil_ir.specs.ModuleValue.{module_value};
 ghost use Rattle.naga_oil_derive.specs.Derived.{nothing};
 ghost use Rattle.naga_oil_form_laws.specs.EntryForm.{IsModuleFormed};
@@ -13,25 +13,13 @@ ghost use Rattle.naga_oil_link.specs.Linked.{asked_names, asked_of, overriding_n
 ghost use Rattle.naga_oil_link.specs.LinkView.{IsLinkFormed, link_own_function, LinksImports};
 ghost use Rattle.naga_oil_link.specs.OwnPlaces.{own_of};
 
-use super::by_name::{Asked, NamedItems, add_named, wanted};
+use super::by_name::{Asked, AskedItems, NamedItems, add_named, wanted};
 use super::copied::{has_name_among, import_item};
 use super::*;
 use naga_oil_imports::ImportDefinition as Import;
 
 /// The builds of a make by their names, each behind those that it imports. Each may be shared.
 pub type Builds = IndexMap<String, Arc<Build>>;
-
-// The decorated names of items.
-fn decorated(alloc: Global, items: &[String], decoration: &str) -> Tried<Names>
-    ensures { IfOk result (λ names. texts names.keys ≡ in_order (map (λ item. item ++ decoration.now) (texts items.now))) }
-{
-    let mut names = Names::new(alloc);
-    for item in items {
-        let name = format!(in alloc; "{item}{decoration}")?;
-        names.insert(name)?;
-    }
-    Ok(names)
-}
 
 // Adds names.
 fn add_names(names: &mut Names, others: &[String]) -> Tried
@@ -190,8 +178,11 @@ impl<'b> Linker<'b> {
         ensures formed { OnOk result (IsLinkFormed self.new.derived) }
         ensures rest { self.new ≡ record self.old { derived = self.new.derived } }
     {
-        let asked = decorated(self.alloc, &import.items, build.decorated_name.as_str())?;
-        self.link_items(build, Some(&asked))
+        let asked = AskedItems {
+            items: &import.items,
+            decoration: build.decorated_name.as_str(),
+        };
+        self.link_items(build, Some(asked))
     }
 
     // Links what imports ask for of the builds before a place, behind what those import, into which it descends once.

@@ -7,5 +7,5 @@ import_function-requires c = can_import _ _ c.requires.source _ c.requires.funct
 pub returns-in_err-import_function-clause-source : goal.returns-in_err-import_function-clause-source
 returns-in_err-import_function-clause-source c = from_keeps_functions _ _ _ c.requires.source c.import_function.ensures.keeps
 
-pub returns-in_ok-import_function-clause-source : goal.returns-in_ok-import_function-clause-source
-returns-in_ok-import_function-clause-source c = from_keeps_functions _ _ _ c.requires.source c.import_function.ensures.keeps
+pub returns-clause-source : goal.returns-clause-source
+returns-clause-source c = from_keeps_functions _ _ _ c.requires.source c.import_function.ensures.keeps

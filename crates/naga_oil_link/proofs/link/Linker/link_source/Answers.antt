@@ -4,7 +4,7 @@ use Rattle.naga_oil_derive.specs.World.{value_of}
 use Rattle.naga_oil_ir.specs.ModuleValue.{module_value}
 use Rattle.naga_oil_form_laws.proofs.FormedModules.{copied_from}
 use Rattle.naga_oil_link.specs.BuiltModule.{built_of}
-use Rattle.naga_oil_link.specs.Linked.{asked_names, link_places, link_functions, link_source}
+use Rattle.naga_oil_link.specs.Linked.{asked_names, link_places, link_functions}
 use Rattle.naga_oil_link.specs.LinkView.{IsLinkFormed}
 use Rattle.naga_oil_link.specs.OwnPlaces.{own_of}
 use Rattle.naga_oil_link.proofs.GoodFormLemmas.{source_formed}
