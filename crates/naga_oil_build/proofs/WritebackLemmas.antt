@@ -4,7 +4,7 @@ use Rattle.std.proofs.Math.Seq.{take-length}
 use Rattle.std.proofs.lemmas.Grind.{flat_map-append}
 use Rattle.std.proofs.lemmas.List.{append-nil, length-map, length-take-le, map-append, take_more}
 use Rattle.std.proofs.lemmas.List.Elements.{filter-append}
-use Rattle.std.specs.Prelude.{zip, if◌then◌else◌, MatchOption, IfOk}
+use Rattle.std.specs.Prelude.{◌==◌, zip, if◌then◌else◌, MatchOption, IfOk}
 use Rattle.std.proofs.lemmas.Option.{get_or_from_slice_get, slice_get-map, slice_get_within}
 use Rattle.std.proofs.lemmas.Map.Text.{btree_map_updates_str}
 use Rattle.std.specs.BTreeMap as tree
@@ -33,7 +33,7 @@ use Rattle.naga_oil_conditions.specs.declared.fault.ComposerErrorInner.{Composer
 use Rattle.naga_oil_build.specs.Built.{header_text, parsed_text}
 use Rattle.naga_oil_link.specs.BuiltModule.{BuiltModule}
 use Rattle.naga_oil_link.specs.OwnPlaces.{OwnPlaces}
-use Rattle.naga_oil_build.specs.Writeback.{NamedItem, named_item, named_items, items_at, struct_members, named_functions, last_named, has_other_name, lost_member, lost_of, lost_at, lost_among, lost, unless_lost, came_back}
+use Rattle.naga_oil_build.specs.Writeback.{NamedItem, named_item, named_items, items_at, struct_members, named_functions, last_named, has_other_name, lost_member, lost_of, lost_by, lost_among, lost, unless_lost, came_back}
 use Rattle.naga_oil_build.specs.WritebackView.{named_of, held, is_asked, items_asked}
 use Rattle.naga_oil_build.specs.declared.writeback.NamedItem.{NamedItem as CodeItem}
 
@@ -82,13 +82,18 @@ pub copied_named : (o : Option (Bor CodeItem)) → option_map (λ i. named_of i.
 copied_named None = refl
 copied_named (Some i) = refl
 
--- ---- an owned item, and one that isn't
-pub not_owned : (owned : List (List ℕ)) (decoration : List ℕ) (back : List ℕ → Option NamedItem) (i : NamedItem) → is_among owned (i.name ++ decoration) ≡ false → lost_at owned decoration back i ≡ None
-not_owned owned decoration back i e = rw e refl
+-- a text of no bytes
+pub no_text : (text : List ℕ) → (length text == 0) ≡ true → text ≡ []
+no_text [] e = refl
+no_text (x ∷ xs) e = absurd cc
 
-pub owned_lost : (owned : List (List ℕ)) (decoration : List ℕ) (back : List ℕ → Option NamedItem) (i : NamedItem) (o : Option (List ℕ)) → is_among owned (i.name ++ decoration) ≡ true → o ≡ lost_of i (back (i.name ++ decoration))
-    → option_map (λ name. (name, i.span)) o ≡ lost_at owned decoration back i
-owned_lost owned decoration back i o e f = rw (e, f) refl
+-- ---- an owned item, and one that isn't
+pub not_owned : (owned : List (List ℕ)) (name : List ℕ) (back : List ℕ → Option NamedItem) (i : NamedItem) → is_among owned name ≡ false → lost_by owned name back i ≡ None
+not_owned owned name back i e = rw e refl
+
+pub owned_lost : (owned : List (List ℕ)) (name : List ℕ) (back : List ℕ → Option NamedItem) (i : NamedItem) (o : Option (List ℕ)) → is_among owned name ≡ true → o ≡ lost_of i (back name)
+    → option_map (λ name. (name, i.span)) o ≡ lost_by owned name back i
+owned_lost owned name back i o e f = rw (e, f) refl
 
 -- ---- what a header comes back as
 pub fails_then : {Y Z : Type 0} (e : ComposerErrorInner) (v : Result Y Fault) (w : Result Z Fault) → ((f : Fault) → v ≡ Err f → w ≡ Err f) → Fails e v → Fails e w

@@ -71,9 +71,13 @@ abbrev pub lost_of : NamedItem → (back : Option NamedItem) → Option (List �
 lost_of i None = Some i.name
 lost_of i (Some theirs) = lost_in_struct i.name i.members theirs.members
 
--- the same with the item's span, if its decorated name is among the owned ones
+-- the same with the item's span, if the name that it comes back by is among the owned ones
+abbrev pub lost_by : (owned : List (List ℕ)) → (by_name : List ℕ) → (back : List ℕ → Option NamedItem) → NamedItem → Option (List ℕ × Span)
+lost_by owned by_name back i = if is_among owned by_name then option_map (λ name. (name, i.span)) (lost_of i (back by_name)) else None
+
+-- the same of an item that comes back by its decorated name
 abbrev pub lost_at : (owned : List (List ℕ)) → (decoration : List ℕ) → (back : List ℕ → Option NamedItem) → NamedItem → Option (List ℕ × Span)
-lost_at owned decoration back i = if is_among owned (i.name ++ decoration) then option_map (λ name. (name, i.span)) (lost_of i (back (i.name ++ decoration))) else None
+lost_at owned decoration back i = lost_by owned (i.name ++ decoration) back i
 
 -- the first that is lost
 abbrev pub lost_among : (owned : List (List ℕ)) → (decoration : List ℕ) → (back : List ℕ → Option NamedItem) → List NamedItem → Option (List ℕ × Span)

@@ -1,12 +1,12 @@
 //! Whether the names of what a module owns come back when its header is written and read again.
-ghost use Rattle.std.specs.Prelude.{◌≡◌, ◌++◌, [], map, take, option_map, string_bytes, IfOk, OnOk};
+ghost use Rattle.std.specs.Prelude.{◌≡◌, ◌++◌, map, take, option_map, string_bytes, IfOk, OnOk};
 ghost use Rattle.naga_oil_ir.specs.ModuleValue.{module_value, function_value};
 ghost use Rattle.naga_oil_ir.specs.Rows.{type_row, constant_row, global_row, member_label};
 ghost use Rattle.naga_oil_conditions.specs.View.{Gives};
 ghost use Rattle.naga_oil_link.specs.BuiltModule.{built_of};
 ghost use Rattle.naga_oil_link.specs.OwnPlaces.{own_of};
 ghost use Rattle.naga_oil_lines.specs.Text.{texts};
-ghost use Rattle.naga_oil_build.specs.Writeback.{named_item, named_items, named_functions, struct_members, last_named, lost_member, lost_of, lost_at, lost_among, lost, unless_lost, came_back};
+ghost use Rattle.naga_oil_build.specs.Writeback.{named_item, named_items, named_functions, struct_members, last_named, lost_member, lost_of, lost_by, lost_at, lost_among, lost, unless_lost, came_back};
 ghost use Rattle.naga_oil_build.specs.WritebackView.{labels_of, named_of, held, seen_lost, is_asked, items_asked};
 
 use super::*;
@@ -174,7 +174,21 @@ fn lost_of<'m>(ours: &NamedItem<'m>, theirs: Option<&NamedItem<'_>>) -> Option<&
     }
 }
 
-// The same with the item's span, if its decorated name is among the owned ones.
+// The same with the item's span, if the name that it comes back by is among the owned ones.
+fn lost_by<'m>(item: &NamedItem<'m>, by: &str, back: &Back<'_>, owned: &Names) -> Lost<'m>
+    ensures { let told = lost_by (texts owned.now.keys) by.now (held back.now) in
+        seen_lost result ≡ told (named_of item.now) }
+{
+    if !owned.contains(by) {
+        return None;
+    }
+    match lost_of(item, back.get(by)) {
+        Some(name) => Some((name, item.span)),
+        None => None,
+    }
+}
+
+// The same of an item that comes back by its decorated name.
 fn lost_at<'m>(
     alloc: Global,
     item: &NamedItem<'m>,
@@ -187,14 +201,11 @@ fn lost_at<'m>(
         IfOk result (λ lost. seen_lost lost ≡ told) }
 {
     let name = item.name;
+    if decoration.is_empty() {
+        return Ok(lost_by(item, name, back, owned));
+    }
     let decorated = format!(in alloc; "{name}{decoration}")?;
-    if !owned.contains(decorated.as_str()) {
-        return Ok(None);
-    }
-    match lost_of(item, back.get(decorated.as_str())) {
-        Some(name) => Ok(Some((name, item.span))),
-        None => Ok(None),
-    }
+    Ok(lost_by(item, decorated.as_str(), back, owned))
 }
 
 // The first of these items that is lost.

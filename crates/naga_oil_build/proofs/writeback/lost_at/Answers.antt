@@ -1,34 +1,18 @@
-use Rattle.std.proofs.Common.{◌≡◌, ◌++◌, true, false, Some, None, option_map, sym, ap, ◌∙◌}
-use Rattle.naga_oil_lines.specs.Text.{is_among, texts}
-use Rattle.naga_oil_build.specs.Writeback.{lost_of}
+use Rattle.std.proofs.Common.{◌++◌, append-nil, sym, ap, ◌∙◌}
+use Rattle.naga_oil_lines.specs.Text.{texts}
+use Rattle.naga_oil_build.specs.Writeback.{lost_by}
 use Rattle.naga_oil_build.specs.WritebackView.{named_of, held}
-use Rattle.naga_oil_registry.proofs.NamesLemmas.{among_texts}
-use Rattle.naga_oil_build.proofs.WritebackLemmas.{copied_named, not_owned, owned_lost}
+use Rattle.naga_oil_build.proofs.WritebackLemmas.{no_text}
 use Rattle.naga_oil_build.proofs.writeback.lost_at.Goals as goal
 
-pub returns-then-not-contains : goal.returns-then-not-contains
-returns-then-not-contains c =
-    let keys = c.args.owned.now.keys in
-    let name = c.args.item.now.name.now ++ c.args.decoration.now in
-    let owned : is_among (texts keys) name ≡ false = ap (is_among (texts keys)) (sym (c.as_str.ensures.value ∙ c.in_ok-decorated.ensures.ok)) ∙ sym (among_texts keys c.as_str.result.now) ∙ sym c.contains.ensures ∙ c.if-not-contains.true in
-    sym (not_owned (texts keys) c.args.decoration.now (held c.args.back.now) (named_of c.args.item.now) owned)
-
-pub returns-in-Some : goal.returns-in-Some
-returns-in-Some c =
-    let keys = c.args.owned.now.keys in
-    let back = c.args.back.now in
-    let i = named_of c.args.item.now in
-    let name = c.args.item.now.name.now ++ c.args.decoration.now in
-    let owned : is_among (texts keys) name ≡ true = ap (is_among (texts keys)) (sym (c.as_str.ensures.value ∙ c.in_ok-decorated.ensures.ok)) ∙ sym (among_texts keys c.as_str.result.now) ∙ sym c.contains.ensures ∙ c.if-not-contains.false in
-    let theirs : option_map (λ i. named_of i.now) c.get.result ≡ held back name = copied_named c.get.result ∙ ap (option_map named_of) c.get.ensures.value ∙ ap (held back) (c.as_str-2.ensures.value ∙ c.in_ok-decorated.ensures.ok) in
-    owned_lost (texts keys) c.args.decoration.now (held back) i (Some c.in-Some.name.now) owned (ap (option_map (λ r. r.now)) (sym c.in-Some.is) ∙ c.lost_of.ensures ∙ ap (lost_of i) theirs)
+pub returns-then-is_empty : goal.returns-then-is_empty
+returns-then-is_empty c =
+    let names = texts c.args.owned.now.keys in
+    let name = c.args.item.now.name.now in
+    let nothing = no_text c.args.decoration.now (sym c.is_empty.ensures ∙ c.if-is_empty.true) in
+    c.lost_by.ensures ∙ ap (λ n. lost_by names n (held c.args.back.now) (named_of c.args.item.now)) (sym (append-nil name) ∙ ap (λ d. name ++ d) (sym nothing))
 
 pub returns : goal.returns
 returns c =
-    let keys = c.args.owned.now.keys in
-    let back = c.args.back.now in
-    let i = named_of c.args.item.now in
-    let name = c.args.item.now.name.now ++ c.args.decoration.now in
-    let owned : is_among (texts keys) name ≡ true = ap (is_among (texts keys)) (sym (c.as_str.ensures.value ∙ c.in_ok-decorated.ensures.ok)) ∙ sym (among_texts keys c.as_str.result.now) ∙ sym c.contains.ensures ∙ c.if-not-contains.false in
-    let theirs : option_map (λ i. named_of i.now) c.get.result ≡ held back name = copied_named c.get.result ∙ ap (option_map named_of) c.get.ensures.value ∙ ap (held back) (c.as_str-2.ensures.value ∙ c.in_ok-decorated.ensures.ok) in
-    owned_lost (texts keys) c.args.decoration.now (held back) i None owned (ap (option_map (λ r. r.now)) (sym c.in-None.is) ∙ c.lost_of.ensures ∙ ap (lost_of i) theirs)
+    let names = texts c.args.owned.now.keys in
+    c.lost_by-2.ensures ∙ ap (λ n. lost_by names n (held c.args.back.now) (named_of c.args.item.now)) (c.as_str.ensures.value ∙ c.in_ok-decorated.ensures.ok)
