@@ -275,7 +275,7 @@ fn reads_globals_and_locals(rt: HostRuntime) {
         ("return", 14, 0),
     ];
     says(&rt, f, &expressions, &statements, Span::new(10, 55));
-    assert_eq!(rt; check_form(read, rt.alloc(), "", LOCALS.len()), Ok(()));
+    assert_eq!(rt; check_form(&read, rt.alloc(), "", LOCALS.len()), Ok(()));
 }
 
 // A stub, and an entry point that calls it.
@@ -323,7 +323,7 @@ fn has_form(
     form: Result<(), FormFault>,
 ) {
     let read = read(rt, text);
-    assert_eq!(rt; check_form(read, rt.alloc(), decoration, text.len()), form);
+    assert_eq!(rt; check_form(&read, rt.alloc(), decoration, text.len()), form);
 }
 
 #[test]
