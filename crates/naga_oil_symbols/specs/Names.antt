@@ -1,5 +1,5 @@
 -- Names in the order in which they were given.
-use Rattle.std.specs.Prelude.{ℕ, suc, List, [], ◌∷◌, map, Option, Some, None, option_map, bytes_eq, if◌then◌else◌}
+use Rattle.std.specs.Prelude.{◌≡◌, ℕ, suc, List, [], ◌∷◌, map, Option, Some, None, option_map, bytes_eq, if◌then◌else◌}
 use Rattle.std.specs.Option.{option_or}
 use Rattle.std.specs.Borrow.{Bor}
 use Rattle.std.specs.HashMap.{HashMap, get_by}
@@ -16,3 +16,8 @@ texts_of ts = map (λ t. t.now) ts
 -- what a map has at a name
 abbrev pub place_in : {S : Type 0} → HashMap (Bor (List ℕ)) ℕ S → List ℕ → Option ℕ
 place_in m q = get_by (λ k. bytes_eq q k.now) m
+
+-- the places that a map has, if there is one, are those of the last of equal names
+abbrev pub Finds : {S : Type 0} → Option (HashMap (Bor (List ℕ)) ℕ S) → List (List ℕ) → Type 0
+Finds None ns = Unit {0}
+Finds (Some m) ns = (q : List ℕ) → place_in m q ≡ last_place q ns
