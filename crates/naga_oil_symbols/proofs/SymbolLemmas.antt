@@ -1,19 +1,16 @@
 -- A line's pieces and symbols from its front.
-use Rattle.std.proofs.Common.{◌≡◌, ℕ, ◌+◌, ◌<◌, ◌≤◌, Bool, true, false, cond, ◌&&◌, ◌≢◌, eqb, List, [], ◌∷◌, ◌++◌, length, get_or, drop, Option, Some, None, option_map, refl, sym, ap, subst, ◌∙◌, arith, length-append, MatchOption, append_assoc, append-nil, Bor, inl, inr}
+use Rattle.std.proofs.Common.{◌≡◌, ℕ, suc, take, ◌+◌, ◌<◌, ◌≤◌, Bool, true, false, cond, ◌&&◌, ◌≢◌, eqb, List, [], ◌∷◌, ◌++◌, length, get_or, drop, Option, Some, None, option_map, refl, sym, ap, subst, ◌∙◌, arith, length-append, MatchOption, append_assoc, Bor, inl, inr}
 use Rattle.std.proofs.lemmas.Bool.{false≢true, cases_lt}
 use Rattle.std.proofs.lemmas.Bool.Decides.{nat_tests}
-use Rattle.std.proofs.lemmas.List.{append_cancel_right, nil_from_length, map-append}
-use Rattle.std.proofs.lemmas.List.Folds.{list_all-append}
+use Rattle.std.proofs.lemmas.List.{take-append-drop, nil_from_length, map-append}
 use Rattle.std.proofs.lemmas.Str.{char_from_byte, encode_ascii, len_utf8_ascii}
 use Rattle.std.proofs.lemmas.Str.Pattern.{drop_at_char}
-use Rattle.std.proofs.Math.Dec.{eqb-suc-zero}
-use Rattle.std.proofs.Math.Utf8.{low_scalar}
 use Rattle.std.specs.Char.{encode_utf8}
-use Rattle.std.specs.List.{list_all}
-use Rattle.std.specs.Str.Pattern.{FindsCharPrefix, FindsPrefixBy, HasCharAt, CutsPrefixes, IsTrimStartMatches}
+use Rattle.std.specs.List.{list_all, prefix_len}
+use Rattle.std.specs.Str.Pattern.{FindsCharPrefix, HasCharAt, CutsPrefixes}
 use Rattle.naga_oil_symbols.specs.Symbols.{Symbol, Piece, run, byte, is_name_char, begins_with_name_char, extended, pieces, symbols_of, symbol_before, word, opening, sign, symbol_of, line_of}
 use Rattle.std.specs.Option.{IfSome}
-use Rattle.naga_oil_symbols.specs.SymbolSplits.{StandsBehindRun, Begins}
+use Rattle.naga_oil_symbols.specs.SymbolSplits.{IsRun, SplitsRun, Begins}
 use Rattle.naga_oil_symbols.specs.declared.symbol.Symbol.{Symbol as SymbolOfCode}
 
 pub name_char-ascii : (b : ℕ) → is_name_char b ≡ true → b < 128
@@ -22,15 +19,6 @@ name_char-ascii b h = grind (arith, nat_tests)
 -- the first byte is the first character, if it is one of ASCII
 first_is : (b : ℕ) (bs rest : List ℕ) (c : ℕ) → b ∷ bs ≡ encode_utf8 c ++ rest → b < 128 → c ≡ b
 first_is b bs rest c e h = char_from_byte (b ∷ bs) rest c e h (omega arith)
-
--- a run with one character more
-abbrev pub IsRunBefore : List ℕ → List ℕ → Type 0
-IsRunBefore text rest = (front : List ℕ) × (text ≡ front ++ rest) × (list_all is_name_char front ≡ true)
-
-pub run_more : (text rest more : List ℕ) (c : ℕ) → IsRunBefore text rest → rest ≡ encode_utf8 c ++ more → is_name_char c ≡ true → IsRunBefore text more
-run_more text rest more c (front, is, all) e h =
-    let one : encode_utf8 c ≡ c ∷ [] = encode_ascii c (name_char-ascii c h) in
-    (front ++ c ∷ [], is ∙ ap (λ l. front ++ l) (e ∙ ap (λ l. l ++ more) one) ∙ sym (append_assoc front (c ∷ []) more), list_all-append is_name_char front (c ∷ []) ∙ rw (all, h) refl)
 
 -- a text that doesn't begin with this character has another byte first
 pub not_first : (c : ℕ) (ts : List ℕ) → 0 < c → ((rest : List ℕ) → ts ≢ c ∷ rest) → get_or ts 0 0 ≢ c
@@ -50,35 +38,50 @@ pub no_space_left : (r : List ℕ) (o : Option ℕ) → FindsCharPrefix 32 r o �
 no_space_left r None none h = not_first 32 r (omega arith) (λ rest e. none rest (e ∙ ap (λ l. l ++ rest) (sym (encode_ascii 32 (omega arith)))))
 no_space_left r (Some n) at h = absurd (not_empty 32 r n at (omega arith) h)
 
-trimmed_run : (s : List ℕ) (ns : List ℕ) (r : List ℕ) → CutsPrefixes (FindsPrefixBy is_name_char) s ns r → IsRunBefore s r
-trimmed_run s [] r e = ([], sym e, refl)
-trimmed_run s (n ∷ ns) r (m, cuts, (c, is, at), e) = run_more s m r c (trimmed_run s ns m cuts) (at.split ∙ ap (λ t. encode_utf8 c ++ t) (sym e)) is
+-- ---- runs
+run_passes : (bs : List ℕ) → IsRun (take (prefix_len is_name_char bs) bs)
+run_passes [] = refl
+run_passes (b ∷ bs) =
+    let n = prefix_len is_name_char bs in
+    let one : 1 + n ≡ suc n = omega arith in
+    elim (is_name_char b) as (λ w. is_name_char b ≡ w → IsRun (take (cond w (1 + n) 0) (b ∷ bs))) [
+      | true ↦ λ e. rw (one, e) (run_passes bs)
+      | false ↦ λ e. refl
+    ] refl
 
-no_run_left : (r : List ℕ) (o : Option ℕ) → FindsPrefixBy is_name_char r o → IfSome o (λ n. n ≡ 0) → begins_with_name_char r ≡ false
-no_run_left [] o found h = refl
-no_run_left (b ∷ bs) None none h =
-    let by : (t : Bool) → is_name_char b ≡ t → t ≡ false = λ t. elim t as (λ v. is_name_char b ≡ v → v ≡ false) [
-      | true ↦ λ is. let small : b < 128 = name_char-ascii b is in
-          absurd (false≢true (sym (none b bs (low_scalar b (omega arith)) (ap (λ l. l ++ bs) (sym (encode_ascii b small)))) ∙ is))
-      | false ↦ λ is. refl
-    ] in
-    by (is_name_char b) refl
-no_run_left (b ∷ bs) (Some n) (c, is, at) h = absurd (not_empty c (b ∷ bs) n at (name_char-ascii c is) h)
+run_stops : (bs : List ℕ) → begins_with_name_char (drop (prefix_len is_name_char bs) bs) ≡ false
+run_stops [] = refl
+run_stops (b ∷ bs) =
+    let n = prefix_len is_name_char bs in
+    let one : 1 + n ≡ suc n = omega arith in
+    elim (is_name_char b) as (λ w. is_name_char b ≡ w → begins_with_name_char (drop (cond w (1 + n) 0) (b ∷ bs)) ≡ false) [
+      | true ↦ λ e. rw one (run_stops bs)
+      | false ↦ λ e. e
+    ] refl
 
-CutsPrefixes-weaker : (R S : List ℕ → Option ℕ → Type 0) → ((w : List ℕ) (o : Option ℕ) → R w o → S w o) → (s : List ℕ) (ns : List ℕ) (r : List ℕ) → CutsPrefixes R s ns r → CutsPrefixes S s ns r
-CutsPrefixes-weaker R S f s [] r e = e
-CutsPrefixes-weaker R S f s (n ∷ ns) r (m, cuts, at, e) = (m, CutsPrefixes-weaker R S f s ns m cuts, f m (Some n) at, e)
+pub run_stands : (text front rest : List ℕ) → front ≡ take (prefix_len is_name_char text) text → rest ≡ drop (prefix_len is_name_char text) text → SplitsRun text front rest
+run_stands text front rest is behind = record {
+  bytes = sym (take-append-drop (prefix_len is_name_char text) text) ∙ (λ i. sym is i ++ sym behind i);
+  passing = subst IsRun (sym is) (run_passes text);
+  ends = subst (λ t. begins_with_name_char t ≡ false) (sym behind) (run_stops text);
+}
 
-pub behind_run : (Matches : (ℕ → Bool) → Type 0) (s r : List ℕ) → IsTrimStartMatches (λ w o. (k : ℕ → Bool) → Matches k → FindsPrefixBy k w o) s r → Matches is_name_char → StandsBehindRun s r
-behind_run Matches s r ((ns, cuts), (o, found, empty)) m =
-    let run = trimmed_run s ns r (CutsPrefixes-weaker (λ w o. (k : ℕ → Bool) → Matches k → FindsPrefixBy k w o) (FindsPrefixBy is_name_char) (λ w o f. f is_name_char m) s ns r cuts) in
-    record { front = run.0; bytes = run.1; passing = run.2; ends = no_run_left r o (found is_name_char m) empty }
+both_more : (m n : ℕ) → eqb (suc m) (suc n) ≡ eqb m n
+both_more m n = grind (arith, nat_tests)
 
--- a text is a run where nothing is left
-pub run_whole : (text rest : List ℕ) → StandsBehindRun text rest → eqb (length rest) 0 ≡ list_all is_name_char text
-run_whole text [] s = sym s.passing ∙ ap (list_all is_name_char) (sym (s.bytes ∙ append-nil s.front))
-run_whole text (b ∷ bs) s =
-    eqb-suc-zero (length bs) ∙ sym (ap (list_all is_name_char) s.bytes ∙ list_all-append is_name_char s.front (b ∷ bs) ∙ rw (s.passing, s.ends) refl)
+not_none : (n : ℕ) → eqb 0 (suc n) ≡ false
+not_none n = grind (arith, nat_tests)
+
+-- a text is a run where all its bytes are of names
+pub run_whole : (text : List ℕ) → eqb (prefix_len is_name_char text) (length text) ≡ list_all is_name_char text
+run_whole [] = refl
+run_whole (b ∷ bs) =
+    let n = prefix_len is_name_char bs in
+    let one : 1 + n ≡ suc n = omega arith in
+    elim (is_name_char b) as (λ w. is_name_char b ≡ w → eqb (cond w (1 + n) 0) (suc (length bs)) ≡ (w && list_all is_name_char bs)) [
+      | true ↦ λ e. rw one (both_more _ (length bs) ∙ run_whole bs)
+      | false ↦ λ e. not_none (length bs)
+    ] refl
 
 and_parts : (a b : Bool) → (a && b) ≡ true → (a ≡ true) × (b ≡ true)
 and_parts true b h = (refl, h)
@@ -132,13 +135,12 @@ Match-weaker None P Q R h f = h
 Match-weaker (Some x) P Q R h f = f x h
 
 -- a text that begins with a run
-pub Begins-run : (text rest r behind : List ℕ) (found : Option (SymbolOfCode × Bor (List ℕ))) → StandsBehindRun text rest → text ≡ r ++ rest → 0 < length r
+pub Begins-run : (text r rest behind : List ℕ) (found : Option (SymbolOfCode × Bor (List ℕ))) → SplitsRun text r rest → 0 < length r
     → pieces behind ≡ pieces rest → length behind ≤ length rest → Begins (run r ∷ pieces behind) (length behind + 1) found → Begins (pieces text) (length text) found
-Begins-run text rest [] behind found s is some same bound h = absurd (omega arith)
-Begins-run text rest (b ∷ r) behind found s is some same bound h =
-    let front : b ∷ r ≡ s.front = append_cancel_right (b ∷ r) s.front rest (sym is ∙ s.bytes) in
-    let cut : pieces text ≡ run (b ∷ r) ∷ pieces behind = ap pieces is ∙ pieces_run b r rest (ap (list_all is_name_char) front ∙ s.passing) s.ends ∙ ap (λ ps. run (b ∷ r) ∷ ps) (sym same) in
-    let len : length behind + 1 ≤ length text = omega (arith, ap length is, length-append (b ∷ r) rest) in
+Begins-run text [] rest behind found s some same bound h = absurd (omega arith)
+Begins-run text (b ∷ r) rest behind found s some same bound h =
+    let cut : pieces text ≡ run (b ∷ r) ∷ pieces behind = ap pieces s.bytes ∙ pieces_run b r rest s.passing s.ends ∙ ap (λ ps. run (b ∷ r) ∷ ps) (sym same) in
+    let len : length behind + 1 ≤ length text = omega (arith, ap length s.bytes, length-append (b ∷ r) rest) in
     Match-weaker found _ (λ r. (symbols_of (pieces text) ≡ symbol_before (Some (symbol_of r.0)) (symbols_of (pieces r.1.now))) × (length r.1.now < length behind + 1)) (λ r. (symbols_of (pieces text) ≡ symbol_before (Some (symbol_of r.0)) (symbols_of (pieces r.1.now))) × (length r.1.now < length text)) (subst (λ ps. Begins ps (length behind + 1) found) (sym cut) h) (λ p q. (q.0, omega (arith, q.1, len)))
 
 sign-none : (b : ℕ) → 128 ≤ b → sign b ≡ None
@@ -150,10 +152,10 @@ sign-none b h =
     rw (e, p, d, k) refl
 
 -- a text that begins with another byte
-pub Begins-byte : (text rest more : List ℕ) (c : ℕ) → StandsBehindRun text rest → length text ≡ length rest → get_or text 0 0 ≢ 32 → text ≡ encode_utf8 c ++ more → sign c ≡ None → 0 < length text → symbols_of (pieces text) ≡ None
-Begins-byte [] rest more c s same begins e none some = absurd (omega arith)
-Begins-byte (b ∷ bs) rest more c s same begins e none some =
-    let whole : b ∷ bs ≡ rest = s.bytes ∙ ap (λ l. l ++ rest) (nil_from_length s.front (omega (arith, same, ap length s.bytes, length-append s.front rest))) in
+pub Begins-byte : (text r rest more : List ℕ) (c : ℕ) → SplitsRun text r rest → length r ≡ 0 → get_or text 0 0 ≢ 32 → text ≡ encode_utf8 c ++ more → sign c ≡ None → 0 < length text → symbols_of (pieces text) ≡ None
+Begins-byte [] r rest more c s empty begins e none some = absurd (omega arith)
+Begins-byte (b ∷ bs) r rest more c s empty begins e none some =
+    let whole : b ∷ bs ≡ rest = s.bytes ∙ ap (λ l. l ++ rest) (nil_from_length r empty) in
     let plain : is_name_char b ≡ false = ap begins_with_name_char whole ∙ s.ends in
     let space : eqb b 32 ≡ false = grind (arith, nat_tests) in
     ap symbols_of (ap (λ t. cond t (cond (begins_with_name_char bs) (extended b (pieces bs)) (run (b ∷ []) ∷ pieces bs)) (cond (eqb b 32) (pieces bs) (byte b ∷ pieces bs))) plain

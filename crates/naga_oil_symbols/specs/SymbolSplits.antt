@@ -5,11 +5,14 @@ use Rattle.std.specs.Borrow.{Bor}
 use Rattle.naga_oil_symbols.specs.Symbols.{Piece, is_name_char, begins_with_name_char, symbol_before, symbols_of, pieces, symbol_of}
 use Rattle.naga_oil_symbols.specs.declared.symbol.Symbol.{Symbol as SymbolOfCode}
 
--- the rest stands behind the characters of names that the text begins with
-pub record StandsBehindRun (text rest : List ℕ) : Type 0 where
-  pub front : List ℕ
-  pub bytes : text ≡ front ++ rest
-  pub passing : list_all is_name_char front ≡ true
+-- characters of names
+abbrev pub IsRun : List ℕ → Type 0
+IsRun run = list_all is_name_char run ≡ true
+
+-- the run is all characters of names that the text begins with, and the rest stands behind it
+pub record SplitsRun (text run rest : List ℕ) : Type 0 where
+  pub bytes : text ≡ run ++ rest
+  pub passing : IsRun run
   pub ends : begins_with_name_char rest ≡ false
 
 -- the text begins with no space

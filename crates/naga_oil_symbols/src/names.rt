@@ -82,7 +82,9 @@ impl<'a> Names<'a> {
         self.prepare()?;
         let place = self.texts.len();
         self.texts.push(name)?;
-        if let Some(places) = &mut self.places && places.insert(name, place).is_err() {
+        if let Some(places) = &mut self.places
+            && places.insert(name, place).is_err()
+        {
             self.texts.pop();
             return Err(AllocError);
         }

@@ -1,10 +1,11 @@
 // The symbols of a line.
 ghost use Rattle.std.specs.Prelude.{◌≡◌, ◌<◌, ◌≤◌, length, option_map};
-ghost use Rattle.naga_oil_symbols.specs.Symbols.{pieces, symbol_of, line_of, symbols as symbols_in, word as word_of, is_name as is_name_text};
-ghost use Rattle.naga_oil_symbols.specs.SymbolSplits.{StandsBehindRun, BeginsWithoutSpace, Begins};
+ghost use Rattle.std.specs.List.{prefix_len};
+ghost use Rattle.naga_oil_symbols.specs.Symbols.{pieces, symbol_of, line_of, symbols as symbols_in, word as word_of, is_name as is_name_text, is_name_char};
+ghost use Rattle.naga_oil_symbols.specs.SymbolSplits.{IsRun, SplitsRun, BeginsWithoutSpace, Begins};
 ghost use Rattle.naga_oil_symbols.specs.Refused.{understood, Gives};
 
-use naga_oil_lines::text::{split_first_char, text_before};
+use naga_oil_lines::text::split_first_char;
 use std::alloc::{AllocError, AllocFailed, Global};
 
 /// The greatest number of a text.
@@ -52,11 +53,30 @@ impl<T: Drop> From<AllocFailed<T>> for Refusal<'_> {
     }
 }
 
-// What is left behind the characters of names that a text begins with.
-fn behind_run(text: &str) -> &str
-    ensures { StandsBehindRun text.now result.now }
+// Whether a byte is one of names.
+fn is_name_byte(byte: u8) -> bool
+    ensures { result ≡ is_name_char byte }
 {
-    text.trim_start_matches(|c: char| c.is_ascii_alphanumeric() || c == '_')
+    byte.is_ascii_alphanumeric() || byte == b'_'
+}
+
+// How many bytes of names are at the front.
+fn run_len(bytes: &[u8]) -> usize
+    ensures { result ≡ prefix_len is_name_char bytes.now }
+{
+    for i in 0..bytes.len() {
+        if !is_name_byte(bytes[i]) {
+            return i;
+        }
+    }
+    bytes.len()
+}
+
+// The characters of names that a text begins with, and what is left behind them.
+fn split_run(text: &str) -> (&str, &str)
+    ensures { SplitsRun text.now result.0.now result.1.now }
+{
+    text.split_at(run_len(text.as_bytes()))
 }
 
 // What is left behind the spaces that a text begins with.
@@ -65,7 +85,10 @@ fn behind_spaces(text: &str) -> &str
     ensures bound { length result.now ≤ length text.now }
     ensures begins { BeginsWithoutSpace result.now }
 {
-    text.trim_start_matches(' ')
+    match text.as_bytes() {
+        [b' ', ..] => text.trim_start_matches(' '),
+        _ => text,
+    }
 }
 
 /// Whether a text is a name.
@@ -74,15 +97,27 @@ pub fn is_name(text: &str) -> bool
 {
     match text.as_bytes() {
         [] | [b'0'..=b'9', ..] => false,
-        _ => behind_run(text).is_empty(),
+        _ => run_len(text.as_bytes()) == text.len(),
+    }
+}
+
+// Whether characters of names are a name: no digit is first.
+fn is_name_run(run: &str) -> bool
+    requires { IsRun run.now }
+    ensures { result ≡ is_name_text run.now }
+{
+    match run.as_bytes() {
+        [] | [b'0'..=b'9', ..] => false,
+        _ => true,
     }
 }
 
 #[tactic(auto, using(naga_oil_conditions::proofs::ValueLemmas::parses_u32))]
 fn word(run: &str) -> Option<Symbol<'_>>
+    requires { IsRun run.now }
     ensures { option_map symbol_of result ≡ word_of run.now }
 {
-    if is_name(run) {
+    if is_name_run(run) {
         return Some(Symbol::Name(run));
     }
     match run.parse::<u32>() {
@@ -97,8 +132,7 @@ fn symbol_at(text: &str) -> Option<(Symbol<'_>, &str)>
     requires some { 0 < length text.now }
     ensures { Begins (pieces text.now) (length text.now) result }
 {
-    let rest = behind_run(text);
-    let run = text_before(text, rest);
+    let (run, rest) = split_run(text);
     if run.is_empty() {
         let (first, more) = split_first_char(text)?;
         let sign = match first {
@@ -113,9 +147,23 @@ fn symbol_at(text: &str) -> Option<(Symbol<'_>, &str)>
     let behind = behind_spaces(rest);
     match behind.strip_prefix('(') {
         None => Some((word(run)?, behind)),
-        Some(more) if is_name(run) => Some((Symbol::Opens(run), more)),
+        Some(more) if is_name_run(run) => Some((Symbol::Opens(run), more)),
         Some(_) => None,
     }
+}
+
+/// Puts the symbols of a line in the place of others.
+pub fn read_symbols<'a>(symbols: &mut Vec<Symbol<'a>>, line: &'a str) -> Result<(), Refusal<'a>>
+    ensures { Gives (λ _. line_of symbols.new.items) result (understood (symbols_in line.now)) }
+{
+    symbols.clear();
+    let mut rest = behind_spaces(line);
+    while !rest.is_empty() {
+        let (symbol, more) = symbol_at(rest).ok_or(Refusal::NotUnderstood)?;
+        symbols.push(symbol)?;
+        rest = behind_spaces(more);
+    }
+    Ok(())
 }
 
 /// The symbols of a line.
@@ -123,11 +171,6 @@ pub fn symbols(alloc: Global, line: &str) -> Result<Vec<Symbol<'_>>, Refusal<'_>
     ensures { Gives (λ v. line_of v.items) result (understood (symbols_in line.now)) }
 {
     let mut symbols = Vec::new(alloc);
-    let mut rest = behind_spaces(line);
-    while !rest.is_empty() {
-        let (symbol, more) = symbol_at(rest).ok_or(Refusal::NotUnderstood)?;
-        symbols.push(symbol)?;
-        rest = behind_spaces(more);
-    }
+    read_symbols(&mut symbols, line)?;
     Ok(symbols)
 }

@@ -1,4 +1,4 @@
-use Rattle.std.proofs.Common.{◌≡◌, ◌-◌, false, true, cond, Some, length, take, sym, ap, ◌∙◌, arith}
+use Rattle.std.proofs.Common.{◌-◌, cond, Some, take, sym, ap, ◌∙◌, arith}
 use Rattle.naga_oil_symbols.specs.Names.{last_place, texts_of}
 use Rattle.naga_oil_symbols.proofs.NameLemmas.{last_place-take}
 use Rattle.naga_oil_symbols.proofs.names.last_of.Goals as goal

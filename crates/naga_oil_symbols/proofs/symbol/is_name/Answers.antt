@@ -1,6 +1,8 @@
-use Rattle.std.proofs.Common.{◌≡◌, ◌∙◌, false, eqb, length, get_or, arith}
+use Rattle.std.proofs.Common.{◌≡◌, ap, ◌∙◌, false, eqb, length, get_or, arith}
 use Rattle.std.proofs.lemmas.Bool.Decides.{nat_tests}
 use Rattle.std.specs.Char.{is_ascii_digit}
+use Rattle.std.specs.List.{prefix_len}
+use Rattle.naga_oil_symbols.specs.Symbols.{is_name_char}
 use Rattle.naga_oil_symbols.proofs.SymbolLemmas.{run_whole}
 use Rattle.naga_oil_symbols.proofs.symbol.is_name.Goals as goal
 use Rattle.naga_oil_symbols.proofs.symbol.is_name.Goals.{in_default-via-then-this-lt48, in_default-via-else-this-lt48+else-this-lt58}
@@ -12,4 +14,4 @@ returns-in_default c =
       | in_default-via-then-this-lt48 w ↦ grind (arith, nat_tests)
       | in_default-via-else-this-lt48+else-this-lt58 w ↦ grind (arith, nat_tests)
     ] in
-    rw (some, digit) (c.is_empty.ensures ∙ run_whole c.args.text.now c.behind_run.result.now c.behind_run.ensures)
+    rw (some, digit) (ap (λ n. eqb n (length c.args.text.now)) (c.run_len.ensures ∙ ap (prefix_len is_name_char) c.as_bytes-in_default.ensures.value) ∙ run_whole c.args.text.now)

@@ -3,7 +3,7 @@ use denote.Text.{Utf8}
 use denote.Shadow.{shadow}
 use Rattle.naga_oil_symbols.specs.Symbols.{symbols, line_of}
 use Rattle.naga_oil_symbols.specs.SymbolSplits.{BeginsWithoutSpace}
-use Rattle.naga_oil_symbols.proofs.symbol.symbols.Given as goal
+use Rattle.naga_oil_symbols.proofs.symbol.read_symbols.Given as goal
 
 abbrev pub invariant-loop-rest : goal.invariant-loop-rest
 invariant-loop-rest l = record {
