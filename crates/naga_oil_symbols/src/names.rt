@@ -91,6 +91,14 @@ impl<'a> Names<'a> {
         Ok(())
     }
 
+    /// No name is left.
+    pub fn clear(&mut self)
+        ensures { self.new ≡ [] }
+    {
+        self.texts.clear();
+        self.places = None;
+    }
+
     /// The place of the last of these names.
     pub fn place(&self, name: &str) -> Option<usize>
         ensures { result ≡ last_place name.now self.now }
