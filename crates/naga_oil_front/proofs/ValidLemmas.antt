@@ -8,7 +8,7 @@ use Rattle.naga_oil_ir.specs.declared.module.Function.{Function}
 use Rattle.naga_oil_ir.specs.declared.span.Span.{Span}
 use Rattle.naga_oil_front.specs.Reader.{name_of}
 use Rattle.naga_oil_front.specs.Valid.{name_in}
-use Rattle.naga_oil_front.specs.Writer.{function_values}
+use Rattle.naga_oil_front_writer.specs.Writer.{function_values}
 
 counted : (o : Option (Function × Span)) → option_map (λ e. length e.0.arguments) (option_map {T = Function × Span} {U = FunctionValue × Span} (λ f. (function_value f.0, f.1)) o) ≡ option_map (λ e. length e.0.arguments.items) o
 counted None = refl

@@ -1,38 +1,37 @@
--- A text within another.
-use Rattle.std.proofs.Common.{◌≡◌, ⊎_elim, ℕ, Bool, true, false, ◌||◌, List, [], ◌∷◌, ◌++◌, nat_eq, length, drop, refl, ap, ◌∙◌, ◌↔◌}
-use Rattle.std.specs.List.{starts_with}
-use Rattle.std.specs.Str.Iter.{HasSubslice}
-use Rattle.std.proofs.lemmas.Bool.{or_cases}
-use Rattle.std.proofs.lemmas.Bool.Decides.{Decides-eqb, same_from_decides}
-use Rattle.std.proofs.lemmas.Slice.Eq.{starts_is}
-use Rattle.naga_oil_marks.specs.Marks.{is_within}
+-- `)with` within a text, found behind its `)`.
+use Rattle.std.proofs.Common.{◌≡◌, ℕ, suc, ◌+◌, ◌<◌, ◌≤◌, Bool, true, false, cond, eqb, not, ◌&&◌, ◌||◌, List, [], ◌∷◌, length, drop, codes, refl, ap, sym, ◌∙◌, arith}
+use Rattle.std.proofs.lemmas.Bool.Decides.{nat_tests}
+use Rattle.std.specs.List.{starts_with, position_or_len, after_first}
+use Rattle.naga_oil_front.specs.Reader.{lacks_space}
 
-starts : (p s : List ℕ) → (starts_with nat_eq s p ≡ true) → (b : List ℕ) × (s ≡ p ++ b)
-starts p s h = (drop (length p) s, (starts_is Decides-eqb s p (starts_with nat_eq s p) refl).0 h)
+-- a `)`
+abbrev pub closes : ℕ → Bool
+closes b = eqb b 41
 
-starts_front : (p b : List ℕ) → starts_with nat_eq (p ++ b) p ≡ true
-starts_front p b = (starts_is Decides-eqb (p ++ b) p (starts_with nat_eq (p ++ b) p) refl).1 b refl
+closes_swapped : (b : ℕ) → eqb 41 b ≡ eqb b 41
+closes_swapped b = grind (arith, nat_tests)
 
-within_found : (p s : List ℕ) → is_within p s ≡ true → HasSubslice s p
-within_found p [] h = let r = starts p [] h in ([], r.0, r.1)
-within_found p (x ∷ s) h =
-    ⊎_elim (λ i. let r = starts p (x ∷ s) i in ([], r.0, r.1)) (λ i. let r = within_found p s i in (x ∷ r.0, r.1, ap (λ t. x ∷ t) r.2)) (or_cases (starts_with nat_eq (x ∷ s) p) (is_within p s) h)
+-- a text behind its first byte, where that is a `)` or not
+lacks_more : (b : ℕ) (w : List ℕ) (t : Bool) → eqb b 41 ≡ t → lacks_space (b ∷ w) ≡ ((t && starts_with eqb w (codes "with")) || lacks_space w)
+lacks_more b w t e = ap (λ s. (s && starts_with eqb w (codes "with")) || lacks_space w) (closes_swapped b ∙ e)
 
-either : (b c : Bool) → b ≡ true → (b || c) ≡ true
-either b c e = ap (λ x. x || c) e
+-- where no `)` stands
+pub lacks_none : (w : List ℕ) → length w ≤ position_or_len closes w → lacks_space w ≡ false
+lacks_none [] h = refl
+lacks_none (b ∷ w) h =
+    elim (eqb b 41) as (λ t. eqb b 41 ≡ t → suc (length w) ≤ cond (not t) (1 + position_or_len closes w) 0 → lacks_space (b ∷ w) ≡ false) [
+      | true ↦ λ e k. absurd (omega arith)
+      | false ↦ λ e k. lacks_more b w false e ∙ lacks_none w (omega arith)
+    ] refl h
 
-later : (b c : Bool) → c ≡ true → (b || c) ≡ true
-later true c e = refl
-later false c e = e
-
-within_front : (p s : List ℕ) → starts_with nat_eq s p ≡ true → is_within p s ≡ true
-within_front p [] h = h
-within_front p (x ∷ s) h = either (starts_with nat_eq (x ∷ s) p) (is_within p s) h
-
-within_there : (p a b : List ℕ) → is_within p (a ++ (p ++ b)) ≡ true
-within_there p [] b = within_front p (p ++ b) (starts_front p b)
-within_there p (x ∷ a) b = later (starts_with nat_eq (x ∷ (a ++ (p ++ b))) p) (is_within p (a ++ (p ++ b))) (within_there p a b)
-
--- an answer that tells whether a text is found is whether it is within
-pub found_is : (p s : List ℕ) (r : Bool) → (r ≡ true) ↔ HasSubslice s p → r ≡ is_within p s
-found_is p s r d = same_from_decides r (is_within p s) d (within_found p s, λ w. ap (is_within p) w.2 ∙ within_there p w.0 w.1)
+-- behind the first `)`
+pub lacks_behind : (w : List ℕ) → position_or_len closes w < length w → lacks_space w ≡ (starts_with eqb (after_first closes w) (codes "with") || lacks_space (after_first closes w))
+lacks_behind [] h = absurd (omega arith)
+lacks_behind (b ∷ w) h =
+    let n = position_or_len closes w in
+    let next : 1 + n + 1 ≡ suc (n + 1) = omega arith in
+    elim (eqb b 41) as (λ t. eqb b 41 ≡ t → cond (not t) (1 + n) 0 < suc (length w)
+    → lacks_space (b ∷ w) ≡ (starts_with eqb (drop (cond (not t) (1 + n) 0 + 1) (b ∷ w)) (codes "with") || lacks_space (drop (cond (not t) (1 + n) 0 + 1) (b ∷ w)))) [
+      | true ↦ λ e k. lacks_more b w true e
+      | false ↦ λ e k. lacks_more b w false e ∙ lacks_behind w (omega arith) ∙ ap (λ t. starts_with eqb t (codes "with") || lacks_space t) (ap (λ i. drop i (b ∷ w)) (sym next))
+    ] refl h

@@ -2,7 +2,7 @@
 use Rattle.std.specs.Prelude.{List, ℕ, Option, Some, None, Result, Ok, Err}
 use Rattle.naga_oil_ir.specs.Backend.{FrontEnd, FaultValue}
 use Rattle.naga_oil_front.specs.Reader.{parsed}
-use Rattle.naga_oil_front.specs.Writer.{module_text, not_in_mini}
+use Rattle.naga_oil_front_writer.specs.Writer.{module_text, not_in_mini}
 use Rattle.naga_oil_front.specs.Valid.{validated}
 
 -- the text of a module, or the fault of one that has none

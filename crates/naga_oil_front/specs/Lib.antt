@@ -1,10 +1,5 @@
-pub mod Items
 pub mod Making
 pub mod Reader
-pub mod NotWritten
-pub mod BodyReader
-pub mod Order
-pub mod Writer
 pub mod Valid
 pub mod Front
 pub mod MiniRows

@@ -6,7 +6,7 @@ use Rattle.naga_oil_ir.specs.Parts.{Parts, expr}
 use Rattle.naga_oil_ir.specs.Body.{Tokens, spanned_tokens, block_tokens}
 use Rattle.naga_oil_ir.specs.declared.expression.Expression.{Expression}
 use Rattle.naga_oil_ir.specs.declared.statement.Block.{Block}
-use Rattle.naga_oil_ir.specs.ModuleValue.{expression_values, LocalValue, local_value}
+use Rattle.naga_oil_ir.specs.ModuleValue.{expression_values, LocalValue}
 use Rattle.naga_oil_ir.specs.declared.parts.Named.TheVariants.{Nothing, ConstantAt, GlobalAt, LocalAt, ArgumentAt, FunctionAt}
 use Rattle.naga_oil_ir.specs.declared.span.Span.{Span}
 use Rattle.naga_oil_ir.specs.declared.types.LocalVariable.{LocalVariable}
@@ -14,6 +14,7 @@ use Rattle.naga_oil_ir.specs.declared.tokens.Token.TheVariants.{At, Head, Use, G
 use Rattle.naga_oil_symbols.specs.Names.{last_place}
 use Rattle.naga_oil_symbols.specs.Refused.{LineFault, not_understood, unknown, ◌>>◌}
 use Rattle.naga_oil_symbols.specs.Symbols.{Symbol, name, opens, number, equals, plus, comma, closes}
+use Rattle.naga_oil_front_writer.specs.Writer.{local_values}
 use Rattle.naga_oil_front.specs.declared.making.OpenCall.{OpenCall as OpenCallOfCode}
 use Rattle.naga_oil_front.specs.declared.making.Making.{Making}
 use Rattle.naga_oil_front.specs.declared.making.Scope.{Scope as ScopeOfCode}
@@ -254,9 +255,6 @@ abbrev pub made : Scope → Span → List Symbol → Result Inside LineFault
 made s at xs = read_end xs (nothing_made s at) >> λ m. Ok (inside m)
 
 -- ---- as the code has them
-abbrev pub local_values : List (LocalVariable × Span) → List (LocalValue × Span)
-local_values ls = map (λ l. (local_value l.0, l.1)) ls
-
 abbrev pub inside_of : List (LocalVariable × Span) × List (Expression × Span) × Block → Inside
 inside_of r = record { locals = local_values r.0; expressions = expression_values r.1; body = block_tokens r.2 }
 

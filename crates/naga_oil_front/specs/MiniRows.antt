@@ -12,14 +12,14 @@ use Rattle.naga_oil_ir.specs.declared.span.Span.{Span}
 use Rattle.naga_oil_ir.specs.declared.tokens.Token.TheVariants.{At, Head, Use, Emitted}
 use Rattle.naga_oil_ir.specs.Spans.{undefined}
 use Rattle.naga_oil_conditions.specs.Values.{read_u32}
-use Rattle.naga_oil_front.specs.BodyReader.{end_of}
+use Rattle.naga_oil_front_writer.specs.BodyReader.{end_of}
 use Rattle.naga_oil_symbols.specs.Names.{last_place}
-use Rattle.naga_oil_front.specs.Order.{has_order}
+use Rattle.naga_oil_front_writer.specs.Order.{has_order}
 use Rattle.naga_oil_front.specs.Making.{Inside, literal, global, local, load, binary}
 use Rattle.naga_oil_front.specs.Reader.{is_skipped, with_line, start, with_constant, with_global, with_function, function_of, parsed}
 use Rattle.naga_oil_symbols.specs.Refused.{not_understood, unknown, message}
 use Rattle.naga_oil_symbols.specs.Symbols.{symbols, name, opens, number, equals, plus, comma, closes}
-use Rattle.naga_oil_front.specs.Writer.{header_text, body_line, function_text, entry_text, items_text, module_text}
+use Rattle.naga_oil_front_writer.specs.Writer.{header_text, body_line, function_text, entry_text, items_text, module_text}
 
 -- `unfolding rows_unfold` lets `refl` compute what texts say and are
 unfoldable rows_unfold : Unit {0}

@@ -7,7 +7,7 @@ use Rattle.naga_oil_ir.specs.Backend.{FaultValue}
 use Rattle.naga_oil_ir.specs.Spans.{undefined}
 use Rattle.naga_oil_ir.specs.declared.span.Span.{Span}
 use Rattle.naga_oil_ir.specs.declared.tokens.Token.TheVariants.{At, Callee}
-use Rattle.naga_oil_front.specs.BodyReader.{is_use}
+use Rattle.naga_oil_front_writer.specs.BodyReader.{is_use}
 
 -- a function's name, which is empty if it has none
 abbrev pub name_in : Option (FunctionValue × Span) → List ℕ

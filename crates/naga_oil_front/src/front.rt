@@ -1,12 +1,11 @@
 // Mini, a front end to try things with: one item a line.
 ghost use Rattle.std.specs.Prelude.{◌≡◌, IfOk};
 ghost use Rattle.naga_oil_ir.specs.Backend.{write_fault};
-ghost use Rattle.naga_oil_front.specs.Writer.{not_in_mini};
+ghost use Rattle.naga_oil_front_writer.specs.Writer.{not_in_mini};
 
-use crate::not_written::NotWritten;
 use crate::reader::parsed;
 use crate::valid::validated;
-use crate::writer::module_text;
+use naga_oil_front_writer::{NotWritten, module_text};
 use naga_oil_ir::{
     Backend, BackendRefusal, Capabilities, Module, ParseFault, ShaderLanguage, ValidFault,
     WriteFault,

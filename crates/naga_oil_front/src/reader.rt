@@ -15,11 +15,11 @@ use naga_oil_ir::{
     FunctionResult, GlobalVariable, Index, Module, NamedExpressions, ParseFault, Span, Type,
     TypeInner,
 };
-use naga_oil_symbols::{Names, Refusal, Symbol, symbols};
+use naga_oil_symbols::{Names, Refusal, Symbol, read_symbols};
 use std::alloc::{AllocError, Global};
 
-// The module of the lines that were read, the names of its constants, globals and functions, and the span of the line that
-// is read.
+// The module of the lines that were read, the names of its constants, globals and functions, and of the line that is read
+// the span and the parameters.
 #[derive(Drop)]
 struct Reader<'a> {
     alloc: Global,
@@ -28,6 +28,7 @@ struct Reader<'a> {
     constants: Names<'a>,
     globals: Names<'a>,
     functions: Names<'a>,
+    parameters: Names<'a>,
 }
 
 #[tactic(auto, using(std::proofs::lemmas::Str::Pattern::starts_text))]
@@ -49,19 +50,26 @@ fn is_skipped(line: &str) -> bool
 fn lacks_space(line: &str) -> bool
     ensures { result ≡ spec.lacks_space line.now }
 {
-    line.contains(")with")
+    let mut rest = line;
+    while let Some((_, more)) = rest.split_once(')') {
+        if begins(more, "with") {
+            return true;
+        }
+        rest = more;
+    }
+    false
 }
 
-// The parameters that a line's symbols begin with, up to `)`, and what follows.
+// Reads the parameters that a line's symbols begin with, up to `)`, in the place of others. Answers what follows.
 fn read_parameters<'s, 'a>(
-    alloc: Global,
+    names: &mut Names<'a>,
     symbols: &'s [Symbol<'a>],
-) -> Result<(Names<'a>, &'s [Symbol<'a>]), Refusal<'a>>
-    ensures { Gives (λ r. (r.0, line_of r.1.now)) result (spec.read_parameters (line_of symbols.now)) }
+) -> Result<&'s [Symbol<'a>], Refusal<'a>>
+    ensures { Gives (λ rest. (names.new, line_of rest.now)) result (spec.read_parameters (line_of symbols.now)) }
 {
-    let mut names = Names::new(alloc);
+    names.clear();
     if let [Symbol::Closes, rest @ ..] = symbols {
-        return Ok((names, rest));
+        return Ok(rest);
     }
     let mut rest = symbols;
     while let [Symbol::Name(name), Symbol::Comma, more @ ..] = rest {
@@ -72,14 +80,15 @@ fn read_parameters<'s, 'a>(
         return Err(Refusal::NotUnderstood);
     };
     names.push(name)?;
-    Ok((names, rest))
+    Ok(rest)
 }
 
 fn arguments(alloc: Global, parameters: &Names<'_>) -> Result<Vec<FunctionArgument>, AllocError>
     ensures { IfOk result (λ v. spec.arguments_of v.items ≡ spec.arguments parameters.now) }
 {
-    let mut arguments = Vec::new(alloc);
-    for parameter in parameters.texts() {
+    let names = parameters.texts();
+    let mut arguments = Vec::with_capacity(alloc, names.len())?;
+    for parameter in names {
         let name = String::from_str(alloc, *parameter)?;
         arguments.push(FunctionArgument {
             name: Some(name),
@@ -106,6 +115,7 @@ impl<'a> Reader<'a> {
             constants: Names::new(alloc),
             globals: Names::new(alloc),
             functions: Names::new(alloc),
+            parameters: Names::new(alloc),
         })
     }
 
@@ -153,24 +163,19 @@ impl<'a> Reader<'a> {
         Ok(self.globals.push(name)?)
     }
 
-    // The function of a name, with parameters and the body that the end of a line says.
-    fn function(
-        &self,
-        name: &str,
-        parameters: &Names<'a>,
-        body: &[Symbol<'a>],
-    ) -> Result<Function, Refusal<'a>>
+    // The function of a name, with the parameters that were read and the body that the end of a line says.
+    fn function(&self, name: &str, body: &[Symbol<'a>]) -> Result<Function, Refusal<'a>>
         requires known { spec.Knows self.now }
-        ensures { Gives function_value result (spec.function name.now parameters.now (line_of body.now) self.now.span (module_value self.now.module_)) }
+        ensures { Gives function_value result (spec.function name.now self.now.parameters (line_of body.now) self.now.span (module_value self.now.module_)) }
     {
         let scope = Scope {
-            parameters,
+            parameters: &self.parameters,
             constants: &self.constants,
             globals: &self.globals,
             functions: &self.functions,
         };
         let name = Some(String::from_str(self.alloc, name)?);
-        let arguments = arguments(self.alloc, parameters)?;
+        let arguments = arguments(self.alloc, &self.parameters)?;
         let (locals, expressions, body) = made(self.alloc, scope, self.span, body)?;
         Ok(Function {
             name,
@@ -196,8 +201,8 @@ impl<'a> Reader<'a> {
         let [Symbol::Opens(name), rest @ ..] = symbols else {
             return Err(Refusal::NotUnderstood);
         };
-        let (parameters, body) = read_parameters(self.alloc, rest)?;
-        let function = self.function(name, &parameters, body)?;
+        let body = read_parameters(&mut self.parameters, rest)?;
+        let function = self.function(name, body)?;
         self.module_.functions.append(function, self.span)?;
         Ok(self.functions.push(name)?)
     }
@@ -211,13 +216,14 @@ impl<'a> Reader<'a> {
         let [Symbol::Name(name), _, ..] = symbols else {
             return Err(Refusal::NotUnderstood);
         };
+        self.parameters.clear();
         let entry_point = EntryPoint {
             name: String::from_str(self.alloc, name)?,
             stage: 2,
             early_depth_test: None,
             workgroup_size: [1, 1, 1],
             workgroup_size_overrides: None,
-            function: self.function(name, &Names::new(self.alloc), &symbols[1..])?,
+            function: self.function(name, &symbols[1..])?,
             mesh_info: None,
             task_payload: None,
         };
@@ -239,9 +245,9 @@ impl<'a> Reader<'a> {
         }
     }
 
-    // One line more.
+    // One line more, whose symbols take the place of others.
     #[tactic(auto, unfolding(crate::specs::Reader::with_line))]
-    fn read(&mut self, line: &'a str) -> Result<(), Refusal<'a>>
+    fn read(&mut self, line: &'a str, symbols: &mut Vec<Symbol<'a>>) -> Result<(), Refusal<'a>>
         requires known { spec.Knows self.old }
         ensures value { Gives (λ _. module_value self.new.module_) result (spec.with_line line.now self.old.span (module_value self.old.module_)) }
         ensures known { OnOk result (spec.Knows self.new) }
@@ -252,8 +258,8 @@ impl<'a> Reader<'a> {
         if lacks_space(line) {
             return Err(Refusal::NotUnderstood);
         }
-        let symbols = symbols(self.alloc, line)?;
-        self.add(&symbols)
+        read_symbols(symbols, line)?;
+        self.add(symbols)
     }
 }
 
@@ -296,13 +302,14 @@ pub fn parsed(alloc: Global, text: &str) -> Result<Module, BackendRefusal<ParseF
     ensures { Answers module_value parse_fault result (spec.parsed text.now) }
 {
     let mut reader = Reader::new(alloc)?;
+    let mut symbols = Vec::new(alloc);
     let mut rest = text;
     while !rest.is_empty() {
         let (line, behind) = first_line(rest);
         let start = text.len() - rest.len();
         let span = Span::new(place(start), place(start + line.len()));
         reader.span = span;
-        if let Err(refusal) = reader.read(line) {
+        if let Err(refusal) = reader.read(line, &mut symbols) {
             let fault = fault_at(alloc, refusal, span)?;
             return Err(BackendRefusal::Fault(fault));
         }

@@ -5,7 +5,7 @@ ghost use Rattle.naga_oil_ir.specs.Body.{block_tokens};
 ghost use Rattle.naga_oil_ir.specs.ModuleValue.{module_value};
 ghost use Rattle.naga_oil_front.specs.Valid as spec;
 
-use crate::body_reader::{tokens_of, use_count};
+use naga_oil_front_writer::{tokens_of, use_count};
 use naga_oil_ir::{BackendRefusal, Block, Function, Handle, Module, Span, Token, ValidFault};
 use std::alloc::{AllocError, Global};
 

@@ -8,7 +8,7 @@ use Rattle.naga_oil_pre.specs.Metadata.{none_defined}
 use Rattle.naga_oil_mini.specs.Defined.{defined_by}
 use Rattle.naga_oil_mini.specs.Printed.{printed}
 use Rattle.naga_oil_mini.specs.Words.{Asked, asked}
-use Rattle.naga_oil_front.specs.Writer.{module_text}
+use Rattle.naga_oil_front_writer.specs.Writer.{module_text}
 use Rattle.naga_oil_mini.specs.declared.mini.words.Task.{Task}
 use Rattle.naga_oil_mini.specs.declared.mini.words.Task.TheVariants.{Preprocess, Make}
 use Rattle.naga_oil_mini.specs.declared.mini.refusal.Refusal.{Refusal}

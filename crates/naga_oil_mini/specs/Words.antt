@@ -2,7 +2,7 @@
 use Rattle.std.specs.Prelude.{ℕ, Bool, true, false, not, ◌==◌, ◌&&◌, if◌then◌else◌, Option, Some, None, is_none, List, [], ◌∷◌, bytes_eq, codes, filter, length, map, string_bytes, String}
 use Rattle.std.specs.List.{list_any, filter_map}
 use Rattle.std.specs.declared.alloc.Global.{Global}
-use Rattle.naga_oil_front.specs.Items.{◌>>=◌}
+use Rattle.naga_oil_front_writer.specs.Items.{◌>>=◌}
 use Rattle.naga_oil_symbols.specs.Names.{texts_of}
 use Rattle.naga_oil_mini.specs.declared.mini.words.Task.{Task}
 use Rattle.naga_oil_mini.specs.declared.mini.words.Task.TheVariants.{Preprocess, Make}

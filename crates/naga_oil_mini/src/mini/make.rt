@@ -2,7 +2,7 @@
 ghost use Rattle.std.specs.Prelude.{◌≡◌, IfErr, IfOk, Some, string_bytes};
 ghost use Rattle.naga_oil_ir.specs.ModuleValue.{module_value};
 ghost use Rattle.naga_oil_mini.specs.Told.{IsOfMaking, IsWritten};
-ghost use Rattle.naga_oil_front.specs.Writer.{module_text};
+ghost use Rattle.naga_oil_front_writer.specs.Writer.{module_text};
 
 use super::definitions::Definitions;
 use super::refusal::Refusal;

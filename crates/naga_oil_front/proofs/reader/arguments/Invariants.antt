@@ -4,4 +4,4 @@ use Rattle.naga_oil_front.specs.Reader.{arguments, arguments_of}
 use Rattle.naga_oil_front.proofs.reader.arguments.Given as goal
 
 abbrev pub invariant-loop-parameter : goal.invariant-loop-parameter
-invariant-loop-parameter l = arguments_of l.arguments.items ≡ arguments (texts_of (take l.parameter-index l.parameter-items))
+invariant-loop-parameter l = arguments_of l.arguments.items ≡ arguments (texts_of (take l.parameter-index l.names))

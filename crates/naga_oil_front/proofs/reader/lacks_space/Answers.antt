@@ -1,7 +1,33 @@
-use Rattle.std.specs.Prelude.{codes}
-use Rattle.std.proofs.lemmas.Str.Pattern.{contains_text}
-use Rattle.naga_oil_front.proofs.WithinLemmas.{found_is}
+use Rattle.std.proofs.Common.{◌≡◌, ◌||◌, Bool, List, ℕ, true, false, eqb, codes, rules, arith, ap, sym, ◌∙◌}
+use Rattle.std.specs.List.{starts_with}
+use Rattle.naga_oil_front.specs.Reader.{lacks_space}
+use Rattle.naga_oil_front.proofs.WithinLemmas.{lacks_behind, lacks_none}
 use Rattle.naga_oil_front.proofs.reader.lacks_space.Goals as goal
 
+-- what stands behind a `)`
+behind : List ℕ → Bool
+behind t = starts_with eqb t (codes "with") || lacks_space t
+
+pub returns-then-begins : goal.returns-then-begins
+unfolding behind
+returns-then-begins c =
+    let more = c.in-Some.more.now in
+    let cut = c.in-Some.ensures.byte (omega arith) (λ w o h. h) in
+    let found : starts_with eqb more (codes "with") ≡ true = sym c.begins.ensures ∙ c.if-begins.true in
+    sym (sym c.loop-more.invariant.same ∙ lacks_behind c.loop-more.rest.now cut.2 ∙ ap behind (sym cut.1) ∙ ap (λ b. b || lacks_space more) found)
+
+pub loop-more-preserved : goal.loop-more-preserved
+unfolding behind
+loop-more-preserved c =
+    let more = c.in-Some.more.now in
+    let cut = c.in-Some.ensures.byte (omega arith) (λ w o h. h) in
+    let other : starts_with eqb more (codes "with") ≡ false = sym c.begins.ensures ∙ c.if-begins.false in
+    record {
+      utf8 = search rules;
+      same = sym (ap (λ b. b || lacks_space more) other) ∙ ap behind cut.1 ∙ sym (lacks_behind c.loop-more.rest.now cut.2) ∙ c.loop-more.invariant.same;
+    }
+
 pub returns : goal.returns
-returns c = found_is (codes ")with") c.args.line.now c.contains.result (contains_text c.contains.result (codes ")with") c.args.line.now c.contains.ensures.cases)
+returns c =
+    let none = c.in_default.ensures.byte (omega arith) (λ w o h. h) in
+    sym (sym c.loop-more.invariant.same ∙ lacks_none c.loop-more.rest.now (omega arith))

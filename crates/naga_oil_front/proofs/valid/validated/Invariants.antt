@@ -1,7 +1,7 @@
 use Rattle.std.proofs.Common.{◌≡◌, ◌++◌, drop, map}
 use Rattle.naga_oil_ir.specs.ModuleValue.{module_value, entry_value}
 use Rattle.naga_oil_front.specs.Valid.{all_checked, bodies}
-use Rattle.naga_oil_front.specs.Writer.{function_values}
+use Rattle.naga_oil_front_writer.specs.Writer.{function_values}
 use Rattle.naga_oil_front.proofs.valid.validated.Given as goal
 
 abbrev pub invariant-loop-function : goal.invariant-loop-function

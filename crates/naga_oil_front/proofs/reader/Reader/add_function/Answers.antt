@@ -10,6 +10,6 @@ returns-clause-known c =
     let n = c.in-Opens.name.now in
     let at = c.args.self.now.span in
     let m = module_value c.args.self.now.module_ in
-    let ps = c.in_ok-parameters.parameters in
-    let named = function_named n ps (made (scope m ps) at (line_of c.in_ok-parameters.body.now)) (function_value c.in_ok-function.function) c.in_ok-function.ensures in
+    let ps = c.read_parameters.new.names in
+    let named = function_named n ps (made (scope m ps) at (line_of c.in_ok-body.body.now)) (function_value c.in_ok-function.function) c.in_ok-function.ensures in
     (c.requires.known.0, c.requires.known.1, names_with_function c.args.self.now.module_.functions c.append.new.self c.in_ok-function.function at n _ _ c.requires.known.2 c.in_ok-push.ensures c.in_ok-append.ensures.appended named)

@@ -1,0 +1,3 @@
+pub mod BodyReaderLemmas
+pub mod OrderLemmas
+pub mod WriterLemmas

@@ -1,0 +1,5 @@
+pub mod Items
+pub mod NotWritten
+pub mod BodyReader
+pub mod Order
+pub mod Writer

@@ -1,0 +1,189 @@
+// Where a line may stand, so that each name means its item.
+ghost use Rattle.std.specs.Prelude.{◌≡◌, ◌++◌, ◌∷◌, [], ◌&&◌, nat_le, OnOk, map, reverse, option_map};
+ghost use Rattle.naga_oil_front_writer.specs.Order as spec;
+
+use naga_oil_symbols::Names;
+use std::alloc::{AllocError, Global};
+use std::marker::Model;
+
+/// At least and at most so many items of a kind stand before a line.
+#[derive(Clone, Copy)]
+pub struct Bounds {
+    pub least: usize,
+    pub most: usize,
+}
+
+/// How many constants, globals and functions may stand before a line.
+#[derive(Clone, Copy)]
+pub struct Room {
+    pub constants: Bounds,
+    pub globals: Bounds,
+    pub functions: Bounds,
+}
+
+const ANY: Bounds = Bounds {
+    least: 0,
+    most: usize::MAX,
+};
+
+/// The room of a line that names nothing.
+pub const ANYWHERE: Room = Room {
+    constants: ANY,
+    globals: ANY,
+    functions: ANY,
+};
+
+/// The names of items of a kind, and for each the place of the next equal one.
+#[derive(Drop)]
+pub struct ItemNames<'m> {
+    names: Names<'m>,
+    next: Vec<usize>,
+}
+
+impl<'m> Model for ItemNames<'m> {
+    ghost use Rattle.std.specs.Prelude.{◌≡◌, ℕ, List};
+    ghost use Rattle.naga_oil_front_writer.specs.Order.{next_places};
+
+    ghost Value = { List (List ℕ) };
+
+    ghost view = { λ i. i.names };
+
+    ghost invariant = { λ i. i.next.items ≡ next_places 0 i.names };
+}
+
+impl<'m> ItemNames<'m> {
+    ghost use Rattle.naga_oil_front_writer.specs.Order.{name_used, bounds_used, place_from};
+
+    pub fn new(alloc: Global) -> ItemNames<'m>
+        ensures { result ≡ [] }
+    {
+        ItemNames {
+            names: Names::new(alloc),
+            next: Vec::new(alloc),
+        }
+    }
+
+    /// One name more, which is the last. Without memory none is left.
+    pub fn push(&mut self, name: &'m str) -> Result<(), AllocError>
+        ensures { OnOk result (self.new ≡ self.old ++ name.now ∷ []) }
+    {
+        if let Some(place) = self.names.place(name) {
+            self.next[place] = self.names.texts().len();
+        }
+        if self.next.push(usize::MAX).is_err() || self.names.push(name).is_err() {
+            self.next.clear();
+            self.names.clear();
+            return Err(AllocError);
+        }
+        Ok(())
+    }
+
+    /// The name of an item that a line names; the item stands before the line, and the next of its name behind it.
+    pub fn used(&self, place: usize, bounds: &mut Bounds) -> Option<&'m str>
+        ensures name { option_map (λ n. n.now) result ≡ name_used self.now place }
+        ensures bounds { bounds.new ≡ bounds_used self.now place bounds.old }
+    {
+        if let Some(next) = self.next.get(place) {
+            bounds.least = bounds.least.max(place + 1);
+            bounds.most = bounds.most.min(*next);
+        }
+        self.names.texts().get(place).copied()
+    }
+
+    /// The first place of a name, or the greatest number for none.
+    #[tactic(auto, using(crate::proofs::OrderLemmas::first_place))]
+    pub fn first_place(&self, name: &str) -> usize
+        ensures { result ≡ place_from 0 name.now self.now }
+    {
+        if self.names.place(name).is_none() {
+            return usize::MAX;
+        }
+        let texts = self.names.texts();
+        for (place, text) in texts.iter().enumerate() {
+            if name == *text {
+                return place;
+            }
+        }
+        usize::MAX
+    }
+}
+
+/// The names of a module's constants, globals and functions.
+#[derive(Drop)]
+pub struct Items<'m> {
+    pub constants: ItemNames<'m>,
+    pub globals: ItemNames<'m>,
+    pub functions: ItemNames<'m>,
+}
+
+// A line needs what the lines of its kind before it need.
+fn need_in_order(lines: &mut [Room])
+    ensures { lines.new ≡ spec.needing 0 0 lines.old }
+{
+    let mut constants = 0;
+    let mut globals = 0;
+    for line in lines {
+        constants = constants.max(line.constants.least);
+        globals = globals.max(line.globals.least);
+        line.constants.least = constants;
+        line.globals.least = globals;
+    }
+}
+
+impl Room {
+    // Whether as many constants and globals may stand before the line as a function needs.
+    fn allows(self, function: &Room) -> bool
+        ensures { result ≡ (nat_le function.now.constants.least self.constants.most && nat_le function.now.globals.least self.globals.most) }
+    {
+        function.constants.least <= self.constants.most
+            && function.globals.least <= self.globals.most
+    }
+
+    // Whether an entry point may stand behind all of these functions.
+    fn may_follow(self, functions: &[Room]) -> bool
+        ensures { result ≡ spec.may_follow self (reverse functions.now) }
+    {
+        functions.len() <= self.functions.most
+            && functions.last().is_none_or(|last| self.allows(last))
+    }
+
+    // Whether the line may stand behind so many functions, and before as many constants and globals at most.
+    fn fits(self, functions: usize, constants: usize, globals: usize) -> bool
+        ensures { result ≡ spec.fits self functions constants globals }
+    {
+        self.functions.least <= functions
+            && functions <= self.functions.most
+            && self.constants.least <= constants
+            && self.globals.least <= globals
+    }
+}
+
+// Takes away the line that stands last.
+fn take_last(functions: &mut Vec<Room>, entry_points: &mut Vec<Room>) -> Option<Room>
+    ensures { option_map (λ line. (line, reverse functions.new.items, reverse entry_points.new.items)) result ≡ spec.take_last (reverse functions.old.items) (reverse entry_points.old.items) }
+{
+    match entry_points.last() {
+        Some(entry_point) if entry_point.may_follow(functions) => entry_points.pop(),
+        _ => functions.pop(),
+    }
+}
+
+/// Whether the lines of functions and entry points can stand among constants, globals and one another so that each has its room.
+pub fn has_order(functions: &mut Vec<Room>, entry_points: &mut Vec<Room>) -> bool
+    ensures { result ≡ spec.has_order functions.old.items entry_points.old.items }
+{
+    need_in_order(functions);
+    let mut constants = usize::MAX;
+    let mut globals = usize::MAX;
+    for _ in 0..functions.len() + entry_points.len() {
+        let Some(line) = take_last(functions, entry_points) else {
+            return true;
+        };
+        constants = constants.min(line.constants.most);
+        globals = globals.min(line.globals.most);
+        if !line.fits(functions.len(), constants, globals) {
+            return false;
+        }
+    }
+    true
+}

@@ -1,0 +1,409 @@
+// The text of a module: constants, globals, functions, entry points, a line each.
+ghost use Rattle.std.specs.Prelude.{◌≡◌, ◌++◌, OnOk, IfOk, map, reverse, option_map, string_bytes};
+ghost use Rattle.naga_oil_ir.specs.Rows.{global_row};
+ghost use Rattle.naga_oil_ir.specs.ModuleValue.{module_value, function_value, entry_value, argument_value, local_value, expression_values};
+ghost use Rattle.naga_oil_symbols.specs.Symbols.{symbol_of, line_of};
+ghost use Rattle.naga_oil_front_writer.specs.Writer.{local_values};
+ghost use Rattle.naga_oil_front_writer.specs.BodyReader.{locals_of};
+ghost use Rattle.naga_oil_front_writer.specs.NotWritten.{Becomes, Finds, Writes};
+ghost use Rattle.naga_oil_front_writer.specs.Writer as spec;
+
+use crate::body_reader::{OwnNames, Shape, end_of, shape_at, tokens_of};
+use crate::not_written::{NotWritten, Written};
+use crate::order::{ANYWHERE, ItemNames, Items, Room, has_order};
+use naga_oil_ir::{
+    EntryPoint, Function, FunctionArgument, GlobalVariable, Handle, LocalVariable, Module, Span,
+    Token, Type, TypeInner,
+};
+use naga_oil_symbols::{Names, Symbol, is_name};
+use std::alloc::{AllocError, Global};
+
+fn push_symbol(out: &mut String, symbol: Symbol<'_>) -> Result<(), AllocError>
+    ensures { OnOk result (string_bytes out.new ≡ string_bytes out.old ++ spec.symbol_text (symbol_of symbol.entry)) }
+{
+    match symbol {
+        Symbol::Name(name) => out.push_str(name),
+        Symbol::Opens(name) => {
+            out.push_str(name)?;
+            out.push('(')
+        }
+        Symbol::Number(value) => write!(out, "{value}"),
+        Symbol::Equals => out.push_str(" = "),
+        Symbol::Plus => out.push_str(" + "),
+        Symbol::Comma => out.push_str(", "),
+        Symbol::Closes => out.push_str(")"),
+    }
+}
+
+// Pushes symbols, which are given from the last on.
+fn push_symbols(out: &mut String, mut symbols: Vec<Symbol<'_>>) -> Result<(), AllocError>
+    ensures { OnOk result (string_bytes out.new ≡ string_bytes out.old ++ spec.symbols_text (reverse (line_of symbols.entry.items))) }
+{
+    while let Some(symbol) = symbols.pop() {
+        push_symbol(out, symbol)?;
+    }
+    Ok(())
+}
+
+// A name that can be written.
+fn valid_name(name: &Option<String>) -> Written<&str>
+    ensures { Finds (λ n. n.now) result (spec.valid_name (option_map string_bytes name.now)) }
+{
+    match name {
+        Some(name) if is_name(name.as_str()) => Ok(name.as_str()),
+        _ => Err(NotWritten::NotInMini),
+    }
+}
+
+// The name of a parameter, which has the one type.
+fn parameter_word(argument: &FunctionArgument) -> Written<&str>
+    ensures { Finds (λ n. n.now) result (spec.parameter_word (argument_value argument.now)) }
+{
+    if argument.ty.index() != 0 || argument.binding.is_some() {
+        return Err(NotWritten::NotInMini);
+    }
+    valid_name(&argument.name)
+}
+
+fn parameter_words<'m>(alloc: Global, arguments: &'m [FunctionArgument]) -> Written<Names<'m>>
+    ensures { Finds (λ n. n) result (spec.parameter_words (map argument_value arguments.now)) }
+{
+    let mut names = Names::new(alloc);
+    for argument in arguments {
+        names.push(parameter_word(argument)?)?;
+    }
+    Ok(names)
+}
+
+// The names of the parameters that a body may use: none where there is no body.
+#[tactic(auto, using(crate::proofs::WriterLemmas::block_is_empty))]
+fn body_words(alloc: Global, function: &Function) -> Written<Names<'_>>
+    ensures { Finds (λ n. n) result (spec.body_words (function_value function.now)) }
+{
+    if function.body.body.is_empty() {
+        return Ok(Names::new(alloc));
+    }
+    parameter_words(alloc, function.arguments.as_slice())
+}
+
+// Pushes the names of parameters, joined by `, `.
+fn push_parameters(out: &mut String, arguments: &[FunctionArgument]) -> Written<()>
+    ensures { Becomes result (spec.with_parameters (string_bytes out.old) (map argument_value arguments.now)) (string_bytes out.new) }
+{
+    let Some((first, rest)) = arguments.split_first() else {
+        return Ok(());
+    };
+    out.push_str(parameter_word(first)?)?;
+    for argument in rest {
+        out.push_str(", ")?;
+        out.push_str(parameter_word(argument)?)?;
+    }
+    Ok(())
+}
+
+// Pushes the header of a function of a name.
+fn push_header(out: &mut String, name: &str, arguments: &[FunctionArgument]) -> Written<()>
+    ensures { Becomes result (spec.with_header (string_bytes out.old) name.now (map argument_value arguments.now)) (string_bytes out.new) }
+{
+    out.push_str("fn ")?;
+    out.push_str(name)?;
+    out.push('(')?;
+    push_parameters(out, arguments)?;
+    Ok(out.push(')')?)
+}
+
+// The name of a local of the one type, and the place of its initialiser.
+fn local_word(local: &LocalVariable) -> Written<(&str, usize)>
+    ensures { Finds (λ l. (l.0.now, l.1)) result (spec.local_word (local_value local.now)) }
+{
+    match local.init {
+        Some(init) if local.ty.index() == 0 => Ok((valid_name(&local.name)?, init.index())),
+        _ => Err(NotWritten::NotInMini),
+    }
+}
+
+fn local_words<'m>(
+    alloc: Global,
+    locals: &'m [(LocalVariable, Span)],
+) -> Written<Vec<(&'m str, usize)>>
+    ensures { Finds (λ v. locals_of v.items) result (spec.local_words (local_values locals.now)) }
+{
+    let mut words = Vec::new(alloc);
+    for local in locals {
+        words.push(local_word(&local.0)?)?;
+    }
+    Ok(words)
+}
+
+// The names of locals.
+fn local_names<'m>(alloc: Global, locals: &[(&'m str, usize)]) -> Result<Names<'m>, AllocError>
+    ensures { IfOk result (λ n. n ≡ map (λ l. l.0) (locals_of locals.now)) }
+{
+    let mut names = Names::new(alloc);
+    for (name, _) in locals {
+        names.push(*name)?;
+    }
+    Ok(names)
+}
+
+fn function_words<'m>(alloc: Global, functions: &'m [(Function, Span)]) -> Written<ItemNames<'m>>
+    ensures { Finds (λ n. n) result (spec.function_words (spec.function_values functions.now)) }
+{
+    let mut names = ItemNames::new(alloc);
+    for function in functions {
+        names.push(valid_name(&function.0.name)?)?;
+    }
+    Ok(names)
+}
+
+// The number at a place, if it is of the one type.
+fn number_at(of: &Module, ty: Handle<Type>, place: usize) -> Written<u64>
+    ensures { Finds (λ n. n) result (spec.number_at (expression_values of.now.global_expressions) ty place) }
+{
+    match shape_at(&of.global_expressions, place) {
+        Shape::Number(value) if ty.index() == 0 => Ok(value),
+        _ => Err(NotWritten::NotInMini),
+    }
+}
+
+// Pushes the lines of constants, and answers their names.
+fn push_constants<'m>(alloc: Global, out: &mut String, of: &'m Module) -> Written<ItemNames<'m>>
+    ensures { Writes (λ n. n) result (spec.constants_text (module_value of.now).global_expressions (module_value of.now).constants) (string_bytes out.old) (string_bytes out.new) }
+{
+    let mut names = ItemNames::new(alloc);
+    for constant in of.constants.as_slice() {
+        let name = valid_name(&constant.0.name)?;
+        let value = number_at(of, constant.0.ty, constant.0.init.index())?;
+        write!(out, "const {name} = {value}\n")?;
+        names.push(name)?;
+    }
+    Ok(names)
+}
+
+// The name and the number of a global.
+fn global_word<'m>(of: &'m Module, global: &'m GlobalVariable) -> Written<(&'m str, u64)>
+    ensures { Finds (λ g. (g.0.now, g.1)) result (spec.global_word (expression_values of.now.global_expressions) (global_row global.now)) }
+{
+    let name = valid_name(&global.name)?;
+    match global.init {
+        Some(init) if global.space == 1 && global.binding.is_none() => {
+            Ok((name, number_at(of, global.ty, init.index())?))
+        }
+        _ => Err(NotWritten::NotInMini),
+    }
+}
+
+// Pushes the lines of globals, and answers their names.
+fn push_globals<'m>(alloc: Global, out: &mut String, of: &'m Module) -> Written<ItemNames<'m>>
+    ensures { Writes (λ n. n) result (spec.globals_text (module_value of.now).global_expressions (module_value of.now).global_variables) (string_bytes out.old) (string_bytes out.new) }
+{
+    let mut names = ItemNames::new(alloc);
+    for global in of.global_variables.as_slice() {
+        let (name, value) = global_word(of, &global.0)?;
+        write!(out, "var {name} = {value}\n")?;
+        names.push(name)?;
+    }
+    Ok(names)
+}
+
+fn is_plain_function(function: &Function) -> bool
+    ensures { result ≡ spec.is_plain_function (function_value function.now) }
+{
+    let outcome = function.result;
+    outcome.is_some_and(|r| r.ty.index() == 0 && r.binding.is_none())
+        && function.named_expressions.len() == 0
+        && function.diagnostic_filter_leaf.is_none()
+}
+
+fn is_plain_entry(entry_point: &EntryPoint) -> bool
+    ensures { result ≡ spec.is_plain_entry (entry_value entry_point.now) }
+{
+    entry_point.function.arguments.is_empty()
+        && !entry_point.function.body.body.is_empty()
+        && entry_point.stage == 2
+        && entry_point.early_depth_test.is_none()
+        && entry_point.workgroup_size == [1, 1, 1]
+        && entry_point.workgroup_size_overrides.is_none()
+        && entry_point.mesh_info.is_none()
+        && entry_point.task_payload.is_none()
+}
+
+// What stands behind the header of a line.
+fn opening(locals: &[(&str, usize)]) -> &'static str
+    ensures { result.now ≡ spec.opening (locals_of locals.now) }
+{
+    if locals.is_empty() { " = " } else { " with " }
+}
+
+// The lines so far, and the names that they may use.
+#[derive(Drop)]
+struct Writer<'m> {
+    alloc: Global,
+    text: String,
+    items: Items<'m>,
+}
+
+impl<'m> Writer<'m> {
+    // Locals and a sum, whose tokens are given from the last on. Answers the line's room.
+    fn push_end(
+        &mut self,
+        parameters: Names<'m>,
+        function: &'m Function,
+        tokens: &[Token],
+    ) -> Written<Room>
+        ensures text { Writes (λ r. r) result (spec.end_text self.old.items parameters.entry (function_value function.now) tokens.now) (string_bytes self.old.text) (string_bytes self.new.text) }
+        ensures items { OnOk result (self.new.items ≡ self.old.items) }
+    {
+        let locals = local_words(self.alloc, function.local_variables.as_slice())?;
+        let names = OwnNames {
+            parameters,
+            locals: local_names(self.alloc, &locals)?,
+        };
+        let expressions = &function.expressions;
+        let (symbols, room) = end_of(
+            self.alloc,
+            expressions,
+            &names,
+            &self.items,
+            &locals,
+            tokens,
+        )?;
+        self.text.push_str(opening(&locals))?;
+        push_symbols(&mut self.text, symbols)?;
+        self.text.push('\n')?;
+        Ok(room)
+    }
+
+    // What stands behind the header of a line. Answers the line's room.
+    #[tactic(auto, unfolding(crate::specs::Writer::body_line))]
+    fn push_body(&mut self, parameters: Names<'m>, function: &'m Function) -> Written<Room>
+        ensures text { Writes (λ r. r) result (spec.body_line self.old.items parameters.entry (function_value function.now)) (string_bytes self.old.text) (string_bytes self.new.text) }
+        ensures items { OnOk result (self.new.items ≡ self.old.items) }
+    {
+        if !is_plain_function(function) {
+            return Err(NotWritten::NotInMini);
+        }
+        if !function.body.body.is_empty() {
+            let mut tokens = tokens_of(self.alloc, &function.body)?;
+            tokens.reverse();
+            return self.push_end(parameters, function, &tokens);
+        }
+        if function.local_variables.len() != 0 {
+            return Err(NotWritten::NotInMini);
+        }
+        self.text.push('\n')?;
+        Ok(ANYWHERE)
+    }
+
+    #[tactic(auto, unfolding(crate::specs::Writer::function_text))]
+    fn push_function(&mut self, function: &'m Function) -> Written<Room>
+        ensures text { Writes (λ r. r) result (spec.function_text self.old.items (function_value function.now)) (string_bytes self.old.text) (string_bytes self.new.text) }
+        ensures items { OnOk result (self.new.items ≡ self.old.items) }
+    {
+        let name = valid_name(&function.name)?;
+        push_header(&mut self.text, name, function.arguments.as_slice())?;
+        let parameters = body_words(self.alloc, function)?;
+        self.push_body(parameters, function)
+    }
+
+    #[tactic(auto, unfolding(crate::specs::Writer::entry_text))]
+    fn push_entry_point(&mut self, entry_point: &'m EntryPoint) -> Written<Room>
+        ensures text { Writes (λ r. r) result (spec.entry_text self.old.items (entry_value entry_point.now)) (string_bytes self.old.text) (string_bytes self.new.text) }
+        ensures items { OnOk result (self.new.items ≡ self.old.items) }
+    {
+        let name = valid_name(&entry_point.function.name)?;
+        if name != entry_point.name.as_str() || !is_plain_entry(entry_point) {
+            return Err(NotWritten::NotInMini);
+        }
+        self.text.push_str("entry ")?;
+        self.text.push_str(name)?;
+        self.push_body(Names::new(self.alloc), &entry_point.function)
+    }
+
+    fn push_functions(&mut self, of: &'m Module) -> Written<Vec<Room>>
+        ensures text { Writes (λ v. v.items) result (spec.functions_text self.old.items (module_value of.now).functions) (string_bytes self.old.text) (string_bytes self.new.text) }
+        ensures items { OnOk result (self.new.items ≡ self.old.items) }
+    {
+        let mut rooms = Vec::with_capacity(self.alloc, of.functions.len())?;
+        for function in of.functions.as_slice() {
+            rooms.push(self.push_function(&function.0)?)?;
+        }
+        Ok(rooms)
+    }
+
+    fn push_entry_points(&mut self, of: &'m Module) -> Written<Vec<Room>>
+        ensures text { Writes (λ v. v.items) result (spec.entries_text self.old.items (module_value of.now).entry_points) (string_bytes self.old.text) (string_bytes self.new.text) }
+        ensures items { OnOk result (self.new.items ≡ self.old.items) }
+    {
+        let mut rooms = Vec::new(self.alloc);
+        for entry_point in &of.entry_points {
+            rooms.push(self.push_entry_point(entry_point)?)?;
+        }
+        Ok(rooms)
+    }
+}
+
+// The one type is there, or there is none where nothing names it.
+#[tactic(auto, using(crate::proofs::WriterLemmas::fits_types_value))]
+fn has_type(of: &Module) -> bool
+    ensures { result ≡ spec.has_type (module_value of.now) }
+{
+    match of.types.items() {
+        [] => {
+            of.constants.len() == 0
+                && of.global_variables.len() == 0
+                && of.functions.len() == 0
+                && of.entry_points.is_empty()
+        }
+        [ty] => ty.name.is_none() && matches!(ty.inner, TypeInner::Scalar(1)),
+        _ => false,
+    }
+}
+
+fn is_plain_module(of: &Module) -> bool
+    ensures { result ≡ spec.is_plain_module (module_value of.now) }
+{
+    has_type(of)
+        && of.special_types.ray_desc.is_none()
+        && of.special_types.ray_intersection.is_none()
+        && of.special_types.ray_vertex_return.is_none()
+        && of.special_types.predeclared_types.is_empty()
+        && of.overrides.len() == 0
+        && of.diagnostic_filters.is_empty()
+        && of.diagnostic_filter_leaf.is_none()
+        && of.doc_comments.is_none()
+}
+
+// The lines of constants and globals, and the names of constants, globals and functions.
+#[tactic(auto, unfolding(crate::specs::Writer::items_text))]
+fn begun(alloc: Global, of: &Module) -> Written<Writer<'_>>
+    ensures { Finds (λ w. (string_bytes w.text, w.items)) result (spec.items_text (module_value of.now)) }
+{
+    let mut text = String::new(alloc);
+    let constants = push_constants(alloc, &mut text, of)?;
+    let globals = push_globals(alloc, &mut text, of)?;
+    let functions = function_words(alloc, of.functions.as_slice())?;
+    let items = Items {
+        constants,
+        globals,
+        functions,
+    };
+    Ok(Writer { alloc, text, items })
+}
+
+/// The text of a module.
+#[tactic(auto, unfolding(crate::specs::Writer::module_text))]
+pub fn module_text(alloc: Global, of: &Module) -> Written<String>
+    ensures { Finds string_bytes result (spec.module_text (module_value of.now)) }
+{
+    if !is_plain_module(of) {
+        return Err(NotWritten::NotInMini);
+    }
+    let mut writer = begun(alloc, of)?;
+    let mut functions = writer.push_functions(of)?;
+    let mut entry_points = writer.push_entry_points(of)?;
+    if !has_order(&mut functions, &mut entry_points) {
+        return Err(NotWritten::NotInMini);
+    }
+    Ok(writer.text)
+}
