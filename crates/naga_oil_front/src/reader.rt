@@ -65,7 +65,8 @@ fn read_parameters<'s, 'a>(
     names: &mut Names<'a>,
     symbols: &'s [Symbol<'a>],
 ) -> Result<&'s [Symbol<'a>], Refusal<'a>>
-    ensures { Gives (λ rest. (names.new, line_of rest.now)) result (spec.read_parameters (line_of symbols.now)) }
+    ensures { let said = spec.read_parameters (line_of symbols.now) in
+        Gives (λ rest. (names.new, line_of rest.now)) result said }
 {
     names.clear();
     if let [Symbol::Closes, rest @ ..] = symbols {

@@ -88,7 +88,9 @@ fn body_words(alloc: Global, function: &Function) -> Written<Names<'_>>
 
 // Pushes the names of parameters, joined by `, `.
 fn push_parameters(out: &mut String, arguments: &[FunctionArgument]) -> Written<()>
-    ensures { Becomes result (spec.with_parameters (string_bytes out.old) (map argument_value arguments.now)) (string_bytes out.new) }
+    ensures { let parameters = map argument_value arguments.now in
+        let text = spec.with_parameters (string_bytes out.old) parameters in
+        Becomes result text (string_bytes out.new) }
 {
     let Some((first, rest)) = arguments.split_first() else {
         return Ok(());
@@ -103,7 +105,9 @@ fn push_parameters(out: &mut String, arguments: &[FunctionArgument]) -> Written<
 
 // Pushes the header of a function of a name.
 fn push_header(out: &mut String, name: &str, arguments: &[FunctionArgument]) -> Written<()>
-    ensures { Becomes result (spec.with_header (string_bytes out.old) name.now (map argument_value arguments.now)) (string_bytes out.new) }
+    ensures { let parameters = map argument_value arguments.now in
+        let text = spec.with_header (string_bytes out.old) name.now parameters in
+        Becomes result text (string_bytes out.new) }
 {
     out.push_str("fn ")?;
     out.push_str(name)?;
