@@ -4,7 +4,7 @@ use Rattle.std.proofs.Math.Seq.{take-length}
 use Rattle.std.proofs.lemmas.Grind.{flat_map-append}
 use Rattle.std.proofs.lemmas.List.{append-nil, length-map, length-take-le, map-append, take_more}
 use Rattle.std.proofs.lemmas.List.Elements.{filter-append}
-use Rattle.std.specs.Prelude.{◌==◌, zip, if◌then◌else◌, MatchOption, IfOk}
+use Rattle.std.specs.Prelude.{zip, if◌then◌else◌, MatchOption, IfOk}
 use Rattle.std.proofs.lemmas.Option.{get_or_from_slice_get, slice_get-map, slice_get_within}
 use Rattle.std.proofs.lemmas.Map.Text.{btree_map_updates_str}
 use Rattle.std.specs.BTreeMap as tree
@@ -81,11 +81,6 @@ held_more old new key i more same h name =
 pub copied_named : (o : Option (Bor CodeItem)) → option_map (λ i. named_of i.now) o ≡ option_map named_of (option_copied o)
 copied_named None = refl
 copied_named (Some i) = refl
-
--- a text of no bytes
-pub no_text : (text : List ℕ) → (length text == 0) ≡ true → text ≡ []
-no_text [] e = refl
-no_text (x ∷ xs) e = absurd cc
 
 -- ---- an owned item, and one that isn't
 pub not_owned : (owned : List (List ℕ)) (name : List ℕ) (back : List ℕ → Option NamedItem) (i : NamedItem) → is_among owned name ≡ false → lost_by owned name back i ≡ None

@@ -1,4 +1,4 @@
-use Rattle.std.proofs.Common.{◌≡◌, ◌||◌, sym, ap, ◌∙◌}
+use Rattle.std.proofs.Common.{◌||◌, sym, ap, ◌∙◌}
 use Rattle.naga_oil_lines.specs.Text.{is_among}
 use Rattle.naga_oil_link.specs.BuiltModule.{built_of}
 use Rattle.naga_oil_registry.proofs.NamesLemmas.{among_texts}

@@ -13,8 +13,8 @@ returns-then-not-contains c =
     let owned : is_among (texts keys) name ≡ false = sym (among_texts keys name) ∙ sym c.contains.ensures ∙ c.if-not-contains.true in
     sym (not_owned (texts keys) name (held c.args.back.now) (named_of c.args.item.now) owned)
 
-pub returns-in_Some : goal.returns-in_Some
-returns-in_Some c =
+pub returns-in-Some : goal.returns-in-Some
+returns-in-Some c =
     let keys = c.args.owned.now.keys in
     let back = c.args.back.now in
     let i = named_of c.args.item.now in
@@ -23,8 +23,8 @@ returns-in_Some c =
     let theirs : option_map (λ i. named_of i.now) c.get.result ≡ held back name = copied_named c.get.result ∙ ap (option_map named_of) c.get.ensures.value in
     owned_lost (texts keys) name (held back) i (Some c.in-Some.name.now) owned (ap (option_map (λ r. r.now)) (sym c.in-Some.is) ∙ c.lost_of.ensures ∙ ap (lost_of i) theirs)
 
-pub returns : goal.returns
-returns c =
+pub returns-in-None : goal.returns-in-None
+returns-in-None c =
     let keys = c.args.owned.now.keys in
     let back = c.args.back.now in
     let i = named_of c.args.item.now in
