@@ -22,7 +22,7 @@ mod tests;
 mod told;
 
 use answer::{metadata, preprocessed, put};
-use naga_oil_lines::ImportDefWithOffset;
+use naga_oil_imports::ImportDefWithOffset;
 use naga_oil_pre::{
     ComposerErrorInner as Inner, PreprocessOutput, Preprocessor, PreprocessorMetaData,
     ShaderDefValue,
