@@ -429,7 +429,7 @@ fn is_filled_taken(
 ) -> Result<bool, AllocError> {
     add_all(module, small, alloc)?;
     add_all(module, items, alloc)?;
-    match check_form(&module, alloc, decoration, 10) {
+    match check_form(module, alloc, decoration, 10) {
         Ok(()) => Ok(true),
         Err(FormFault::WrongForm) => Ok(false),
         Err(FormFault::Memory) => Err(AllocError),
