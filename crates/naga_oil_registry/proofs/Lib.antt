@@ -8,5 +8,6 @@ pub mod RemovedLemmas
 pub mod SanitizedLemmas
 pub mod NewDefinitionLemmas
 pub mod WritingLemmas
+pub mod KeptLemmas
 pub mod KeywordsLemmas
 pub mod MarkedLemmas

@@ -1,10 +1,10 @@
 -- What is registered, and what goes.
-use Rattle.std.proofs.Common.{◌≡◌, ℕ, zero, suc, ◌+◌, ◌<◌, List, [], ◌∷◌, ◌++◌, Bor, Bool, true, false, not, cond, ◌||◌, eqb, refl, sym, ap, subst, ◌∙◌, map, filter, drop, get_or, length, Option, Some, None, option_map, append_assoc, arith}
+use Rattle.std.proofs.Common.{◌≡◌, ℕ, zero, suc, ◌+◌, ◌<◌, List, [], ◌∷◌, Bool, true, false, not, cond, ◌||◌, eqb, refl, sym, ap, subst, ◌∙◌, map, filter, drop, get_or, length, slice_get, Option, Some, None, option_map, arith}
 use Rattle.std.proofs.lemmas.Bool.{or_parts, ne_eqb}
-use Rattle.std.proofs.lemmas.List.{at_drop_more, drop-map}
+use Rattle.std.proofs.lemmas.List.{drop_more}
+use Rattle.std.proofs.lemmas.Option.{slice_get_within, get_or_from_slice_get}
 use Rattle.std.proofs.lemmas.Slice.Eq.{bytes_eq-Decides}
 use Rattle.std.specs.List.{list_any, find, position_from, range_with_len}
-use Rattle.std.specs.Option.{option_copied}
 use Rattle.std.specs.Str.{bytes_eq}
 use Rattle.naga_oil_registry.specs.Definition.{Definition}
 use Rattle.naga_oil_registry.specs.Registry.{registered, module_named, reaches, standing, taken, free_among, IsRegistry}
@@ -24,10 +24,6 @@ find_map p f (x ∷ xs) = by (p (f x)) (find_map p f xs)
 pub option_map_twice : {A B C : Type 0} (f : A → B) (g : B → C) (o : Option A) → option_map (λ x. g (f x)) o ≡ option_map g (option_map f o)
 option_map_twice f g None = refl
 option_map_twice f g (Some x) = refl
-
-pub copied_map : {A : Type 0} (o : Option (Bor A)) → option_copied o ≡ option_map (λ x. x.now) o
-copied_map None = refl
-copied_map (Some x) = refl
 
 pub list_any_same : {X : Type 0} (p q : X → Bool) → ((x : X) → p x ≡ q x) → (xs : List X) → list_any p xs ≡ list_any q xs
 list_any_same p q h [] = refl
@@ -94,30 +90,20 @@ standing-named leaves name (d ∷ ds) e = by (leaves d.name) (bytes_eq d.name na
     by false true p q rest = rw q refl
     by false false p q rest = rw q rest
 
--- the same for a place in a list that looks like modules
-module _ {X : Type 0} (f : X → Definition) (xs : List X) (k : ℕ) (x : X) (name : List ℕ) (has : List ℕ → Bool) (lt : k < length xs) (at : x ≡ get_or xs k x) (all : IsRegistry (map f xs)) (same : (o : List ℕ) → has o ≡ reaches (map f (drop (k + 1) xs)) o name) where
-  opened : map f (drop k xs) ≡ f x ∷ map f (drop (k + 1) xs)
-  opened = at_drop_more (map f) xs k x lt ∙ ap (λ y. f y ∷ map f (drop (k + 1) xs)) (sym at)
+-- the list from a place on
+pub opened_at : {X : Type 0} (xs : List X) (place : ℕ) (x : X) → slice_get xs place ≡ Some x → drop place xs ≡ x ∷ drop (place + 1) xs
+opened_at xs place x e = drop_more xs place x (slice_get_within xs place x e) ∙ ap (λ y. y ∷ drop (place + 1) xs) (get_or_from_slice_get xs place x x e)
 
-  first_new : registered (f x).name (map f (drop (k + 1) xs)) ≡ false
-  first_new = let rest = subst IsRegistry (drop-map f k xs ∙ opened) (registry-drop k (map f xs) all) in rest.0.name
+-- the same for the module of a place
+module _ (ds : List Definition) (place : ℕ) (d : Definition) (name : List ℕ) (has : List ℕ → Bool) (at : slice_get ds place ≡ Some d) (all : IsRegistry ds) (same : (o : List ℕ) → has o ≡ reaches (drop (place + 1) ds) o name) where
+  first_new : registered d.name (drop (place + 1) ds) ≡ false
+  first_new = let rest = subst IsRegistry (opened_at ds place d at) (registry-drop place ds all) in rest.0.name
 
-  pub gone-more : (bytes_eq (f x).name name || list_any (λ u. has u.import.import) (f x).imports) ≡ true → (o : List ℕ) → cond (bytes_eq (f x).name o) true (has o) ≡ reaches (map f (drop k xs)) o name
-  gone-more g o = reaches-goes (f x) (map f (drop (k + 1) xs)) name has first_new same g o ∙ ap (λ ds. reaches ds o name) (sym opened)
+  pub gone-more : (bytes_eq d.name name || list_any (λ u. has u.import.import) d.imports) ≡ true → (o : List ℕ) → cond (bytes_eq d.name o) true (has o) ≡ reaches (drop place ds) o name
+  gone-more g o = reaches-goes d (drop (place + 1) ds) name has first_new same g o ∙ ap (λ ds. reaches ds o name) (sym (opened_at ds place d at))
 
-  pub gone-same : (bytes_eq (f x).name name || list_any (λ u. has u.import.import) (f x).imports) ≡ false → (o : List ℕ) → has o ≡ reaches (map f (drop k xs)) o name
-  gone-same g o = reaches-stays (f x) (map f (drop (k + 1) xs)) name has first_new same g o ∙ ap (λ ds. reaches ds o name) (sym opened)
-
--- one module more, which stays or goes
-module _ {X : Type 0} (f : X → Definition) (leaves : List ℕ → Bool) (xs : List X) (k : ℕ) (x : X) (kept : List Definition) (lt : k < length xs) (at : x ≡ get_or xs k x) where
-  first_of_rest : standing leaves (map f (drop k xs)) ≡ cond (not (leaves (f x).name)) (f x ∷ standing leaves (map f (drop (k + 1) xs))) (standing leaves (map f (drop (k + 1) xs)))
-  first_of_rest = ap (standing leaves) (at_drop_more (map f) xs k x lt ∙ ap (λ y. f y ∷ map f (drop (k + 1) xs)) (sym at))
-
-  pub one_stays : leaves (f x).name ≡ false → (kept ++ f x ∷ []) ++ standing leaves (map f (drop (k + 1) xs)) ≡ kept ++ standing leaves (map f (drop k xs))
-  one_stays e = append_assoc kept (f x ∷ []) (standing leaves (map f (drop (k + 1) xs))) ∙ ap (λ l. kept ++ l) (sym (first_of_rest ∙ ap (λ b. cond (not b) (f x ∷ standing leaves (map f (drop (k + 1) xs))) (standing leaves (map f (drop (k + 1) xs)))) e))
-
-  pub one_goes : leaves (f x).name ≡ true → kept ++ standing leaves (map f (drop (k + 1) xs)) ≡ kept ++ standing leaves (map f (drop k xs))
-  one_goes e = ap (λ l. kept ++ l) (sym (first_of_rest ∙ ap (λ b. cond (not b) (f x ∷ standing leaves (map f (drop (k + 1) xs))) (standing leaves (map f (drop (k + 1) xs)))) e))
+  pub gone-same : (bytes_eq d.name name || list_any (λ u. has u.import.import) d.imports) ≡ false → (o : List ℕ) → has o ≡ reaches (drop place ds) o name
+  gone-same g o = reaches-stays d (drop (place + 1) ds) name has first_new same g o ∙ ap (λ ds. reaches ds o name) (sym (opened_at ds place d at))
 
 -- the first place that isn't marked, as the first index that isn't taken
 first_unmarked : (t : ℕ → Bool) (marks : List Bool) (k : ℕ) → ((i : ℕ) → i < length marks → get_or marks i false ≡ t (k + i)) → position_from (λ b. not b) k marks ≡ find (λ i. not (t i)) (range_with_len k (length marks))

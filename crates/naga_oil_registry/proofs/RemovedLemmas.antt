@@ -99,7 +99,7 @@ reaches-itself name (d ∷ ds) r = by (bytes_eq d.name name) refl (λ r. reaches
     by true e rest = ap (λ b. b || list_any (λ u. reaches ds u.import.import name) d.imports) (bytes_itself name)
     by false e rest = rest (ap (λ b. b || registered name ds) (sym e) ∙ r)
 
-gone-registered : (leaves : List ℕ → Bool) (name : List ℕ) (ds : List Definition) → leaves name ≡ true → registered name (standing leaves ds) ≡ false
+pub gone-registered : (leaves : List ℕ → Bool) (name : List ℕ) (ds : List Definition) → leaves name ≡ true → registered name (standing leaves ds) ≡ false
 gone-registered leaves name [] e = refl
 gone-registered leaves name (d ∷ ds) e = by (leaves d.name) (bytes_eq d.name name) refl refl (gone-registered leaves name ds e)
   where
@@ -132,7 +132,7 @@ reaches-unregistered name (d ∷ ds) other e =
     by true q fresh rest = or_from (bytes_eq other name) (list_any (λ u. reaches ds u.import.import name) d.imports) (ap (λ n. bytes_eq n name) (sym (bytes_same d.name other q)) ∙ fresh) (any-none (λ u. reaches ds u.import.import name) d.imports (λ u. rest u.import.import))
     by false q fresh rest = rest other
 
-filter-all : {X : Type 0} (p : X → Bool) (xs : List X) → ((x : X) → p x ≡ true) → filter p xs ≡ xs
+pub filter-all : {X : Type 0} (p : X → Bool) (xs : List X) → ((x : X) → p x ≡ true) → filter p xs ≡ xs
 filter-all p [] h = refl
 filter-all p (x ∷ xs) h = ap (λ b. cond b (x ∷ filter p xs) (filter p xs)) (h x) ∙ ap (λ ys. x ∷ ys) (filter-all p xs h)
 

@@ -8,6 +8,7 @@ pub mod Descriptor
 pub mod Merged
 pub mod Registry
 pub mod RegistryRows
+pub mod RegistryView
 pub mod Sanitized
 pub mod Keywords
 pub mod KeywordsView

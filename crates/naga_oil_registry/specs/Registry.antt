@@ -1,5 +1,5 @@
 -- What is registered, the newest module first: what a module imports stands behind it in the list.
-use Rattle.std.specs.Prelude.{◌≡◌, ◌≤◌, ℕ, List, [], ◌∷◌, ◌++◌, Bool, true, false, not, ◌&&◌, ◌||◌, ◌==◌, Option, Some, unwrap_or, option_map, if◌then◌else◌, filter, find, bytes_eq}
+use Rattle.std.specs.Prelude.{◌≡◌, ◌≤◌, ℕ, List, [], ◌∷◌, ◌++◌, Bool, true, false, not, ◌&&◌, ◌||◌, ◌==◌, Option, Some, unwrap_or, option_map, if◌then◌else◌, filter, find, position, bytes_eq}
 use Rattle.std.specs.List.{list_any, list_all, flat_map, range_with_len}
 use Rattle.naga_oil_lines.specs.DirectivesText.{in_order}
 use Rattle.naga_oil_imports.specs.Uses.{Use}
@@ -15,6 +15,10 @@ registered name ds = list_any (λ d. bytes_eq d.name name) ds
 -- the module of this name
 abbrev pub module_named : List ℕ → List Definition → Option Definition
 module_named name ds = find (λ d. bytes_eq d.name name) ds
+
+-- the place of the module of this name
+abbrev pub place_named : List ℕ → List Definition → Option ℕ
+place_named name ds = position (λ d. bytes_eq d.name name) ds
 
 -- the module of this index
 abbrev pub module_indexed : ℕ → List Definition → Option Definition

@@ -6,11 +6,11 @@ ghost use Rattle.naga_oil_conditions.specs.View.{Gives};
 ghost use Rattle.naga_oil_registry.specs.Added.{described, imported_among, new_definition, shown_by, Enters};
 ghost use Rattle.naga_oil_registry.specs.Definition.{definition_of};
 ghost use Rattle.naga_oil_registry.specs.Descriptor.{module_source};
-ghost use Rattle.naga_oil_registry.specs.Registry.{reaches, removed, IsRegistry};
+ghost use Rattle.naga_oil_registry.specs.Registry.{reaches, removed, standing, free_index, IsRegistry};
 ghost use Rattle.naga_oil_registry.specs.DescribedView.{described_of, KnowsRecorded};
 
 use super::merge::{clone_imports, push_additional, take_over};
-use super::registry::{enter, free_index, gone_with, module_named, standing};
+use super::registry::Registry;
 use super::*;
 
 /// The name of a module, and the metadata of its text.
@@ -36,20 +36,21 @@ pub fn describe(alloc: Global, given: Option<&String>, text: &str) -> Checked<De
     Ok(Described { name, metadata })
 }
 
-// The modules that are imported, or the first import that is none of these.
+// The modules that are imported, none of which may go, or the first import that is none of these.
 fn imported_modules<'a>(
     alloc: Global,
-    modules: &[&'a Definition],
+    registry: &'a Registry,
+    gone: &Names,
     imports: &[Use],
 ) -> Checked<Vec<&'a Definition>>
-    ensures { let standing = map (λ d. definition_of d.now) modules.now in
-        let imported = imported_among standing (map use_of imports.now) in
+    ensures { let left = standing (contains_text gone.now) registry.now in
+        let imported = imported_among left (map use_of imports.now) in
         Gives (λ v. map (λ d. definition_of d.now) v.items) result imported }
 {
     let mut imported = Vec::with_capacity(alloc, imports.len())?;
     for import in imports {
         let name = &import.definition().import;
-        let Some(definition) = module_named(modules, name.as_str()) else {
+        let Some(definition) = registry.standing(gone, name.as_str()) else {
             return Err(Inner::ImportNotFound(name.clone()?, import.offset()));
         };
         imported.push(definition)?;
@@ -57,23 +58,26 @@ fn imported_modules<'a>(
     Ok(imported)
 }
 
-// The definition that a module is registered by, beside the modules that stay.
+// The definition that a module is registered by, beside the modules that stay, with the index that is free then.
 #[tactic(auto, unfolding(crate::specs::Added::new_definition))]
 fn new_definition(
     alloc: Global,
-    modules: &[&Definition],
+    registry: &Registry,
+    gone: &Names,
+    free: Option<usize>,
     desc: ComposableModuleDescriptor<'_>,
     described: Described,
 ) -> Checked<Definition>
-    requires { KnowsRecorded described }
-    ensures { let standing = map (λ d. definition_of d.now) modules.now in
-        let definition = new_definition standing (module_source desc.entry) (described_of described) in
+    requires free { free ≡ free_index (standing (contains_text gone.now) registry.now) }
+    requires recorded { KnowsRecorded described }
+    ensures { let left = standing (contains_text gone.now) registry.now in
+        let definition = new_definition left (module_source desc.entry) (described_of described) in
         Gives definition_of result definition }
 {
     let Described { name, mut metadata } = described;
     push_additional(&mut metadata.imports, desc.additional_imports)?;
-    let imported = imported_modules(alloc, modules, metadata.imports.as_slice())?;
-    let Some(module_index) = free_index(alloc, modules)? else {
+    let imported = imported_modules(alloc, registry, gone, metadata.imports.as_slice())?;
+    let Some(module_index) = free else {
         return Err(Inner::TooManyModules);
     };
     let mut shader_defs = desc.shader_defs;
@@ -95,30 +99,26 @@ fn new_definition(
 /// Registers a module, and answers its index, with the names of the modules that go for it. A refusal changes nothing.
 pub fn register(
     alloc: Global,
-    modules: &mut Vec<Definition>,
+    registry: &mut Registry,
     desc: ComposableModuleDescriptor<'_>,
     described: Described,
 ) -> Checked<(usize, Names)>
-    requires registry { IsRegistry (map definition_of modules.old.items) }
+    requires registry { IsRegistry registry.old }
     requires recorded { KnowsRecorded described }
     ensures reply { let of = described_of described in
-        let standing = removed of.name (map definition_of modules.old.items) in
-        let definition = new_definition standing (module_source desc.entry) of in
+        let definition = new_definition (removed of.name registry.old) (module_source desc.entry) of in
         Gives (λ r. r.0) result (shown_by (λ d. d.index) definition) }
     ensures registry { let of = described_of described in
-        let before = map definition_of modules.old.items in
-        let definition = new_definition (removed of.name before) (module_source desc.entry) of in
-        OnOk result (Enters before definition (map definition_of modules.new.items)) }
-    ensures gone { let before = map definition_of modules.old.items in
-        let name = (described_of described).name in
-        IfOk result (λ r. (other : List ℕ) → contains_text r.1 other ≡ reaches before other name) }
-    ensures refused { OnErr result (modules.new.items ≡ modules.old.items) }
+        let definition = new_definition (removed of.name registry.old) (module_source desc.entry) of in
+        OnOk result (Enters registry.old definition registry.new) }
+    ensures gone { let name = (described_of described).name in
+        IfOk result (λ r. (other : List ℕ) → contains_text r.1 other ≡ reaches registry.old other name) }
+    ensures refused { OnErr result (registry.new ≡ registry.old) }
 {
-    let gone = gone_with(alloc, modules, described.name.as_str())?;
-    let standing = standing(alloc, modules, &gone)?;
-    let definition = new_definition(alloc, standing.as_slice(), desc, described)?;
-    drop(standing);
+    let gone = registry.gone_with(described.name.as_str())?;
+    let free = registry.free_index(&gone)?;
+    let definition = new_definition(alloc, registry, &gone, free, desc, described)?;
     let index = definition.module_index;
-    enter(modules, &gone, definition)?;
+    registry.enter(&gone, definition)?;
     Ok((index, gone))
 }
