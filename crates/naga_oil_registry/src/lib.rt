@@ -2,7 +2,7 @@
 //!
 //! - `descriptor`: what callers ask for.
 //! - `definition`: what is registered of a module.
-//! - `registry`: the list of what is registered, the newest module first.
+//! - `registry`: what is registered, found by name.
 //! - `adding`: what is added, from its text to its definition.
 //! - `sanitize`: a source as it is read.
 //! - `merge`: what a module takes over from those that it imports.

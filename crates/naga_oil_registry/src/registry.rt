@@ -12,7 +12,8 @@ use super::*;
 use indexmap::IndexMap;
 use std::marker::Model;
 
-/// What is registered, found by name.
+/// What is registered, found by name. Beside its own cost an add that takes no module's place looks at no more than the marks of
+/// the indices; one that does, and a removal, takes time linear in what is registered.
 #[derive(Drop)]
 pub struct Registry {
     alloc: Global,
