@@ -1,5 +1,5 @@
 -- Places of items by their names, and what is linked at them.
-use Rattle.std.proofs.Common.{◌≡◌, ℕ, zero, suc, ◌+◌, ◌<◌, List, [], ◌∷◌, ◌++◌, length, map, map-id, append-nil, Bool, true, false, ◌||◌, ◌&&◌, if◌then◌else◌, Some, None, option_map, slice_get, get_or, refl, sym, ap, subst, ◌∙◌, All, String, Vec, Global, string_bytes, Ordering, Less, Equal, Greater, bytes_eq, arith}
+use Rattle.std.proofs.Common.{◌≡◌, ℕ, zero, suc, ◌+◌, ◌<◌, List, [], ◌∷◌, ◌++◌, length, map, map-id, append-nil, Bool, true, false, ◌||◌, ◌&&◌, if◌then◌else◌, Some, None, option_map, slice_get, get_or, refl, sym, ap, subst, ◌∙◌, All, Ordering, Less, Equal, Greater, bytes_eq, arith}
 use Rattle.std.proofs.lemmas.Bool.Decides.{nat_tests}
 use Rattle.std.proofs.lemmas.Cmp.{nat_cmp_total}
 use Rattle.std.proofs.lemmas.List.Elements.{All-append, All-from_get_or, All-map}
@@ -16,9 +16,7 @@ use Rattle.std.specs.List.{list_any, filter, flat_map, range_with_len, AllByRecu
 use Rattle.std.specs.List.Sorted.{IsStrictlySortedBy, IsStrictlyIncreasing}
 use Rattle.std.specs.Cmp.{nat_cmp_is}
 use Rattle.std.specs.Ordering.{nat_cmp, is_eq, match_ordering, ordering_reverse}
-use Rattle.std.specs.Cmp.Lexicographic.{slice_cmp}
-use Rattle.std.specs.Map.{lookup}
-use Rattle.std.specs.Option.{option_flatten, option_map_or}
+use Rattle.std.specs.Option.{option_flatten}
 use Rattle.std.proofs.lemmas.Slice.Eq.{bytes_eq-Decides}
 use Rattle.naga_oil_form.specs.ItemForm.{IsThere}
 use Rattle.naga_oil_ir.specs.ModuleValue.{module_value}
@@ -29,10 +27,9 @@ use Rattle.naga_oil_ir.specs.declared.names.ItemPlace.TheVariants.{TypeItem, Con
 use Rattle.naga_oil_lines.specs.DirectivesText.{in_order}
 use Rattle.naga_oil_lines.specs.Text.{is_among}
 use Rattle.naga_oil_link.specs.BuiltModule.{BuiltModule}
-use Rattle.naga_oil_link.specs.ByName.{ByName, with_places, places_where, places_by, is_name, IsIndexOf}
+use Rattle.naga_oil_link.specs.ByName.{text_at, with_places, places_where, places_named, is_name}
 use Rattle.naga_oil_link.specs.Linked.{Asked, is_wanted, is_wanted_function, passes, overriding_names}
 use Rattle.naga_oil_link.specs.Places.{places_from_first, places_of}
-use Rattle.naga_oil_link.specs.Wanted.{ArePlacesWhere}
 use Rattle.naga_oil_link.proofs.NamesLemmas.{or_last, or_twice, or_between, among-in_order}
 
 -- ---- numbers in order
@@ -132,10 +129,7 @@ below_each t p n xs =
 
 -- ---- places by names
 
-abbrev pub text_at : List Text → ℕ → Text
-text_at names k = option_flatten (slice_get names k)
-
-flipped : (q n : List ℕ) → bytes_eq q n ≡ bytes_eq n q
+pub flipped : (q n : List ℕ) → bytes_eq q n ≡ bytes_eq n q
 flipped q n = by (bytes_eq q n) (bytes_eq n q) refl refl
   where
     by : (a b : Bool) → bytes_eq q n ≡ a → bytes_eq n q ≡ b → a ≡ b
@@ -203,50 +197,24 @@ place_left test names n before h e =
     let p = λ (k : ℕ). test (text_at names k) in
     e ∙ sym (append-nil (below p n)) ∙ ap (λ b. below p n ++ (if b then n ∷ [] else [])) (sym h) ∙ sym (place_more p n)
 
--- ---- an index
-
--- the places before an end are kept
-abbrev pub IsIndexBefore : List Text → ℕ → ByName → Type 0
-IsIndexBefore names n index = (q : List ℕ) → places_by index q ≡ below (λ k. is_name q (text_at names k)) n
-
--- one more name was noted
-pub name_noted : (names : List Text) (n : ℕ) (x : Text) (before after : ByName) → text_at names n ≡ x → IsIndexBefore names n before → ((q : List ℕ) → places_by after q ≡ places_by before q ++ (if is_name q x then n ∷ [] else [])) → IsIndexBefore names (n + 1) after
-name_noted names n x before after at h noted q =
-    noted q ∙ ap (λ ks. ks ++ (if is_name q x then n ∷ [] else [])) (h q)
-    ∙ ap (λ y. below (λ k. is_name q (text_at names k)) n ++ (if is_name q y then n ∷ [] else [])) (sym at)
-    ∙ sym (place_more (λ k. is_name q (text_at names k)) n)
-
--- all names were
-pub names_noted : (names : List Text) (n : ℕ) (index : ByName) → n ≡ length names → IsIndexBefore names n index → IsIndexOf names index
-names_noted names n index all h = subst (λ (m : ℕ). IsIndexBefore names m index) all h
-
 -- the name at a place in a list
 pub text_there : {X : Type 0} (name : X → Text) (xs : List X) (k : ℕ) (x : X) → slice_get xs k ≡ Some x → text_at (map name xs) k ≡ name x
 text_there name xs k x at = ap option_flatten (slice_get-map name xs k ∙ ap (option_map name) at)
 
--- an index of nothing has no places
-nothing_at : (es : List (String Global × Vec ℕ Global)) (n : List ℕ) → length es ≡ 0 → option_map_or (λ places. places.items) (lookup (is_at (λ k. slice_cmp nat_cmp n (string_bytes k))) es) [] ≡ []
-nothing_at [] n none = refl
-nothing_at (e ∷ es) n none = absurd (omega arith)
-
-pub nothing_by : (index : ByName) → length index.entries ≡ 0 → (names : List (List ℕ)) → flat_map (places_by index) names ≡ []
-nothing_by index none [] = refl
-nothing_by index none (n ∷ ns) = ap (λ ks. ks ++ flat_map (places_by index) ns) (nothing_at index.entries n none) ∙ nothing_by index none ns
+-- and past its end
+pub text_past : {X : Type 0} (name : X → Text) (xs : List X) (k : ℕ) → slice_get xs k ≡ None → text_at (map name xs) k ≡ None
+text_past name xs k past = ap option_flatten (slice_get-map name xs k ∙ ap (option_map name) past)
 
 -- ---- what is asked for
 
--- by none all are
-pub all_wanted : (index : ByName) (count : ℕ) (keys : List ℕ) → keys ≡ with_places [] (range_with_len 0 count) → ArePlacesWhere (is_wanted None) index count keys
-all_wanted index count keys h names is long = h ∙ ap (λ n. with_places [] (range_with_len 0 n)) (sym long) ∙ every_place names
-
-pub some_wanted : (index : ByName) (count : ℕ) (keys : List ℕ) (asked : List (List ℕ)) → keys ≡ with_places [] (flat_map (places_by index) asked) → ArePlacesWhere (is_wanted (Some (in_order asked))) index count keys
-some_wanted index count keys asked h names is long = h ∙ only_named names (places_by index) asked is ∙ (λ i. places_where (passes (λ n. sym (among-in_order asked n) i)) names)
+pub some_wanted : (names : List Text) (asked : List (List ℕ)) → with_places [] (flat_map (places_named names) asked) ≡ places_where (is_wanted (Some (in_order asked))) names
+some_wanted names asked = only_named names (places_named names) asked (λ q. refl) ∙ (λ i. places_where (passes (λ n. sym (among-in_order asked n) i)) names)
 
 -- with the functions that override others
-pub functions_wanted : (b : BuiltModule) (asked : Asked) (index : ByName) (count : ℕ) (before keys : List ℕ) (others : List (List ℕ)) → others ≡ in_order (overriding_names b) → ArePlacesWhere (is_wanted asked) index count before → keys ≡ with_places before (flat_map (places_by index) others) → ArePlacesWhere (is_wanted_function b asked) index count keys
-functions_wanted b asked index count before keys others same h more names is long =
-    more ∙ (λ i. with_places (h names is long i) (flat_map (places_by index) (same i)))
-    ∙ with_named names (places_by index) (is_wanted asked) (in_order (overriding_names b)) is
+pub functions_wanted : (b : BuiltModule) (asked : Asked) (names : List Text) (others : List (List ℕ)) → others ≡ in_order (overriding_names b) → with_places (places_where (is_wanted asked) names) (flat_map (places_named names) others) ≡ places_where (is_wanted_function b asked) names
+functions_wanted b asked names others same =
+    (λ i. with_places (places_where (is_wanted asked) names) (flat_map (places_named names) (same i)))
+    ∙ with_named names (places_named names) (is_wanted asked) (in_order (overriding_names b)) (λ q. refl)
     ∙ (λ i. places_where (λ n. is_wanted asked n || passes (λ m. among-in_order (overriding_names b) m i) n) names)
 
 -- ---- places are there

@@ -6,6 +6,7 @@ pub mod FormItemsLemmas
 pub mod FormLawLemmas
 pub mod FormPartsLemmas
 pub mod GoodFormLemmas
+pub mod IndexLemmas
 pub mod LinkedLemmas
 pub mod NamesLemmas
 pub mod OwnedFormLemmas

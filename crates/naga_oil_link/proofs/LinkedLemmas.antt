@@ -31,14 +31,14 @@ use Rattle.naga_oil_lines.specs.Text.{texts, is_among}
 use Rattle.naga_oil_imports.specs.Uses.{Import, import_of}
 use Rattle.naga_oil_imports.specs.declared.import_definition.ImportDefinition.{ImportDefinition}
 use Rattle.naga_oil_link.specs.BuiltModule.{BuiltModule, Builds, built_of, builds_of}
-use Rattle.naga_oil_link.specs.ByName.{places_where}
+use Rattle.naga_oil_link.specs.ByName.{places_where, text_at}
 use Rattle.naga_oil_link.specs.CopiedBuild.{has_name_among}
 use Rattle.naga_oil_link.specs.CopySources.{CopiesFrom}
 use Rattle.naga_oil_link.specs.Linked.{LinkState, Asked, passes, asked_of, link_source, link_items, link_asked, enter, link_within, link_import, link_imports, nothing_linked, link_whole}
 use Rattle.naga_oil_link.specs.LinkView.{step_if, IsState, LinksImports}
 use Rattle.naga_oil_link.specs.declared.link.Linker.{Linker}
 use Rattle.naga_oil_link.specs.declared.module.ComposableModule.{ComposableModule}
-use Rattle.naga_oil_link.proofs.ByNameLemmas.{text_at, text_there}
+use Rattle.naga_oil_link.proofs.ByNameLemmas.{text_there}
 
 -- what a walk over a list has before it
 pub next_item : {X : Type 0} (xs : List X) (i : ℕ) (x : X) → i < length xs → x ≡ get_or xs i x → drop i xs ≡ x ∷ drop (i + 1) xs

@@ -12,9 +12,9 @@ use Rattle.naga_oil_ir.specs.declared.types.Type.{«Type» as TypeOfShader}
 use Rattle.naga_oil_ir.specs.declared.types.TypeInner.{TypeInner}
 use Rattle.naga_oil_ir.specs.declared.types.TypeInner.TheVariants.{Scalar, Vector, Matrix, ValuePointer, Image, Sampler, Atomic, AccelerationStructure, RayQuery, Pointer, Struct, Array, BindingArray}
 use Rattle.naga_oil_ir.specs.declared.span.Span.{Span}
-use Rattle.naga_oil_link.specs.ByName.{places_where}
+use Rattle.naga_oil_link.specs.ByName.{places_where, text_at}
 use Rattle.naga_oil_link.specs.Owned.{item_names}
-use Rattle.naga_oil_link.proofs.ByNameLemmas.{places_before, place_put, place_left, text_at, text_there}
+use Rattle.naga_oil_link.proofs.ByNameLemmas.{places_before, place_put, place_left, text_there}
 
 -- an item that a walk comes to, of a list whose items before it may have changed, is the one that stood there
 there : {T : Type 0} (all items : List T) (i : ℕ) (d : T) → i < length items → drop i items ≡ drop i all → slice_get all i ≡ Some (get_or items i d)

@@ -15,4 +15,3 @@ pub mod OwnPlaces
 pub mod Owned
 pub mod OwnedRows
 pub mod Places
-pub mod Wanted

@@ -1,15 +1,15 @@
 //! The items of a module by their names.
-ghost use Rattle.std.specs.Prelude.{◌≡◌, ◌++◌, [], ◌∷◌, ℕ, List, IfOk, OnOk, map, option_map, string_bytes, if◌then◌else◌};
-ghost use Rattle.std.specs.List.{flat_map, range_with_len};
+ghost use Rattle.std.specs.Prelude.{◌≡◌, ◌++◌, [], ℕ, List, Some, IfOk, OnOk, is_some, length, option_map, string_bytes};
+ghost use Rattle.std.specs.List.{filter, flat_map, range_with_len};
+ghost use Rattle.std.specs.Ordering.{is_lt};
 ghost use Rattle.naga_oil_ir.specs.ModuleValue.{module_value};
-ghost use Rattle.naga_oil_link.specs.ByName.{places_by, with_places, is_name, IsIndexOf, names_of_functions, HasItems};
+ghost use Rattle.naga_oil_link.specs.ByName.{text_at, compare_names, is_name, places_named, places_where, with_places, listed_names, IsFrom, IsIndexOf, HasItems};
 ghost use Rattle.naga_oil_lines.specs.Text.{texts};
 ghost use Rattle.naga_oil_link.specs.Linked.{decorated_names, asked_names, is_wanted};
-ghost use Rattle.naga_oil_link.specs.Places.{name_at};
-ghost use Rattle.naga_oil_link.specs.Wanted.{ArePlacesWhere};
 
 use super::items::{name_at, named, places_of};
 use super::*;
+use std::cmp::Ordering;
 
 /// The items that are asked for, and what stands behind their names.
 #[derive(Clone, Copy)]
@@ -21,8 +21,15 @@ pub struct AskedItems<'a> {
 /// What is asked for; by none all is.
 pub type Asked<'a> = Option<AskedItems<'a>>;
 
-/// Places in a list of items by the items' names.
-pub type ByName = BTreeMap<String, Vec<usize>>;
+/// What has names: the functions of a module, or its items at places.
+#[derive(Clone, Copy)]
+pub enum Listed<'m> {
+    Functions(&'m Module),
+    Items(&'m Module, &'m [ItemPlace]),
+}
+
+/// The places in a list of those that have names, by their names, and those of one name in order. The names stay in the module.
+pub type ByName = Vec<usize>;
 
 /// The items of a module by their names.
 #[derive(Drop)]
@@ -35,38 +42,62 @@ pub struct NamedItems {
     pub functions: ByName,
 }
 
-// Notes the place of an item under its name, if it has one.
-fn note_place(alloc: Global, index: &mut ByName, name: Option<&str>, at: usize) -> Tried
-    ensures { let named = option_map (λ n. n.now) name.entry in
-        OnOk result ((q : List ℕ) → places_by index.new q ≡ places_by index.old q
-        ++ (if is_name q named then at ∷ [] else [])) }
-{
-    if let Some(name) = name {
-        let name = String::from_str(alloc, name)?;
-        index.entry(name)?.or_default().push(at)?;
+impl<'m> Listed<'m> {
+    // How many there are.
+    fn len(self) -> usize
+        ensures { result ≡ length (listed_names self.entry) }
+    {
+        match self {
+            Listed::Functions(of) => of.functions.len(),
+            Listed::Items(_, places) => places.len(),
+        }
     }
-    Ok(())
+
+    // The name of the one at a place, if it has one.
+    fn name(self, at: usize) -> Option<&'m str>
+        ensures { option_map (λ n. n.now) result ≡ text_at (listed_names self.entry) at }
+    {
+        match self {
+            Listed::Functions(of) => named(&of.functions.as_slice().get(at)?.0.name),
+            Listed::Items(of, places) => name_at(of, *places.get(at)?),
+        }
+    }
+
+    // How the name at a place stands to another.
+    fn compare(self, at: usize, name: Option<&str>) -> Ordering
+        ensures { result ≡ compare_names (text_at (listed_names self.entry) at) (option_map (λ n. n.now) name.entry) }
+    {
+        self.name(at).cmp(&name)
+    }
 }
 
-// The places of items by their names.
-fn items_by_name(alloc: Global, of: &Module, places: &[ItemPlace]) -> Tried<ByName>
-    ensures { IfOk result (IsIndexOf (map (name_at (module_value of.now)) places.now)) }
+// The places of those that have names.
+fn named_places(alloc: Global, of: Listed<'_>) -> Tried<Vec<usize>>
+    ensures { IfOk result (λ places. places.items ≡ places_where is_some (listed_names of.entry)) }
 {
-    let mut index = ByName::new(alloc);
-    for (at, place) in places.iter().enumerate() {
-        note_place(alloc, &mut index, name_at(of, *place), at)?;
+    let end = of.len();
+    let mut places = Vec::with_capacity(alloc, end)?;
+    for at in 0..end {
+        if of.name(at).is_none() {
+            continue;
+        }
+        places.push(at)?;
     }
-    Ok(index)
+    places.shrink_to_fit();
+    Ok(places)
 }
 
-// The places of functions by their names.
-fn functions_by_name(alloc: Global, of: &Module) -> Tried<ByName>
-    ensures { IfOk result (IsIndexOf (names_of_functions (module_value of.now))) }
+// The places of those that have names, by their names.
+fn index_by_name(alloc: Global, of: Listed<'_>) -> Tried<ByName>
+    ensures { IfOk result (IsIndexOf (listed_names of.entry)) }
 {
-    let mut index = ByName::new(alloc);
-    for (at, item) in of.functions.as_slice().iter().enumerate() {
-        note_place(alloc, &mut index, named(&item.0.name), at)?;
-    }
+    let mut index = named_places(alloc, of)?;
+    index.sort_by(
+        |at: &usize, other: &usize| -> Ordering
+            ensures { let names = listed_names of.entry in
+                result ≡ compare_names (text_at names at.now) (text_at names other.now) }
+        { of.compare(*at, of.name(*other)) },
+    )?;
     Ok(index)
 }
 
@@ -76,32 +107,53 @@ impl NamedItems {
         ensures { IfOk result (HasItems (module_value of.now)) }
     {
         let places = places_of(alloc, of)?;
-        let by_name = items_by_name(alloc, of, &places)?;
-        let functions = functions_by_name(alloc, of)?;
+        let by_name = index_by_name(alloc, Listed::Items(of, &places))?;
+        let functions = index_by_name(alloc, Listed::Functions(of))?;
         #[rattlefmt::skip]
         Ok(NamedItems { places, by_name, functions })
     }
 }
 
-// Adds places.
-fn add_places(places: &mut Places, others: &[usize]) -> Tried
-    ensures { OnOk result (places.new.keys ≡ with_places places.old.keys others.now) }
+// The places of an index from the first on whose name isn't before this one.
+fn from_name<'i>(index: &'i ByName, of: Listed<'_>, name: &str) -> &'i [usize]
+    requires { IsIndexOf (listed_names of) index.now }
+    ensures named { let names = listed_names of.entry in
+        filter (λ k. is_name name.now (text_at names k)) result.now ≡ places_named names name.now }
+    ensures after { IsFrom (listed_names of.entry) name.now result.now }
 {
-    for at in others {
+    let start = index.partition_point(
+        |at: &usize| -> bool
+            ensures { let names = listed_names of.entry in
+                result ≡ is_lt (compare_names (text_at names at.now) (Some name.entry.now)) }
+        { of.compare(*at, Some(name)).is_lt() },
+    );
+    let (_, rest) = index.split_at(start);
+    rest
+}
+
+// Adds the places of a name.
+fn add_places(places: &mut Places, index: &ByName, of: Listed<'_>, name: &str) -> Tried
+    requires { IsIndexOf (listed_names of) index.now }
+    ensures { let more = places_named (listed_names of.entry) name.now in
+        OnOk result (places.new.keys ≡ with_places places.old.keys more) }
+{
+    for at in from_name(index, of, name) {
+        if !of.compare(*at, Some(name)).is_eq() {
+            return Ok(());
+        }
         places.insert(*at)?;
     }
     Ok(())
 }
 
 /// Adds the places of the items that have these names.
-pub fn add_named(places: &mut Places, index: &ByName, names: &Names) -> Tried
-    ensures { OnOk result (places.new.keys ≡ with_places places.old.keys (flat_map (places_by index.now) (texts names.now.keys))) }
+pub fn add_named(places: &mut Places, index: &ByName, of: Listed<'_>, names: &Names) -> Tried
+    requires { IsIndexOf (listed_names of) index.now }
+    ensures { let more = flat_map (places_named (listed_names of.entry)) (texts names.now.keys) in
+        OnOk result (places.new.keys ≡ with_places places.old.keys more) }
 {
     for name in names.iter() {
-        let Some(others) = index.get(name.as_str()) else {
-            continue;
-        };
-        add_places(places, others)?;
+        add_places(places, index, of, name.as_str())?;
     }
     Ok(())
 }
@@ -116,8 +168,15 @@ fn decorate(text: &mut String, name: &str, decoration: &str) -> Tried
 }
 
 // Adds the places of the items that are asked for.
-fn add_asked(alloc: Global, places: &mut Places, index: &ByName, asked: AskedItems<'_>) -> Tried
-    ensures { let more = flat_map (places_by index.now) (decorated_names asked.entry) in
+fn add_asked(
+    alloc: Global,
+    places: &mut Places,
+    index: &ByName,
+    of: Listed<'_>,
+    asked: AskedItems<'_>,
+) -> Tried
+    requires { IsIndexOf (listed_names of) index.now }
+    ensures { let more = flat_map (places_named (listed_names of.entry)) (decorated_names asked.entry) in
         OnOk result (places.new.keys ≡ with_places places.old.keys more) }
 {
     if index.is_empty() {
@@ -126,10 +185,7 @@ fn add_asked(alloc: Global, places: &mut Places, index: &ByName, asked: AskedIte
     let mut name = String::new(alloc);
     for item in asked.items {
         decorate(&mut name, item.as_str(), asked.decoration)?;
-        let Some(others) = index.get(name.as_str()) else {
-            continue;
-        };
-        add_places(places, others)?;
+        add_places(places, index, of, name.as_str())?;
     }
     Ok(())
 }
@@ -145,14 +201,16 @@ fn all_places(alloc: Global, end: usize) -> Tried<Places>
     Ok(places)
 }
 
-/// The places of the items that are asked for, of so many.
-pub fn wanted(alloc: Global, index: &ByName, count: usize, asked: Asked) -> Tried<Places>
-    ensures { IfOk result (λ places. ArePlacesWhere (is_wanted (asked_names asked.entry)) index.now count places.keys) }
+/// The places of the items that are asked for.
+pub fn wanted(alloc: Global, index: &ByName, of: Listed<'_>, asked: Asked) -> Tried<Places>
+    requires { IsIndexOf (listed_names of) index.now }
+    ensures { let is_asked = is_wanted (asked_names asked.entry) in
+        IfOk result (λ places. places.keys ≡ places_where is_asked (listed_names of.entry)) }
 {
     let Some(asked) = asked else {
-        return all_places(alloc, count);
+        return all_places(alloc, of.len());
     };
     let mut places = Places::new(alloc);
-    add_asked(alloc, &mut places, index, asked)?;
+    add_asked(alloc, &mut places, index, of, asked)?;
     Ok(places)
 }

@@ -7,7 +7,7 @@ ghost use Rattle.naga_oil_link.specs.ByName.{HasItems};
 ghost use Rattle.naga_oil_link.specs.Form.{is_formed};
 ghost use Rattle.naga_oil_link.specs.FormView.{GivesFormed};
 
-use super::by_name::{ByName, NamedItems};
+use super::by_name::NamedItems;
 use super::*;
 use std::marker::Model;
 
@@ -110,8 +110,7 @@ impl Header {
         ensures { result ≡ no_items }
     {
         let formed = FormedModule::nothing(alloc);
-        let (by_name, functions) = (ByName::new(alloc), ByName::new(alloc));
-        let places = Vec::new(alloc);
+        let (places, by_name, functions) = (Vec::new(alloc), Vec::new(alloc), Vec::new(alloc));
         #[rattlefmt::skip]
         let items = NamedItems { places, by_name, functions };
         Header { formed, items }

@@ -32,7 +32,7 @@ use naga_oil_ir::{
 use naga_oil_marks::{add_decoration, has_module_mark};
 pub use own_items::OwnItems;
 use std::alloc::Global;
-use std::collections::{BTreeMap, BTreeSet};
+use std::collections::BTreeSet;
 use std::mem;
 use std::sync::Arc;
 

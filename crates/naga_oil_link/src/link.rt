@@ -13,7 +13,7 @@ ghost use Rattle.naga_oil_link.specs.Linked.{asked_names, asked_of, overriding_n
 ghost use Rattle.naga_oil_link.specs.LinkView.{IsLinkFormed, link_own_function, LinksImports};
 ghost use Rattle.naga_oil_link.specs.OwnPlaces.{own_of};
 
-use super::by_name::{Asked, AskedItems, NamedItems, add_named, wanted};
+use super::by_name::{Asked, AskedItems, Listed, NamedItems, add_named, wanted};
 use super::copied::{has_name_among, import_item};
 use super::*;
 use naga_oil_imports::ImportDefinition as Import;
@@ -99,7 +99,8 @@ impl<'b> Linker<'b> {
             OnOk result (self.new.derived ≡ link self.old.derived) }
         ensures rest { self.new ≡ record self.old { derived = self.new.derived } }
     {
-        let places = wanted(self.alloc, &of.by.by_name, of.by.places.len(), asked)?;
+        let listed = Listed::Items(of.from, &of.by.places);
+        let places = wanted(self.alloc, &of.by.by_name, listed, asked)?;
         for at in places.iter() {
             let Some(place) = of.by.places.get(*at) else {
                 continue;
@@ -122,8 +123,9 @@ impl<'b> Linker<'b> {
         ensures rest { self.new ≡ record self.old { derived = self.new.derived } }
     {
         let overriding = overriding(self.alloc, of.of)?;
-        let mut places = wanted(self.alloc, &of.by.functions, of.from.functions.len(), asked)?;
-        add_named(&mut places, &of.by.functions, &overriding)?;
+        let listed = Listed::Functions(of.from);
+        let mut places = wanted(self.alloc, &of.by.functions, listed, asked)?;
+        add_named(&mut places, &of.by.functions, listed, &overriding)?;
         for at in places.iter() {
             link_function(&mut self.derived, of.of, of.from, *at)?;
         }

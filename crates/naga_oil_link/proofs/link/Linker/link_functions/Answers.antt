@@ -1,13 +1,12 @@
-use Rattle.std.proofs.Common.{◌≡◌, ℕ, [], ◌∷◌, fold, slice_get, refl, ap, sym, ◌∙◌}
-use Rattle.std.proofs.lemmas.List.{length-map}
+use Rattle.std.proofs.Common.{◌≡◌, ℕ, [], ◌∷◌, fold, slice_get, refl, ap, ◌∙◌}
 use Rattle.std.proofs.lemmas.Map.Iter.{rest_more, rest_all}
-use Rattle.naga_oil_ir.specs.ModuleValue.{FunctionValue, function_value, module_value}
-use Rattle.naga_oil_ir.specs.declared.module.Function.{Function}
+use Rattle.std.specs.List.{flat_map}
+use Rattle.naga_oil_ir.specs.ModuleValue.{FunctionValue, module_value}
 use Rattle.naga_oil_ir.specs.declared.span.Span.{Span}
 use Rattle.naga_oil_derive.specs.Derived.{Derived}
 use Rattle.naga_oil_lines.specs.Text.{texts, is_among}
 use Rattle.naga_oil_link.specs.BuiltModule.{built_of}
-use Rattle.naga_oil_link.specs.ByName.{names_of_functions}
+use Rattle.naga_oil_link.specs.ByName.{names_of_functions, places_named, with_places}
 use Rattle.naga_oil_link.specs.Linked.{asked_names, passes, is_wanted_function, link_function}
 use Rattle.naga_oil_link.specs.LinkView.{link_own_function}
 use Rattle.naga_oil_link.specs.declared.link.Linker.{Linker}
@@ -40,12 +39,11 @@ returns-clause-value c =
     let m = module_value from in
     let d = c.args.self.now.derived in
     let asked = asked_names c.args.asked in
-    let index = c.args.of.by.now.functions in
-    let view : Function × Span → FunctionValue × Span = λ x. (function_value x.0, x.1) in
     let none : c.loop-at.at-iterator ≡ [] = rest_all (λ x. x.now) _ _ _ c.in-None.is c.next.ensures.steps in
-    let long = length-map m.functions (λ (f : FunctionValue × Span). f.0.name) ∙ length-map from.functions view ∙ sym c.len.ensures in
-    let wanted = functions_wanted b asked index c.len.result c.in_ok-places.places.keys c.add_named.new.places.keys (texts c.in_ok-overriding.overriding.keys) c.in_ok-overriding.ensures c.in_ok-places.ensures c.in_ok-add_named.ensures in
-    let keys = c.into_iter-at-iterator.ensures.into_iter_gives ∙ c.iter-at-items.ensures.rest ∙ wanted (names_of_functions m) c.requires.items.functions long in
+    let names = names_of_functions m in
+    let others = texts c.in_ok-overriding.overriding.keys in
+    let wanted = c.in_ok-add_named.ensures ∙ ap (λ ks. with_places ks (flat_map (places_named names) others)) c.in_ok-places.ensures ∙ functions_wanted b asked names others c.in_ok-overriding.ensures in
+    let keys = c.into_iter-at-iterator.ensures.into_iter_gives ∙ c.iter-at-items.ensures.rest ∙ wanted in
     fold_end _ c.loop-at.self.derived c.loop-at.at-iterator _ none c.loop-at.invariant.value
     ∙ ap (fold (λ (e : Derived) (k : ℕ). link_own_function b e (slice_get m.functions k)) d) keys
     ∙ folded_where (λ (f : FunctionValue × Span). passes (is_among b.functions) f.0.name) link_function (λ (f : FunctionValue × Span). f.0.name) (is_wanted_function b asked) m.functions d

@@ -1,0 +1,195 @@
+-- Places by the names that stand at them: what a sort gives, and what is found.
+use Rattle.std.proofs.Common.{◌≡◌, ℕ, zero, suc, ◌+◌, ◌-◌, ◌<◌, ◌≤◌, List, [], ◌∷◌, length, drop, Bool, true, false, not, ◌&&◌, ◌++◌, if◌then◌else◌, is_some, Option, Some, None, option_map, get_or, refl, sym, ap, ◌∙◌, Ordering, Less, Equal, Greater, arith}
+use Rattle.std.proofs.lemmas.Bool.{false≢true, true≢false}
+use Rattle.std.proofs.lemmas.List.MinMax.{ranks_by}
+use Rattle.std.proofs.lemmas.List.Sorted.{sorted_far}
+use Rattle.std.proofs.lemmas.Grind.{get_or_default_zero}
+use Rattle.std.proofs.lemmas.List.{get_or-drop, length-drop}
+use Rattle.std.proofs.lemmas.Cmp.{nat_list_cmp_total}
+use Rattle.std.proofs.lemmas.Map.Text.{is_eq-slice_cmp}
+use Rattle.std.proofs.lemmas.Slice.Eq.{bytes_eq-Decides}
+use Rattle.std.specs.Cmp.{IsStrictWeakOrder, IsTotalOrder}
+use Rattle.std.specs.Cmp.Lexicographic.{options_total}
+use Rattle.std.specs.List.{filter, flat_map, range_with_len}
+use Rattle.std.specs.List.Sorted.{IsSortedBy, IsStableBy, IsPartitionedBy}
+use Rattle.std.specs.Ordering.{is_eq, is_lt, ordering_reverse}
+use Rattle.naga_oil_ir.specs.Rows.{Text}
+use Rattle.naga_oil_link.specs.ByName.{text_at, places_where, places_named, is_name, compare_names, stands_before, ByName, IsIndexOf, IsFrom}
+use Rattle.naga_oil_link.proofs.ByNameLemmas.{flipped, place_more, places_before}
+
+-- ---- names in order
+
+names_total : IsTotalOrder compare_names
+names_total = options_total nat_list_cmp_total
+
+-- any names
+texts_rank : IsStrictWeakOrder (λ x y. is_lt (compare_names x y))
+texts_rank = ranks_by names_total (λ x. x)
+
+-- those at places
+pub places_rank : (names : List Text) → IsStrictWeakOrder (stands_before names)
+places_rank names = ranks_by names_total (text_at names)
+
+-- a name is told by the order
+pub same_name : (q : List ℕ) (x : Text) → is_eq (compare_names x (Some q)) ≡ is_name q x
+same_name q None = refl
+same_name q (Some n) = is_eq-slice_cmp n q ∙ flipped n q
+
+pub name_is : (q : List ℕ) (x : Text) → is_name q x ≡ true → x ≡ Some q
+name_is q None e = absurd (false≢true e)
+name_is q (Some n) e = ap Some (sym ((bytes_eq-Decides q n).0 e))
+
+one_ties : (o : Ordering) → (not (is_lt (ordering_reverse o)) && not (is_lt o)) ≡ is_eq o
+one_ties Less = refl
+one_ties Equal = refl
+one_ties Greater = refl
+
+-- those that tie with a name are this name
+tied : (q : List ℕ) (x : Text) → (not (is_lt (compare_names (Some q) x)) && not (is_lt (compare_names x (Some q)))) ≡ is_name q x
+tied q x = ap (λ o. not (is_lt o) && not (is_lt (compare_names x (Some q)))) (names_total.antisymm (Some q) x) ∙ one_ties (compare_names x (Some q)) ∙ same_name q x
+
+-- ---- what a sort gives
+
+first_passes : {X : Type 0} (p : X → Bool) (xs : List X) (k : X) (rest : List X) → filter p xs ≡ k ∷ rest → p k ≡ true
+first_passes p [] k rest e =
+    let same : 0 ≡ suc (length rest) = ap length e in
+    absurd (omega (arith, same))
+first_passes p (x ∷ xs) k rest e = by (p x) refl e (first_passes p xs k rest)
+  where
+    by : (b : Bool) → p x ≡ b → (if b then x ∷ filter p xs else filter p xs) ≡ k ∷ rest → (filter p xs ≡ k ∷ rest → p k ≡ true) → p k ≡ true
+    by true h f more = ap p (sym (ap (λ ys. get_or ys 0 k) f)) ∙ h
+    by false h f more = more f
+
+-- a test behind one that it implies
+filter_twice : {X : Type 0} (s p : X → Bool) → ((x : X) → p x ≡ true → s x ≡ true) → (xs : List X) → filter p (filter s xs) ≡ filter p xs
+filter_twice s p h [] = refl
+filter_twice s p h (x ∷ xs) = by (s x) (p x) refl refl (filter_twice s p h xs)
+  where
+    by : (a b : Bool) → s x ≡ a → p x ≡ b → filter p (filter s xs) ≡ filter p xs → filter p (if a then x ∷ filter s xs else filter s xs) ≡ (if b then x ∷ filter p xs else filter p xs)
+    by true true e f rest = ap (λ b. if b then x ∷ filter p (filter s xs) else filter p (filter s xs)) f ∙ ap (λ ys. x ∷ ys) rest
+    by true false e f rest = ap (λ b. if b then x ∷ filter p (filter s xs) else filter p (filter s xs)) f ∙ rest
+    by false true e f rest = absurd (false≢true (sym e ∙ h x f))
+    by false false e f rest = rest
+
+-- the places of a name stay in their order, if it stands at one
+kept : (names : List Text) (places index : List ℕ) (q : List ℕ) (k : ℕ) → IsStableBy (stands_before names) places index → is_name q (text_at names k) ≡ true → filter (λ j. is_name q (text_at names j)) index ≡ filter (λ j. is_name q (text_at names j)) places
+kept names places index q k stable e =
+    let is : text_at names k ≡ Some q = name_is q (text_at names k) e in
+    let passes : (j : ℕ) → (not (stands_before names k j) && not (stands_before names j k)) ≡ is_name q (text_at names j) = λ j. ap (λ x. not (is_lt (compare_names x (text_at names j))) && not (is_lt (compare_names (text_at names j) x))) is ∙ tied q (text_at names j) in
+    (λ i. filter (λ j. sym (passes j) i) index) ∙ stable k ∙ (λ i. filter (λ j. passes j i) places)
+
+-- and so do they of any name
+same_places : (names : List Text) (places index : List ℕ) (q : List ℕ) → IsStableBy (stands_before names) places index → filter (λ j. is_name q (text_at names j)) index ≡ filter (λ j. is_name q (text_at names j)) places
+same_places names places index q stable = by (filter p index) (filter p places) refl refl
+  where
+    p : ℕ → Bool
+    p j = is_name q (text_at names j)
+
+    by : (ys zs : List ℕ) → filter p index ≡ ys → filter p places ≡ zs → ys ≡ zs
+    by [] [] e f = refl
+    by (k ∷ r) zs e f = sym e ∙ kept names places index q k stable (first_passes p index k r e) ∙ f
+    by [] (k ∷ r) e f = sym e ∙ kept names places index q k stable (first_passes p places k r f) ∙ f
+
+named_passes : (q : List ℕ) (x : Text) → is_name q x ≡ true → is_some x ≡ true
+named_passes q None e = e
+named_passes q (Some n) e = refl
+
+-- ---- which have names
+
+pub same_some : {X Y : Type 0} (f : X → Y) (x : Option X) → is_some (option_map f x) ≡ is_some x
+same_some f None = refl
+same_some f (Some x) = refl
+
+-- one more place
+pub named_more : (names : List Text) (n : ℕ) (before : List ℕ) (b : Bool) → is_some (text_at names n) ≡ b → before ≡ places_before is_some names n → before ++ (if b then n ∷ [] else []) ≡ places_before is_some names (n + 1)
+named_more names n before b h e =
+    (λ i. e i ++ (if sym h i then n ∷ [] else [])) ∙ sym (place_more (λ k. is_some (text_at names k)) n)
+
+-- the places of names, sorted by them
+pub index_sorted : (names : List Text) (places : List ℕ) (index : ByName) → places ≡ places_where is_some names → IsSortedBy (stands_before names) index.items → IsStableBy (stands_before names) places index.items → IsIndexOf names index
+index_sorted names places index are sorted stable = record {
+  sorted = sorted;
+  each = λ q.
+      same_places names places index.items q stable
+      ∙ ap (filter (λ k. is_name q (text_at names k))) are
+      ∙ filter_twice (λ k. is_some (text_at names k)) (λ k. is_name q (text_at names k)) (λ k. named_passes q (text_at names k)) (range_with_len 0 (length names));
+}
+
+-- ---- what is found
+
+-- names that stand before one, then the others
+pub before_partitioned : (names : List Text) (places : List ℕ) (q : List ℕ) → IsSortedBy (stands_before names) places → IsPartitionedBy (λ k. is_lt (compare_names (text_at names k) (Some q))) places
+before_partitioned names places q sorted i j d le below before =
+    by (is_lt (compare_names (text_at names (get_or places i d)) (Some q))) refl
+  where
+    by : (b : Bool) → is_lt (compare_names (text_at names (get_or places i d)) (Some q)) ≡ b → b ≡ true
+    by true e = refl
+    by false e = sym (texts_rank.chain (text_at names (get_or places j d)) (text_at names (get_or places i d)) (Some q) (sorted_far (stands_before names) (places_rank names) places sorted i j d le below) e) ∙ before
+
+-- one that stands before a name isn't it
+pub before_fails : (q : List ℕ) (x : Text) → is_lt (compare_names x (Some q)) ≡ true → is_name q x ≡ false
+before_fails q x e = sym (same_name q x) ∙ by (compare_names x (Some q)) e
+  where
+    by : (o : Ordering) → is_lt o ≡ true → is_eq o ≡ false
+    by Less h = refl
+    by Equal h = absurd (false≢true h)
+    by Greater h = refl
+
+-- one that isn't before a greater name than another isn't the other
+after_fails : (q : List ℕ) (x y : Text) → is_lt (compare_names x (Some q)) ≡ false → is_eq (compare_names x (Some q)) ≡ false → is_lt (compare_names y x) ≡ false → is_name q y ≡ false
+after_fails q x y a b c = by (is_name q y) refl
+  where
+    greater : (o : Ordering) → is_lt o ≡ false → is_eq o ≡ false → is_lt (ordering_reverse o) ≡ true
+    greater Less e f = absurd (true≢false e)
+    greater Equal e f = absurd (true≢false f)
+    greater Greater e f = refl
+
+    by : (r : Bool) → is_name q y ≡ r → r ≡ false
+    by false e = refl
+    by true e =
+        sym (greater (compare_names x (Some q)) a b)
+        ∙ sym (ap is_lt (names_total.antisymm (Some q) x))
+        ∙ ap (λ t. is_lt (compare_names t x)) (sym (name_is q y e))
+        ∙ c
+
+-- what fails a test is left out
+pub skip : {X : Type 0} (p : X → Bool) (xs : List X) (n : ℕ) → ((k : ℕ) (d : X) → k < n → k < length xs → p (get_or xs k d) ≡ false) → filter p (drop n xs) ≡ filter p xs
+skip p [] zero h = refl
+skip p [] (suc n) h = refl
+skip p (x ∷ xs) zero h = refl
+skip p (x ∷ xs) (suc n) h =
+    skip p xs n (λ k d a b. h (suc k) d (omega arith) (omega arith))
+    ∙ ap (λ b. if b then x ∷ filter p xs else filter p xs) (sym (h 0 x (omega arith) (omega arith)))
+
+pub none_pass_from : {X : Type 0} (p : X → Bool) (xs : List X) (n : ℕ) → ((k : ℕ) (d : X) → n ≤ k → k < length xs → p (get_or xs k d) ≡ false) → filter p (drop n xs) ≡ []
+none_pass_from p [] zero h = refl
+none_pass_from p [] (suc n) h = refl
+none_pass_from p (x ∷ xs) (suc n) h = none_pass_from p xs n (λ k d a b. h (suc k) d (omega arith) (omega arith))
+none_pass_from p (x ∷ xs) zero h =
+    ap (λ b. if b then x ∷ filter p xs else filter p xs) (h 0 x (omega arith) (omega arith))
+    ∙ none_pass_from p xs zero (λ k d a b. h (suc k) d (omega arith) (omega arith))
+
+-- what stands from a place on, where those before it stand before a name and the others don't
+pub from_there : (names : List Text) (places : List ℕ) (q : List ℕ) (n : ℕ) → n ≤ length places → IsSortedBy (stands_before names) places → ((k : ℕ) (d : ℕ) → n ≤ k → k < length places → is_lt (compare_names (text_at names (get_or places k d)) (Some q)) ≡ false) → IsFrom names q (drop n places)
+from_there names places q n le sorted after =
+    let long : length (drop n places) ≡ length places - n = length-drop n places in
+    record {
+      sorted = λ k d a b.
+          ap (λ j. stands_before names j (get_or (drop n places) k d)) (get_or-drop n places (k + 1) d)
+          ∙ ap (λ j. stands_before names (get_or places (n + (k + 1)) d) j) (get_or-drop n places k d)
+          ∙ sorted_far (stands_before names) (places_rank names) places sorted (n + k) (n + (k + 1)) d (omega arith) (omega (arith, long));
+      from = λ k d a. ap (λ j. is_lt (compare_names (text_at names j) (Some q))) (get_or-drop n places k d) ∙ after (n + k) d (omega arith) (omega (arith, long));
+    }
+
+-- from one on that is no more the name, none is
+pub past_name : (names : List Text) (places : List ℕ) (q : List ℕ) (i : ℕ) → IsFrom names q places → i < length places → is_eq (compare_names (text_at names (get_or places i 0)) (Some q)) ≡ false → filter (λ k. is_name q (text_at names k)) (drop i places) ≡ []
+past_name names places q i is below other =
+    none_pass_from (λ k. is_name q (text_at names k)) places i (λ k d a b.
+    ap (λ j. is_name q (text_at names j)) (get_or_default_zero places k d b)
+    ∙ after_fails q (text_at names (get_or places i 0)) (text_at names (get_or places k 0)) (is.from i 0 below) other (sorted_far (stands_before names) (places_rank names) places is.sorted i k 0 a b))
+
+-- an index of nothing has no places
+pub nothing_named : (names : List Text) (index : ByName) → IsIndexOf names index → index.items ≡ [] → (asked : List (List ℕ)) → flat_map (places_named names) asked ≡ []
+nothing_named names index is none [] = refl
+nothing_named names index is none (q ∷ qs) =
+    ap (λ ks. ks ++ flat_map (places_named names) qs) (sym (is.each q) ∙ ap (filter (λ k. is_name q (text_at names k))) none) ∙ nothing_named names index is none qs
