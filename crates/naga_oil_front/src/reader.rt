@@ -17,12 +17,14 @@ use naga_oil_ir::{
 };
 use naga_oil_symbols::{Names, Refusal, Symbol, read_symbols};
 use std::alloc::{AllocError, Global};
+use std::mem;
 
-// The module of the lines that were read, the names of its constants, globals and functions, and of the line that is read
-// the span and the parameters.
+// How long the text is, the module of the lines that were read, the names of its constants, globals and functions, and of the
+// line that is read the span and the parameters.
 #[derive(Drop)]
 struct Reader<'a> {
     alloc: Global,
+    length: usize,
     span: Span,
     module_: Module,
     constants: Names<'a>,
@@ -100,8 +102,17 @@ fn arguments(alloc: Global, parameters: &Names<'_>) -> Result<Vec<FunctionArgume
     Ok(arguments)
 }
 
+// How many items more are expected of a text, so many of which were in its first bytes: one or more, and at most seven times as
+// many.
+fn more_expected(count: usize, read: usize, length: usize) -> usize {
+    let left = length.saturating_sub(read);
+    let more = count.saturating_mul(left).checked_div(read).unwrap_or(0);
+    more.min(count.saturating_mul(7)).max(1)
+}
+
 impl<'a> Reader<'a> {
-    fn new(alloc: Global) -> Result<Reader<'a>, AllocError>
+    // The reader of a text of so many bytes.
+    fn new(alloc: Global, length: usize) -> Result<Reader<'a>, AllocError>
         ensures value { IfOk result (λ r. module_value r.module_ ≡ spec.start) }
         ensures known { IfOk result spec.Knows }
     {
@@ -111,6 +122,7 @@ impl<'a> Reader<'a> {
         module_.types.insert(ty, Span::UNDEFINED)?;
         Ok(Reader {
             alloc,
+            length,
             span: Span::UNDEFINED,
             module_,
             constants: Names::new(alloc),
@@ -139,7 +151,8 @@ impl<'a> Reader<'a> {
             init,
         };
         self.module_.constants.append(constant, self.span)?;
-        Ok(self.constants.push(name)?)
+        self.constants.push(name)?;
+        Ok(())
     }
 
     // `NAME = INT`
@@ -161,7 +174,8 @@ impl<'a> Reader<'a> {
             init: Some(init),
         };
         self.module_.global_variables.append(global, self.span)?;
-        Ok(self.globals.push(name)?)
+        self.globals.push(name)?;
+        Ok(())
     }
 
     // The function of a name, with the parameters that were read and the body that the end of a line says.
@@ -193,6 +207,23 @@ impl<'a> Reader<'a> {
         })
     }
 
+    // Room ahead for functions, where there is none left: for as many as the rest of the text has, if it goes on as it began, so
+    // that those of a long header aren't copied again and again. There come at most seven times as many as there are, whatever
+    // the text has been; and a refusal is left to what needs the room.
+    fn make_room(&mut self)
+        ensures { self.new ≡ self.old }
+    {
+        let functions = mem::replace(&mut self.module_.functions, Arena::new(self.alloc));
+        let mut items = functions.into_items();
+        if items.len() == items.capacity() {
+            let read = self.span.start as usize;
+            let more = more_expected(items.len(), read, self.length);
+            let _ = items.reserve(more);
+            self.functions.make_room(more);
+        }
+        self.module_.functions = Arena::from_items(items);
+    }
+
     // `NAME(P, ..) = EXPR`, `NAME(P, ..) with V = INIT, .. = EXPR` or `NAME(P, ..)`
     fn add_function(&mut self, symbols: &[Symbol<'a>]) -> Result<(), Refusal<'a>>
         requires known { spec.Knows self.old }
@@ -204,8 +235,10 @@ impl<'a> Reader<'a> {
         };
         let body = read_parameters(&mut self.parameters, rest)?;
         let function = self.function(name, body)?;
+        self.make_room();
         self.module_.functions.append(function, self.span)?;
-        Ok(self.functions.push(name)?)
+        self.functions.push(name)?;
+        Ok(())
     }
 
     // `NAME = EXPR` or `NAME with V = INIT, .. = EXPR`
@@ -302,7 +335,7 @@ fn place(bytes: usize) -> u32
 pub fn parsed(alloc: Global, text: &str) -> Result<Module, BackendRefusal<ParseFault>>
     ensures { Answers module_value parse_fault result (spec.parsed text.now) }
 {
-    let mut reader = Reader::new(alloc)?;
+    let mut reader = Reader::new(alloc, text.len())?;
     let mut symbols = Vec::new(alloc);
     let mut rest = text;
     while !rest.is_empty() {

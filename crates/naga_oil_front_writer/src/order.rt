@@ -63,17 +63,26 @@ impl<'m> ItemNames<'m> {
         }
     }
 
+    /// Room ahead for so many names more, where it isn't refused.
+    pub fn make_room(&mut self, more: usize)
+        ensures { self.new ≡ self.old }
+    {
+        self.names.make_room(more);
+        let _ = self.next.reserve(more);
+    }
+
     /// One name more, which is the last. Without memory none is left.
     pub fn push(&mut self, name: &'m str) -> Result<(), AllocError>
         ensures { OnOk result (self.new ≡ self.old ++ name.now ∷ []) }
     {
-        if let Some(place) = self.names.place(name) {
-            self.next[place] = self.names.texts().len();
-        }
-        if self.next.push(usize::MAX).is_err() || self.names.push(name).is_err() {
+        let count = self.next.len();
+        let (Ok(before), Ok(())) = (self.names.push(name), self.next.push(usize::MAX)) else {
             self.next.clear();
             self.names.clear();
             return Err(AllocError);
+        };
+        if let Some(place) = before {
+            self.next[place] = count;
         }
         Ok(())
     }

@@ -154,6 +154,7 @@ fn function_words<'m>(alloc: Global, functions: &'m [(Function, Span)]) -> Writt
     ensures { Finds (λ n. n) result (spec.function_words (spec.function_values functions.now)) }
 {
     let mut names = ItemNames::new(alloc);
+    names.make_room(functions.len());
     for function in functions {
         names.push(valid_name(&function.0.name)?)?;
     }
@@ -175,6 +176,7 @@ fn push_constants<'m>(alloc: Global, out: &mut String, of: &'m Module) -> Writte
     ensures { Writes (λ n. n) result (spec.constants_text (module_value of.now).global_expressions (module_value of.now).constants) (string_bytes out.old) (string_bytes out.new) }
 {
     let mut names = ItemNames::new(alloc);
+    names.make_room(of.constants.len());
     for constant in of.constants.as_slice() {
         let name = valid_name(&constant.0.name)?;
         let value = number_at(of, constant.0.ty, constant.0.init.index())?;
@@ -202,6 +204,7 @@ fn push_globals<'m>(alloc: Global, out: &mut String, of: &'m Module) -> Written<
     ensures { Writes (λ n. n) result (spec.globals_text (module_value of.now).global_expressions (module_value of.now).global_variables) (string_bytes out.old) (string_bytes out.new) }
 {
     let mut names = ItemNames::new(alloc);
+    names.make_room(of.global_variables.len());
     for global in of.global_variables.as_slice() {
         let (name, value) = global_word(of, &global.0)?;
         write!(out, "var {name} = {value}\n")?;
@@ -378,12 +381,16 @@ fn is_plain_module(of: &Module) -> bool
         && of.doc_comments.is_none()
 }
 
+// A line of a function has about so many bytes or more.
+const LINE: usize = 32;
+
 // The lines of constants and globals, and the names of constants, globals and functions.
 #[tactic(auto, unfolding(crate::specs::Writer::items_text))]
 fn begun(alloc: Global, of: &Module) -> Written<Writer<'_>>
     ensures { Finds (λ w. (string_bytes w.text, w.items)) result (spec.items_text (module_value of.now)) }
 {
     let mut text = String::new(alloc);
+    let _ = text.reserve(of.functions.len().saturating_mul(LINE));
     let constants = push_constants(alloc, &mut text, of)?;
     let globals = push_globals(alloc, &mut text, of)?;
     let functions = function_words(alloc, of.functions.as_slice())?;

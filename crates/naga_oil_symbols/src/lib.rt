@@ -8,4 +8,4 @@ mod names;
 mod symbol;
 
 pub use names::Names;
-pub use symbol::{GREATEST, Refusal, Symbol, is_name, read_symbols, symbols};
+pub use symbol::{GREATEST, Refusal, Symbol, is_name, read_symbols};

@@ -43,11 +43,15 @@ fn last_of(names: &[&str], name: &str) -> Option<usize>
     None
 }
 
-// The map of names.
-fn places_of<'a>(alloc: Global, names: &[&'a str]) -> Result<HashMap<&'a str, usize>, AllocError>
+// The map of names, with room for so many.
+fn places_of<'a>(
+    alloc: Global,
+    names: &[&'a str],
+    room: usize,
+) -> Result<HashMap<&'a str, usize>, AllocError>
     ensures { IfOk result (λ m. (q : List ℕ) → place_in m q ≡ last_place q (texts_of names.now)) }
 {
-    let mut places = HashMap::new(alloc);
+    let mut places = HashMap::with_capacity(alloc, room)?;
     for (place, name) in names.iter().enumerate() {
         places.insert(*name, place)?;
     }
@@ -65,30 +69,45 @@ impl<'a> Names<'a> {
         }
     }
 
-    // There is a map before the names are many.
+    /// Room ahead for so many names more, where it isn't refused: then they are given without growth.
+    pub fn make_room(&mut self, more: usize)
+        ensures { self.new ≡ self.old }
+    {
+        let _ = self.texts.reserve(more);
+        if let Some(places) = &mut self.places {
+            let _ = places.reserve(more);
+        }
+    }
+
+    // There is a map before the names are many. It has the room that their list has.
     fn prepare(&mut self) -> Result<(), AllocError>
         ensures { self.new ≡ self.old }
     {
         if self.texts.len() == FEW {
-            self.places = Some(places_of(self.alloc, self.texts.as_slice())?);
+            let room = self.texts.capacity();
+            self.places = Some(places_of(self.alloc, self.texts.as_slice(), room)?);
         }
         Ok(())
     }
 
-    /// One name more, which is the last.
-    pub fn push(&mut self, name: &'a str) -> Result<(), AllocError>
-        ensures { OnOk result (self.new ≡ self.old ++ name.now ∷ []) }
+    /// One name more, which is the last. Answers the place of the last equal one before it.
+    pub fn push(&mut self, name: &'a str) -> Result<Option<usize>, AllocError>
+        ensures names { OnOk result (self.new ≡ self.old ++ name.now ∷ []) }
+        ensures before { IfOk result (λ before. before ≡ last_place name.now self.old) }
     {
         self.prepare()?;
         let place = self.texts.len();
+        let Some(places) = &mut self.places else {
+            let before = last_of(self.texts.as_slice(), name);
+            self.texts.push(name)?;
+            return Ok(before);
+        };
         self.texts.push(name)?;
-        if let Some(places) = &mut self.places
-            && places.insert(name, place).is_err()
-        {
+        let Ok(before) = places.insert(name, place) else {
             self.texts.pop();
             return Err(AllocError);
-        }
-        Ok(())
+        };
+        Ok(before)
     }
 
     /// No name is left.

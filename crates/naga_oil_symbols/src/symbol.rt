@@ -6,7 +6,7 @@ ghost use Rattle.naga_oil_symbols.specs.SymbolSplits.{IsRun, SplitsRun, BeginsWi
 ghost use Rattle.naga_oil_symbols.specs.Refused.{understood, Gives};
 
 use naga_oil_lines::text::split_first_char;
-use std::alloc::{AllocError, AllocFailed, Global};
+use std::alloc::{AllocError, AllocFailed};
 
 /// The greatest number of a text.
 pub const GREATEST: u64 = 2147483647;
@@ -164,13 +164,4 @@ pub fn read_symbols<'a>(symbols: &mut Vec<Symbol<'a>>, line: &'a str) -> Result<
         rest = behind_spaces(more);
     }
     Ok(())
-}
-
-/// The symbols of a line.
-pub fn symbols(alloc: Global, line: &str) -> Result<Vec<Symbol<'_>>, Refusal<'_>>
-    ensures { Gives (λ v. line_of v.items) result (understood (symbols_in line.now)) }
-{
-    let mut symbols = Vec::new(alloc);
-    read_symbols(&mut symbols, line)?;
-    Ok(symbols)
 }

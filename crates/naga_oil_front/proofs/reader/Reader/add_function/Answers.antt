@@ -1,7 +1,8 @@
+use Rattle.std.proofs.Common.{subst, sym}
 use Rattle.naga_oil_ir.specs.ModuleValue.{module_value, function_value}
 use Rattle.naga_oil_symbols.specs.Symbols.{line_of}
 use Rattle.naga_oil_front.specs.Making.{made}
-use Rattle.naga_oil_front.specs.Reader.{scope}
+use Rattle.naga_oil_front.specs.Reader.{scope, Knows}
 use Rattle.naga_oil_front.proofs.ReaderLemmas.{function_named, names_with_function}
 use Rattle.naga_oil_front.proofs.reader.Reader.add_function.Goals as goal
 
@@ -12,4 +13,6 @@ returns-clause-known c =
     let m = module_value c.args.self.now.module_ in
     let ps = c.read_parameters.new.names in
     let named = function_named n ps (made (scope m ps) at (line_of c.in_ok-body.body.now)) (function_value c.in_ok-function.function) c.in_ok-function.ensures in
-    (c.requires.known.0, c.requires.known.1, names_with_function c.args.self.now.module_.functions c.append.new.self c.in_ok-function.function at n _ _ c.requires.known.2 c.in_ok-push.ensures c.in_ok-append.ensures.appended named)
+    let room = c.make_room.new.self in
+    let known : Knows room = subst Knows (sym c.make_room.ensures) c.requires.known in
+    (known.0, known.1, names_with_function room.module_.functions c.append.new.self c.in_ok-function.function room.span n _ _ known.2 c.in_ok-push.ensures.names c.in_ok-append.ensures.appended named)
