@@ -2,7 +2,7 @@
 use Rattle.std.proofs.Common.{◌≡◌, ⊎_elim, ℕ, zero, suc, ◌+◌, ◌<◌, ◌≤◌, List, [], ◌∷◌, ◌++◌, length, drop, get_or, slice_get, Option, Some, None, IsSome, IfSome, is_some, option_map, if◌then◌else◌, String, string_bytes, Global, drop_of_length-le, refl, ap, sym, ◌∙◌, subst, arith, All}
 use Rattle.std.specs.List.{sum_by}
 use Rattle.std.proofs.lemmas.Bool.{false≢true}
-use Rattle.std.proofs.lemmas.List.{drop_more}
+use Rattle.std.proofs.lemmas.List.{drop_more, length-map, length_push}
 use Rattle.std.proofs.lemmas.List.Elements.{All-head, All-tail}
 use Rattle.std.proofs.lemmas.List.Sums.{sum_by-cons}
 use Rattle.std.proofs.lemmas.Option.{none-some, slice_get_cases}
@@ -237,11 +237,15 @@ new_steps source n d k f span p new e at =
 
 -- ---- what names mean in the end
 
-pub import_known : (source t : Module) (m : Maps) (u : Functions) (s : ImportState) (shift n : ℕ) (f : Function) (span : Span) → IsSome f.name → import_state m t u ≡ import_copy n (value_of source) shift s (function_value f) span → IsSome (known_as u.names f.name)
-import_known source t m u s shift n f span named e =
+-- the copy that was put last is what the name of its function means
+pub last_means : (source t : Module) (m : Maps) (u : Functions) (s : ImportState) (shift n : ℕ) (f : Function) (span : Span) → IsSome f.name → import_state m t u ≡ import_copy n (value_of source) shift s (function_value f) span → (h : ℕ) × (length u.copies ≡ h + 1) × (known_as u.names f.name ≡ Some h)
+last_means source t m u s shift n f span named e =
     let v = function_value f in
     let w = answer_all n (value_of source) shift s (requests_of v) in
-    ap is_some (known_same u.names f.name ∙ ap (λ (x : ImportState). meant x.names v.name) e ∙ meaning_same w.names v.name (length w.functions) (named_value f.name named))
+    let h = length w.functions in
+    let last = (with_function (value_of source) shift w v span).functions in
+    let long : length u.copies ≡ length last = sym (length-map u.copies (λ (x : Function × Span). (let y : FunctionValue × Span = (function_value x.0, x.1) in y))) ∙ ap (λ (x : ImportState). length x.functions) e in
+    (h, long ∙ length_push w.functions _, known_same u.names f.name ∙ ap (λ (x : ImportState). meant x.names v.name) e ∙ meaning_same w.names v.name h (named_value f.name named))
 
 pub callee_known : (source t x : Module) (m k : Maps) (own u : Functions) (shift n h : ℕ) → AreRanked source → IsCopying source t m → IsAnswerable source own n (Call h) → import_state k x u ≡ import_callee n (value_of source) shift (import_state m t own) h → IsSome (callee_at u.names source.functions h)
 callee_known source t x m k own u shift n h a i may e =

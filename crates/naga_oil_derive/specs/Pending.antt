@@ -1,5 +1,5 @@
 -- Functions that are copied once what they name is.
-use Rattle.std.specs.Prelude.{ℕ, zero, suc, ◌≡◌, ◌+◌, List, [], ◌∷◌, drop, slice_get, Option, Some, None, IsSome}
+use Rattle.std.specs.Prelude.{ℕ, zero, suc, ◌≡◌, ◌+◌, ◌≤◌, List, [], ◌∷◌, drop, slice_get, Option, Some, None, IsSome}
 use Rattle.std.specs.List.{sum_by}
 use Rattle.naga_oil_ir.specs.Body.{block_tokens}
 use Rattle.naga_oil_form.specs.BodyForm.{kinds, callees, operand_links, MayStand}
@@ -11,9 +11,10 @@ use Rattle.naga_oil_ir.specs.declared.span.Span.{Span}
 use Rattle.naga_oil_walk.specs.Walks.{Walks}
 use Rattle.naga_oil_walk.specs.declared.walk.Request.{Request}
 use Rattle.naga_oil_walk.specs.declared.walk.Request.TheVariants.{Item, Call}
-use Rattle.naga_oil_derive.specs.Answered.{ImportState, answer_all, with_function}
+use Rattle.naga_oil_derive.specs.World.{value_of}
+use Rattle.naga_oil_derive.specs.Answered.{ImportState, answer_all, with_function, import_callee}
 use Rattle.naga_oil_derive.specs.DerivedFunctions.{requests_of}
-use Rattle.naga_oil_derive.specs.Imported.{IsImportable}
+use Rattle.naga_oil_derive.specs.Imported.{IsAnswerable, IsImportable}
 use Rattle.naga_oil_derive.specs.declared.import.Functions.{Functions}
 use Rattle.naga_oil_derive.specs.declared.import.Pending.{Pending}
 
@@ -71,3 +72,16 @@ call_steps (suc n) m k = steps_at (call_steps n m) (slice_get m.functions k)
 -- to copy a function that is pending
 abbrev pub steps : ModuleValue → Pending → ℕ
 steps m p = 1 + sum_by (steps_for (call_steps p.depth m)) (left p)
+
+-- ---- how far requests are answered
+
+-- what p asks for before a call is answered, from a state s to t, and the call of the function at k can be made; q is p behind the call
+pub record IsAnsweredTo (source : Module) (fs : Functions) (shift : ℕ) (s : ImportState) (p : Pending) (t : ImportState) (q : Pending) (k : ℕ) : Type 0 where
+  pub answerable : IsAnswerable source fs q.depth (Call k)
+  pub value : finish (value_of source) shift (import_callee q.depth (value_of source) shift t k) q ≡ finish (value_of source) shift s p
+  pub fewer : steps (value_of source) q + call_steps q.depth (value_of source) k ≤ steps (value_of source) p
+
+-- so up to a call, if one is given, or else all is answered, and a copy is to come last
+abbrev pub IsAnswered : Module → Functions → ℕ → ImportState → Pending → ImportState → Pending → Option ℕ → Type 0
+IsAnswered source fs shift s p t q None = with_function (value_of source) shift t (function_value q.function.now) q.span ≡ finish (value_of source) shift s p
+IsAnswered source fs shift s p t q (Some k) = IsAnsweredTo source fs shift s p t q k

@@ -11,7 +11,7 @@ ghost use Rattle.naga_oil_derive.specs.Answered.{import_state, answer_all, impor
 ghost use Rattle.naga_oil_derive.specs.Putting.{Adding};
 ghost use Rattle.naga_oil_derive.specs.Imported.{IsAnswerable, IsImportable};
 ghost use Rattle.naga_oil_derive.specs.Went.{went_by};
-ghost use Rattle.naga_oil_derive.specs.Pending.{IsNew, IsPending, MayWalk, finish, finish_all, call_steps, steps};
+ghost use Rattle.naga_oil_derive.specs.Pending.{IsNew, IsPending, IsAnswered, MayWalk, finish, finish_all, call_steps, steps};
 ghost use Rattle.naga_oil_walk.specs.Walks.{Walks};
 
 use super::*;
@@ -35,13 +35,24 @@ pub fn known_as(functions: &FunctionNames, name: &Option<String>) -> Option<Hand
     functions.get(name.as_ref()?.as_str()).copied()
 }
 
+/// The function that the name of one of a source means.
+fn callee_in(
+    names: &FunctionNames,
+    source: &Module,
+    handle: Handle<Function>,
+) -> Option<Handle<Function>>
+    ensures { result ≡ callee_at names.now source.now.functions handle }
+{
+    let function = source.functions.try_get(handle)?;
+    known_as(names, &function.name)
+}
+
 impl Went<'_> {
     /// Where a function went, if its name is known.
     pub fn callee(&self, handle: Handle<Function>) -> Option<Handle<Function>>
         ensures { result ≡ callee_at self.now.functions.now self.now.source.now.functions handle }
     {
-        let function = self.source.functions.try_get(handle)?;
-        known_as(self.functions, &function.name)
+        callee_in(self.functions, self.source, handle)
     }
 }
 
@@ -141,7 +152,42 @@ fn open<'a>(
     Ok(())
 }
 
-/// Answers the next request of a function, or puts its copy if none is left.
+/// Answers the requests of a function, up to the first call of one whose name isn't known, which is handed back.
+fn answer_items(
+    source: &Module,
+    top: &mut Pending<'_>,
+    copying: &mut Copying,
+    functions: &Functions,
+) -> Tried<Option<Handle<Function>>>
+    requires ranked { AreRanked source.now }
+    requires copying { IsCopying source.now copying.old.target copying.old.maps }
+    requires top { IsPending source.now functions.now top.old }
+    ensures top { OnOk result (IsPending source.now functions.now top.new) }
+    ensures answered { let shift = copying.old.maps.offset in
+        let old = import_state copying.old.maps copying.old.target functions.now in
+        let new = import_state copying.new.maps copying.new.target functions.now in
+        IfOk result (IsAnswered source.now functions.now shift old top.old new top.new) }
+    ensures adding { let shift = copying.old.maps.offset in
+        let old = import_state copying.old.maps copying.old.target functions.now in
+        let new = import_state copying.new.maps copying.new.target functions.now in
+        Adding (value_of source.now) shift old new }
+    ensures offset { copying.new.maps.offset ≡ copying.old.maps.offset }
+{
+    while let Some(request) = top.walk.requests.get(top.answered).copied() {
+        top.answered += 1;
+        match request {
+            Request::Item(item) => copying.copy_item(source, &item)?,
+            Request::Call(handle) => {
+                if callee_in(&functions.names, source, handle).is_none() {
+                    return Ok(Some(handle));
+                }
+            }
+        }
+    }
+    Ok(None)
+}
+
+/// Answers the requests of a function and puts its copy, or goes on to the first that it calls whose name isn't known.
 fn advance<'a>(
     source: &'a Module,
     mut top: Pending<'a>,
@@ -170,16 +216,13 @@ fn advance<'a>(
         Adding m shift old new }
     ensures offset { copying.new.maps.offset ≡ copying.old.maps.offset }
 {
-    let Some(request) = top.walk.requests.get(top.answered).copied() else {
+    let called = answer_items(source, &mut top, copying, functions)?;
+    let Some(handle) = called else {
         return put(source, &top, copying, functions);
     };
     let depth = top.depth;
-    top.answered += 1;
     pending.push(top)?;
-    match request {
-        Request::Item(item) => copying.copy_item(source, &item),
-        Request::Call(handle) => open(source, handle, depth, pending, copying, functions),
-    }
+    open(source, handle, depth, pending, copying, functions)
 }
 
 /// Copies the functions that are pending, the last one first, each behind what it names.
@@ -237,11 +280,12 @@ pub fn import<'a>(
         Adding m shift old new }
     ensures offset { copying.new.maps.offset ≡ copying.old.maps.offset }
 {
-    let mut pending = Vec::new(copying.alloc);
     let first = Pending::new(function, span, depth, copying.alloc)?;
-    pending.push(first)?;
+    let mut pending = Vec::new(copying.alloc);
+    advance(source, first, &mut pending, copying, functions)?;
     copy_pending(source, pending, copying, functions)?;
-    Ok(known_as(&functions.names, &function.name).unwrap())
+    let last = Handle::<Function>::new(functions.copies.len() - 1);
+    Ok(last)
 }
 
 /// A copy of a function; what it names is copied first.
