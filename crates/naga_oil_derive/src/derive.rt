@@ -50,6 +50,25 @@ impl<'a> DerivedModule<'a> {
         }
     }
 
+    /// A module of nothing, with no source, and with room for so many functions.
+    ///
+    /// # Errors
+    /// Where there is no memory.
+    pub fn with_functions(alloc: Global, count: usize) -> Tried<Self>
+        ensures { IfOk result (λ d. d ≡ nothing) }
+    {
+        let room = Vec::with_capacity(alloc, count)?;
+        let function_names = IndexMap::with_capacity(alloc, count)?;
+        let mut target = Module::new(alloc);
+        target.functions = Arena::from_items(room);
+        let maps = Maps::empty(alloc);
+        #[rattlefmt::skip]
+        let copying = Copying { maps, target, alloc };
+        #[rattlefmt::skip]
+        let made = DerivedModule { shader: None, copying, function_names };
+        Ok(made)
+    }
+
     /// Sets the module that items are copied from, of which spans are shifted by so many bytes. Its special types are
     /// copied at once; those of earlier sources stand for those for the same.
     ///
