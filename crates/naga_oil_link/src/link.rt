@@ -78,15 +78,32 @@ struct Linker<'b> {
     descended: BTreeSet<usize>,
 }
 
+// How many functions the header of imports is likely to have: as many as the largest of the texts that their builds were parsed of.
+fn likely_functions(builds: &Builds, imports: &[Import]) -> usize {
+    let mut most = 0;
+    for import in imports {
+        if let Some(build) = builds.get(import.import.as_str()) {
+            most = most.max(build.text_functions);
+        }
+    }
+    most
+}
+
 impl<'b> Linker<'b> {
-    // Nothing is linked yet.
-    fn new(alloc: Global, builds: &'b Builds, of_headers: bool) -> Linker<'b>
-        ensures given { (result.builds ≡ builds.entry) × (result.of_headers ≡ of_headers) }
-        ensures linked { (result.derived ≡ nothing) × (result.descended.keys ≡ []) }
+    // Nothing is linked yet. There is room for so many functions.
+    fn new(
+        alloc: Global,
+        builds: &'b Builds,
+        of_headers: bool,
+        functions: usize,
+    ) -> Tried<Linker<'b>>
+        ensures given { IfOk result (λ l. (l.builds ≡ builds.entry) × (l.of_headers ≡ of_headers)) }
+        ensures linked { IfOk result (λ l. (l.derived ≡ nothing) × (l.descended.keys ≡ [])) }
     {
-        let (derived, descended) = (DerivedModule::new(alloc), BTreeSet::new(alloc));
+        let derived = DerivedModule::with_functions(alloc, functions)?;
+        let descended = BTreeSet::new(alloc);
         #[rattlefmt::skip]
-        Linker { alloc, builds, of_headers, derived, descended }
+        Ok(Linker { alloc, builds, of_headers, derived, descended })
     }
 
     // Links the types, constants, overrides and globals of a build that are asked for.
@@ -219,7 +236,8 @@ pub fn link_header(alloc: Global, builds: &Builds, imports: &[Import]) -> Tried<
     ensures form { IfOk result (λ header. IsModuleFormed (module_value header)) }
     ensures value { IfOk result (λ header. module_value header ≡ link_header (builds_of builds.now) (map import_of imports.now)) }
 {
-    let mut linker = Linker::new(alloc, builds, true);
+    let likely = likely_functions(builds, imports);
+    let mut linker = Linker::new(alloc, builds, true, likely)?;
     linker.link_imports(imports, builds.len())?;
     Ok(Module::from(linker.derived))
 }
@@ -229,7 +247,7 @@ pub fn link_whole<'b>(alloc: Global, builds: &'b Builds, of: &'b Build) -> Tried
     ensures form { IfOk result (λ whole. IsModuleFormed (module_value whole)) }
     ensures value { IfOk result (λ whole. module_value whole ≡ link_whole (builds_of builds.now) (built_of of.now)) }
 {
-    let mut linker = Linker::new(alloc, builds, false);
+    let mut linker = Linker::new(alloc, builds, false, of.text_functions)?;
     linker.link_imports(&of.imports, builds.len())?;
     linker.link_items(of, None)?;
     let Linker { mut derived, .. } = linker;

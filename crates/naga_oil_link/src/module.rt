@@ -34,6 +34,9 @@ pub struct ComposableModule {
     pub(crate) own_in_header: OwnItems,
     /// Where its source begins in the text that was parsed, in bytes.
     pub(crate) start_offset: usize,
+    /// How many functions the text that was parsed has, with those of its heading: a header of what imports this is likely to
+    /// have as many.
+    pub(crate) text_functions: usize,
     /// Its index in the registry; 0 is the shader's.
     pub(crate) index: usize,
     ghost small: { index ≤ 2047 },

@@ -25,6 +25,7 @@ pub fn empty_build(alloc: Global, decorated_name: String, index: usize) -> Build
         own_in_module: OwnItems::new(alloc),
         own_in_header: OwnItems::new(alloc),
         start_offset: 0,
+        text_functions: 0,
         index,
     }
 }
@@ -41,6 +42,13 @@ pub fn set_offset(build: &mut Build, offset: usize)
     ensures { built_of build.new ≡ record (built_of build.old) { offset = offset } }
 {
     build.start_offset = offset;
+}
+
+/// Notes how many functions the text that was parsed has, which changes nothing of what is built.
+pub fn note_functions(build: &mut Build, count: usize)
+    ensures { built_of build.new ≡ built_of build.old }
+{
+    build.text_functions = count;
 }
 
 /// The index of a build's module in the registry; 0 is the shader's.

@@ -12,7 +12,7 @@ use Rattle.naga_oil_link.proofs.LinkedLemmas.{entry_of, linked_all}
 use Rattle.naga_oil_link.proofs.link.link_header.Goals as goal
 
 pub link_imports-requires : goal.link_imports-requires
-link_imports-requires c = subst IsLinkFormed (sym c.new-linker.ensures.linked.0) nothing_formed_yet
+link_imports-requires c = subst IsLinkFormed (sym c.in_ok-linker.ensures.linked.0) nothing_formed_yet
 
 pub returns-clause-form : goal.returns-clause-form
 unfolding value_of
@@ -22,8 +22,8 @@ pub returns-clause-value : goal.returns-clause-value
 unfolding value_of link_header
 returns-clause-value c =
     let bs = builds_of c.args.builds.now in
-    let start = c.new-linker.result in
-    let given = c.new-linker.ensures.given in
-    let none = c.new-linker.ensures.linked in
+    let start = c.in_ok-linker.linker in
+    let given = c.in_ok-linker.ensures.given in
+    let none = c.in_ok-linker.ensures.linked in
     let long : length bs ≡ c.len.result = length-map c.args.builds.now.entries entry_of ∙ sym c.len.ensures.len in
     c.from.ensures ∙ ap (λ (d : Derived). d.target) (linked_all start true bs c.len.result (map import_of c.args.imports.now) c.link_imports.new.self.derived c.link_imports.new.self.descended.keys given.1 (ap (λ (b : _). builds_of b.now) given.0) none.0 none.1 (omega arith) c.in_ok-link_imports.ensures.value)

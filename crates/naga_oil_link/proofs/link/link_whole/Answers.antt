@@ -22,7 +22,7 @@ pub into_module_with_entrypoints-requires-clause-entries : goal.into_module_with
 into_module_with_entrypoints-requires-clause-entries c = can_copy_entries c.get.result.now c.set_shader_source.new.self (set_copies c.get.result.now 0 c.link_items.new.self.derived c.set_shader_source.new.self c.get.ensures.form c.in_ok-set_shader_source.ensures.value)
 
 pub link_imports-requires : goal.link_imports-requires
-link_imports-requires c = subst IsLinkFormed (sym c.new-linker.ensures.linked.0) nothing_formed_yet
+link_imports-requires c = subst IsLinkFormed (sym c.in_ok-linker.ensures.linked.0) nothing_formed_yet
 
 pub returns-clause-form : goal.returns-clause-form
 unfolding value_of
@@ -32,9 +32,9 @@ pub returns-clause-value : goal.returns-clause-value
 returns-clause-value c =
     let bs = builds_of c.args.builds.now in
     let b = built_of c.args.of.now in
-    let start = c.new-linker.result in
-    let given = c.new-linker.ensures.given in
-    let none = c.new-linker.ensures.linked in
+    let start = c.in_ok-linker.linker in
+    let given = c.in_ok-linker.ensures.given in
+    let none = c.in_ok-linker.ensures.linked in
     let s = c.link_imports.new.self in
     let long : length bs ≡ c.len.result = length-map c.args.builds.now.entries entry_of ∙ sym c.len.ensures.len in
     let linked : LinksImports start.of_headers (builds_of start.builds.now) c.len.result b.imports start.derived start.descended.keys s.derived s.descended.keys = subst (λ (is : List ImportDefinition). LinksImports start.of_headers (builds_of start.builds.now) c.len.result (map import_of is) start.derived start.descended.keys s.derived s.descended.keys) c.deref.ensures.value c.in_ok-link_imports.ensures.value in
