@@ -68,6 +68,7 @@ impl<B: Backend> Builder<'_, B> {
             Gives (λ done. built_of built.new) result (hold s language text.now (built_of built.old)) }
     {
         let mut source = self.parse_whole(language, text, built.decorated_name.as_str())?;
+        note_functions(built, source.functions.len());
         let (own, functions) = own(self.alloc, &mut source, built)?;
         self.copy_tested(&source, &own, built, functions)
     }

@@ -20,7 +20,9 @@ use naga_oil_ir::{
 };
 use naga_oil_lines::decorate::{decode, decorated_name};
 use naga_oil_link::link::link_header;
-use naga_oil_link::reads::{empty_build, header_of, index_of, offset_of, set_offset};
+use naga_oil_link::reads::{
+    empty_build, header_of, index_of, note_functions, offset_of, set_offset,
+};
 use naga_oil_link::{Build, Builds, Formed, Overrides, OwnItems, Places};
 use naga_oil_marks::{DECORATION_OVERRIDE_PRE, DECORATION_POST, DECORATION_PRE};
 use naga_oil_pre::{ComposerErrorInner as Inner, PreprocessOutput, Preprocessor};

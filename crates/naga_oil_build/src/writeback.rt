@@ -1,5 +1,5 @@
 //! Whether the names of what a module owns come back when its header is written and read again.
-ghost use Rattle.std.specs.Prelude.{◌≡◌, ◌++◌, map, take, option_map, string_bytes, IfOk, OnOk};
+ghost use Rattle.std.specs.Prelude.{◌≡◌, ◌++◌, [], map, take, option_map, string_bytes, IfOk, OnOk};
 ghost use Rattle.naga_oil_ir.specs.ModuleValue.{module_value, function_value};
 ghost use Rattle.naga_oil_ir.specs.Rows.{type_row, constant_row, global_row, member_label};
 ghost use Rattle.naga_oil_conditions.specs.View.{Gives};
@@ -122,22 +122,25 @@ fn named_globals<'m>(
     Ok(items)
 }
 
-// The functions that have names, of the first so many.
-fn named_functions<'m>(
-    alloc: Global,
-    of: &'m Arena<Function>,
-    count: usize,
-) -> Tried<Vec<NamedItem<'m>>>
+// The functions that have names.
+fn named_functions<'m>(alloc: Global, of: &'m Arena<Function>) -> Tried<Vec<NamedItem<'m>>>
     ensures { let functions = map (λ e. (function_value e.0, e.1)) of.now in
-        let told = named_functions (take count functions) in
+        let told = named_functions functions in
         IfOk result (λ items. map named_of items.items ≡ told) }
 {
     let mut items = Vec::new(alloc);
-    let functions = of.as_slice();
-    for (function, span) in &functions[..count.min(functions.len())] {
+    for (function, span) in of.as_slice() {
         push_named(&mut items, &function.name, None, *span)?;
     }
     Ok(items)
+}
+
+// The first so many functions.
+fn first_functions(of: &Arena<Function>, count: usize) -> &[(Function, Span)]
+    ensures { result.now ≡ take count of.now }
+{
+    let functions = of.as_slice();
+    &functions[..count.min(functions.len())]
 }
 
 // Items by their names, of one name the last.
@@ -231,6 +234,43 @@ fn lost_among<'m>(
     Ok(None)
 }
 
+// What is lost of a function, if it has a name.
+fn lost_function<'m>(function: &'m Function, span: Span, back: &Back<'_>, owned: &Names) -> Lost<'m>
+    ensures { let items = named_item (function_value function.now).name None span in
+        let told = lost_among (texts owned.now.keys) [] (held back.now) items in
+        seen_lost result ≡ told }
+{
+    let name = named(&function.name)?;
+    let item = NamedItem {
+        name,
+        members: None,
+        span,
+    };
+    lost_by(&item, name, back, owned)
+}
+
+// The first of these functions that is lost.
+fn lost_among_functions<'m>(
+    alloc: Global,
+    functions: &'m [(Function, Span)],
+    back: &[NamedItem<'_>],
+    owned: &Names,
+) -> Tried<Lost<'m>>
+    ensures { let ours = named_functions (map (λ e. (function_value e.0, e.1)) functions.now) in
+        let back = last_named (map named_of back.now) in
+        let told = lost_among (texts owned.now.keys) [] back ours in
+        IfOk result (λ lost. seen_lost lost ≡ told) }
+{
+    let back = by_name(alloc, back)?;
+    for (function, span) in functions {
+        let lost = lost_function(function, *span, &back, owned);
+        if lost.is_some() {
+            return Ok(lost);
+        }
+    }
+    Ok(None)
+}
+
 // The first of what a module owns that is lost: types, which get the decoration as they are copied, then constants, globals,
 // and so many functions.
 fn lost<'m>(
@@ -265,9 +305,9 @@ fn lost<'m>(
     if lost.is_some() {
         return Ok(lost);
     }
-    let ours = named_functions(alloc, &source.functions, functions)?;
-    let theirs = named_functions(alloc, &back.functions, back.functions.len())?;
-    lost_among(alloc, &ours, &theirs, &built.owned_functions, "")
+    let ours = first_functions(&source.functions, functions);
+    let theirs = named_functions(alloc, &back.functions)?;
+    lost_among_functions(alloc, ours, &theirs, &built.owned_functions)
 }
 
 // Refuses the first that is lost.
