@@ -117,5 +117,5 @@ module _ {B : Type 0} (front : B → FrontEnd) (old : State B) (m : ShaderSource
       }
 
 -- the same shader over the same modules, of which nothing is built
-pub same_make : (s : Settings) (ds es : List Definition) (m : ShaderSource) (text read : List ℕ) (bs : Builds) → ds ≡ es → text ≡ read → bs ≡ [] → make s es m read [] ≡ make s ds m text bs
-same_make s ds es m text read bs a b c = λ i. make s (sym a i) m (sym b i) (sym c i)
+pub same_make : (s : Settings) (ds : List Definition) (m : ShaderSource) (text read : List ℕ) (bs : Builds) → text ≡ read → bs ≡ [] → make s ds m read [] ≡ make s ds m text bs
+same_make s ds m text read bs b c = λ i. make s ds m (sym b i) (sym c i)

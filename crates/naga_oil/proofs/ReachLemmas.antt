@@ -1,23 +1,24 @@
 -- Builds by their names, and what is reached of a list of modules.
-use Rattle.std.proofs.Common.{◌≡◌, ℕ, zero, suc, ◌+◌, ◌-◌, ◌<◌, ◌≤◌, List, [], ◌∷◌, Bool, true, false, not, ◌||◌, is_some, cond, refl, ap, ◌∙◌, sym, subst, map, length, drop, take, get_or, String, Global, string_bytes, bytes_eq, nat_lt, Option, Some, None, unwrap_or, MatchOption, Result, Ok, Err, IsErrAnd, arith}
+use Rattle.std.proofs.Common.{◌≡◌, ℕ, suc, ◌+◌, ◌-◌, ◌<◌, ◌≤◌, List, [], ◌∷◌, Bool, true, false, not, ◌||◌, is_some, cond, refl, ap, ◌∙◌, sym, subst, map, length, drop, get_or, String, Global, string_bytes, bytes_eq, nat_lt, Option, Some, None, unwrap_or, MatchOption, Result, Ok, Err, IsErrAnd, arith}
 use Rattle.std.specs.Arc.{arc_value}
 use Rattle.std.specs.BTreeMap.{BTreeMap, get_by_text, is_at}
 use Rattle.std.specs.Cmp.Lexicographic.{slice_cmp}
-use Rattle.std.specs.List.{position, position_or_len, list_any}
+use Rattle.std.specs.List.{position, position_or_len, list_any, slice_get}
 use Rattle.std.specs.Map.{lookup}
 use Rattle.std.specs.Ordering.{nat_cmp}
 use Rattle.std.specs.String.{string_eq}
 use Rattle.std.specs.declared.sync.Arc.{Arc}
 use Rattle.std.proofs.lemmas.Bool.{ltb-true, ltb-false, true≢false}
-use Rattle.std.proofs.lemmas.List.{drop_more, length-map, length-drop, take_all}
+use Rattle.std.proofs.lemmas.List.{drop_more}
+use Rattle.std.proofs.lemmas.Option.{get_or_from_slice_get}
 use Rattle.indexmap.specs.IndexMap.{insert_entry}
 use Rattle.naga_oil_imports.specs.Uses.{Use, use_of}
 use Rattle.naga_oil_imports.specs.declared.import_definition.ImportDefWithOffset.{ImportDefWithOffset}
 use Rattle.naga_oil_conditions.specs.Fault.{Fault}
 use Rattle.naga_oil_pre.specs.Preprocessed.{Output}
 use Rattle.naga_oil_conditions.specs.declared.shader_def.ShaderDefValue.{ShaderDefValue}
-use Rattle.naga_oil_registry.specs.Definition.{Definition, Defs, defs_of, definition_of}
-use Rattle.naga_oil_registry.specs.declared.definition.ComposableModuleDefinition.{ComposableModuleDefinition}
+use Rattle.naga_oil_registry.specs.Definition.{Definition, Defs, defs_of}
+use Rattle.naga_oil_registry.specs.Registry.{place_named}
 use Rattle.naga_oil_link.specs.BuiltModule.{BuiltModule, Builds, built_of}
 use Rattle.naga_oil_link.specs.declared.module.ComposableModule.{ComposableModule}
 use Rattle.naga_oil_build.specs.Build.{build}
@@ -208,11 +209,7 @@ module _ (s : Settings) (defs : Defs) (name : List ℕ) where
       go true m next = absurd (omega (arith, m))
       go false m next = next (omega (arith, m))
 
--- ---- the code's list of modules
-
-position_map : {A B : Type 0} (p : B → Bool) (f : A → B) (xs : List A) → position_or_len p (map f xs) ≡ position_or_len (λ x. p (f x)) xs
-position_map p f [] = refl
-position_map p f (x ∷ xs) = ap (λ n. cond (not (p (f x))) (1 + n) 0) (position_map p f xs)
+-- ---- the place of a name
 
 -- where the first of a name is found
 position_facts : {A : Type 0} (p : A → Bool) (xs : List A) (o : Option ℕ) → position p xs ≡ o → MatchOption o (length xs ≤ position_or_len p xs) (λ k. (k ≡ position_or_len p xs) × (k < length xs))
@@ -222,49 +219,30 @@ position_facts {A} p xs o e = subst (λ (q : Option ℕ). MatchOption q (length 
     go true i = (refl, ltb-true _ _ i)
     go false i = ltb-false _ _ i
 
--- an element of a list that is seen otherwise
-got_map : (xs : List ComposableModuleDefinition) (k : ℕ) (x : ComposableModuleDefinition) → k < length xs → x ≡ get_or xs k x → get_or (map definition_of xs) k (definition_of x) ≡ definition_of x
-got_map xs k x l e = got_or xs k l ∙ ap definition_of (sym e)
-  where
-    got_or : (ys : List ComposableModuleDefinition) (j : ℕ) → j < length ys → get_or (map definition_of ys) j (definition_of x) ≡ definition_of (get_or ys j x)
-    got_or [] j m = refl
-    got_or (y ∷ ys) zero m = refl
-    got_or (y ∷ ys) (suc j) m = got_or ys j (omega (arith, m))
-
-pub dropped_map : (xs : List ComposableModuleDefinition) (k : ℕ) → drop k (map definition_of xs) ≡ map definition_of (drop k xs)
-dropped_map [] zero = refl
-dropped_map [] (suc k) = refl
-dropped_map (x ∷ xs) zero = refl
-dropped_map (x ∷ xs) (suc k) = dropped_map xs k
-
--- what is left of a slice
-pub rest_of : {A : Type 0} (xs : List A) (k : ℕ) → take (length xs - k) (drop k xs) ≡ drop k xs
-rest_of xs k = take_all (length xs - k) (drop k xs) (omega (arith, length-drop k xs))
-
 -- what is built isn't reached again
 pub built_before : (f : Reaching) (name : List ℕ) (bs : Builds) → is_built bs name ≡ true → unless_built f name bs ≡ record { builds = bs; result = Ok tt }
 built_before f name bs h = ap (λ b. cond b (given (Ok tt) bs) (f name bs)) h
 
 -- a name that isn't built
-module _ (s : Settings) (defs : Defs) (name : List ℕ) (bs : Builds) (absent : is_built bs name ≡ false) (xs : List ComposableModuleDefinition) where
+module _ (s : Settings) (defs : Defs) (name : List ℕ) (bs : Builds) (absent : is_built bs name ≡ false) (ds : List Definition) where
   abbrev reaching : List Definition → Reaching
-  reaching ds = unless_built (reach s defs ds)
+  reaching es = unless_built (reach s defs es)
 
-  not_before : reaching (map definition_of xs) name bs ≡ reach s defs (map definition_of xs) name bs
-  not_before = ap (λ b. cond b (given (Ok tt) bs) (reach s defs (map definition_of xs) name bs)) absent
+  not_before : reaching ds name bs ≡ reach s defs ds name bs
+  not_before = ap (λ b. cond b (given (Ok tt) bs) (reach s defs ds name bs)) absent
 
   -- no module has it
-  pub none_reached : position (λ d. bytes_eq (string_bytes d.name) name) xs ≡ None → reaching (map definition_of xs) name bs ≡ record { builds = bs; result = Err (missing name 0) }
+  pub none_reached : place_named name ds ≡ None → reaching ds name bs ≡ record { builds = bs; result = Err (missing name 0) }
   none_reached e =
-      let long : length xs ≤ position_or_len (λ d. bytes_eq (string_bytes d.name) name) xs = position_facts (λ d. bytes_eq (string_bytes d.name) name) xs None e in
-      not_before ∙ ap (λ (f : Doing (Unit {0}) Unreached). f bs) (reach_none s defs name (map definition_of xs) (omega (arith, long, position_map (λ d. bytes_eq d.name name) definition_of xs, length-map xs definition_of)))
+      let long : length ds ≤ position_or_len (λ d. bytes_eq d.name name) ds = position_facts (λ d. bytes_eq d.name name) ds None e in
+      not_before ∙ ap (λ (f : Doing (Unit {0}) Unreached). f bs) (reach_none s defs name ds long)
 
   -- the first module that has it is reached over what stands behind it
-  pub first_reached : (k : ℕ) (x : ComposableModuleDefinition) → position (λ d. bytes_eq (string_bytes d.name) name) xs ≡ Some k → x ≡ get_or xs k x → reaching (map definition_of xs) name bs ≡ reach_module s defs (definition_of x) (reaching (map definition_of (drop (k + 1) xs))) bs
-  first_reached k x e i =
-      let at : (k ≡ position_or_len (λ d. bytes_eq (string_bytes d.name) name) xs) × (k < length xs) = position_facts (λ d. bytes_eq (string_bytes d.name) name) xs (Some k) e in
-      let first = reach_first s defs name (map definition_of xs) (definition_of x) k (at.0 ∙ sym (position_map (λ d. bytes_eq d.name name) definition_of xs)) (omega (arith, at.1, length-map xs definition_of)) in
-      not_before ∙ ap (λ (f : Doing (Unit {0}) Unreached). f bs) first ∙ (λ j. reach_module s defs (got_map xs k x at.1 i j) (reaching (dropped_map xs (k + 1) j)) bs)
+  pub first_reached : (k : ℕ) (d : Definition) → place_named name ds ≡ Some k → slice_get ds k ≡ Some d → reaching ds name bs ≡ reach_module s defs d (reaching (drop (k + 1) ds)) bs
+  first_reached k d e is =
+      let at : (k ≡ position_or_len (λ d. bytes_eq d.name name) ds) × (k < length ds) = position_facts (λ d. bytes_eq d.name name) ds (Some k) e in
+      not_before ∙ ap (λ (f : Doing (Unit {0}) Unreached). f bs) (reach_first s defs name ds d k at.0 at.1)
+      ∙ ap (λ (x : Definition). reach_module s defs x (reaching (drop (k + 1) ds)) bs) (get_or_from_slice_get ds k d d is)
 
 -- ---- the code's list of uses
 
@@ -293,7 +271,3 @@ module _ (rule : Rule) (f : Reaching) (x : ImportDefWithOffset) (xs ys : List Im
     -- it is reached, and then what is left
     pub next_reached : f name bs ≡ record { builds = mid; result = Ok tt } → reach_each rule f (map use_of xs) bs ≡ reach_each rule f (map use_of ys) mid
     next_reached h = first_of ∙ each_more rule f (use_of x) (map use_of ys) bs mid may (ap (λ n. f n bs) (sym called) ∙ h)
-
--- the same uses over the same modules
-pub each_same : (rule : Rule) (s : Settings) (defs : Defs) (rest later : List ComposableModuleDefinition) (us vs : List Use) (bs : Builds) → rest ≡ later → us ≡ vs → reach_each rule (unless_built (reach s defs (map definition_of later))) vs bs ≡ reach_each rule (unless_built (reach s defs (map definition_of rest))) us bs
-each_same rule s defs rest later us vs bs same uses = λ i. reach_each rule (unless_built (reach s defs (map definition_of (sym same i)))) (sym uses i) bs

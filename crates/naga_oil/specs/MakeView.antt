@@ -1,5 +1,5 @@
 -- What the code of a make tells, and what its rules say.
-use Rattle.std.specs.Prelude.{◌≡◌, ◌≤◌, ◌⊎◌, ℕ, List, length, map, Option, Some, None, option_map, Result, Ok, Err, MatchOption, OnOk, string_bytes}
+use Rattle.std.specs.Prelude.{◌≡◌, ◌≤◌, ◌⊎◌, ℕ, List, length, Option, Some, None, option_map, Result, Ok, Err, MatchOption, OnOk, string_bytes}
 use Rattle.naga_oil_imports.specs.Uses.{Use}
 use Rattle.naga_oil_conditions.specs.Fault.{Fault}
 use Rattle.naga_oil_conditions.specs.View.{fault_of}
@@ -67,7 +67,7 @@ builds_in m = builds_of m.builder.builds
 
 -- what is registered, and what is kept between makes
 abbrev pub modules_in : {B : Type 0} → Maker B → List Definition
-modules_in m = map definition_of m.modules.now
+modules_in m = m.modules.now
 
 abbrev pub kept_in : {B : Type 0} → Maker B → Kept
 kept_in m = kept_of m.store

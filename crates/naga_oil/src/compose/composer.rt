@@ -9,7 +9,7 @@ use super::reach::Maker;
 use super::store::{Store, forget, has_projection};
 use super::*;
 use naga_oil_registry::adding::{describe, register};
-use naga_oil_registry::registry::remove;
+use naga_oil_registry::registry::Registry;
 use naga_oil_registry::sanitize::read_source;
 use std::marker::Model;
 
@@ -21,8 +21,8 @@ pub struct Composer<B: Backend> {
     validate: bool,
     capabilities: Capabilities,
     override_any: bool,
-    // The newest first.
-    modules: Vec<Definition>,
+    // What is registered.
+    modules: Registry,
     // The number of the next binding.
     counter: u32,
     // The builds that are kept between makes, and how many were kept in all.
@@ -31,19 +31,17 @@ pub struct Composer<B: Backend> {
 }
 
 impl<B: Backend> Model for Composer<B> {
-    ghost use Rattle.std.specs.Prelude.{map};
     ghost use Rattle.naga_oil.specs.State.{State};
     ghost use Rattle.naga_oil_registry.specs.Registry.{IsRegistry};
-    ghost use Rattle.naga_oil_registry.specs.Definition.{definition_of};
     ghost use Rattle.naga_oil_build.specs.Held.{settings};
     ghost use Rattle.naga_oil.specs.StoreLaw.{IsStore};
     ghost use Rattle.naga_oil.specs.StoreView.{kept_of};
 
     ghost Value = { State B };
 
-    ghost view = { λ c. record { front = c.front; validate = c.validate; capabilities = c.capabilities; override_any = c.override_any; registry = map definition_of c.modules.items; counter = c.counter; kept = kept_of c.store; builds = c.count } };
+    ghost view = { λ c. record { front = c.front; validate = c.validate; capabilities = c.capabilities; override_any = c.override_any; registry = c.modules; counter = c.counter; kept = kept_of c.store; builds = c.count } };
 
-    ghost invariant = { λ c. IsRegistry (map definition_of c.modules.items) × IsStore (settings (B.front c.front) c.capabilities c.validate c.override_any) (map definition_of c.modules.items) (kept_of c.store) };
+    ghost invariant = { λ c. IsRegistry c.modules × IsStore (settings (B.front c.front) c.capabilities c.validate c.override_any) c.modules (kept_of c.store) };
 }
 
 impl<B: Backend> Composer<B> {
@@ -74,7 +72,7 @@ impl<B: Backend> Composer<B> {
             validate,
             capabilities,
             override_any,
-            modules: Vec::new(alloc),
+            modules: Registry::new(alloc),
             counter: 0,
             store: Store::new(alloc),
             count: 0,
@@ -169,18 +167,14 @@ impl<B: Backend> Composer<B> {
         ensures value { let named = module_named module_name.now self.now.registry in
             option_map (λ d. definition_of d.now) result ≡ named }
     {
-        self.modules
-            .iter()
-            .find(|definition| definition.name.as_str() == module_name)
+        self.modules.get(module_name)
     }
 
     /// The module of this index.
     pub fn module_at(&self, index: usize) -> Option<&ComposableModuleDefinition>
         ensures { option_map (λ d. definition_of d.now) result ≡ module_indexed index self.now.registry }
     {
-        self.modules
-            .iter()
-            .find(|definition| definition.module_index == index)
+        self.modules.at_index(index)
     }
 
     /// How many builds makes have kept in all; those of modules that went since are counted too.
@@ -213,7 +207,7 @@ impl<B: Backend> Composer<B> {
         if !self.contains_module(module_name) {
             return Ok(());
         }
-        let gone = remove(self.alloc, &mut self.modules, module_name)?;
+        let gone = self.modules.remove(module_name)?;
         forget(&mut self.store, &gone);
         Ok(())
     }
@@ -314,7 +308,7 @@ impl<B: Backend> Composer<B> {
             (λ e. added ≡ Err e) }
     {
         match added {
-            Ok(_) => Ok(&self.modules[0]),
+            Ok(_) => Ok(self.modules.newest().unwrap()),
             Err(error) => Err(error),
         }
     }

@@ -15,14 +15,14 @@ ghost use Rattle.naga_oil.specs.StoreView.{key_of};
 use super::shader::may_use;
 use super::store::{Key, Store, keep, kept_build, project};
 use super::*;
+use naga_oil_registry::registry::Registry;
 
-/// A make: what builds, the definitions that it builds under, what is registered, the newest first, and the builds that are
-/// kept between makes.
+/// A make: what builds, the definitions that it builds under, what is registered, and the builds that are kept between makes.
 #[derive(Drop)]
 pub(crate) struct Maker<'c, B: Backend> {
     pub(crate) builder: Builder<'c, B>,
     pub(crate) defs: Defs,
-    pub(crate) modules: &'c [Definition],
+    pub(crate) modules: &'c Registry,
     pub(crate) store: Store,
 }
 
@@ -261,12 +261,9 @@ impl<B: Backend> Maker<'_, B> {
             return Ok(());
         }
         let modules = self.modules;
-        let mut behind = modules[from..].iter();
-        let Some(ahead) = behind.position(|of| of.name.as_str() == name) else {
+        let Some((place, of)) = modules.behind(name, from) else {
             return Err(Unreached::missing(self.builder.alloc, name, 0));
         };
-        let place = from + ahead;
-        let of = &modules[place];
         let key = project(self.builder.alloc, of, &self.defs)?;
         match kept_build(&self.store, &key)? {
             Some(kept) => self.ensure_kept(of, place, kept),

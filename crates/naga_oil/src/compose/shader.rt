@@ -10,6 +10,7 @@ ghost use Rattle.naga_oil.specs.Shader.{shader_definition, read_shader, imported
 
 use super::*;
 use naga_oil_registry::merge::clone_imports;
+use naga_oil_registry::registry::Registry;
 
 // The shader as a module of no index and no name.
 fn shader_of(
@@ -50,12 +51,12 @@ pub(crate) fn read_shader(
 }
 
 // The module that is imported.
-fn imported<'c>(import: &Use, modules: &'c [Definition]) -> Checked<&'c Definition>
-    ensures { let told = imported (map definition_of modules.now) (use_of import.now) in
+fn imported<'c>(import: &Use, modules: &'c Registry) -> Checked<&'c Definition>
+    ensures { let told = imported modules.now (use_of import.now) in
         Gives (λ d. definition_of d.now) result told }
 {
     let name = &import.definition().import;
-    match modules.iter().find(|of| of.name == *name) {
+    match modules.get(name.as_str()) {
         Some(definition) => Ok(definition),
         None => Err(Inner::ImportNotFound(name.clone()?, import.offset())),
     }
@@ -85,8 +86,8 @@ fn add_consistent(defs: &mut Defs, others: &Defs) -> Checked
 }
 
 /// Adds the definitions of what is imported, which all has to be registered.
-pub(crate) fn merge(defs: &mut Defs, imports: &[Use], modules: &[Definition]) -> Checked
-    ensures { let merged = defs_union_over (map definition_of modules.now) (defs_of defs.old) in
+pub(crate) fn merge(defs: &mut Defs, imports: &[Use], modules: &Registry) -> Checked
+    ensures { let merged = defs_union_over modules.now (defs_of defs.old) in
         Gives (λ done. defs_of defs.new) result (merged (map use_of imports.now)) }
 {
     for import in imports {
@@ -109,11 +110,11 @@ fn are_among(defs: &Defs, others: &Defs) -> bool
 }
 
 /// Whether the second reading may import a module: one that is registered, with its definitions among these.
-pub(crate) fn may_use(import: &Use, modules: &[Definition], defs: &Defs) -> bool
-    ensures { result ≡ may_use (map definition_of modules.now) (defs_of defs.now) (use_of import.now) }
+pub(crate) fn may_use(import: &Use, modules: &Registry, defs: &Defs) -> bool
+    ensures { result ≡ may_use modules.now (defs_of defs.now) (use_of import.now) }
 {
     let name = &import.definition().import;
-    match modules.iter().find(|of| of.name == *name) {
+    match modules.get(name.as_str()) {
         Some(of) => are_among(&of.shader_defs, defs),
         None => false,
     }

@@ -1,8 +1,8 @@
 use Rattle.std.proofs.Common.{◌≡◌, map, drop}
 use Rattle.naga_oil_imports.specs.Uses.{use_of}
-use Rattle.naga_oil_registry.specs.Definition.{definition_of, defs_of}
+use Rattle.naga_oil_registry.specs.Definition.{defs_of}
 use Rattle.naga_oil.specs.Shader.{defs_union_over}
 use Rattle.naga_oil.proofs.compose.shader.merge.Given as goal
 
 abbrev pub invariant-loop-import : goal.invariant-loop-import
-invariant-loop-import l = defs_union_over (map definition_of l.modules) (defs_of l.defs) (map use_of (drop l.import-index l.imports)) ≡ defs_union_over (map definition_of l.modules) (defs_of l.fn.defs) (map use_of l.imports)
+invariant-loop-import l = defs_union_over l.modules (defs_of l.defs) (map use_of (drop l.import-index l.imports)) ≡ defs_union_over l.modules (defs_of l.fn.defs) (map use_of l.imports)

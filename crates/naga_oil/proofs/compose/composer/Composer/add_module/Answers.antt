@@ -1,8 +1,8 @@
-use Rattle.std.proofs.Common.{◌≡◌, ℕ, Bool, List, map, Option, Ok, Err, Bor, String, Global, option_map, option_copied, string_bytes, Some, None, ap, ◌∙◌, sym, subst}
+use Rattle.std.proofs.Common.{◌≡◌, ℕ, Bool, List, Option, Ok, Err, Bor, String, Global, option_map, option_copied, string_bytes, Some, None, ap, ◌∙◌, sym, subst}
 use Rattle.naga_oil_conditions.specs.View.{Fails}
 use Rattle.std.specs.BTreeSet.{contains_text}
 use Rattle.naga_oil_registry.specs.Added.{Described, described, new_definition, shown_by}
-use Rattle.naga_oil_registry.specs.Definition.{Definition, definition_of}
+use Rattle.naga_oil_registry.specs.Definition.{Definition}
 use Rattle.naga_oil_registry.specs.DescribedView.{described_of}
 use Rattle.naga_oil_registry.specs.Descriptor.{module_source, ModuleSource}
 use Rattle.naga_oil_registry.specs.Registry.{IsRegistry, reaches, removed}
@@ -25,7 +25,7 @@ given_name (Some x) o e = ap (option_map string_bytes) e
 pub returns-in-Err : goal.returns-in-Err
 returns-in-Err g c =
     let inside = c.self.inside in
-    let old : State _ = record { front = inside.front; validate = inside.validate; capabilities = inside.capabilities; override_any = inside.override_any; registry = map definition_of inside.modules.items; counter = inside.counter; kept = kept_of inside.store; builds = inside.count } in
+    let old : State _ = record { front = inside.front; validate = inside.validate; capabilities = inside.capabilities; override_any = inside.override_any; registry = inside.modules; counter = inside.counter; kept = kept_of inside.store; builds = inside.count } in
     let m = module_source c.args.desc in
     subst (λ (v : State _). Adds (λ (i : ℕ). i) (λ (d : Definition). d.index) v m (Err c.refused.result) v) c.self.view_is
     (adds-unread (λ (i : ℕ). i) (λ (d : Definition). d.index) old m c.in-Err.inner c.refused.result c.refused.ensures c.in-Err.ensures)
@@ -33,7 +33,7 @@ returns-in-Err g c =
 pub returns-in-Err-describe : goal.returns-in-Err-describe
 returns-in-Err-describe g c =
     let inside = c.self.inside in
-    let old : State _ = record { front = inside.front; validate = inside.validate; capabilities = inside.capabilities; override_any = inside.override_any; registry = map definition_of inside.modules.items; counter = inside.counter; kept = kept_of inside.store; builds = inside.count } in
+    let old : State _ = record { front = inside.front; validate = inside.validate; capabilities = inside.capabilities; override_any = inside.override_any; registry = inside.modules; counter = inside.counter; kept = kept_of inside.store; builds = inside.count } in
     let m = module_source c.args.desc in
     let same : described (option_map (λ name. string_bytes name.now) c.as_ref.result) c.as_str.result.now ≡ described m.as_name (string_bytes c.in-Ok.read.0) =
     ap (λ n. described n c.as_str.result.now) (given_name c.as_ref.result c.args.desc.as_name c.as_ref.ensures.value) ∙ ap (described m.as_name) c.as_str.ensures.value in
@@ -48,20 +48,20 @@ left_by gone ds m d new kept left all same added is =
 pub invariant_of-self-in-Ok-register : goal.invariant_of-self-in-Ok-register
 invariant_of-self-in-Ok-register g c =
     let inside = c.self.inside in
-    let ds = map definition_of inside.modules.items in
+    let ds = inside.modules in
     let m = module_source c.args.desc in
     let d = described_of c.in-Ok-describe.described in
     let s = settings (g.B.Backend.front inside.front) inside.capabilities inside.validate inside.override_any in
     let added = c.in-Ok-register.ensures.registry in
     let left = left_by (contains_text c.in-Ok-register.gone) ds m d added.0 (kept_of inside.store) (kept_of c.forget.new.store) c.self.invariant.0 c.in-Ok-register.ensures.gone added.1 c.forget.ensures in
-    let follows = is_registered ds (map definition_of c.register.new.modules.items) m d added.0 added.1 added.2 c.self.invariant.0 in
+    let follows = is_registered ds c.register.new.registry m d added.0 added.1 added.2 c.self.invariant.0 in
     let store = forget_law.addition s ds added.0 (kept_of inside.store) c.self.invariant.0 (subst IsRegistry added.2 follows) c.self.invariant.1 in
-    (follows, subst (λ (k : Kept). IsStore s (map definition_of c.register.new.modules.items) k) (sym left) (subst (λ (es : List Definition). IsStore s es (forget_with ds added.0.name (kept_of inside.store))) (sym added.2) store))
+    (follows, subst (λ (k : Kept). IsStore s c.register.new.registry k) (sym left) (subst (λ (es : List Definition). IsStore s es (forget_with ds added.0.name (kept_of inside.store))) (sym added.2) store))
 
 pub returns-in-Ok-register : goal.returns-in-Ok-register
 returns-in-Ok-register g c =
     let inside = c.self.inside in
-    let old : State _ = record { front = inside.front; validate = inside.validate; capabilities = inside.capabilities; override_any = inside.override_any; registry = map definition_of inside.modules.items; counter = inside.counter; kept = kept_of inside.store; builds = inside.count } in
+    let old : State _ = record { front = inside.front; validate = inside.validate; capabilities = inside.capabilities; override_any = inside.override_any; registry = inside.modules; counter = inside.counter; kept = kept_of inside.store; builds = inside.count } in
     let m = module_source c.args.desc in
     let d = described_of c.in-Ok-describe.described in
     let same : described (option_map (λ name. string_bytes name.now) c.as_ref.result) c.as_str.result.now ≡ described m.as_name (string_bytes c.in-Ok.read.0) =
@@ -70,19 +70,19 @@ returns-in-Ok-register g c =
     let new = added.0 in
     let left = left_by (contains_text c.in-Ok-register.gone) old.registry m d new (kept_of inside.store) (kept_of c.forget.new.store) c.self.invariant.0 c.in-Ok-register.ensures.gone added.1 c.forget.ensures in
     let index : c.in-Ok-register.index ≡ new.index = (let h = sym c.in-Ok-register.ensures.reply ∙ ap (shown_by (λ d. d.index)) added.1 in cc) in
-    subst (λ (v : State _). Adds (λ (i : ℕ). i) (λ (d : Definition). d.index) v m (Ok c.in-Ok-register.index) (record old { counter = c.in-Ok.read.1; registry = map definition_of c.register.new.modules.items; kept = kept_of c.forget.new.store })) c.self.view_is
-    (subst (λ (k : Kept). Adds (λ (i : ℕ). i) (λ (d : Definition). d.index) old m (Ok c.in-Ok-register.index) (record old { counter = c.in-Ok.read.1; registry = map definition_of c.register.new.modules.items; kept = k })) (sym left)
+    subst (λ (v : State _). Adds (λ (i : ℕ). i) (λ (d : Definition). d.index) v m (Ok c.in-Ok-register.index) (record old { counter = c.in-Ok.read.1; registry = c.register.new.registry; kept = kept_of c.forget.new.store })) c.self.view_is
+    (subst (λ (k : Kept). Adds (λ (i : ℕ). i) (λ (d : Definition). d.index) old m (Ok c.in-Ok-register.index) (record old { counter = c.in-Ok.read.1; registry = c.register.new.registry; kept = k })) (sym left)
     (subst (λ (ds : List Definition). Adds (λ (i : ℕ). i) (λ (d : Definition). d.index) old m (Ok c.in-Ok-register.index) (record old { counter = c.in-Ok.read.1; registry = ds; kept = forget_with old.registry new.name (kept_of inside.store) })) (sym added.2)
     (adds-registered (λ (i : ℕ). i) (λ (d : Definition). d.index) old m (string_bytes c.in-Ok.read.0) c.in-Ok.read.1 d new c.in-Ok-register.index c.in-Ok.ensures (sym same ∙ c.in-Ok-describe.ensures.value) added.1 index)))
 
 pub returns : goal.returns
 returns g c =
     let inside = c.self.inside in
-    let old : State _ = record { front = inside.front; validate = inside.validate; capabilities = inside.capabilities; override_any = inside.override_any; registry = map definition_of inside.modules.items; counter = inside.counter; kept = kept_of inside.store; builds = inside.count } in
+    let old : State _ = record { front = inside.front; validate = inside.validate; capabilities = inside.capabilities; override_any = inside.override_any; registry = inside.modules; counter = inside.counter; kept = kept_of inside.store; builds = inside.count } in
     let m = module_source c.args.desc in
     let same : described (option_map (λ name. string_bytes name.now) c.as_ref.result) c.as_str.result.now ≡ described m.as_name (string_bytes c.in-Ok.read.0) =
     ap (λ n. described n c.as_str.result.now) (given_name c.as_ref.result c.args.desc.as_name c.as_ref.ensures.value) ∙ ap (described m.as_name) c.as_str.ensures.value in
     let refusal = subst (λ (text : List ℕ). IsRefusal c.in-Err-register.inner c.refused-in-Err-register.result (in_text m.file_path text 0)) c.as_str-in-Err-register.ensures.value c.refused-in-Err-register.ensures in
-    subst (λ (v : State _). Adds (λ (i : ℕ). i) (λ (d : Definition). d.index) v m (Err c.refused-in-Err-register.result) (record old { counter = c.in-Ok.read.1; registry = map definition_of c.register.new.modules.items })) c.self.view_is
-    (subst (λ (ds : List Definition). Adds (λ (i : ℕ). i) (λ (d : Definition). d.index) old m (Err c.refused-in-Err-register.result) (record old { counter = c.in-Ok.read.1; registry = ds })) (ap (map definition_of) (sym c.in-Err-register.ensures.refused))
+    subst (λ (v : State _). Adds (λ (i : ℕ). i) (λ (d : Definition). d.index) v m (Err c.refused-in-Err-register.result) (record old { counter = c.in-Ok.read.1; registry = c.register.new.registry })) c.self.view_is
+    (subst (λ (ds : List Definition). Adds (λ (i : ℕ). i) (λ (d : Definition). d.index) old m (Err c.refused-in-Err-register.result) (record old { counter = c.in-Ok.read.1; registry = ds })) (sym c.in-Err-register.ensures.refused)
     (adds-unregistered (λ (i : ℕ). i) (λ (d : Definition). d.index) old m c.in-Err-register.inner c.refused-in-Err-register.result (string_bytes c.in-Ok.read.0) c.in-Ok.read.1 c.in-Ok.ensures (described_of c.in-Ok-describe.described) (sym same ∙ c.in-Ok-describe.ensures.value) refusal c.in-Err-register.ensures.reply))

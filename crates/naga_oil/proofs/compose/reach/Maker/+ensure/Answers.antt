@@ -1,16 +1,11 @@
-use Rattle.std.proofs.Common.{◌≡◌, ◌∙◌, ◌+◌, ◌-◌, [], None, List, Ok, Err, Some, map, drop, take, length, refl, sym, ap, subst, false, true, bytes_eq, string_bytes, add-one, rules, arith}
-use borrow.Author.Tests.{tests}
+use Rattle.std.proofs.Common.{◌≡◌, ◌∙◌, ◌+◌, [], None, List, Ok, map, drop, refl, sym, ap, subst, false, true, add-one, rules, arith}
 use Rattle.std.specs.Arc.{arc_value}
-use Rattle.std.specs.List.{position}
 use Rattle.std.proofs.Math.ListN.{drop_of_length-le}
-use Rattle.std.proofs.lemmas.Iterator.{YieldsList-from_slice}
-use Rattle.std.proofs.lemmas.Iterator.Search.{position_from_yields_List}
 use Rattle.naga_oil_imports.specs.Uses.{use_of, import_of}
 use Rattle.naga_oil_imports.specs.declared.import_definition.ImportDefWithOffset.{ImportDefWithOffset}
 use Rattle.naga_oil_imports.specs.declared.import_definition.ImportDefinition.{ImportDefinition}
 use Rattle.naga_oil_pre.specs.KnownView.{output_of}
 use Rattle.naga_oil_registry.specs.Definition.{definition_of, defs_of}
-use Rattle.naga_oil_registry.specs.declared.definition.ComposableModuleDefinition.{ComposableModuleDefinition}
 use Rattle.naga_oil_link.specs.BuiltModule.{Builds, built_of, builds_of}
 use Rattle.naga_oil_build.specs.Build.{build}
 use Rattle.naga_oil_build.specs.Built.{preprocessed_of}
@@ -24,8 +19,8 @@ use Rattle.naga_oil.specs.StoreView.{key_of, kept_of}
 use Rattle.naga_oil.specs.declared.compose.reach.Maker.{Maker}
 use Rattle.naga_oil.specs.declared.compose.reach.Unreached.{Unreached as CodeUnreached}
 use Rattle.naga_oil.proofs.KeepsLemmas.{keeps_on, keeps_built, keeps_kept, nothing_wrong, read_so}
-use Rattle.naga_oil.proofs.PlacesLemmas.{none_from, first_from, next_import}
-use Rattle.naga_oil.proofs.ReachLemmas.{built_found, built_before, as_missing, told_more, ends, module_unread, module_ended, module_over, each_none, each_same, rest_of, next_use, next_refused, next_ended, next_reached}
+use Rattle.naga_oil.proofs.PlacesLemmas.{few_modules, none_from, first_from, next_import}
+use Rattle.naga_oil.proofs.ReachLemmas.{built_found, built_before, as_missing, told_more, ends, module_unread, module_ended, module_over, each_none, next_use, next_refused, next_ended, next_reached}
 use Rattle.naga_oil.proofs.StoreLawLemmas.{kept_law}
 use Rattle.naga_oil.proofs.StoreReachLemmas.{stands_at}
 use Rattle.naga_oil.proofs.StoreStepLemmas.{imports_none, imports_more, imports_ended, kept_ended, kept_reached}
@@ -36,7 +31,7 @@ ensure-returns-then-contains_key-clause-reached g t c =
     let m = c.args.self.now in
     let s = settings (g.B.Backend.front m.builder.front.now) m.builder.capabilities m.builder.validate m.builder.override_any in
     let defs = defs_of m.defs in
-    let ds = map definition_of m.modules.now in
+    let ds = m.modules.now in
     let bs = builds_of m.builder.builds in
     let kept = kept_of m.store in
     let there : is_built (builds_of m.builder.builds) c.args.name.now ≡ true = sym (built_found _ c.args.name.now (λ a. refl) m.builder.builds.entries) ∙ sym c.contains_key.ensures ∙ c.if-contains_key.true in
@@ -47,31 +42,22 @@ ensure-returns-in_default-clause-reached g t c =
     let m = c.args.self.now in
     let s = settings (g.B.Backend.front m.builder.front.now) m.builder.capabilities m.builder.validate m.builder.override_any in
     let defs = defs_of m.defs in
-    let ds = map definition_of m.modules.now in
+    let ds = m.modules.now in
     let bs = builds_of m.builder.builds in
-    let kept = kept_of m.store in
     let name = c.args.name.now in
-    let absent : is_built (builds_of m.builder.builds) c.args.name.now ≡ false = sym (built_found _ c.args.name.now (λ a. refl) m.builder.builds.entries) ∙ sym c.contains_key.ensures ∙ c.if-contains_key.false in
-    let ms = m.modules.now in
-    let at : c.position.result ≡ position (λ (d : ComposableModuleDefinition). bytes_eq (string_bytes d.name) c.args.name.now) (take (length ms - c.args.from) (drop c.args.from ms)) = position_from_yields_List (λ (d : ComposableModuleDefinition). bytes_eq (string_bytes d.name) c.args.name.now) _ _ c.position.result c.position.ensures.ran (YieldsList-from_slice (take (length ms - c.args.from) (drop c.args.from ms)) (search rules)) (λ x b q k. search (rules, tests)) in
-    let here = sym (ap (position (λ (d : ComposableModuleDefinition). bytes_eq (string_bytes d.name) c.args.name.now)) (rest_of ms c.args.from)) ∙ sym at in
-    as_missing c.missing.result name 0 _ (none_from s defs name bs absent ms c.args.from (here ∙ c.in_default.is)) c.missing.ensures
+    let absent : is_built bs name ≡ false = sym (built_found _ name (λ a. refl) m.builder.builds.entries) ∙ sym c.contains_key.ensures ∙ c.if-contains_key.false in
+    as_missing c.missing.result name 0 _ (none_from s defs name bs absent ds c.args.from c.in_default.ensures.none) c.missing.ensures
 
 pub ensure-returns-in-Some-2-clause-reached : goal.ensure-returns-in-Some-2-clause-reached
 ensure-returns-in-Some-2-clause-reached g t c =
     let m = c.args.self.now in
     let s = settings (g.B.Backend.front m.builder.front.now) m.builder.capabilities m.builder.validate m.builder.override_any in
     let defs = defs_of m.defs in
-    let ds = map definition_of m.modules.now in
+    let ds = m.modules.now in
     let bs = builds_of m.builder.builds in
-    let kept = kept_of m.store in
     let name = c.args.name.now in
-    let absent : is_built (builds_of m.builder.builds) c.args.name.now ≡ false = sym (built_found _ c.args.name.now (λ a. refl) m.builder.builds.entries) ∙ sym c.contains_key.ensures ∙ c.if-contains_key.false in
-    let ms = m.modules.now in
-    let at : c.position.result ≡ position (λ (d : ComposableModuleDefinition). bytes_eq (string_bytes d.name) c.args.name.now) (take (length ms - c.args.from) (drop c.args.from ms)) = position_from_yields_List (λ (d : ComposableModuleDefinition). bytes_eq (string_bytes d.name) c.args.name.now) _ _ c.position.result c.position.ensures.ran (YieldsList-from_slice (take (length ms - c.args.from) (drop c.args.from ms)) (search rules)) (λ x b q k. search (rules, tests)) in
-    let here = sym (ap (position (λ (d : ComposableModuleDefinition). bytes_eq (string_bytes d.name) c.args.name.now)) (rest_of ms c.args.from)) ∙ sym at in
-    let x = c.index-modules-place.result in
-    let first = first_from s defs name bs absent ms c.args.from c.in-Some.ahead x (here ∙ c.in-Some.is) c.index-modules-place.is in
+    let absent : is_built bs name ≡ false = sym (built_found _ name (λ a. refl) m.builder.builds.entries) ∙ sym c.contains_key.ensures ∙ c.if-contains_key.false in
+    let first = first_from s defs name bs absent ds c.args.from c.in-Some.place (definition_of c.in-Some.of.now) c.in-Some.ensures.place c.in-Some.ensures.some in
     subst (λ (v : Outcome (Unit {0}) Unreached). Does (λ done. done) unreached_of nothing_said c.ensure_kept.result (builds_of c.ensure_kept.new.self.builder.builds) v) (sym first) c.ensure_kept.ensures.reached
 
 pub ensure-returns-in-None-clause-reached : goal.ensure-returns-in-None-clause-reached
@@ -79,16 +65,11 @@ ensure-returns-in-None-clause-reached g t c =
     let m = c.args.self.now in
     let s = settings (g.B.Backend.front m.builder.front.now) m.builder.capabilities m.builder.validate m.builder.override_any in
     let defs = defs_of m.defs in
-    let ds = map definition_of m.modules.now in
+    let ds = m.modules.now in
     let bs = builds_of m.builder.builds in
-    let kept = kept_of m.store in
     let name = c.args.name.now in
-    let absent : is_built (builds_of m.builder.builds) c.args.name.now ≡ false = sym (built_found _ c.args.name.now (λ a. refl) m.builder.builds.entries) ∙ sym c.contains_key.ensures ∙ c.if-contains_key.false in
-    let ms = m.modules.now in
-    let at : c.position.result ≡ position (λ (d : ComposableModuleDefinition). bytes_eq (string_bytes d.name) c.args.name.now) (take (length ms - c.args.from) (drop c.args.from ms)) = position_from_yields_List (λ (d : ComposableModuleDefinition). bytes_eq (string_bytes d.name) c.args.name.now) _ _ c.position.result c.position.ensures.ran (YieldsList-from_slice (take (length ms - c.args.from) (drop c.args.from ms)) (search rules)) (λ x b q k. search (rules, tests)) in
-    let here = sym (ap (position (λ (d : ComposableModuleDefinition). bytes_eq (string_bytes d.name) c.args.name.now)) (rest_of ms c.args.from)) ∙ sym at in
-    let x = c.index-modules-place.result in
-    let first = first_from s defs name bs absent ms c.args.from c.in-Some.ahead x (here ∙ c.in-Some.is) c.index-modules-place.is in
+    let absent : is_built bs name ≡ false = sym (built_found _ name (λ a. refl) m.builder.builds.entries) ∙ sym c.contains_key.ensures ∙ c.if-contains_key.false in
+    let first = first_from s defs name bs absent ds c.args.from c.in-Some.place (definition_of c.in-Some.of.now) c.in-Some.ensures.place c.in-Some.ensures.some in
     subst (λ (v : Outcome (Unit {0}) Unreached). Does (λ done. done) unreached_of nothing_said c.ensure_built.result (builds_of c.ensure_built.new.self.builder.builds) v) (sym first) c.ensure_built.ensures.reached
 
 pub ensure_each-loop-import-preserved : goal.ensure_each-loop-import-preserved
@@ -96,7 +77,7 @@ ensure_each-loop-import-preserved g t c =
     let m = c.args.self.now in
     let s = settings (g.B.Backend.front m.builder.front.now) m.builder.capabilities m.builder.validate m.builder.override_any in
     let defs = defs_of m.defs in
-    let ds = map definition_of m.modules.now in
+    let ds = m.modules.now in
     let bs = builds_of m.builder.builds in
     let kept = kept_of m.store in
     let us = c.args.uses.now in
@@ -109,18 +90,18 @@ ensure_each-loop-import-preserved g t c =
     let rule = rule_of ds defs c.args.rule in
     let reaching = unless_built (reach s defs (drop c.args.from ds)) in
     let next = next_use us i x c.loop-import-test.true c.import-item.is in
-    let ruled = ap (λ (n : Maker _). rule_of (map definition_of n.modules.now) (defs_of n.defs) c.args.rule (use_of x)) (sym inv.rest) in
-    let may : rule (use_of x) ≡ None = ruled ∙ subst (λ o. RefusesBy (rule_of (map definition_of m0.modules.now) (defs_of m0.defs) c.args.rule) (use_of x) o) c.in_default.is c.refuse.ensures in
+    let ruled = ap (λ (n : Maker _). rule_of n.modules.now (defs_of n.defs) c.args.rule (use_of x)) (sym inv.rest) in
+    let may : rule (use_of x) ≡ None = ruled ∙ subst (λ o. RefusesBy (rule_of m0.modules.now (defs_of m0.defs) c.args.rule) (use_of x) o) c.in_default.is c.refuse.ensures in
     let name = c.as_str.result.now in
     let called : name ≡ (use_of x).import.import = c.as_str.ensures.value ∙ ap (λ i. i.import) c.definition.ensures in
     let new = builds_of c.ensure.new.self.builder.builds in
     let newkept = kept_of c.ensure.new.self.store in
-    let alike = ap (λ (n : Maker _). unless_built (reach (settings (g.B.Backend.front n.builder.front.now) n.builder.capabilities n.builder.validate n.builder.override_any) (defs_of n.defs) (drop c.args.from (map definition_of n.modules.now))) name mid) (sym inv.rest) in
+    let alike = ap (λ (n : Maker _). unless_built (reach (settings (g.B.Backend.front n.builder.front.now) n.builder.capabilities n.builder.validate n.builder.override_any) (defs_of n.defs) (drop c.args.from n.modules.now)) name mid) (sym inv.rest) in
     record {
       rest = c.ensure.ensures.rest ∙ ap (λ (n : Maker _). record n { builder = record n.builder { builds = c.ensure.new.self.builder.builds }; store = c.ensure.new.self.store }) inv.rest;
       reached = sym (next_reached rule reaching x (drop i us) (drop (i + 1) us) next mid name called new may (alike ∙ c.in_ok-ensure.ensures.reached)) ∙ inv.reached;
       keeps = keeps_on s ds defs unreached_of bs kept mid midkept inv.keeps (nothing_wrong CodeUnreached) new newkept
-          (subst (λ (n : Maker _). Keeps (settings (g.B.Backend.front n.builder.front.now) n.builder.capabilities n.builder.validate n.builder.override_any) (map definition_of n.modules.now) (defs_of n.defs) unreached_of (nothing_wrong CodeUnreached) mid midkept new newkept) inv.rest c.in_ok-ensure.ensures.keeps);
+          (subst (λ (n : Maker _). Keeps (settings (g.B.Backend.front n.builder.front.now) n.builder.capabilities n.builder.validate n.builder.override_any) n.modules.now (defs_of n.defs) unreached_of (nothing_wrong CodeUnreached) mid midkept new newkept) inv.rest c.in_ok-ensure.ensures.keeps);
     }
 
 pub ensure_each-returns-in-Some-clause-reached : goal.ensure_each-returns-in-Some-clause-reached
@@ -128,7 +109,7 @@ ensure_each-returns-in-Some-clause-reached g t c =
     let m = c.args.self.now in
     let s = settings (g.B.Backend.front m.builder.front.now) m.builder.capabilities m.builder.validate m.builder.override_any in
     let defs = defs_of m.defs in
-    let ds = map definition_of m.modules.now in
+    let ds = m.modules.now in
     let bs = builds_of m.builder.builds in
     let kept = kept_of m.store in
     let us = c.args.uses.now in
@@ -141,7 +122,7 @@ ensure_each-returns-in-Some-clause-reached g t c =
     let rule = rule_of ds defs c.args.rule in
     let reaching = unless_built (reach s defs (drop c.args.from ds)) in
     let next = next_use us i x c.loop-import-test.true c.import-item.is in
-    let ruled = ap (λ (n : Maker _). rule_of (map definition_of n.modules.now) (defs_of n.defs) c.args.rule (use_of x)) (sym inv.rest) in
+    let ruled = ap (λ (n : Maker _). rule_of n.modules.now (defs_of n.defs) c.args.rule (use_of x)) (sym inv.rest) in
     told_more (unreached_of c.in-Some.why) _ _ (λ w h. sym inv.reached ∙ next_refused rule reaching x (drop i us) (drop (i + 1) us) next mid w (ruled ∙ h)) c.in-Some.ensures
 
 pub ensure_each-returns-in_err-ensure-clause-reached : goal.ensure_each-returns-in_err-ensure-clause-reached
@@ -149,7 +130,7 @@ ensure_each-returns-in_err-ensure-clause-reached g t c =
     let m = c.args.self.now in
     let s = settings (g.B.Backend.front m.builder.front.now) m.builder.capabilities m.builder.validate m.builder.override_any in
     let defs = defs_of m.defs in
-    let ds = map definition_of m.modules.now in
+    let ds = m.modules.now in
     let bs = builds_of m.builder.builds in
     let kept = kept_of m.store in
     let us = c.args.uses.now in
@@ -162,13 +143,13 @@ ensure_each-returns-in_err-ensure-clause-reached g t c =
     let rule = rule_of ds defs c.args.rule in
     let reaching = unless_built (reach s defs (drop c.args.from ds)) in
     let next = next_use us i x c.loop-import-test.true c.import-item.is in
-    let ruled = ap (λ (n : Maker _). rule_of (map definition_of n.modules.now) (defs_of n.defs) c.args.rule (use_of x)) (sym inv.rest) in
-    let may : rule (use_of x) ≡ None = ruled ∙ subst (λ o. RefusesBy (rule_of (map definition_of m0.modules.now) (defs_of m0.defs) c.args.rule) (use_of x) o) c.in_default.is c.refuse.ensures in
+    let ruled = ap (λ (n : Maker _). rule_of n.modules.now (defs_of n.defs) c.args.rule (use_of x)) (sym inv.rest) in
+    let may : rule (use_of x) ≡ None = ruled ∙ subst (λ o. RefusesBy (rule_of m0.modules.now (defs_of m0.defs) c.args.rule) (use_of x) o) c.in_default.is c.refuse.ensures in
     let name = c.as_str.result.now in
     let called : name ≡ (use_of x).import.import = c.as_str.ensures.value ∙ ap (λ i. i.import) c.definition.ensures in
     let new = builds_of c.ensure.new.self.builder.builds in
     let newkept = kept_of c.ensure.new.self.store in
-    let alike = ap (λ (n : Maker _). unless_built (reach (settings (g.B.Backend.front n.builder.front.now) n.builder.capabilities n.builder.validate n.builder.override_any) (defs_of n.defs) (drop c.args.from (map definition_of n.modules.now))) name mid) (sym inv.rest) in
+    let alike = ap (λ (n : Maker _). unless_built (reach (settings (g.B.Backend.front n.builder.front.now) n.builder.capabilities n.builder.validate n.builder.override_any) (defs_of n.defs) (drop c.args.from n.modules.now)) name mid) (sym inv.rest) in
     ends (λ done. done) (λ done. done) unreached_of c.in_err-ensure.field-0.0 c.from_residual.result new _ _ (λ w h. sym inv.reached ∙ next_ended rule reaching x (drop i us) (drop (i + 1) us) next mid name called new may w (alike ∙ h)) c.in_err-ensure.ensures.reached c.from_residual.ensures.1
 
 pub ensure_each-returns-clause-reached : goal.ensure_each-returns-clause-reached
@@ -176,7 +157,7 @@ ensure_each-returns-clause-reached g t c =
     let m = c.args.self.now in
     let s = settings (g.B.Backend.front m.builder.front.now) m.builder.capabilities m.builder.validate m.builder.override_any in
     let defs = defs_of m.defs in
-    let ds = map definition_of m.modules.now in
+    let ds = m.modules.now in
     let bs = builds_of m.builder.builds in
     let kept = kept_of m.store in
     let mid = builds_of c.loop-import.self.builder.builds in
@@ -185,12 +166,18 @@ ensure_each-returns-clause-reached g t c =
     let none : drop c.loop-import.import-index c.args.uses.now ≡ [] = drop_of_length-le c.args.uses.now (omega arith) in
     sym c.loop-import.invariant.reached ∙ ap (λ (js : List ImportDefWithOffset). reach_each rule reaching (map use_of js) mid) none ∙ each_none rule reaching mid
 
+pub ensure_built-overflow_add-place : goal.ensure_built-overflow_add-place
+ensure_built-overflow_add-place g t c =
+    let few = few_modules c.args.self.now.modules.now c.requires.ready.registry in
+    let within = c.requires.ready.within in
+    omega (arith, few, within)
+
 pub ensure_built-returns-in_err-output-clause-reached : goal.ensure_built-returns-in_err-output-clause-reached
 ensure_built-returns-in_err-output-clause-reached g t c =
     let m = c.args.self.now in
     let s = settings (g.B.Backend.front m.builder.front.now) m.builder.capabilities m.builder.validate m.builder.override_any in
     let defs = defs_of m.defs in
-    let ds = map definition_of m.modules.now in
+    let ds = m.modules.now in
     let bs = builds_of m.builder.builds in
     let kept = kept_of m.store in
     let d = definition_of c.args.of.now in
@@ -204,7 +191,7 @@ ensure_built-returns-in_err-ensure_each-clause-reached g t c =
     let m = c.args.self.now in
     let s = settings (g.B.Backend.front m.builder.front.now) m.builder.capabilities m.builder.validate m.builder.override_any in
     let defs = defs_of m.defs in
-    let ds = map definition_of m.modules.now in
+    let ds = m.modules.now in
     let bs = builds_of m.builder.builds in
     let kept = kept_of m.store in
     let d = definition_of c.args.of.now in
@@ -224,7 +211,7 @@ ensure_built-enter_build-requires g t c =
     let m = c.args.self.now in
     let s = settings (g.B.Backend.front m.builder.front.now) m.builder.capabilities m.builder.validate m.builder.override_any in
     let defs = defs_of m.defs in
-    let ds = map definition_of m.modules.now in
+    let ds = m.modules.now in
     let bs = builds_of m.builder.builds in
     let kept = kept_of m.store in
     let d = definition_of c.args.of.now in
@@ -238,7 +225,7 @@ ensure_built-returns-clause-reached g t c =
     let m = c.args.self.now in
     let s = settings (g.B.Backend.front m.builder.front.now) m.builder.capabilities m.builder.validate m.builder.override_any in
     let defs = defs_of m.defs in
-    let ds = map definition_of m.modules.now in
+    let ds = m.modules.now in
     let bs = builds_of m.builder.builds in
     let kept = kept_of m.store in
     let d = definition_of c.args.of.now in
@@ -263,7 +250,7 @@ ensure_built-returns-clause-keeps g t c =
     let m = c.args.self.now in
     let s = settings (g.B.Backend.front m.builder.front.now) m.builder.capabilities m.builder.validate m.builder.override_any in
     let defs = defs_of m.defs in
-    let ds = map definition_of m.modules.now in
+    let ds = m.modules.now in
     let bs = builds_of m.builder.builds in
     let kept = kept_of m.store in
     let d = definition_of c.args.of.now in
@@ -286,12 +273,18 @@ ensure_built-returns-clause-keeps g t c =
     keeps_built s ds defs c.requires.ready.registry place d c.requires.at bs mid kept midkept out c.requires.ready.stand.built (read_so defs d bs out (preprocessed_of (defined defs) d) c.in_ok-output.ensures) used c.in_ok-ensure_each.ensures.keeps c.enter_build.result newer more does
     (subst (λ (k : Key). KeepsBuild c.enter_build.result k (build s d out mid) midkept more) c.requires.key keeps) c.enter_build.ensures.refused
 
+pub ensure_kept-overflow_add-place : goal.ensure_kept-overflow_add-place
+ensure_kept-overflow_add-place g t c =
+    let few = few_modules c.args.self.now.modules.now c.requires.ready.registry in
+    let within = c.requires.ready.within in
+    omega (arith, few, within)
+
 pub ensure_kept-loop-import-preserved : goal.ensure_kept-loop-import-preserved
 ensure_kept-loop-import-preserved g t c =
     let m = c.args.self.now in
     let s = settings (g.B.Backend.front m.builder.front.now) m.builder.capabilities m.builder.validate m.builder.override_any in
     let defs = defs_of m.defs in
-    let ds = map definition_of m.modules.now in
+    let ds = m.modules.now in
     let bs = builds_of m.builder.builds in
     let kept = kept_of m.store in
     let d = definition_of c.args.of.now in
@@ -310,13 +303,13 @@ ensure_kept-loop-import-preserved g t c =
     let called : name ≡ (import_of x).import = c.as_str.ensures.value in
     let new = builds_of c.ensure.new.self.builder.builds in
     let newkept = kept_of c.ensure.new.self.store in
-    let alike = ap (λ (n : Maker _). unless_built (reach (settings (g.B.Backend.front n.builder.front.now) n.builder.capabilities n.builder.validate n.builder.override_any) (defs_of n.defs) (drop (place + 1) (map definition_of n.modules.now))) name mid) (sym inv.rest) in
+    let alike = ap (λ (n : Maker _). unless_built (reach (settings (g.B.Backend.front n.builder.front.now) n.builder.capabilities n.builder.validate n.builder.override_any) (defs_of n.defs) (drop (place + 1) n.modules.now)) name mid) (sym inv.rest) in
     let first = ap (λ (js : List ImportDefinition). reach_imports reaching (map import_of js) mid) next in
     record {
       rest = c.ensure.ensures.rest ∙ ap (λ (n : Maker _). record n { builder = record n.builder { builds = c.ensure.new.self.builder.builds }; store = c.ensure.new.self.store }) inv.rest;
       reached = sym (first ∙ imports_more reaching (import_of x) (map import_of (drop (i + 1) us)) mid new (ap (λ n. reaching n mid) (sym called) ∙ alike ∙ c.in_ok-ensure.ensures.reached)) ∙ inv.reached;
       keeps = keeps_on s ds defs unreached_of bs kept mid midkept inv.keeps (nothing_wrong CodeUnreached) new newkept
-          (subst (λ (n : Maker _). Keeps (settings (g.B.Backend.front n.builder.front.now) n.builder.capabilities n.builder.validate n.builder.override_any) (map definition_of n.modules.now) (defs_of n.defs) unreached_of (nothing_wrong CodeUnreached) mid midkept new newkept) inv.rest c.in_ok-ensure.ensures.keeps);
+          (subst (λ (n : Maker _). Keeps (settings (g.B.Backend.front n.builder.front.now) n.builder.capabilities n.builder.validate n.builder.override_any) n.modules.now (defs_of n.defs) unreached_of (nothing_wrong CodeUnreached) mid midkept new newkept) inv.rest c.in_ok-ensure.ensures.keeps);
     }
 
 pub ensure_kept-returns-in_err-ensure-clause-reached : goal.ensure_kept-returns-in_err-ensure-clause-reached
@@ -324,7 +317,7 @@ ensure_kept-returns-in_err-ensure-clause-reached g t c =
     let m = c.args.self.now in
     let s = settings (g.B.Backend.front m.builder.front.now) m.builder.capabilities m.builder.validate m.builder.override_any in
     let defs = defs_of m.defs in
-    let ds = map definition_of m.modules.now in
+    let ds = m.modules.now in
     let bs = builds_of m.builder.builds in
     let kept = kept_of m.store in
     let d = definition_of c.args.of.now in
@@ -343,7 +336,7 @@ ensure_kept-returns-in_err-ensure-clause-reached g t c =
     let called : name ≡ (import_of x).import = c.as_str.ensures.value in
     let new = builds_of c.ensure.new.self.builder.builds in
     let newkept = kept_of c.ensure.new.self.store in
-    let alike = ap (λ (n : Maker _). unless_built (reach (settings (g.B.Backend.front n.builder.front.now) n.builder.capabilities n.builder.validate n.builder.override_any) (defs_of n.defs) (drop (place + 1) (map definition_of n.modules.now))) name mid) (sym inv.rest) in
+    let alike = ap (λ (n : Maker _). unless_built (reach (settings (g.B.Backend.front n.builder.front.now) n.builder.capabilities n.builder.validate n.builder.override_any) (defs_of n.defs) (drop (place + 1) n.modules.now)) name mid) (sym inv.rest) in
     let first = ap (λ (js : List ImportDefinition). reach_imports reaching (map import_of js) mid) next in
     let law = kept_law s ds defs place d b bs kept c.requires.ready.registry c.requires.at c.requires.ready.stand c.requires.found in
     let whole = subst (λ n. reach_module s defs d (unless_built (reach s defs (drop n ds))) bs ≡ reach_kept (unless_built (reach s defs (drop n ds))) d.name b bs) (sym (add-one place)) law in
@@ -356,7 +349,7 @@ ensure_kept-returns-clause-reached g t c =
     let m = c.args.self.now in
     let s = settings (g.B.Backend.front m.builder.front.now) m.builder.capabilities m.builder.validate m.builder.override_any in
     let defs = defs_of m.defs in
-    let ds = map definition_of m.modules.now in
+    let ds = m.modules.now in
     let bs = builds_of m.builder.builds in
     let kept = kept_of m.store in
     let d = definition_of c.args.of.now in
@@ -382,7 +375,7 @@ ensure_kept-returns-clause-keeps g t c =
     let m = c.args.self.now in
     let s = settings (g.B.Backend.front m.builder.front.now) m.builder.capabilities m.builder.validate m.builder.override_any in
     let defs = defs_of m.defs in
-    let ds = map definition_of m.modules.now in
+    let ds = m.modules.now in
     let bs = builds_of m.builder.builds in
     let kept = kept_of m.store in
     let d = definition_of c.args.of.now in

@@ -1,6 +1,6 @@
 use Rattle.std.proofs.Common.{◌≡◌, ◌+◌, ◌-◌, ◌*◌, length, map, drop}
 use Rattle.naga_oil_imports.specs.Uses.{import_of, use_of}
-use Rattle.naga_oil_registry.specs.Definition.{definition_of, defs_of}
+use Rattle.naga_oil_registry.specs.Definition.{defs_of}
 use Rattle.naga_oil_link.specs.BuiltModule.{builds_of}
 use Rattle.naga_oil_build.specs.Held.{settings}
 use Rattle.naga_oil.specs.MakeView.{Keeps, rule_of, unreached_of}
@@ -27,7 +27,7 @@ abbrev pub invariant-ensure_each-loop-import : goal.invariant-ensure_each-loop-i
 invariant-ensure_each-loop-import g l =
     let m = l.fn.self in
     let s = settings (g.B.Backend.front m.builder.front.now) m.builder.capabilities m.builder.validate m.builder.override_any in
-    let ds = map definition_of m.modules.now in
+    let ds = m.modules.now in
     let rule = rule_of ds (defs_of m.defs) l.rule in
     let reaching = unless_built (reach s (defs_of m.defs) (drop l.from ds)) in
     record {
@@ -40,7 +40,7 @@ abbrev pub invariant-ensure_kept-loop-import : goal.invariant-ensure_kept-loop-i
 invariant-ensure_kept-loop-import g l =
     let m = l.fn.self in
     let s = settings (g.B.Backend.front m.builder.front.now) m.builder.capabilities m.builder.validate m.builder.override_any in
-    let ds = map definition_of m.modules.now in
+    let ds = m.modules.now in
     let reaching = unless_built (reach s (defs_of m.defs) (drop (l.place + 1) ds)) in
     record {
       rest : l.self ≡ record m { builder = record m.builder { builds = l.self.builder.builds }; store = l.self.store };

@@ -1,4 +1,4 @@
-use Rattle.std.proofs.Common.{◌≡◌, ◌∙◌, Result, Ok, Err, map, ap, sym, subst, arith}
+use Rattle.std.proofs.Common.{◌≡◌, ◌∙◌, Result, Ok, Err, ap, sym, subst, arith}
 use Rattle.naga_oil_ir.specs.ModuleValue.{module_value}
 use Rattle.naga_oil_conditions.specs.Fault.{Fault}
 use Rattle.naga_oil_pre.specs.KnownView.{output_of}
@@ -29,14 +29,14 @@ returns-in_err-shader-clause-made g c =
     let desc = shader_source c.args.desc in
     let text = c.args.text.now in
     let e = c.in_err-shader.field-0.0 in
-    make_unread s (map definition_of c.args.self.now.modules.now) desc text (builds_of m.builder.builds) module_value e c.from_residual.result c.from_residual.ensures.1
+    make_unread s c.args.self.now.modules.now desc text (builds_of m.builder.builds) module_value e c.from_residual.result c.from_residual.ensures.1
     (answers_placed definition_of (in_text desc.file_path text 0) c.read_shader.result (Err e) (read_shader desc text) c.in_err-shader.ensures c.read_shader.ensures)
 
 pub returns-in_err-read_first-clause-made : goal.returns-in_err-read_first-clause-made
 returns-in_err-read_first-clause-made g c =
     let m = c.args.self.now in
     let s = settings (g.B.Backend.front m.builder.front.now) m.builder.capabilities m.builder.validate m.builder.override_any in
-    let ds = map definition_of c.args.self.now.modules.now in
+    let ds = c.args.self.now.modules.now in
     let desc = shader_source c.args.desc in
     let text = c.args.text.now in
     let bs = builds_of m.builder.builds in
@@ -52,7 +52,7 @@ pub returns-in_err-output-clause-made : goal.returns-in_err-output-clause-made
 returns-in_err-output-clause-made g c =
     let m = c.args.self.now in
     let s = settings (g.B.Backend.front m.builder.front.now) m.builder.capabilities m.builder.validate m.builder.override_any in
-    let ds = map definition_of c.args.self.now.modules.now in
+    let ds = c.args.self.now.modules.now in
     let desc = shader_source c.args.desc in
     let text = c.args.text.now in
     let bs = builds_of m.builder.builds in
@@ -66,7 +66,7 @@ returns-in_err-output-clause-made g c =
     let e = c.in_err-output.field-0.0 in
     let new = builds_of c.read_second.new.self.builder.builds in
     make_not_second s ds desc text bs d read defs mid first module_value e c.from_residual-in_err-output.result new c.from_residual-in_err-output.ensures.1
-    (subst (λ (z : Maker _). Ends e new (read_second (settings (g.B.Backend.front z.builder.front.now) z.builder.capabilities z.builder.validate z.builder.override_any) (map definition_of z.modules.now) text d defs mid)) c.read_first.ensures.rest c.in_err-output.ensures.read)
+    (subst (λ (z : Maker _). Ends e new (read_second (settings (g.B.Backend.front z.builder.front.now) z.builder.capabilities z.builder.validate z.builder.override_any) z.modules.now text d defs mid)) c.read_first.ensures.rest c.in_err-output.ensures.read)
 
 pub finish-requires : goal.finish-requires
 finish-requires g c =
@@ -79,7 +79,7 @@ pub returns-clause-made : goal.returns-clause-made
 returns-clause-made g c =
     let m = c.args.self.now in
     let s = settings (g.B.Backend.front m.builder.front.now) m.builder.capabilities m.builder.validate m.builder.override_any in
-    let ds = map definition_of c.args.self.now.modules.now in
+    let ds = c.args.self.now.modules.now in
     let desc = shader_source c.args.desc in
     let text = c.args.text.now in
     let bs = builds_of m.builder.builds in
@@ -97,7 +97,7 @@ returns-clause-made g c =
     let out = output_of c.in_ok-output.output in
     let z = settings (g.B.Backend.front last.builder.front.now) last.builder.capabilities last.builder.validate last.builder.override_any in
     make_finished s ds desc text bs d read defs mid first module_value c.finish.result out new
-    (subst (λ (z : Maker _). read_second (settings (g.B.Backend.front z.builder.front.now) z.builder.capabilities z.builder.validate z.builder.override_any) (map definition_of z.modules.now) text d defs mid ≡ record { builds = new; result = Ok out }) c.read_first.ensures.rest c.in_ok-output.ensures.read)
+    (subst (λ (z : Maker _). read_second (settings (g.B.Backend.front z.builder.front.now) z.builder.capabilities z.builder.validate z.builder.override_any) z.modules.now text d defs mid ≡ record { builds = new; result = Ok out }) c.read_first.ensures.rest c.in_ok-output.ensures.read)
     (answers_same module_value c.finish.result (finish z (defs_of last.defs) new d out desc.shader_type) (finish s defs new d out desc.shader_type)
     (λ i. finish (sym (again ∙ alike) i) (sym kept i) new d out desc.shader_type) c.finish.ensures)
 
@@ -105,7 +105,7 @@ pub returns-in_err-shader-clause-keeps : goal.returns-in_err-shader-clause-keeps
 returns-in_err-shader-clause-keeps g c =
     let m = c.args.self.now in
     let s = settings (g.B.Backend.front m.builder.front.now) m.builder.capabilities m.builder.validate m.builder.override_any in
-    let ds = map definition_of m.modules.now in
+    let ds = m.modules.now in
     let desc = shader_source c.args.desc in
     let text = c.args.text.now in
     let kept = kept_of m.store in
@@ -117,7 +117,7 @@ pub returns-in_err-self-clause-keeps : goal.returns-in_err-self-clause-keeps
 returns-in_err-self-clause-keeps g c =
     let m = c.args.self.now in
     let s = settings (g.B.Backend.front m.builder.front.now) m.builder.capabilities m.builder.validate m.builder.override_any in
-    let ds = map definition_of m.modules.now in
+    let ds = m.modules.now in
     let desc = shader_source c.args.desc in
     let text = c.args.text.now in
     let kept = kept_of m.store in
@@ -129,7 +129,7 @@ pub returns-in_err-read_first-clause-keeps : goal.returns-in_err-read_first-clau
 returns-in_err-read_first-clause-keeps g c =
     let m = c.args.self.now in
     let s = settings (g.B.Backend.front m.builder.front.now) m.builder.capabilities m.builder.validate m.builder.override_any in
-    let ds = map definition_of m.modules.now in
+    let ds = m.modules.now in
     let desc = shader_source c.args.desc in
     let text = c.args.text.now in
     let kept = kept_of m.store in
@@ -151,7 +151,7 @@ pub returns-in_err-output-clause-keeps : goal.returns-in_err-output-clause-keeps
 returns-in_err-output-clause-keeps g c =
     let m = c.args.self.now in
     let s = settings (g.B.Backend.front m.builder.front.now) m.builder.capabilities m.builder.validate m.builder.override_any in
-    let ds = map definition_of m.modules.now in
+    let ds = m.modules.now in
     let desc = shader_source c.args.desc in
     let text = c.args.text.now in
     let kept = kept_of m.store in
@@ -167,7 +167,7 @@ returns-in_err-output-clause-keeps g c =
     let under : defs_of z.defs ≡ defs_of n.defs = ap (λ (x : Maker _). defs_of x.defs) c.read_second.ensures.rest in
     let e = c.in_err-output.field-0.0 in
     let r = c.from_residual-in_err-output.result in
-    let second = subst (λ (x : Maker _). Keeps {X = PreprocessOutput} (settings (g.B.Backend.front x.builder.front.now) x.builder.capabilities x.builder.validate x.builder.override_any) (map definition_of x.modules.now) (defs_of x.defs) refused_of (Err e) (builds_of x.builder.builds) (kept_of x.store) newer more) c.read_first.ensures.rest c.in_err-output.ensures.keeps in
+    let second = subst (λ (x : Maker _). Keeps {X = PreprocessOutput} (settings (g.B.Backend.front x.builder.front.now) x.builder.capabilities x.builder.validate x.builder.override_any) x.modules.now (defs_of x.defs) refused_of (Err e) (builds_of x.builder.builds) (kept_of x.store) newer more) c.read_first.ensures.rest c.in_err-output.ensures.keeps in
     let both = first_then s ds refused_of kept tt (Err e) comes (defs_of n.defs) (builds_of n.builder.builds) newer (kept_of n.store) more c.in_ok-read_first.ensures.keeps second in
     subst (λ (v : Result Defs Fault). KeepsFirst s ds refused_of v r kept (defs_of z.defs) newer more) (sym same)
     (subst (λ (u : Defs). KeepsFirst s ds refused_of comes r kept u newer more) (sym under) (first_ended s ds refused_of kept e r comes (defs_of n.defs) newer more c.from_residual-in_err-output.ensures.1 both))
@@ -176,7 +176,7 @@ pub returns-clause-keeps : goal.returns-clause-keeps
 returns-clause-keeps g c =
     let m = c.args.self.now in
     let s = settings (g.B.Backend.front m.builder.front.now) m.builder.capabilities m.builder.validate m.builder.override_any in
-    let ds = map definition_of m.modules.now in
+    let ds = m.modules.now in
     let desc = shader_source c.args.desc in
     let text = c.args.text.now in
     let kept = kept_of m.store in
@@ -191,7 +191,7 @@ returns-clause-keeps g c =
     let more = kept_of z.store in
     let under : defs_of z.defs ≡ defs_of n.defs = ap (λ (x : Maker _). defs_of x.defs) c.read_second.ensures.rest in
     let r = c.finish.result in
-    let second = subst (λ (x : Maker _). Keeps {X = PreprocessOutput} (settings (g.B.Backend.front x.builder.front.now) x.builder.capabilities x.builder.validate x.builder.override_any) (map definition_of x.modules.now) (defs_of x.defs) refused_of (Ok c.in_ok-output.output) (builds_of x.builder.builds) (kept_of x.store) newer more) c.read_first.ensures.rest c.in_ok-output.ensures.keeps in
+    let second = subst (λ (x : Maker _). Keeps {X = PreprocessOutput} (settings (g.B.Backend.front x.builder.front.now) x.builder.capabilities x.builder.validate x.builder.override_any) x.modules.now (defs_of x.defs) refused_of (Ok c.in_ok-output.output) (builds_of x.builder.builds) (kept_of x.store) newer more) c.read_first.ensures.rest c.in_ok-output.ensures.keeps in
     let last = keeps_whatever s ds (defs_of n.defs) (builds_of n.builder.builds) (kept_of n.store) newer more refused_of c.in_ok-output.output r second in
     let both = first_then s ds refused_of kept tt r comes (defs_of n.defs) (builds_of n.builder.builds) newer (kept_of n.store) more c.in_ok-read_first.ensures.keeps last in
     subst (λ (v : Result Defs Fault). KeepsFirst s ds refused_of v r kept (defs_of z.defs) newer more) (sym same)

@@ -26,13 +26,13 @@ pub returns-in_err-output-clause-read : goal.returns-in_err-output-clause-read
 returns-in_err-output-clause-read g c =
     let m = c.args.self.now in
     let s = settings (g.B.Backend.front m.builder.front.now) m.builder.capabilities m.builder.validate m.builder.override_any in
-    first_unread s (map definition_of c.args.self.now.modules.now) c.args.text.now (definition_of c.args.shader.now) (defs_of m.defs) (builds_of m.builder.builds) c.in_err-output.field-0.0 c.from_residual.result c.from_residual.ensures.1 _ c.in_err-output.ensures
+    first_unread s c.args.self.now.modules.now c.args.text.now (definition_of c.args.shader.now) (defs_of m.defs) (builds_of m.builder.builds) c.in_err-output.field-0.0 c.from_residual.result c.from_residual.ensures.1 _ c.in_err-output.ensures
 
 pub returns-in_err-in_text-clause-read : goal.returns-in_err-in_text-clause-read
 returns-in_err-in_text-clause-read g c =
     let m = c.args.self.now in
     let s = settings (g.B.Backend.front m.builder.front.now) m.builder.capabilities m.builder.validate m.builder.override_any in
-    let ds = map definition_of c.args.self.now.modules.now in
+    let ds = c.args.self.now.modules.now in
     let text = c.args.text.now in
     let d = definition_of c.args.shader.now in
     let own = defs_of m.defs in
@@ -49,7 +49,7 @@ pub returns-clause-read : goal.returns-clause-read
 returns-clause-read g c =
     let m = c.args.self.now in
     let s = settings (g.B.Backend.front m.builder.front.now) m.builder.capabilities m.builder.validate m.builder.override_any in
-    let ds = map definition_of c.args.self.now.modules.now in
+    let ds = c.args.self.now.modules.now in
     let text = c.args.text.now in
     let d = definition_of c.args.shader.now in
     let own = defs_of m.defs in
@@ -73,7 +73,7 @@ pub returns-in_err-output-clause-keeps : goal.returns-in_err-output-clause-keeps
 returns-in_err-output-clause-keeps g c =
     let m = c.args.self.now in
     let s = settings (g.B.Backend.front m.builder.front.now) m.builder.capabilities m.builder.validate m.builder.override_any in
-    let ds = map definition_of m.modules.now in
+    let ds = m.modules.now in
     let d = definition_of c.args.shader.now in
     let own = defs_of m.defs in
     let kept = kept_of m.store in
@@ -85,7 +85,7 @@ pub returns-in_err-in_text-clause-keeps : goal.returns-in_err-in_text-clause-kee
 returns-in_err-in_text-clause-keeps g c =
     let m = c.args.self.now in
     let s = settings (g.B.Backend.front m.builder.front.now) m.builder.capabilities m.builder.validate m.builder.override_any in
-    let ds = map definition_of m.modules.now in
+    let ds = m.modules.now in
     let d = definition_of c.args.shader.now in
     let own = defs_of m.defs in
     let kept = kept_of m.store in
@@ -98,7 +98,7 @@ pub reach_uses-requires : goal.reach_uses-requires
 reach_uses-requires g c =
     let m = c.args.self.now in
     let s = settings (g.B.Backend.front m.builder.front.now) m.builder.capabilities m.builder.validate m.builder.override_any in
-    let ds = map definition_of m.modules.now in
+    let ds = m.modules.now in
     let d = definition_of c.args.shader.now in
     let own = defs_of m.defs in
     let kept = kept_of m.store in
@@ -109,7 +109,7 @@ pub returns-clause-keeps : goal.returns-clause-keeps
 returns-clause-keeps g c =
     let m = c.args.self.now in
     let s = settings (g.B.Backend.front m.builder.front.now) m.builder.capabilities m.builder.validate m.builder.override_any in
-    let ds = map definition_of m.modules.now in
+    let ds = m.modules.now in
     let d = definition_of c.args.shader.now in
     let own = defs_of m.defs in
     let kept = kept_of m.store in

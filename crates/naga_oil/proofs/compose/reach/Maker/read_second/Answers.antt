@@ -18,13 +18,13 @@ pub returns-in_err-output-clause-read : goal.returns-in_err-output-clause-read
 returns-in_err-output-clause-read g c =
     let m = c.args.self.now in
     let s = settings (g.B.Backend.front m.builder.front.now) m.builder.capabilities m.builder.validate m.builder.override_any in
-    second_unread s (map definition_of c.args.self.now.modules.now) c.args.text.now (definition_of c.args.shader.now) (defs_of m.defs) (builds_of m.builder.builds) c.in_err-output.field-0.0 c.from_residual.result c.from_residual.ensures.1 output_of c.in_err-output.ensures
+    second_unread s c.args.self.now.modules.now c.args.text.now (definition_of c.args.shader.now) (defs_of m.defs) (builds_of m.builder.builds) c.in_err-output.field-0.0 c.from_residual.result c.from_residual.ensures.1 output_of c.in_err-output.ensures
 
 pub returns-in_err-reach_uses-clause-read : goal.returns-in_err-reach_uses-clause-read
 returns-in_err-reach_uses-clause-read g c =
     let m = c.args.self.now in
     let s = settings (g.B.Backend.front m.builder.front.now) m.builder.capabilities m.builder.validate m.builder.override_any in
-    let ds = map definition_of c.args.self.now.modules.now in
+    let ds = c.args.self.now.modules.now in
     let text = c.args.text.now in
     let d = definition_of c.args.shader.now in
     let own = defs_of m.defs in
@@ -40,7 +40,7 @@ pub returns-clause-read : goal.returns-clause-read
 returns-clause-read g c =
     let m = c.args.self.now in
     let s = settings (g.B.Backend.front m.builder.front.now) m.builder.capabilities m.builder.validate m.builder.override_any in
-    let ds = map definition_of c.args.self.now.modules.now in
+    let ds = c.args.self.now.modules.now in
     let text = c.args.text.now in
     let d = definition_of c.args.shader.now in
     let own = defs_of m.defs in
@@ -55,14 +55,14 @@ pub returns-in_err-output-clause-keeps : goal.returns-in_err-output-clause-keeps
 returns-in_err-output-clause-keeps g c =
     let m = c.args.self.now in
     let s = settings (g.B.Backend.front m.builder.front.now) m.builder.capabilities m.builder.validate m.builder.override_any in
-    keeps_same s (map definition_of m.modules.now) (defs_of m.defs) refused_of (builds_of m.builder.builds) (kept_of m.store) c.from_residual.result c.requires.stand
+    keeps_same s m.modules.now (defs_of m.defs) refused_of (builds_of m.builder.builds) (kept_of m.store) c.from_residual.result c.requires.stand
 
 pub returns-in_err-reach_uses-clause-keeps : goal.returns-in_err-reach_uses-clause-keeps
 returns-in_err-reach_uses-clause-keeps g c =
     let m = c.args.self.now in
     let n = c.reach_uses.new.self in
     let s = settings (g.B.Backend.front m.builder.front.now) m.builder.capabilities m.builder.validate m.builder.override_any in
-    let ds = map definition_of m.modules.now in
+    let ds = m.modules.now in
     let bs = builds_of m.builder.builds in
     let kept = kept_of m.store in
     keeps_ended s ds (defs_of m.defs) refused_of bs kept bs kept (keeps_same s ds (defs_of m.defs) refused_of bs kept (nothing_wrong ComposerError) c.requires.stand) c.in_err-reach_uses.field-0.0 c.from_residual-in_err-reach_uses.result (builds_of n.builder.builds) (kept_of n.store) c.from_residual-in_err-reach_uses.ensures.1 c.in_err-reach_uses.ensures.keeps
@@ -72,4 +72,4 @@ returns-clause-keeps g c =
     let m = c.args.self.now in
     let n = c.reach_uses.new.self in
     let s = settings (g.B.Backend.front m.builder.front.now) m.builder.capabilities m.builder.validate m.builder.override_any in
-    keeps_ok s (map definition_of m.modules.now) (defs_of m.defs) (builds_of m.builder.builds) (kept_of m.store) (builds_of n.builder.builds) (kept_of n.store) refused_of refused_of tt c.in_ok-output.output c.in_ok-reach_uses.ensures.keeps
+    keeps_ok s m.modules.now (defs_of m.defs) (builds_of m.builder.builds) (kept_of m.store) (builds_of n.builder.builds) (kept_of n.store) refused_of refused_of tt c.in_ok-output.output c.in_ok-reach_uses.ensures.keeps

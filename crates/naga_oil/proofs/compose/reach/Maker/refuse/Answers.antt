@@ -1,4 +1,4 @@
-use Rattle.std.proofs.Common.{◌≡◌, ◌∙◌, ℕ, Bool, Option, Some, None, List, map, cond, sym, ap}
+use Rattle.std.proofs.Common.{◌≡◌, ◌∙◌, ℕ, Bool, Option, Some, None, List, cond, sym, ap}
 use Rattle.naga_oil_imports.specs.Uses.{use_of}
 use Rattle.naga_oil_registry.specs.Definition.{definition_of, defs_of}
 use Rattle.naga_oil.specs.MakeView.{rule_of}
@@ -14,7 +14,7 @@ told name p = cond p.0 None (Some (missing name p.1))
 
 pub returns-then-allowed : goal.returns-then-allowed
 returns-then-allowed g c =
-    let ds = map definition_of c.args.self.now.modules.now in
+    let ds = c.args.self.now.modules.now in
     let defs = defs_of c.args.self.now.defs in
     let u = use_of c.args.import.now in
     let name = c.as_str-name.result.now in
@@ -28,7 +28,7 @@ returns-then-allowed g c =
 
 pub returns : goal.returns
 returns g c =
-    let ds = map definition_of c.args.self.now.modules.now in
+    let ds = c.args.self.now.modules.now in
     let defs = defs_of c.args.self.now.defs in
     let u = use_of c.args.import.now in
     let name = c.as_str-name.result.now in
