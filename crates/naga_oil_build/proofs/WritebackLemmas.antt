@@ -133,10 +133,6 @@ pub lost-is : (m : ModuleValue) (own : OwnPlaces) (back : ModuleValue) (b : Buil
 unfolding lost
 lost-is m own back b functions = refl
 
--- all functions are taken
-pub all_taken : (fs : List (Function × Span)) (n : ℕ) → n ≡ length fs → named_functions (take n (function_values fs)) ≡ named_functions (function_values fs)
-all_taken fs n e = ap (λ n. named_functions (take n (function_values fs))) (e ∙ sym (length-map fs _)) ∙ ap named_functions (take-length (function_values fs))
-
 -- ---- the items that are asked for
 place_last : {X : Type 0} (n : ℕ) (xs : List X) (x : X) → enumerate_from n (xs ++ x ∷ []) ≡ enumerate_from n xs ++ (n + length xs, x) ∷ []
 place_last n [] x = ap (λ k. (k, x) ∷ []) (omega arith)

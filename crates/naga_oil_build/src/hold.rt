@@ -26,6 +26,11 @@ fn or_wrong_form<T>(answer: Formed<T>) -> Checked<T>
     }
 }
 
+// How many functions a module has.
+fn count_functions(of: &Module) -> usize {
+    of.functions.len()
+}
+
 impl<B: Backend> Builder<'_, B> {
     // The module that a whole text says, which has to be of good form under a decoration.
     fn parse_whole(&self, language: ShaderLanguage, text: &str, decoration: &str) -> Checked<Module>
@@ -68,7 +73,7 @@ impl<B: Backend> Builder<'_, B> {
             Gives (λ done. built_of built.new) result (hold s language text.now (built_of built.old)) }
     {
         let mut source = self.parse_whole(language, text, built.decorated_name.as_str())?;
-        note_functions(built, source.functions.len());
+        note_functions(built, count_functions(&source));
         let (own, functions) = own(self.alloc, &mut source, built)?;
         self.copy_tested(&source, &own, built, functions)
     }
