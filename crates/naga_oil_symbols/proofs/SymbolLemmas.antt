@@ -1,17 +1,29 @@
 -- A line's pieces and symbols from its front.
-use Rattle.std.proofs.Common.{◌≡◌, ℕ, suc, take, ◌+◌, ◌<◌, ◌≤◌, Bool, true, false, cond, ◌&&◌, ◌≢◌, eqb, List, [], ◌∷◌, ◌++◌, length, get_or, drop, Option, Some, None, option_map, refl, sym, ap, subst, ◌∙◌, arith, length-append, MatchOption, append_assoc, Bor, inl, inr}
+use Rattle.std.proofs.Common.{◌≡◌, ℕ, suc, take, ◌+◌, ◌<◌, ◌≤◌, Bool, true, false, cond, ◌&&◌, ◌≢◌, eqb, nat_eq, map, List, [], ◌∷◌, ◌++◌, length, get_or, drop, Option, Some, None, option_map, refl, sym, ap, subst, ◌∙◌, arith, length-append, MatchOption, append_assoc, Bor, inl, inr}
 use Rattle.std.proofs.lemmas.Bool.{false≢true, cases_lt}
 use Rattle.std.proofs.lemmas.Bool.Decides.{nat_tests}
 use Rattle.std.proofs.lemmas.List.{take-append-drop, nil_from_length, map-append}
 use Rattle.std.proofs.lemmas.Str.{char_from_byte, encode_ascii, len_utf8_ascii}
 use Rattle.std.proofs.lemmas.Str.Pattern.{drop_at_char}
 use Rattle.std.specs.Char.{encode_utf8}
-use Rattle.std.specs.List.{list_all, prefix_len}
+use Rattle.std.specs.List.{list_all, prefix_len, range_with_len}
+use Rattle.std.proofs.lemmas.List.FromFn.{get_or-map-range_with_len}
 use Rattle.std.specs.Str.Pattern.{FindsCharPrefix, HasCharAt, CutsPrefixes}
 use Rattle.naga_oil_symbols.specs.Symbols.{Symbol, Piece, run, byte, is_name_char, begins_with_name_char, extended, pieces, symbols_of, symbol_before, word, opening, sign, symbol_of, line_of}
 use Rattle.std.specs.Option.{IfSome}
 use Rattle.naga_oil_symbols.specs.SymbolSplits.{IsRun, SplitsRun, Begins}
 use Rattle.naga_oil_symbols.specs.declared.symbol.Symbol.{Symbol as SymbolOfCode}
+use Rattle.naga_oil_symbols.specs.declared.symbol.TheConstants.{OF_NAMES}
+
+-- the table of bytes of names is held against the test at each of the 256 bytes, by computing
+abbrev is_marked : ℕ → Bool
+is_marked b = nat_eq (get_or OF_NAMES b 0) 49
+
+pub marked_names : (b : ℕ) → b < 256 → is_marked b ≡ is_name_char b
+marked_names b h =
+    let each : map is_marked (range_with_len 0 256) ≡ map is_name_char (range_with_len 0 256) = refl in
+    sym (get_or-map-range_with_len is_marked 0 256 b b false h (omega arith)) ∙ ap (λ l. get_or l b false) each
+    ∙ get_or-map-range_with_len is_name_char 0 256 b b false h (omega arith)
 
 pub name_char-ascii : (b : ℕ) → is_name_char b ≡ true → b < 128
 name_char-ascii b h = grind (arith, nat_tests)

@@ -53,11 +53,22 @@ impl<T: Drop> From<AllocFailed<T>> for Refusal<'_> {
     }
 }
 
+// For each byte whether it is one of names.
+static OF_NAMES: [u8; 256] = *b"\
+    00000000000000000000000000000000\
+    00000000000000001111111111000000\
+    01111111111111111111111111100001\
+    01111111111111111111111111100000\
+    00000000000000000000000000000000\
+    00000000000000000000000000000000\
+    00000000000000000000000000000000\
+    00000000000000000000000000000000";
+
 // Whether a byte is one of names.
 fn is_name_byte(byte: u8) -> bool
     ensures { result ≡ is_name_char byte }
 {
-    byte.is_ascii_alphanumeric() || byte == b'_'
+    OF_NAMES[byte as usize] == b'1'
 }
 
 // How many bytes of names are at the front.
