@@ -1,5 +1,5 @@
 // The text of a module: constants, globals, functions, entry points, a line each.
-ghost use Rattle.std.specs.Prelude.{◌≡◌, ◌++◌, OnOk, IfOk, map, reverse, option_map, string_bytes};
+ghost use Rattle.std.specs.Prelude.{◌≡◌, ◌++◌, OnOk, IfOk, IsSome, Some, map, reverse, option_map, string_bytes};
 ghost use Rattle.naga_oil_ir.specs.Rows.{global_row};
 ghost use Rattle.naga_oil_ir.specs.ModuleValue.{module_value, function_value, entry_value, argument_value, local_value, expression_values};
 ghost use Rattle.naga_oil_symbols.specs.Symbols.{symbol_of, line_of};
@@ -53,6 +53,15 @@ fn valid_name(name: &Option<String>) -> Written<&str>
         Some(name) if is_name(name.as_str()) => Ok(name.as_str()),
         _ => Err(NotWritten::NotInMini),
     }
+}
+
+// The name of an item whose name can be written.
+fn known_name(name: &Option<String>) -> &str
+    requires { IsSome (spec.valid_name (option_map string_bytes name.now)) }
+    ensures { spec.valid_name (option_map string_bytes name.now) ≡ Some result.now }
+{
+    let Some(name) = name else { unreachable!() };
+    name.as_str()
 }
 
 // The name of a parameter, which has the one type.
@@ -302,12 +311,14 @@ impl<'m> Writer<'m> {
         Ok(ANYWHERE)
     }
 
+    // The line of a function whose name can be written.
     #[tactic(auto, unfolding(crate::specs::Writer::function_text))]
     fn push_function(&mut self, function: &'m Function) -> Written<Room>
+        requires named { IsSome (spec.valid_name (function_value function.now).name) }
         ensures text { Writes (λ r. r) result (spec.function_text self.old.items (function_value function.now)) (string_bytes self.old.text) (string_bytes self.new.text) }
         ensures items { OnOk result (self.new.items ≡ self.old.items) }
     {
-        let name = valid_name(&function.name)?;
+        let name = known_name(&function.name);
         push_header(&mut self.text, name, function.arguments.as_slice())?;
         let parameters = body_words(self.alloc, function)?;
         self.push_body(parameters, function)
@@ -327,7 +338,9 @@ impl<'m> Writer<'m> {
         self.push_body(Names::new(self.alloc), &entry_point.function)
     }
 
+    // The lines of functions whose names can be written.
     fn push_functions(&mut self, of: &'m Module) -> Written<Vec<Room>>
+        requires named { IsSome (spec.function_words (module_value of.now).functions) }
         ensures text { Writes (λ v. v.items) result (spec.functions_text self.old.items (module_value of.now).functions) (string_bytes self.old.text) (string_bytes self.new.text) }
         ensures items { OnOk result (self.new.items ≡ self.old.items) }
     {
@@ -387,7 +400,8 @@ const LINE: usize = 32;
 // The lines of constants and globals, and the names of constants, globals and functions.
 #[tactic(auto, unfolding(crate::specs::Writer::items_text))]
 fn begun(alloc: Global, of: &Module) -> Written<Writer<'_>>
-    ensures { Finds (λ w. (string_bytes w.text, w.items)) result (spec.items_text (module_value of.now)) }
+    ensures text { Finds (λ w. (string_bytes w.text, w.items)) result (spec.items_text (module_value of.now)) }
+    ensures named { OnOk result (IsSome (spec.function_words (module_value of.now).functions)) }
 {
     let mut text = String::new(alloc);
     let _ = text.reserve(of.functions.len().saturating_mul(LINE));

@@ -5,8 +5,8 @@ use Rattle.naga_oil_front_writer.specs.Writer.{function_words}
 use Rattle.naga_oil_front_writer.proofs.WriterLemmas.{items_written}
 use Rattle.naga_oil_front_writer.proofs.writer.begun.Goals as goal
 
-pub returns : goal.returns
-returns c =
+pub returns-clause-text : goal.returns-clause-text
+returns-clause-text c =
     let m = module_value c.args.of.now in
     let w = c.in_ok-constants.ensures in
     let v = c.in_ok-globals.ensures in

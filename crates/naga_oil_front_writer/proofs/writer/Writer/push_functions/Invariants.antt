@@ -1,5 +1,5 @@
-use Rattle.std.proofs.Common.{◌≡◌, [], drop, option_map, string_bytes}
-use Rattle.naga_oil_front_writer.specs.Writer.{functions_text, function_values, behind}
+use Rattle.std.proofs.Common.{◌≡◌, [], drop, option_map, string_bytes, IsSome}
+use Rattle.naga_oil_front_writer.specs.Writer.{functions_text, function_words, function_values, behind}
 use Rattle.naga_oil_front_writer.proofs.writer.Writer.push_functions.Given as goal
 
 abbrev pub invariant-loop-function : goal.invariant-loop-function
@@ -7,4 +7,5 @@ invariant-loop-function l = record {
   text : option_map (behind (string_bytes l.self.text, l.rooms.items)) (functions_text l.self.items (function_values (drop l.function-index l.function-items)))
       ≡ option_map (behind (string_bytes l.fn.self.text, [])) (functions_text l.fn.self.items (function_values l.of.functions));
   items : l.self.items ≡ l.fn.self.items;
+  named : IsSome (function_words (function_values (drop l.function-index l.function-items)));
 }
