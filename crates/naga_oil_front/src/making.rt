@@ -326,6 +326,12 @@ pub fn made<'a>(
 ) -> Result<Inside, Refusal<'a>>
     ensures { Gives spec.inside_of result (spec.made (spec.scope_of scope.entry) span (line_of symbols.now)) }
 {
+    if symbols.is_empty() {
+        let body = Block {
+            body: Vec::new(alloc),
+        };
+        return Ok((Arena::new(alloc), Arena::new(alloc), body));
+    }
     let mut making = Making {
         alloc,
         scope,

@@ -1,6 +1,6 @@
 // What a text says, line by line.
 ghost use Rattle.std.specs.Prelude.{◌≡◌, OnOk, IfOk, map};
-ghost use Rattle.std.specs.List.{starts_with};
+ghost use Rattle.std.specs.List.{starts_with, list_any};
 ghost use Rattle.std.specs.Prelude.{nat_eq};
 ghost use Rattle.naga_oil_ir.specs.Rows.{type_row};
 ghost use Rattle.naga_oil_ir.specs.ModuleValue.{module_value, function_value};
@@ -40,12 +40,24 @@ fn begins(text: &str, mark: &str) -> bool
     text.starts_with(mark)
 }
 
+// Whether a text begins with what lines that are skipped begin with.
+fn begins_with_mark(text: &str) -> bool
+    ensures { result ≡ list_any (λ mark. starts_with nat_eq text.now mark) spec.marks }
+{
+    let marks = ["#", "//", "enable ", "requires ", "diagnostic("];
+    marks.iter().any(|mark| begins(text, mark))
+}
+
+// The first byte tells it of most lines.
 fn is_skipped(line: &str) -> bool
     ensures { result ≡ spec.is_skipped line.now }
 {
     let text = line.trim_start();
-    let marks = ["#", "//", "enable ", "requires ", "diagnostic("];
-    text.is_empty() || marks.iter().any(|mark| begins(text, mark))
+    match text.as_bytes() {
+        [] => true,
+        [b'#' | b'/' | b'e' | b'r' | b'd', ..] => begins_with_mark(text),
+        _ => false,
+    }
 }
 
 // Whether no space stands before a `with`.
@@ -53,7 +65,10 @@ fn lacks_space(line: &str) -> bool
     ensures { result ≡ spec.lacks_space line.now }
 {
     let mut rest = line;
-    while let Some((_, more)) = rest.split_once(')') {
+    while !rest.is_empty() {
+        let Some((_, more)) = rest.split_once(')') else {
+            return false;
+        };
         if begins(more, "with") {
             return true;
         }
@@ -264,16 +279,16 @@ impl<'a> Reader<'a> {
         Ok(self.module_.entry_points.push(entry_point)?)
     }
 
-    // The item that symbols say.
+    // The item that symbols say. Most are functions.
     fn add(&mut self, symbols: &[Symbol<'a>]) -> Result<(), Refusal<'a>>
         requires known { spec.Knows self.old }
         ensures value { Gives (λ _. module_value self.new.module_) result (spec.with_symbols self.old.span (module_value self.old.module_) (line_of symbols.now)) }
         ensures known { OnOk result (spec.Knows self.new) }
     {
         match symbols {
+            [Symbol::Name("fn"), rest @ ..] => self.add_function(rest),
             [Symbol::Name("const"), rest @ ..] => self.add_constant(rest),
             [Symbol::Name("var"), rest @ ..] => self.add_global(rest),
-            [Symbol::Name("fn"), rest @ ..] => self.add_function(rest),
             [Symbol::Name("entry"), rest @ ..] => self.add_entry_point(rest),
             _ => Err(Refusal::NotUnderstood),
         }
