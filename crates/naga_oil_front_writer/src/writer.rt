@@ -1,5 +1,5 @@
 // The text of a module: constants, globals, functions, entry points, a line each.
-ghost use Rattle.std.specs.Prelude.{◌≡◌, ◌++◌, OnOk, IfOk, IsSome, Some, map, reverse, option_map, string_bytes};
+ghost use Rattle.std.specs.Prelude.{◌≡◌, ◌++◌, OnOk, IfOk, IsSome, IsTrue, Some, ℕ, List, map, reverse, option_map, string_bytes};
 ghost use Rattle.naga_oil_ir.specs.Rows.{global_row};
 ghost use Rattle.naga_oil_ir.specs.ModuleValue.{module_value, function_value, entry_value, argument_value, local_value, expression_values};
 ghost use Rattle.naga_oil_symbols.specs.Symbols.{symbol_of, line_of};
@@ -82,17 +82,6 @@ fn parameter_words<'m>(alloc: Global, arguments: &'m [FunctionArgument]) -> Writ
         names.push(parameter_word(argument)?)?;
     }
     Ok(names)
-}
-
-// The names of the parameters that a body may use: none where there is no body.
-#[tactic(auto, using(crate::proofs::WriterLemmas::block_is_empty))]
-fn body_words(alloc: Global, function: &Function) -> Written<Names<'_>>
-    ensures { Finds (λ n. n) result (spec.body_words (function_value function.now)) }
-{
-    if function.body.body.is_empty() {
-        return Ok(Names::new(alloc));
-    }
-    parameter_words(alloc, function.arguments.as_slice())
 }
 
 // Pushes the names of parameters, joined by `, `.
@@ -290,25 +279,38 @@ impl<'m> Writer<'m> {
         Ok(room)
     }
 
-    // What stands behind the header of a line. Answers the line's room.
+    // What stands behind the header of a function without body, which uses no parameters. Answers the line's room.
     #[tactic(auto, unfolding(crate::specs::Writer::body_line))]
-    fn push_body(&mut self, parameters: Names<'m>, function: &'m Function) -> Written<Room>
-        ensures text { Writes (λ r. r) result (spec.body_line self.old.items parameters.entry (function_value function.now)) (string_bytes self.old.text) (string_bytes self.new.text) }
+    fn push_stub(&mut self, function: &Function) -> Written<Room>
+        requires stub { IsTrue (spec.is_empty (function_value function.now).body) }
+        ensures text { (parameters : List (List ℕ)) → Writes (λ r. r) result (spec.body_line self.old.items parameters (function_value function.now)) (string_bytes self.old.text) (string_bytes self.new.text) }
         ensures items { OnOk result (self.new.items ≡ self.old.items) }
     {
         if !is_plain_function(function) {
             return Err(NotWritten::NotInMini);
-        }
-        if !function.body.body.is_empty() {
-            let mut tokens = tokens_of(self.alloc, &function.body)?;
-            tokens.reverse();
-            return self.push_end(parameters, function, &tokens);
         }
         if function.local_variables.len() != 0 {
             return Err(NotWritten::NotInMini);
         }
         self.text.push('\n')?;
         Ok(ANYWHERE)
+    }
+
+    // What stands behind the header of a line. Answers the line's room.
+    #[tactic(auto, unfolding(crate::specs::Writer::body_line))]
+    fn push_body(&mut self, parameters: Names<'m>, function: &'m Function) -> Written<Room>
+        ensures text { Writes (λ r. r) result (spec.body_line self.old.items parameters.entry (function_value function.now)) (string_bytes self.old.text) (string_bytes self.new.text) }
+        ensures items { OnOk result (self.new.items ≡ self.old.items) }
+    {
+        if function.body.body.is_empty() {
+            return self.push_stub(function);
+        }
+        if !is_plain_function(function) {
+            return Err(NotWritten::NotInMini);
+        }
+        let mut tokens = tokens_of(self.alloc, &function.body)?;
+        tokens.reverse();
+        self.push_end(parameters, function, &tokens)
     }
 
     // The line of a function whose name can be written.
@@ -320,7 +322,10 @@ impl<'m> Writer<'m> {
     {
         let name = known_name(&function.name);
         push_header(&mut self.text, name, function.arguments.as_slice())?;
-        let parameters = body_words(self.alloc, function)?;
+        if function.body.body.is_empty() {
+            return self.push_stub(function);
+        }
+        let parameters = parameter_words(self.alloc, function.arguments.as_slice())?;
         self.push_body(parameters, function)
     }
 
