@@ -174,21 +174,56 @@ fn checked(alloc: Global, module_: Module) -> Result<Module, FormFault>
     Ok(module_)
 }
 
-/// Does each call, and tells whether all answered as they should. It says so before the first and behind the last.
-pub fn tell<R: Print + AllocGlobal>(rt: &R) -> Result<(), Failure> {
-    let alloc = rt.alloc();
-    let (composer, defs, error) = (composer_of(alloc)?, defs_of(alloc)?, error_of(alloc)?);
+fn make_module(alloc: Global) -> Result<Module, Failure>
+    ensures { IfOk result (λ m. Redirectable m) }
+{
     let module_ = module_of(alloc)?;
-    let Ok(module_) = checked(alloc, module_) else {
-        return Err(Failure::Memory);
-    };
-    println!(rt; "without memory")?;
+    match checked(alloc, module_) {
+        Ok(module_) => Ok(module_),
+        Err(_) => Err(Failure::Memory),
+    }
+}
+
+// What calls are done with, beside a module.
+#[derive(Drop)]
+struct Given {
+    composer: Composer<Mini>,
+    defs: BTreeMap<String, ShaderDefValue>,
+    error: ComposerError,
+}
+
+fn make_given(alloc: Global) -> Result<Given, Failure> {
+    let composer = composer_of(alloc)?;
+    let defs = defs_of(alloc)?;
+    let error = error_of(alloc)?;
+    #[rattlefmt::skip]
+    Ok(Given { composer, defs, error })
+}
+
+// Does each call, and answers whether all answered as they should.
+fn all_answer(alloc: Global, given: Given, module_: Module) -> bool
+    requires { Redirectable module_ }
+{
+    let Given {
+        composer,
+        defs,
+        error,
+    } = given;
     let of_texts = texts(alloc) && values(alloc);
     let of_modules = arenas(alloc, &module_) && copies(alloc, module_);
     let of_reads = reads(&composer, &defs) && errors(&composer, error);
     let of_composers = composers(alloc, composer);
+    of_texts && of_modules && of_reads && of_composers
+}
+
+/// Does each call, and tells whether all answered as they should. It says so before the first and behind the last.
+pub fn tell<R: Print + AllocGlobal>(rt: &R) -> Result<(), Failure> {
+    let alloc = rt.alloc();
+    let given = make_given(alloc)?;
+    let module_ = make_module(alloc)?;
+    println!(rt; "without memory")?;
+    let holds = all_answer(alloc, given, module_);
     println!(rt; "with memory")?;
-    let holds = of_texts && of_modules && of_reads && of_composers;
     println!(rt; "each call answered: {holds}")?;
     Ok(())
 }
