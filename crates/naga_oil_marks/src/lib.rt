@@ -30,7 +30,8 @@ pub fn has_module_mark(name: &str) -> bool
 
 /// Gives a name a decoration, unless it has the mark of a module. Tells whether the name got it.
 pub fn add_decoration(name: &mut String, decoration: &str) -> Result<bool, AllocError>
-    ensures name { OnOk result (string_bytes name.new ≡ with_decoration decoration.now (string_bytes name.old)) }
+    ensures name { let decorated = with_decoration decoration.now (string_bytes name.old) in
+        OnOk result (string_bytes name.new ≡ decorated) }
     ensures told { IfOk result (λ got. got ≡ not (has_module_mark (string_bytes name.old))) }
     ensures refused { OnErr result (string_bytes name.new ≡ string_bytes name.old) }
 {
