@@ -30,7 +30,10 @@ fn letter(group: u8) -> char
 // Pushes a letter for each five of the lowest bits of a number. Gives how many of the bits are left.
 fn push_groups(out: &mut String, number: u16, count: u32) -> Result<u32, AllocError>
     requires { count ≤ 16 }
-    ensures pushed { IfOk result (λ left. (more : List ℕ) → string_bytes out.new ++ letters (bits left number ++ more) ≡ string_bytes out.old ++ letters (bits count number ++ more)) }
+    ensures pushed { let old = string_bytes out.old in
+        let new = string_bytes out.new in
+        IfOk result (λ left. (more : List ℕ) →
+        new ++ letters (bits left number ++ more) ≡ old ++ letters (bits count number ++ more)) }
     ensures few { IfOk result (λ left. left < 5) }
 {
     let mut left = count;
@@ -67,7 +70,8 @@ fn decorated_len(module_name: &str, item: &str) -> usize {
 
 // Pushes the name of an item of a module.
 pub fn push_decorated(out: &mut String, module_name: &str, item: &str) -> Result<(), AllocError>
-    ensures { OnOk result (string_bytes out.new ≡ string_bytes out.old ++ decorated_name (Some module_name.now) item.now) }
+    ensures { let name = decorated_name (Some module_name.now) item.now in
+        OnOk result (string_bytes out.new ≡ string_bytes out.old ++ name) }
 {
     out.push_str(item)?;
     out.push_str(DECORATION_PRE)?;
@@ -82,7 +86,8 @@ pub fn decorated_name(
     module_name: Option<&str>,
     item: &str,
 ) -> Result<String, AllocError>
-    ensures { IfOk result (λ t. string_bytes t ≡ decorated_name (option_map (λ m. m.now) module_name.entry) item.now) }
+    ensures { let name = decorated_name (option_map (λ m. m.now) module_name.entry) item.now in
+        IfOk result (λ t. string_bytes t ≡ name) }
 {
     let Some(module_name) = module_name else {
         return String::from_str(alloc, item);
@@ -102,7 +107,10 @@ fn value_of(letter: u8) -> u16
 // Pushes the eight highest of the lowest bits of a number, if there are as many. Gives how many of the bits are left.
 fn push_byte(bytes: &mut Vec<u8>, number: u16, count: u32) -> Result<u32, AllocError>
     requires { count < 13 }
-    ensures pushed { IfOk result (λ left. (more : List ℕ) → bytes.new.items ++ bytes_of (bits left number ++ more) ≡ bytes.old.items ++ bytes_of (bits count number ++ more)) }
+    ensures pushed { let old = bytes.old.items in
+        let new = bytes.new.items in
+        IfOk result (λ left. (more : List ℕ) →
+        new ++ bytes_of (bits left number ++ more) ≡ old ++ bytes_of (bits count number ++ more)) }
     ensures few { IfOk result (λ left. left < 8) }
 {
     if count < 8 {
@@ -114,7 +122,8 @@ fn push_byte(bytes: &mut Vec<u8>, number: u16, count: u32) -> Result<u32, AllocE
 
 // The whole bytes that letters of base32 stand for.
 fn base32_bytes(alloc: Global, code: &[u8]) -> Result<Vec<u8>, AllocError>
-    ensures { IfOk result (λ bytes. bytes.items ≡ bytes_of (flat_map (λ c. bits 5 (value_of c)) code.now)) }
+    ensures { let groups = flat_map (λ c. bits 5 (value_of c)) code.now in
+        IfOk result (λ bytes. bytes.items ≡ bytes_of groups) }
 {
     let mut bytes = Vec::with_capacity(alloc, code.len() / 8 * 5 + 5)?;
     let mut pending = 0;
@@ -175,7 +184,8 @@ fn from_last_x(text: &str) -> Option<&str>
 
 // The code behind a mark that the text begins with, and what follows its `X`.
 fn mark_code<'a>(text: &'a str, mark: &str) -> Option<(&'a str, &'a str)>
-    ensures found { option_map (λ r. (r.0.now, chars r.1.now)) result ≡ mark_code (chars mark.now) (chars text.now) }
+    ensures found { let found = mark_code (chars mark.now) (chars text.now) in
+        option_map (λ r. (r.0.now, chars r.1.now)) result ≡ found }
     ensures shorter { IfSome result (λ r. length r.1.now < length text.now) }
     ensures utf8 { IfSome result (λ r. IsUtf8 r.1.now) }
 {
@@ -204,7 +214,8 @@ fn from_last_mark(run: &str) -> Option<&str>
 
 // What a run of word characters is where it has such a mark: what is before the mark, its code and what follows.
 fn split_at_mark(run: &str) -> Option<(&str, &str, &str)>
-    ensures parts { option_map (λ r. (r.0.now, r.1.now, chars r.2.now)) result ≡ split_at_mark (chars run.now) }
+    ensures parts { let parts = split_at_mark (chars run.now) in
+        option_map (λ r. (r.0.now, r.1.now, chars r.2.now)) result ≡ parts }
     ensures utf8 { IfSome result (λ r. IsUtf8 r.2.now) }
 {
     let at = from_last_mark(run)?;
@@ -214,7 +225,8 @@ fn split_at_mark(run: &str) -> Option<(&str, &str, &str)>
 
 // Writes a run of word characters with its module before it.
 fn push_run(alloc: Global, out: &mut String, run: &str) -> Result<(), AllocError>
-    ensures { OnOk result (string_bytes out.new ≡ string_bytes out.old ++ run_shown (chars run.now)) }
+    ensures { let shown = run_shown (chars run.now) in
+        OnOk result (string_bytes out.new ≡ string_bytes out.old ++ shown) }
 {
     let Some((before, code, behind)) = split_at_mark(run) else {
         return out.push_str(run);
@@ -227,7 +239,8 @@ fn push_run(alloc: Global, out: &mut String, run: &str) -> Result<(), AllocError
 
 // What is left of a text behind the word characters that it begins with.
 fn after_run(text: &str) -> &str
-    ensures chars { chars result.now ≡ drop (prefix_len is_word_char (chars text.now)) (chars text.now) }
+    ensures chars { let count = prefix_len is_word_char (chars text.now) in
+        chars result.now ≡ drop count (chars text.now) }
     ensures suffix { (front : List ℕ) × (text.now ≡ front ++ result.now) }
 {
     let mut rest = text;
@@ -269,7 +282,8 @@ fn push_front<'a>(
     more: &'a str,
 ) -> Result<&'a str, AllocError>
     requires { BeginsWithChar text.now first more.now }
-    ensures value { IfOk result (λ rest. string_bytes out.new ++ with_overrides 0 (chars rest.now) ≡ string_bytes out.old ++ with_overrides 0 (chars text.now)) }
+    ensures value { let whole = string_bytes out.old ++ with_overrides 0 (chars text.now) in
+        IfOk result (λ rest. string_bytes out.new ++ with_overrides 0 (chars rest.now) ≡ whole) }
     ensures shorter { IfOk result (λ rest. length rest.now < length text.now) }
     ensures utf8 { IfOk result (λ rest. IsUtf8 rest.now) }
 {
@@ -302,12 +316,14 @@ pub fn undecorate(alloc: Global, text: &str) -> Result<String, AllocError>
 
 /// A name that was decorated with a module tells the item and the module.
 pub fn one_decoration()
-    ensures { (f g m n : List ℕ) → All (λ b. b < 256) m → All (λ b. b < 256) n → decorated_name (Some m) f ≡ decorated_name (Some n) g → (f ≡ g) × (m ≡ n) }
+    ensures { (f g m n : List ℕ) → All (λ b. b < 256) m → All (λ b. b < 256) n →
+        decorated_name (Some m) f ≡ decorated_name (Some n) g → (f ≡ g) × (m ≡ n) }
 {}
 
 /// A mark at the front of a text has one code, and so one rest behind it.
 pub fn one_mark()
-    ensures { (mark text code rest : List ℕ) → (mark_code mark text ≡ reading code rest) ↔ BeginsWithMark mark text code rest }
+    ensures { (mark text code rest : List ℕ) →
+        (mark_code mark text ≡ reading code rest) ↔ BeginsWithMark mark text code rest }
 {}
 
 /// A run of word characters has one reading: its last mark of a module that has a code and a character before it.
@@ -318,5 +334,6 @@ pub fn one_last_mark()
 
 /// A mark of an override tells one module.
 pub fn one_override()
-    ensures { (text module_name rest : List ℕ) → (override_at text ≡ reading module_name rest) ↔ BeginsWithOverride text module_name rest }
+    ensures { (text module_name rest : List ℕ) →
+        (override_at text ≡ reading module_name rest) ↔ BeginsWithOverride text module_name rest }
 {}

@@ -18,7 +18,8 @@ pub fn split_first_char(text: &str) -> Option<(char, &str)>
 
 /// What follows a word that the text begins with.
 pub fn past_word<'a>(text: &'a str, word: &str) -> Option<&'a str>
-    ensures chars { option_map (λ r. chars r.now) result ≡ past_word (chars word.now) (chars text.now) }
+    ensures chars { let rest = past_word (chars word.now) (chars text.now) in
+        option_map (λ r. chars r.now) result ≡ rest }
     ensures suffix { IfSome result (λ r. text.now ≡ word.now ++ r.now) }
     ensures utf8 { IfSome result (λ r. IsUtf8 r.now) }
 {
@@ -36,7 +37,8 @@ pub fn text_before<'a>(text: &'a str, rest: &str) -> &'a str
 
 /// What is left of a text behind the white space that it begins with.
 pub fn after_whitespace(text: &str) -> &str
-    ensures chars { chars result.now ≡ drop (prefix_len is_whitespace (chars text.now)) (chars text.now) }
+    ensures chars { let count = prefix_len is_whitespace (chars text.now) in
+        chars result.now ≡ drop count (chars text.now) }
     ensures suffix { (front : List ℕ) × (text.now ≡ front ++ result.now) }
 {
     text.trim_start()

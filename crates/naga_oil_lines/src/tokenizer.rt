@@ -145,7 +145,8 @@ pub fn split_gap(text: &str) -> (&str, &str)
 
 // What is left of a text behind the characters that go on an identifier.
 fn after_identifier(text: &str, begins_quoted: bool) -> &str
-    ensures chars { chars result.now ≡ drop (tail_len begins_quoted (chars text.now)) (chars text.now) }
+    ensures chars { let count = tail_len begins_quoted (chars text.now) in
+        chars result.now ≡ drop count (chars text.now) }
     ensures suffix { (front : List ℕ) × (text.now ≡ front ++ result.now) }
 {
     let mut quoted = begins_quoted;
@@ -187,8 +188,10 @@ fn ends_identifier(text: &str) -> bool
 
 // What is left of a text behind an identifier that begins with a character before it, and whether this is one word, which has no `:`.
 pub fn behind_identifier(first: char, text: &str) -> (&str, bool)
-    ensures chars { chars result.0.now ≡ drop (tail_len (first == 34) (chars text.now)) (chars text.now) }
-    ensures suffix { (front : List ℕ) × (text.now ≡ front ++ result.0.now) × (IsTrue result.1 → list_any (λ b. b == 58) front ≡ false) }
+    ensures chars { let count = tail_len (first == 34) (chars text.now) in
+        chars result.0.now ≡ drop count (chars text.now) }
+    ensures suffix { (front : List ℕ) × (text.now ≡ front ++ result.0.now)
+        × (IsTrue result.1 → list_any (λ b. b == 58) front ≡ false) }
     ensures utf8 { IsUtf8 result.0.now }
 {
     if first == '"' {
@@ -274,5 +277,6 @@ impl<'a> Iterator for Tokenizer<'a> {
 
 /// A text has one list of tokens.
 pub fn one_token_list()
-    ensures { (at : ℕ) (cs : List ℕ) (ts : List Lexeme) → AreTokens at cs ts ↔ (ts ≡ lexemes 0 at cs) }
+    ensures { (at : ℕ) (cs : List ℕ) (ts : List Lexeme) →
+        AreTokens at cs ts ↔ (ts ≡ lexemes 0 at cs) }
 {}

@@ -84,7 +84,8 @@ impl DiagnosticDirective {
 
     // Writes its line.
     fn push_line(&self, text: &mut String) -> Result<(), AllocError>
-        ensures { OnOk result (string_bytes text.new ≡ string_bytes text.old ++ diagnostic_line (diagnostic_of self.now)) }
+        ensures { let line = diagnostic_line (diagnostic_of self.now) in
+            OnOk result (string_bytes text.new ≡ string_bytes text.old ++ line) }
     {
         text.push_str("diagnostic(")?;
         text.push_str(self.severity.as_str())?;
@@ -124,7 +125,8 @@ fn clone_diagnostics(
     alloc: Global,
     directives: &[DiagnosticDirective],
 ) -> Result<Vec<DiagnosticDirective>, AllocError>
-    ensures { IfOk result (λ copy. map diagnostic_of copy.items ≡ map diagnostic_of directives.now) }
+    ensures { let told = map diagnostic_of directives.now in
+        IfOk result (λ copy. map diagnostic_of copy.items ≡ told) }
 {
     let mut copy = Vec::with_capacity(alloc, directives.len())?;
     for directive in directives {
@@ -135,7 +137,9 @@ fn clone_diagnostics(
 
 // Adds names to a set.
 fn insert_names<'a>(names: &mut BTreeSet<&'a str>, more: &'a [String]) -> Result<(), AllocError>
-    ensures { OnOk result (map (λ n. n.now) names.new.keys ≡ fold with_name (map (λ n. n.now) names.old.keys) (map string_bytes more.now)) }
+    ensures { let old = map (λ n. n.now) names.old.keys in
+        let named = fold with_name old (map string_bytes more.now) in
+        OnOk result (map (λ n. n.now) names.new.keys ≡ named) }
 {
     for name in more {
         names.insert(name.as_str())?;
@@ -148,7 +152,8 @@ fn enabled_names<'a>(
     alloc: Global,
     enables: &'a [EnableDirective],
 ) -> Result<BTreeSet<&'a str>, AllocError>
-    ensures { IfOk result (λ names. map (λ n. n.now) names.keys ≡ in_order (names_of (map enable_of enables.now))) }
+    ensures { let named = names_of (map enable_of enables.now) in
+        IfOk result (λ names. map (λ n. n.now) names.keys ≡ in_order named) }
 {
     let mut names = BTreeSet::new(alloc);
     for enable in enables {
@@ -162,7 +167,8 @@ fn required_names<'a>(
     alloc: Global,
     requires_: &'a [RequiresDirective],
 ) -> Result<BTreeSet<&'a str>, AllocError>
-    ensures { IfOk result (λ names. map (λ n. n.now) names.keys ≡ in_order (names_of (map requires_of requires_.now))) }
+    ensures { let named = names_of (map requires_of requires_.now) in
+        IfOk result (λ names. map (λ n. n.now) names.keys ≡ in_order named) }
 {
     let mut names = BTreeSet::new(alloc);
     for required in requires_ {
@@ -173,7 +179,8 @@ fn required_names<'a>(
 
 // The names with commas between them.
 fn joined(alloc: Global, names: BTreeSet<&str>) -> Result<String, AllocError>
-    ensures { IfOk result (λ text. string_bytes text ≡ join_by (λ n. n) (codes ", ") (map (λ n. n.now) names.entry.keys)) }
+    ensures { let named = map (λ n. n.now) names.entry.keys in
+        IfOk result (λ text. string_bytes text ≡ join_by (λ n. n) (codes ", ") named) }
 {
     let names: Vec<&str> = names.into_iter().collect(alloc)?;
     names.join(alloc, ", ")
@@ -186,7 +193,8 @@ fn push_names(
     names: BTreeSet<&str>,
     text: &mut String,
 ) -> Result<(), AllocError>
-    ensures { OnOk result (string_bytes text.new ≡ string_bytes text.old ++ names_line word.now (map (λ n. n.now) names.entry.keys)) }
+    ensures { let line = names_line word.now (map (λ n. n.now) names.entry.keys) in
+        OnOk result (string_bytes text.new ≡ string_bytes text.old ++ line) }
 {
     if names.is_empty() {
         return Ok(());
@@ -203,7 +211,8 @@ fn push_diagnostics(
     diagnostics: &[DiagnosticDirective],
     text: &mut String,
 ) -> Result<(), AllocError>
-    ensures { OnOk result (string_bytes text.new ≡ string_bytes text.old ++ flat_map diagnostic_line (map diagnostic_of diagnostics.now)) }
+    ensures { let lines = flat_map diagnostic_line (map diagnostic_of diagnostics.now) in
+        OnOk result (string_bytes text.new ≡ string_bytes text.old ++ lines) }
 {
     for diagnostic in diagnostics {
         diagnostic.push_line(text)?;
@@ -256,8 +265,10 @@ impl WgslDirectives {
     /// named once, in byte order, then a line of each diagnostic, and an empty line. Lines that would name nothing are
     /// left out, and so is the empty line where nothing comes before it.
     pub fn to_wgsl_string(&self, alloc: Global) -> Result<String, AllocError>
-        ensures text { IfOk result (λ text. string_bytes text ≡ directives_text (directives_of self.now)) }
-        ensures empty { IfOk result (λ text. (string_bytes text ≡ []) ↔ SaysNothing (directives_of self.now)) }
+        ensures text { let directives = directives_of self.now in
+            IfOk result (λ text. string_bytes text ≡ directives_text directives) }
+        ensures empty { let directives = directives_of self.now in
+            IfOk result (λ text. (string_bytes text ≡ []) ↔ SaysNothing directives) }
     {
         let mut text = String::new(alloc);
         let enabled = enabled_names(alloc, self.enables.as_slice())?;
@@ -272,6 +283,8 @@ impl WgslDirectives {
 
 /// The extensions of a line rise strictly in byte order, and they are those that the directives name.
 pub fn names_in_order()
-    ensures rise { (names : List (List ℕ)) → IsStrictlySortedBy (slice_cmp nat_cmp) (in_order names) }
-    ensures members { (names : List (List ℕ)) (name : List ℕ) → Contains (in_order names) name ↔ Contains names name }
+    ensures rise { (names : List (List ℕ)) →
+        IsStrictlySortedBy (slice_cmp nat_cmp) (in_order names) }
+    ensures members { (names : List (List ℕ)) (name : List ℕ) →
+        Contains (in_order names) name ↔ Contains names name }
 {}
