@@ -50,7 +50,8 @@ impl DeclaredNames {
     /// Marks the slots of the names that are declared from a place on.
     pub fn mark_from(&mut self, declared: &IndexMap<String, Vec<String>>, from: usize)
         ensures { let more = drop from (keys_of (declared_of declared.now)) in
-            (other : List ℕ) → has_mark self.new other ≡ (has_mark self.old other || shares_slot more other) }
+            (other : List ℕ) →
+            has_mark self.new other ≡ (has_mark self.old other || shares_slot more other) }
     {
         for at in from..declared.len() {
             if let Some((name, _)) = declared.get_index(at) {

@@ -82,7 +82,8 @@ impl ImportDefWithOffset {
         item: String,
         place: usize,
     ) -> Result<ImportDefWithOffset, AllocError>
-        ensures { IfOk result (λ d. use_of d ≡ first_use module_name.now (string_bytes item) place) }
+        ensures { let first = first_use module_name.now (string_bytes item) place in
+            IfOk result (λ d. use_of d ≡ first) }
     {
         let import = String::from_str(alloc, module_name)?;
         let mut items = Vec::with_capacity(alloc, 1)?;
@@ -95,7 +96,8 @@ impl ImportDefWithOffset {
 
     // Asks for one item more.
     pub(crate) fn push_item(&mut self, item: String) -> Result<(), AllocError>
-        ensures ok { OnOk result (use_of self.new ≡ with_item (use_of self.old) (string_bytes item)) }
+        ensures ok { let more = with_item (use_of self.old) (string_bytes item) in
+            OnOk result (use_of self.new ≡ more) }
         ensures err { OnErr result (use_of self.new ≡ use_of self.old) }
     {
         self.definition.items.push(item)?;

@@ -137,7 +137,8 @@ fn before_brace(name: &str, at: usize) -> Part<'_>
 }
 
 fn unit_part<'a>(name: &'a str, alias: Alias<'a>, behind: &[Token<'a>]) -> Part<'a>
-    ensures { part_of result ≡ unit_part name.now (alias_of alias.entry) (map lexeme_of behind.now) }
+    ensures { let more = map lexeme_of behind.now in
+        part_of result ≡ unit_part name.now (alias_of alias.entry) more }
 {
     if let Alias::Lacking(at) = alias {
         return Part::Wrong("expected identifier after `as`", at);
@@ -190,8 +191,11 @@ fn mark_part<'a>(mark: char, at: usize, behind: &[Token<'a>]) -> Part<'a>
 
 // A unit with the `{` that it is before, and what is left behind it.
 fn unit<'t, 'a>(name: &'a str, behind: &'t [Token<'a>]) -> (Part<'a>, &'t [Token<'a>])
-    ensures part { part_of result.0 ≡ unit_part name.now (alias_after (map lexeme_of behind.now)) (drop (alias_len (alias_after (map lexeme_of behind.now))) (map lexeme_of behind.now)) }
-    ensures rest { map lexeme_of result.1.now ≡ drop (unit_len (map lexeme_of behind.now)) (map lexeme_of behind.now) }
+    ensures part { let more = map lexeme_of behind.now in
+        let renamed = alias_after more in
+        part_of result.0 ≡ unit_part name.now renamed (drop (alias_len renamed) more) }
+    ensures rest { let more = map lexeme_of behind.now in
+        map lexeme_of result.1.now ≡ drop (unit_len more) more }
     ensures shorter { length result.1.now ≤ length behind.now }
 {
     let alias = alias_after(behind);
@@ -202,7 +206,9 @@ fn unit<'t, 'a>(name: &'a str, behind: &'t [Token<'a>]) -> (Part<'a>, &'t [Token
 
 // The part that the tokens begin with, and what is left behind it.
 fn next_part<'t, 'a>(tokens: &'t [Token<'a>]) -> Option<(Part<'a>, &'t [Token<'a>])>
-    ensures parts { MatchOption result (parts 0 (map lexeme_of tokens.now) ≡ []) (λ r. parts 0 (map lexeme_of tokens.now) ≡ part_of r.0 ∷ parts 0 (map lexeme_of r.1.now)) }
+    ensures parts { let whole = parts 0 (map lexeme_of tokens.now) in
+        MatchOption result (whole ≡ []) (λ r.
+            whole ≡ part_of r.0 ∷ parts 0 (map lexeme_of r.1.now)) }
     ensures shorter { IfSome result (λ r. length r.1.now < length tokens.now) }
 {
     let Some((first, behind)) = tokens.split_first() else {
@@ -220,8 +226,10 @@ fn behind_import<'t, 'a>(
     tokens: &'t [Token<'a>],
     end: usize,
 ) -> Result<&'t [Token<'a>], ImportFault>
-    ensures ok { IfOk result (λ r. behind_import end (map lexeme_of tokens.now) ≡ Ok (map lexeme_of r.now)) }
-    ensures err { IfErr result (λ e. RefusesImport e (behind_import end (map lexeme_of tokens.now))) }
+    ensures ok { let left = behind_import end (map lexeme_of tokens.now) in
+        IfOk result (λ r. left ≡ Ok (map lexeme_of r.now)) }
+    ensures err { let left = behind_import end (map lexeme_of tokens.now) in
+        IfErr result (λ e. RefusesImport e left) }
 {
     let [first, behind @ ..] = tokens else {
         return Err(ImportFault::Syntax("expected #import", end));
@@ -233,8 +241,10 @@ fn behind_import<'t, 'a>(
 }
 
 fn behind_hash<'t, 'a>(tokens: &'t [Token<'a>], end: usize) -> Result<&'t [Token<'a>], ImportFault>
-    ensures ok { IfOk result (λ r. behind_hash end (map lexeme_of tokens.now) ≡ Ok (map lexeme_of r.now)) }
-    ensures err { IfErr result (λ e. RefusesImport e (behind_hash end (map lexeme_of tokens.now))) }
+    ensures ok { let left = behind_hash end (map lexeme_of tokens.now) in
+        IfOk result (λ r. left ≡ Ok (map lexeme_of r.now)) }
+    ensures err { let left = behind_hash end (map lexeme_of tokens.now) in
+        IfErr result (λ e. RefusesImport e left) }
 {
     let [first, behind @ ..] = tokens else {
         return Err(ImportFault::Syntax("expected `#import`", end));
@@ -260,7 +270,8 @@ impl ImportLine {
     }
 
     fn push_head(&mut self, alloc: Global, name: &str, is_old: bool) -> Result<(), AllocError>
-        ensures { OnOk result (step (reader_of self.old) (head_of name.now is_old) ≡ Ok (reader_of self.new)) }
+        ensures { let next = step (reader_of self.old) (head_of name.now is_old) in
+            OnOk result (next ≡ Ok (reader_of self.new)) }
     {
         let mut text = String::from_str(alloc, name)?;
         if is_old {
@@ -273,7 +284,8 @@ impl ImportLine {
 
     // The texts of all heads and the name.
     fn path_of(&self, alloc: Global, name: &str) -> Result<String, AllocError>
-        ensures { IfOk result (λ t. string_bytes t ≡ concat (map string_bytes self.now.heads.items) ++ name.now) }
+        ensures { let front = concat (map string_bytes self.now.heads.items) in
+            IfOk result (λ t. string_bytes t ≡ front ++ name.now) }
     {
         let mut path = String::new(alloc);
         for head in &self.heads {
@@ -284,7 +296,8 @@ impl ImportLine {
     }
 
     fn push_leaf(&mut self, alloc: Global, key: &str, name: &str) -> Result<(), AllocError>
-        ensures { OnOk result (step (reader_of self.old) (leaf key.now name.now) ≡ Ok (reader_of self.new)) }
+        ensures { let next = step (reader_of self.old) (leaf key.now name.now) in
+            OnOk result (next ≡ Ok (reader_of self.new)) }
     {
         let path = self.path_of(alloc, name)?;
         let key = String::from_str(alloc, key)?;
@@ -303,8 +316,10 @@ impl ImportLine {
     }
 
     fn take_part(&mut self, alloc: Global, part: Part<'_>) -> Result<(), ImportFault>
-        ensures ok { OnOk result (step (reader_of self.old) (part_of part.entry) ≡ Ok (reader_of self.new)) }
-        ensures err { IfErr result (λ e. RefusesImport e (step (reader_of self.old) (part_of part.entry))) }
+        ensures ok { let next = step (reader_of self.old) (part_of part.entry) in
+            OnOk result (next ≡ Ok (reader_of self.new)) }
+        ensures err { let next = step (reader_of self.old) (part_of part.entry) in
+            IfErr result (λ e. RefusesImport e next) }
     {
         match part {
             Part::Head(name, is_old) => Ok(self.push_head(alloc, name, is_old)?),
@@ -323,7 +338,8 @@ impl ImportLine {
 }
 
 fn tokens_of<'a>(alloc: Global, input: &'a str) -> Result<Vec<Token<'a>>, AllocError>
-    ensures { IfOk result (λ v. map lexeme_of v.items ≡ emit false (lexemes 0 0 (chars input.now))) }
+    ensures { let told = emit false (lexemes 0 0 (chars input.now)) in
+        IfOk result (λ v. map lexeme_of v.items ≡ told) }
 {
     Tokenizer::new(input, false).collect(alloc)
 }
@@ -353,7 +369,8 @@ fn push_path(
     key: &str,
     path: &str,
 ) -> Result<(), AllocError>
-    ensures ok { OnOk result (declared_of declared.new ≡ with_path (declared_of declared.old) key.now path.now) }
+    ensures ok { let more = with_path (declared_of declared.old) key.now path.now in
+        OnOk result (declared_of declared.new ≡ more) }
     ensures err { OnErr result (declared_of declared.new ≡ declared_of declared.old) }
 {
     let path = String::from_str(alloc, path)?;
@@ -379,7 +396,9 @@ fn pop_path(declared: &mut IndexMap<String, Vec<String>>, key: &str)
 
 // Takes leaves back that were pushed last, where so many keys were there before.
 fn take_back(declared: &mut IndexMap<String, Vec<String>>, len: usize, leaves: &[Leaf])
-    ensures { (before : Declared) → length before ≡ len → declared_of declared.old ≡ with_leaves before (map leaf_of leaves.now) → declared_of declared.new ≡ before }
+    ensures { (before : Declared) → length before ≡ len →
+        declared_of declared.old ≡ with_leaves before (map leaf_of leaves.now) →
+        declared_of declared.new ≡ before }
 {
     let mut rest = leaves;
     while let Some((last, front)) = rest.split_last() {
@@ -395,7 +414,8 @@ fn push_leaves(
     declared: &mut IndexMap<String, Vec<String>>,
     leaves: &[Leaf],
 ) -> Result<(), AllocError>
-    ensures ok { OnOk result (declared_of declared.new ≡ with_leaves (declared_of declared.old) (map leaf_of leaves.now)) }
+    ensures ok { let more = with_leaves (declared_of declared.old) (map leaf_of leaves.now) in
+        OnOk result (declared_of declared.new ≡ more) }
     ensures err { OnErr result (declared_of declared.new ≡ declared_of declared.old) }
 {
     let len = declared.len();
@@ -418,9 +438,12 @@ pub fn parse_imports(
     input: &str,
     declared_imports: &mut IndexMap<String, Vec<String>>,
 ) -> Result<(), ImportFault>
-    ensures ok { OnOk result (with_import (declared_of declared_imports.old) (import_leaves input.now) ≡ Ok (declared_of declared_imports.new)) }
+    ensures ok { let old = declared_of declared_imports.old in
+        let more = with_import old (import_leaves input.now) in
+        OnOk result (more ≡ Ok (declared_of declared_imports.new)) }
     ensures fault { IfErr result (λ e. RefusesImport e (import_leaves input.now)) }
-    ensures unchanged { OnErr result (declared_of declared_imports.new ≡ declared_of declared_imports.old) }
+    ensures unchanged { let old = declared_of declared_imports.old in
+        OnErr result (declared_of declared_imports.new ≡ old) }
 {
     let leaves = read_leaves(alloc, input)?;
     push_leaves(alloc, declared_imports, leaves.as_slice())?;

@@ -49,7 +49,8 @@ fn record_use(
     item: &str,
     place: usize,
 ) -> Result<(), AllocError>
-    ensures ok { OnOk result (uses_of used_imports.new ≡ with_use (uses_of used_imports.old) module_name.now item.now place) }
+    ensures ok { let more = with_use (uses_of used_imports.old) module_name.now item.now place in
+        OnOk result (uses_of used_imports.new ≡ more) }
     ensures err { OnErr result (uses_of used_imports.new ≡ uses_of used_imports.old) }
 {
     let item = String::from_str(alloc, item)?;
@@ -125,7 +126,8 @@ struct SiteText<'a> {
 // The first identifier of a text that is substituted.
 #[inline(always)]
 fn next_site(text: &str) -> Option<SiteText<'_>>
-    ensures { MatchOption result (HasNoSite text.now) (λ site. FindsSite text.now site.name.now site.is_word site.from.now site.behind.now) }
+    ensures { MatchOption result (HasNoSite text.now) (λ site.
+        FindsSite text.now site.name.now site.is_word site.from.now site.behind.now) }
 {
     let mut kept = false;
     let mut rest = text;
@@ -192,8 +194,10 @@ impl Substitution<'_> {
         ensures text { let more = path_text identifier.now path.now in
             let written = string_bytes output.old ++ more in
             IsTrue self.now.writes → OnOk result (string_bytes output.new ≡ written) }
-        ensures used { OnOk result (uses_of used_imports.new ≡ with_mentions (uses_of used_imports.old) (mentions_at place path.now)) }
-        ensures begun { OnErr result (BeginsUses (mentions_at place path.now) (uses_of used_imports.old) (uses_of used_imports.new)) }
+        ensures used { let more = mentions_at place path.now in
+            OnOk result (uses_of used_imports.new ≡ with_mentions (uses_of used_imports.old) more) }
+        ensures begun { let more = mentions_at place path.now in
+            OnErr result (BeginsUses more (uses_of used_imports.old) (uses_of used_imports.new)) }
     {
         if let Some((module_name, item)) = path.rsplit_once("::") {
             record_use(self.alloc, used_imports, module_name, item, place)?;
@@ -222,8 +226,12 @@ impl Substitution<'_> {
             let more = flat_map (path_text identifier.now) whole in
             let written = string_bytes output.old ++ more in
             IsTrue self.now.writes → OnOk result (string_bytes output.new ≡ written) }
-        ensures used { OnOk result (uses_of used_imports.new ≡ with_mentions (uses_of used_imports.old) (flat_map (mentions_at place) (longer_paths (map string_bytes paths.now) behind.now))) }
-        ensures begun { OnErr result (BeginsUses (flat_map (mentions_at place) (longer_paths (map string_bytes paths.now) behind.now)) (uses_of used_imports.old) (uses_of used_imports.new)) }
+        ensures used { let whole = longer_paths (map string_bytes paths.now) behind.now in
+            let more = flat_map (mentions_at place) whole in
+            OnOk result (uses_of used_imports.new ≡ with_mentions (uses_of used_imports.old) more) }
+        ensures begun { let whole = longer_paths (map string_bytes paths.now) behind.now in
+            let more = flat_map (mentions_at place) whole in
+            OnErr result (BeginsUses more (uses_of used_imports.old) (uses_of used_imports.new)) }
     {
         for path in paths {
             let whole = longer_path(self.alloc, path.as_str(), behind)?;
@@ -236,7 +244,8 @@ impl Substitution<'_> {
     #[inline]
     fn declared_paths(&self, name: &str) -> &[String]
         requires { Covers self.now.names.now (declared_of self.now.declared_imports.now) }
-        ensures { map string_bytes result.now ≡ paths_of (declared_of self.now.declared_imports.now) name.now }
+        ensures { let declared = declared_of self.now.declared_imports.now in
+            map string_bytes result.now ≡ paths_of declared name.now }
     {
         if !self.names.may_have(name) {
             return &[];
@@ -263,18 +272,21 @@ impl Substitution<'_> {
         output: &mut String,
     ) -> Result<(), SubstituteFault>
         requires { Covers self.now.names.now (declared_of self.now.declared_imports.now) }
-        ensures text { let paths = paths_for (declared_of self.now.declared_imports.now) identifier.now in
-            let more = flat_map (path_text identifier.now) paths in
+        ensures text { let declared = declared_of self.now.declared_imports.now in
+            let more = flat_map (path_text identifier.now) (paths_for declared identifier.now) in
             let written = string_bytes output.old ++ more in
             IsTrue self.now.writes → OnOk result (string_bytes output.new ≡ written) }
         ensures used { let declared = declared_of self.now.declared_imports.now in
-            let more = mentions_in declared (record { name = identifier.now; place = place } ∷ []) in
+            let site : Site = record { name = identifier.now; place = place } in
+            let more = mentions_in declared (site ∷ []) in
             OnOk result (uses_of used_imports.new ≡ with_mentions (uses_of used_imports.old) more) }
         ensures allowed { let declared = declared_of self.now.declared_imports.now in
-            let first = first_ambiguous declared self.now.allow_ambiguous (record { name = identifier.now; place = place } ∷ []) in
+            let site : Site = record { name = identifier.now; place = place } in
+            let first = first_ambiguous declared self.now.allow_ambiguous (site ∷ []) in
             OnOk result (first ≡ None) }
         ensures fault { let declared = declared_of self.now.declared_imports.now in
-            let refuses = RefusesUses declared self.now.allow_ambiguous (record { name = identifier.now; place = place } ∷ []) in
+            let site : Site = record { name = identifier.now; place = place } in
+            let refuses = RefusesUses declared self.now.allow_ambiguous (site ∷ []) in
             IfErr result (λ e. refuses (uses_of used_imports.old) (uses_of used_imports.new) e) }
     {
         let (first, behind) = split_identifier(identifier);
@@ -350,7 +362,8 @@ impl Substitution<'_> {
 
 // Whether the text has no `::`. Most texts have no `:` at all.
 fn lacks_colons(text: &str) -> bool
-    ensures { IsTrue result → (i : ℕ) → i ≤ length text.now → LacksTextAt (58 ∷ 58 ∷ []) text.now i }
+    ensures { IsTrue result →
+        (i : ℕ) → i ≤ length text.now → LacksTextAt (58 ∷ 58 ∷ []) text.now i }
 {
     !text.as_bytes().contains(&b':') || !text.contains("::")
 }
@@ -368,7 +381,8 @@ pub fn push_substituted(
     allow_ambiguous: bool,
 ) -> Result<(), SubstituteFault>
     requires { Covers names.now (declared_of declared_imports.now) }
-    ensures text { let more = substituted (declared_of declared_imports.now) (lexemes 0 0 (chars input.now)) in
+    ensures text { let given = lexemes 0 0 (chars input.now) in
+        let more = substituted (declared_of declared_imports.now) given in
         OnOk result (string_bytes output.new ≡ string_bytes output.old ++ more) }
     ensures used { let found = usize_sites (sites offset (lexemes 0 0 (chars input.now))) in
         let more = mentions_in (declared_of declared_imports.now) found in
@@ -404,7 +418,9 @@ pub fn substitute_identifiers(
     used_imports: &mut IndexMap<String, ImportDefWithOffset>,
     allow_ambiguous: bool,
 ) -> Result<String, SubstituteFault>
-    ensures text { IfOk result (λ t. string_bytes t ≡ substituted (declared_of declared_imports.now) (lexemes 0 0 (chars input.now))) }
+    ensures text { let given = lexemes 0 0 (chars input.now) in
+        let told = substituted (declared_of declared_imports.now) given in
+        IfOk result (λ t. string_bytes t ≡ told) }
     ensures used { let found = usize_sites (sites offset (lexemes 0 0 (chars input.now))) in
         let more = mentions_in (declared_of declared_imports.now) found in
         OnOk result (uses_of used_imports.new ≡ with_mentions (uses_of used_imports.old) more) }
@@ -466,5 +482,7 @@ pub fn record_identifiers(
 
 /// The place of a use is the sum of the offset and its place in the text wherever a `usize` holds the text's end.
 pub fn exact_places()
-    ensures { (offset : ℕ) (text : List ℕ) → IsUtf8 text → offset + length text < 2 ^ 64 → usize_sites (sites offset (lexemes 0 0 (chars text))) ≡ sites offset (lexemes 0 0 (chars text)) }
+    ensures { (offset : ℕ) (text : List ℕ) → IsUtf8 text → offset + length text < 2 ^ 64 →
+        let found = sites offset (lexemes 0 0 (chars text)) in
+        usize_sites found ≡ found }
 {}
