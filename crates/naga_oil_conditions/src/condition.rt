@@ -62,7 +62,8 @@ fn compare(
     offset: usize,
     definitions: &BTreeMap<String, ShaderDefValue>,
 ) -> Result<bool, ComposerErrorInner>
-    ensures { Gives (λ b. b) result (comparison offset name.now operator.now value.now (get_by_text definitions.now name.now)) }
+    ensures { let found = get_by_text definitions.now name.now in
+        Gives (λ b. b) result (comparison offset name.now operator.now value.now found) }
 {
     let Some(definition) = definitions.get(name) else {
         return Err(ComposerErrorInner::UnknownShaderDef {
@@ -94,7 +95,8 @@ pub fn evaluate(
     offset: usize,
     definitions: &BTreeMap<String, ShaderDefValue>,
 ) -> Result<bool, ComposerErrorInner>
-    ensures { Gives (λ b. b) result (evaluated (get_by_text definitions.now) offset (condition_of condition.entry)) }
+    ensures { let asked = condition_of condition.entry in
+        Gives (λ b. b) result (evaluated (get_by_text definitions.now) offset asked) }
 {
     match condition {
         Condition::Defined(name) => Ok(definitions.contains_key(name)),

@@ -154,7 +154,8 @@ fn version(text: &str) -> Option<bool>
 
 // What follows a word that begins an arm, and whether an `else` is before it.
 fn arm<'a>(text: &'a str, word: &str) -> Option<(bool, &'a str)>
-    ensures { option_map (λ r. (r.0, chars r.1.now)) result ≡ grammar.arm (chars word.now) (chars text.now) }
+    ensures { let read = grammar.arm (chars word.now) (chars text.now) in
+        option_map (λ r. (r.0, chars r.1.now)) result ≡ read }
 {
     let (is_else, start) = past_else(after_whitespace(text));
     let rest = past_white(past_word(start, word)?)?;
@@ -163,7 +164,8 @@ fn arm<'a>(text: &'a str, word: &str) -> Option<(bool, &'a str)>
 
 // The name behind such a word.
 fn named_arm<'a>(text: &'a str, word: &str) -> Option<(bool, &'a str)>
-    ensures { option_map (λ r. (r.0, r.1.now)) result ≡ grammar.named_arm (chars word.now) (chars text.now) }
+    ensures { let read = grammar.named_arm (chars word.now) (chars text.now) in
+        option_map (λ r. (r.0, r.1.now)) result ≡ read }
 {
     let (is_else, rest) = arm(text, word)?;
     let name = text_at(rest, CharClass::Name)?;
@@ -196,7 +198,8 @@ fn cut(name: &str) -> Option<(&str, &str)>
 
 // A name, an operator and a value.
 fn comparison_at(text: &str) -> Option<(&str, &str, &str)>
-    ensures { option_map (λ r. (r.0.now, r.1.now, r.2.now)) result ≡ grammar.comparison_at (chars text.now) }
+    ensures { let read = grammar.comparison_at (chars text.now) in
+        option_map (λ r. (r.0.now, r.1.now, r.2.now)) result ≡ read }
 {
     let name = text_at(text, CharClass::Name)?;
     match operation_at(behind_run(text, CharClass::Name)) {
@@ -209,7 +212,8 @@ fn comparison_at(text: &str) -> Option<(&str, &str, &str)>
 }
 
 fn if_condition(text: &str) -> Option<(bool, &str, &str, &str)>
-    ensures { option_map (λ r. (r.0, r.1.now, r.2.now, r.3.now)) result ≡ grammar.if_condition (chars text.now) }
+    ensures { let read = grammar.if_condition (chars text.now) in
+        option_map (λ r. (r.0, r.1.now, r.2.now, r.3.now)) result ≡ read }
 {
     let (is_else, rest) = arm(text, "if")?;
     let (name, operator, value) = comparison_at(rest)?;
@@ -225,7 +229,8 @@ fn has_keyword(text: &str, word: &str) -> bool
 
 // What follows a word and white space.
 fn past_directive<'a>(text: &'a str, word: &str) -> Option<&'a str>
-    ensures { option_map (λ r. chars r.now) result ≡ grammar.past_directive (chars word.now) (chars text.now) }
+    ensures { let read = grammar.past_directive (chars word.now) (chars text.now) in
+        option_map (λ r. chars r.now) result ≡ read }
 {
     past_white(past_word(after_whitespace(text), word)?)
 }
@@ -240,7 +245,8 @@ fn import_path(text: &str) -> Option<&str>
 }
 
 fn define(text: &str) -> Option<(&str, Option<&str>)>
-    ensures { option_map (λ r. (r.0.now, option_copied r.1)) result ≡ grammar.define (chars text.now) }
+    ensures { let read = grammar.define (chars text.now) in
+        option_map (λ r. (r.0.now, option_copied r.1)) result ≡ read }
 {
     let rest = past_directive(text, "define")?;
     let name = text_at(rest, CharClass::Name)?;

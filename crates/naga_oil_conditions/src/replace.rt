@@ -14,7 +14,8 @@ use super::*;
 
 // What follows this character, if the text begins with it.
 fn past_char(text: &str, wanted: char) -> Option<&str>
-    ensures { MatchOption result (spec.begins_with wanted (chars text.now) ≡ false) (λ rest. BeginsWithChar text.now wanted rest.now) }
+    ensures { let begins = spec.begins_with wanted (chars text.now) in
+        MatchOption result (begins ≡ false) (λ rest. BeginsWithChar text.now wanted rest.now) }
 {
     let (first, rest) = split_first_char(text)?;
     if first == wanted { Some(rest) } else { None }
@@ -22,7 +23,8 @@ fn past_char(text: &str, wanted: char) -> Option<&str>
 
 // The name that the text begins with, and what follows it.
 fn split_name(text: &str) -> Option<(&str, &str)>
-    ensures { MatchOption result (prefix_len is_name_char (chars text.now) ≡ 0) (λ r. SplitsName text.now r.0.now r.1.now) }
+    ensures { let count = prefix_len is_name_char (chars text.now) in
+        MatchOption result (count ≡ 0) (λ r. SplitsName text.now r.0.now r.1.now) }
 {
     let rest = behind_run(text, CharClass::Name);
     let name = text_before(text, rest);
@@ -34,7 +36,8 @@ fn split_name(text: &str) -> Option<(&str, &str)>
 
 /// The name behind a `#`, and what follows it.
 pub fn split_hash_name(text: &str) -> Option<(&str, &str)>
-    ensures { MatchOption result (spec.hash_name (chars text.now) ≡ None) (λ r. SplitsHashName text.now r.0.now r.1.now) }
+    ensures { let named = spec.hash_name (chars text.now) in
+        MatchOption result (named ≡ None) (λ r. SplitsHashName text.now r.0.now r.1.now) }
 {
     let start = after_whitespace(text);
     let Some(inner) = past_char(start, '{') else {
@@ -57,7 +60,8 @@ fn push_value(out: &mut String, value: ShaderDefValue) -> Result<(), AllocError>
 
 /// The front of the text up to its first `#`, and what follows that.
 pub fn split_at_hash(text: &str) -> Option<(&str, &str)>
-    ensures { MatchOption result (NoCharPasses (λ c. c == 35) text.now) (λ r. SplitsAtHash text.now r.0.now r.1.now) }
+    ensures { MatchOption result (NoCharPasses (λ c. c == 35) text.now)
+        (λ r. SplitsAtHash text.now r.0.now r.1.now) }
 {
     text.split_once('#')
 }
@@ -93,7 +97,8 @@ pub fn push_replaced(
     line: &str,
     definitions: &BTreeMap<String, ShaderDefValue>,
 ) -> Result<(), AllocError>
-    ensures { OnOk result (string_bytes out.new ≡ string_bytes out.old ++ spec.replaced (get_by_text definitions.now) line.now) }
+    ensures { let told = spec.replaced (get_by_text definitions.now) line.now in
+        OnOk result (string_bytes out.new ≡ string_bytes out.old ++ told) }
 {
     let mut rest = line;
     while let Some((front, behind)) = split_at_hash(rest) {
@@ -109,8 +114,10 @@ pub fn replaced_text<'a>(
     line: &'a str,
     definitions: &BTreeMap<String, ShaderDefValue>,
 ) -> Result<CowStr<'a>, AllocError>
-    ensures value { IfOk result (λ text. cow_str_bytes text ≡ spec.replaced (get_by_text definitions.now) line.now) }
-    ensures borrows { NoCharPasses (λ c. c == 35) line.now → IsOkAnd result (λ text. IsBorrowedStr text) }
+    ensures value { let told = spec.replaced (get_by_text definitions.now) line.now in
+        IfOk result (λ text. cow_str_bytes text ≡ told) }
+    ensures borrows { NoCharPasses (λ c. c == 35) line.now →
+        IsOkAnd result (λ text. IsBorrowedStr text) }
 {
     if !line.contains('#') {
         return Ok(CowStr::Borrowed(line));

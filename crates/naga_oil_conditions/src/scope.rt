@@ -88,7 +88,8 @@ impl Scope {
 
     /// Goes on to the next arm of the innermost chain. Says whether there is one.
     pub fn next_arm(&mut self, holds: bool) -> Result<bool, AllocError>
-        ensures { IfOk result (λ found. (found ≡ is_open self.old) × (self.new ≡ next_arm self.old holds)) }
+        ensures { let next = next_arm self.old holds in
+            IfOk result (λ found. (found ≡ is_open self.old) × (self.new ≡ next)) }
     {
         let Some(previous) = self.levels.pop() else {
             return Ok(false);

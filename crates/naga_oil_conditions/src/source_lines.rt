@@ -22,8 +22,10 @@ pub struct SourceLine<'a> {
 pub struct SourceLines<'b, 'a> {
     lines: CommentReplaceIter<'b, 'a>,
     offset: usize,
-    ghost room: { end_place offset (placed offset (texts_left lines) (covered_lines_left lines)) ≤ 2 ^ 63 },
-    ghost even: { All (λ l. length l.covered ≤ length l.text) (placed offset (texts_left lines) (covered_lines_left lines)) },
+    ghost room: { let rest = placed offset (texts_left lines) (covered_lines_left lines) in
+        end_place offset rest ≤ 2 ^ 63 },
+    ghost even: { let rest = placed offset (texts_left lines) (covered_lines_left lines) in
+        All (λ l. length l.covered ≤ length l.text) rest },
 }
 
 impl<'b, 'a> Model for SourceLines<'b, 'a> {
@@ -33,7 +35,8 @@ impl<'b, 'a> Model for SourceLines<'b, 'a> {
 
     ghost Value = { Left };
 
-    ghost view = { λ s. record { place = s.offset; left = placed s.offset (texts_left s.lines) (covered_lines_left s.lines) } };
+    ghost view = { λ s. record { place = s.offset;
+        left = placed s.offset (texts_left s.lines) (covered_lines_left s.lines) } };
 }
 
 // Where the line behind one begins, or would begin.
@@ -62,9 +65,13 @@ impl<'b, 'a> SourceLines<'b, 'a> {
     }
 
     pub fn next(&mut self) -> Result<Option<SourceLine<'a>>, AllocError>
-        ensures steps { IfOk result (λ r. MatchOption r ((self.old.left ≡ []) × (self.new.left ≡ [])) (λ line. self.old.left ≡ line_of line ∷ self.new.left)) }
-        ensures place { IfOk result (λ r. MatchOption r (self.new.place ≡ self.old.place) (λ line. self.new.place ≡ next_place self.old.place line.text.now)) }
-        ensures even { IfOk result (λ r. IfSome r (λ line. length (line_of line).covered ≤ length line.text.now)) }
+        ensures steps { let rest = self.new.left in
+            IfOk result (λ r. MatchOption r ((self.old.left ≡ []) × (rest ≡ []))
+            (λ line. self.old.left ≡ line_of line ∷ rest)) }
+        ensures place { IfOk result (λ r. MatchOption r (self.new.place ≡ self.old.place)
+            (λ line. self.new.place ≡ next_place self.old.place line.text.now)) }
+        ensures even { IfOk result (λ r.
+            IfSome r (λ line. length (line_of line).covered ≤ length line.text.now)) }
         ensures at { IfOk result (λ r. IfSome r (λ line. line.offset ≡ self.old.place)) }
         ensures room { IfOk result (λ r. IfSome r (λ line. self.new.place ≤ 2 ^ 63)) }
     {
