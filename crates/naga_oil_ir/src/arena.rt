@@ -101,7 +101,8 @@ impl<T: Item> Arena<T> {
     where
         T: PartialEq + Drop,
         ensures place { IfOk result (λ h. h ≡ place_of (λ e. T.eq item e.0) self.old) }
-        ensures items { OnOk result (self.new ≡ with_element (λ e. T.eq item e.0) self.old (item, span)) }
+        ensures items { let items = with_element (λ e. T.eq item e.0) self.old (item, span) in
+            OnOk result (self.new ≡ items) }
         ensures err { OnErr result (self.new ≡ self.old) }
     {
         match position_of(self.as_slice(), &item) {
@@ -180,7 +181,8 @@ impl<T: Item + Eq + Hash> UniqueArena<T> {
     where
         T: Drop,
         ensures place { IfOk result (λ h. h ≡ place_of (λ e. T.eq item e.0) self.old) }
-        ensures items { OnOk result (self.new ≡ with_element (λ e. T.eq item e.0) self.old (item, span)) }
+        ensures items { let items = with_element (λ e. T.eq item e.0) self.old (item, span) in
+            OnOk result (self.new ≡ items) }
         ensures err { OnErr result (self.new ≡ self.old) }
     {
         match self.0.get_index_of(&item) {

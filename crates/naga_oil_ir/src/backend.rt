@@ -67,7 +67,8 @@ pub trait Backend {
         language: ShaderLanguage,
         text: &str,
     ) -> Result<Module, BackendRefusal<ParseFault>>
-        ensures { Answers module_value parse_fault result ((front self.now).parse language text.now) };
+        ensures { let told = (front self.now).parse language text.now in
+            Answers module_value parse_fault result told };
 
     /// A text that says a module.
     fn write(
@@ -77,7 +78,8 @@ pub trait Backend {
         language: ShaderLanguage,
         capabilities: Capabilities,
     ) -> Result<String, BackendRefusal<WriteFault>>
-        ensures { Answers text write_fault result ((front self.now).write (module_value module_.now) language capabilities) };
+        ensures { let value = module_value module_.now in
+            Answers text write_fault result ((front self.now).write value language capabilities) };
 
     /// Whether a module may be used.
     fn validate(
@@ -86,5 +88,6 @@ pub trait Backend {
         module_: &Module,
         capabilities: Capabilities,
     ) -> Result<(), BackendRefusal<ValidFault>>
-        ensures { Answers nothing valid_fault result ((front self.now).valid (module_value module_.now) capabilities) };
+        ensures { let tested = (front self.now).valid (module_value module_.now) capabilities in
+            Answers nothing valid_fault result tested };
 }

@@ -91,9 +91,11 @@ impl Module {
     /// The module of nothing.
     pub fn new(alloc: Global) -> Self
         ensures special { LacksSpecialTypes result.special_types }
-        ensures items { (result.types ≡ []) × (result.constants ≡ []) × (result.overrides ≡ []) × (result.global_variables ≡ []) × (result.global_expressions ≡ []) }
+        ensures items { (result.types ≡ []) × (result.constants ≡ []) × (result.overrides ≡ [])
+            × (result.global_variables ≡ []) × (result.global_expressions ≡ []) }
         ensures functions { (result.functions ≡ []) × (result.entry_points.items ≡ []) }
-        ensures rest { (result.diagnostic_filters.items ≡ []) × (result.diagnostic_filter_leaf ≡ None) × (result.doc_comments ≡ None) }
+        ensures rest { (result.diagnostic_filters.items ≡ [])
+            × (result.diagnostic_filter_leaf ≡ None) × (result.doc_comments ≡ None) }
     {
         Module {
             types: UniqueArena::new(alloc),

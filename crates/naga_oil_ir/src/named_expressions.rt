@@ -80,7 +80,8 @@ impl NamedExpressions {
         name: String,
     ) -> Result<Option<String>, AllocError>
         ensures old { IfOk result (λ old. old ≡ lookup (nat_eq handle) self.old.entries) }
-        ensures entries { OnOk result (self.new.entries ≡ insert_entry nat_eq self.old.entries handle name) }
+        ensures entries { let named = insert_entry nat_eq self.old.entries handle name in
+            OnOk result (self.new.entries ≡ named) }
         ensures err { OnErr result (self.new.entries ≡ self.old.entries) }
     {
         match &mut self.0 {

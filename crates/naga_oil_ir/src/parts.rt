@@ -34,7 +34,8 @@ pub struct ExpressionParts {
 pub type PartsRead = Result<ExpressionParts, AllocError>;
 
 fn read_parts(alloc: Global, kind: u64, named: Named, operands: &[Option<Operand>]) -> PartsRead
-    ensures { IfOk result (λ r. (r.kind ≡ kind) × (r.named ≡ named) × (r.operands.items ≡ operands.now)) }
+    ensures { IfOk result (λ r.
+        (r.kind ≡ kind) × (r.named ≡ named) × (r.operands.items ≡ operands.now)) }
 {
     let operands = Vec::from_slice(alloc, operands)?;
     Ok(ExpressionParts {

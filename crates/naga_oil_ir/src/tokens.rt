@@ -58,7 +58,10 @@ macro_rules! push {
 
 #[rattlefmt::skip]
 fn push_ray_query(fun: &RayQueryFunction, out: &mut Vec<Token>) -> Result<(), AllocError>
-    ensures { MatchResult result (λ _. out.new.items ≡ out.old.items ++ ray_query_tokens fun.now) (λ _. take (length out.old.items) out.new.items ≡ out.old.items) }
+    ensures { let old = out.old.items in
+        let told = ray_query_tokens fun.now in
+        MatchResult result (λ _. out.new.items ≡ old ++ told)
+            (λ _. take (length old) out.new.items ≡ old) }
 {
     match fun {
         RayQueryFunction::Initialize { acceleration_structure, descriptor } =>
@@ -71,7 +74,10 @@ fn push_ray_query(fun: &RayQueryFunction, out: &mut Vec<Token>) -> Result<(), Al
 }
 
 fn push_uses(handles: &[Operand], out: &mut Vec<Token>) -> Result<(), AllocError>
-    ensures { MatchResult result (λ _. out.new.items ≡ out.old.items ++ map Token.Use handles.now) (λ _. take (length out.old.items) out.new.items ≡ out.old.items) }
+    ensures { let old = out.old.items in
+        let told = map Token.Use handles.now in
+        MatchResult result (λ _. out.new.items ≡ old ++ told)
+            (λ _. take (length old) out.new.items ≡ old) }
 {
     for h in handles {
         out.push(Token::Use(*h))?;
@@ -82,7 +88,10 @@ fn push_uses(handles: &[Operand], out: &mut Vec<Token>) -> Result<(), AllocError
 /// Pushes a block that stands in a statement.
 #[cycle(tokens)]
 fn push_inside(block: &Block, out: &mut Vec<Token>) -> Result<(), AllocError>
-    ensures { MatchResult result (λ _. out.new.items ≡ out.old.items ++ inside (block_tokens block.now)) (λ _. take (length out.old.items) out.new.items ≡ out.old.items) }
+    ensures { let old = out.old.items in
+        let told = inside (block_tokens block.now) in
+        MatchResult result (λ _. out.new.items ≡ old ++ told)
+            (λ _. take (length old) out.new.items ≡ old) }
 {
     out.push(Token::Open)?;
     push_block(block, out)?;
@@ -93,7 +102,10 @@ fn push_inside(block: &Block, out: &mut Vec<Token>) -> Result<(), AllocError>
 /// Pushes the tokens of a body. After an error what stood in `out` stays in front.
 #[cycle(tokens)]
 pub fn push_block(block: &Block, out: &mut Vec<Token>) -> Result<(), AllocError>
-    ensures { MatchResult result (λ _. out.new.items ≡ out.old.items ++ block_tokens block.now) (λ _. take (length out.old.items) out.new.items ≡ out.old.items) }
+    ensures { let old = out.old.items in
+        let told = block_tokens block.now in
+        MatchResult result (λ _. out.new.items ≡ old ++ told)
+            (λ _. take (length old) out.new.items ≡ old) }
 {
     for entry in &block.body {
         out.push(Token::At(entry.1))?;
@@ -107,7 +119,10 @@ pub fn push_block(block: &Block, out: &mut Vec<Token>) -> Result<(), AllocError>
 #[cycle(tokens)]
 #[rattlefmt::skip]
 fn push_statement(statement: &Statement, out: &mut Vec<Token>) -> Result<(), AllocError>
-    ensures { MatchResult result (λ _. out.new.items ≡ out.old.items ++ statement_tokens statement.now) (λ _. take (length out.old.items) out.new.items ≡ out.old.items) }
+    ensures { let old = out.old.items in
+        let told = statement_tokens statement.now in
+        MatchResult result (λ _. out.new.items ≡ old ++ told)
+            (λ _. take (length old) out.new.items ≡ old) }
 {
     match statement {
         Statement::Emit(range) => push!(out; Head(0), Emitted(*range)),
