@@ -23,7 +23,8 @@ pub struct Described {
 /// What a text says of its module. The name that is given stands for the import path.
 #[tactic(auto, unfolding(crate::specs::Added::described))]
 pub fn describe(alloc: Global, given: Option<&String>, text: &str) -> Checked<Described>
-    ensures value { Gives described_of result (described (option_map (λ name. string_bytes name.now) given.entry) text.now) }
+    ensures value { let path = option_map (λ name. string_bytes name.now) given.entry in
+        Gives described_of result (described path text.now) }
     ensures recorded { IfOk result KnowsRecorded }
 {
     let metadata = Preprocessor.get_preprocessor_metadata(alloc, text, false)?;
@@ -106,13 +107,16 @@ pub fn register(
     requires registry { IsRegistry registry.old }
     requires recorded { KnowsRecorded described }
     ensures reply { let of = described_of described in
-        let definition = new_definition (removed of.name registry.old) (module_source desc.entry) of in
+        let left = removed of.name registry.old in
+        let definition = new_definition left (module_source desc.entry) of in
         Gives (λ r. r.0) result (shown_by (λ d. d.index) definition) }
     ensures registry { let of = described_of described in
-        let definition = new_definition (removed of.name registry.old) (module_source desc.entry) of in
+        let left = removed of.name registry.old in
+        let definition = new_definition left (module_source desc.entry) of in
         OnOk result (Enters registry.old definition registry.new) }
     ensures gone { let name = (described_of described).name in
-        IfOk result (λ r. (other : List ℕ) → contains_text r.1 other ≡ reaches registry.old other name) }
+        IfOk result (λ r. (other : List ℕ) →
+        contains_text r.1 other ≡ reaches registry.old other name) }
     ensures refused { OnErr result (registry.new ≡ registry.old) }
 {
     let gone = registry.gone_with(described.name.as_str())?;

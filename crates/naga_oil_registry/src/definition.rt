@@ -49,7 +49,8 @@ pub struct ComposableModuleDefinition {
 impl ComposableModuleDefinition {
     /// Whether an import of this module is recorded of the text, or asked for besides.
     pub fn may_import(&self, name: &str) -> bool
-        ensures { result ≡ list_any (λ i. bytes_eq i.import.import name.now) (definition_of self.now).imports }
+        ensures { let of = definition_of self.now in
+            result ≡ list_any (λ i. bytes_eq i.import.import name.now) of.imports }
     {
         let mut imports = self.all_imports.iter();
         imports.any(|import| import.definition().import.as_str() == name)

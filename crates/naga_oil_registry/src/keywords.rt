@@ -40,7 +40,8 @@ fn past_spaces(text: &str) -> Option<&str>
 
 // What is left of a text behind the name that it begins with.
 fn after_name(text: &str) -> &str
-    ensures chars { chars result.now ≡ drop (prefix_len is_name_char (chars text.now)) (chars text.now) }
+    ensures chars { let all = chars text.now in
+        chars result.now ≡ drop (prefix_len is_name_char all) all }
     ensures suffix { (front : List ℕ) × (text.now ≡ front ++ result.now) }
 {
     let mut rest = text;
@@ -55,7 +56,8 @@ fn after_name(text: &str) -> &str
 
 // The name in a text that goes on as ` fn NAME (`, with what begins with the name, and what follows the `(`.
 fn marked_name(text: &str) -> Option<(&str, &str, &str)>
-    ensures chars { option_map (λ r. (chars r.0.now, chars r.1.now, chars r.2.now)) result ≡ marked_name (chars text.now) }
+    ensures chars { let found = marked_name (chars text.now) in
+        option_map (λ r. (chars r.0.now, chars r.1.now, chars r.2.now)) result ≡ found }
     ensures name { IfSome result (λ r. length r.0.now ≤ length r.1.now) }
     ensures within { IfSome result (λ r. length r.1.now ≤ length text.now) }
     ensures shorter { IfSome result (λ r. length r.2.now ≤ length text.now) }
@@ -104,7 +106,8 @@ pub fn edit(edits: &mut Edits, place: usize, other: &str) -> Tried
 
 /// The text with its edits.
 pub fn with_edits(alloc: Global, text: &str, edits: &Edits) -> Tried<String>
-    ensures { IfOk result (λ t. string_bytes t ≡ flat_map encode_utf8 (edited (get nat_cmp edits.now) 0 (chars text.now))) }
+    ensures { let told = edited (get nat_cmp edits.now) 0 (chars text.now) in
+        IfOk result (λ t. string_bytes t ≡ flat_map encode_utf8 told) }
 {
     let mut shown = String::with_capacity(alloc, text.len())?;
     let mut rest = text;

@@ -21,7 +21,8 @@ pub fn overwrite(defs: &mut Defs, others: &Defs) -> Tried
 
 // Adds the names of a set.
 fn add_names(names: &mut Names, others: &Names) -> Tried
-    ensures { OnOk result (texts names.new.keys ≡ fold with_name (texts names.old.keys) (texts others.now.keys)) }
+    ensures { let more = texts others.now.keys in
+        OnOk result (texts names.new.keys ≡ fold with_name (texts names.old.keys) more) }
 {
     for name in others {
         names.insert(name.clone()?)?;
@@ -31,7 +32,8 @@ fn add_names(names: &mut Names, others: &Names) -> Tried
 
 /// Overwrites definitions by those of each module in turn, and adds its effective names.
 pub(crate) fn take_over(defs: &mut Defs, names: &mut Names, imported: &[&Definition]) -> Tried
-    ensures defs { OnOk result (defs_of defs.new ≡ merged (defs_of defs.old) (map (λ d. definition_of d.now) imported.now)) }
+    ensures defs { let others = map (λ d. definition_of d.now) imported.now in
+        OnOk result (defs_of defs.new ≡ merged (defs_of defs.old) others) }
     ensures names { let more = flat_map (λ d. (definition_of d.now).effective) imported.now in
         OnOk result (texts names.new.keys ≡ fold with_name (texts names.old.keys) more) }
 {
@@ -44,7 +46,8 @@ pub(crate) fn take_over(defs: &mut Defs, names: &mut Names, imported: &[&Definit
 
 /// Imports with further ones behind them, which are asked for at the start of the text.
 pub fn push_additional(imports: &mut Vec<Use>, additional: &[Import]) -> Tried
-    ensures { OnOk result (map use_of imports.new.items ≡ map use_of imports.old.items ++ map (λ i. used_at_start (import_of i)) additional.now) }
+    ensures { let more = map (λ i. used_at_start (import_of i)) additional.now in
+        OnOk result (map use_of imports.new.items ≡ map use_of imports.old.items ++ more) }
 {
     for import in additional {
         imports.push(Use::new(import.try_clone()?, 0))?;
@@ -65,7 +68,8 @@ pub fn clone_imports(alloc: Global, imports: &[Import]) -> Tried<Vec<Import>>
 
 /// What is imported, wherever it is asked for.
 pub fn imports_of(alloc: Global, uses: &[Use]) -> Tried<Vec<Import>>
-    ensures { IfOk result (λ imports. map import_of imports.items ≡ map (λ u. (use_of u).import) uses.now) }
+    ensures { let imported = map (λ u. (use_of u).import) uses.now in
+        IfOk result (λ imports. map import_of imports.items ≡ imported) }
 {
     let mut imports = Vec::with_capacity(alloc, uses.len())?;
     for import in uses {

@@ -58,7 +58,8 @@ fn goes(definition: &Definition, gone: &Names, name: &str) -> bool
 
 // The smallest index that isn't marked.
 fn first_free(marks: &[bool]) -> Option<usize>
-    ensures { (ds : List Definition) → 0 < length marks.now → AreMarks marks.now ds → result ≡ free_index ds }
+    ensures { (ds : List Definition) → 0 < length marks.now → AreMarks marks.now ds →
+        result ≡ free_index ds }
 {
     marks.iter().position(|is_taken| !*is_taken)
 }
@@ -83,14 +84,16 @@ fn take_out(modules: &mut IndexMap<String, Definition>, gone: &Names)
     }
     modules.retain(
         |name: &String, definition: &mut Definition| -> bool
-            ensures { (result ≡ not (contains_text gone.entry.now (string_bytes name.now))) × (definition.new ≡ definition.old) }
+            ensures { let stays = not (contains_text gone.entry.now (string_bytes name.now)) in
+                (result ≡ stays) × (definition.new ≡ definition.old) }
         { !gone.contains(name.as_str()) },
     );
 }
 
 // Without the modules of some names the marks are worth nothing.
 fn unmark(taken: &mut Vec<bool>, gone: &Names)
-    ensures { (ds : List Definition) → AreMarks taken.old.items ds → AreMarks taken.new.items (standing (contains_text gone.now) ds) }
+    ensures { (ds : List Definition) → AreMarks taken.old.items ds →
+        AreMarks taken.new.items (standing (contains_text gone.now) ds) }
 {
     if gone.is_empty() {
         return;
@@ -186,7 +189,8 @@ impl Registry {
     /// registered there are none.
     pub(crate) fn gone_with(&self, name: &str) -> Tried<Names>
         requires { IsRegistry self.now }
-        ensures { IfOk result (λ gone. (other : List ℕ) → contains_text gone other ≡ reaches self.now other name.now) }
+        ensures { IfOk result (λ gone. (other : List ℕ) →
+            contains_text gone other ≡ reaches self.now other name.now) }
     {
         let mut gone = BTreeSet::new(self.alloc);
         let Some(first) = self.place(name) else {
@@ -253,7 +257,8 @@ impl Registry {
 
     /// Enters a module as the newest in the place of those of some names.
     pub(crate) fn enter(&mut self, gone: &Names, of: Definition) -> Tried
-        requires { registered (definition_of of).name (standing (contains_text gone.now) self.old) ≡ false }
+        requires { let left = standing (contains_text gone.now) self.old in
+            registered (definition_of of).name left ≡ false }
         ensures ok { let left = standing (contains_text gone.now) self.old in
             OnOk result (self.new ≡ definition_of of ∷ left) }
         ensures err { OnErr result (self.new ≡ self.old) }
@@ -271,7 +276,8 @@ impl Registry {
     pub fn remove(&mut self, name: &str) -> Tried<Names>
         requires { IsRegistry self.old }
         ensures ok { OnOk result (self.new ≡ removed name.now self.old) }
-        ensures gone { IfOk result (λ gone. (other : List ℕ) → contains_text gone other ≡ reaches self.old other name.now) }
+        ensures gone { IfOk result (λ gone. (other : List ℕ) →
+            contains_text gone other ≡ reaches self.old other name.now) }
         ensures err { OnErr result (self.new ≡ self.old) }
     {
         let gone = self.gone_with(name)?;

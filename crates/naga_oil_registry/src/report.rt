@@ -38,7 +38,8 @@ struct Source<'a> {
 // Writes why calls can't be redirected.
 #[rattlefmt::skip]
 fn push_redirection(out: &mut String, error: &RedirectError) -> Tried
-    ensures { OnOk result (string_bytes out.new ≡ string_bytes out.old ++ message (Some (redirection_of (redirect_fault error.now)))) }
+    ensures { let told = message (Some (redirection_of (redirect_fault error.now))) in
+        OnOk result (string_bytes out.new ≡ string_bytes out.old ++ told) }
 {
     match error {
         RedirectError::FunctionNotFound(name) => write!(out, "invalid override :can't find function {name} for redirection"),
@@ -52,7 +53,8 @@ fn push_redirection(out: &mut String, error: &RedirectError) -> Tried
 // Writes what is wrong.
 #[rattlefmt::skip]
 fn push_message(out: &mut String, inner: &Inner) -> Tried
-    ensures { OnOk result (string_bytes out.new ≡ string_bytes out.old ++ message (fault_of inner.now)) }
+    ensures { let told = message (fault_of inner.now) in
+        OnOk result (string_bytes out.new ≡ string_bytes out.old ++ told) }
 {
     match inner {
         Inner::ImportParseError(text, _) => out.push_str(text.as_str()),
@@ -113,7 +115,8 @@ fn fault_places(inner: &Inner) -> Places<'_>
 
 // Writes notes.
 fn push_note_lines(out: &mut String, said: &[String]) -> Tried
-    ensures { OnOk result (string_bytes out.new ≡ string_bytes out.old ++ flat_map note_line (map string_bytes said.now)) }
+    ensures { let lines = flat_map note_line (map string_bytes said.now) in
+        OnOk result (string_bytes out.new ≡ string_bytes out.old ++ lines) }
 {
     for note in said {
         write!(out, "  note: {note}\n")?;
@@ -124,7 +127,8 @@ fn push_note_lines(out: &mut String, said: &[String]) -> Tried
 // Writes what is to be noted.
 #[rattlefmt::skip]
 fn push_notes(out: &mut String, inner: &Inner) -> Tried
-    ensures { OnOk result (string_bytes out.new ≡ string_bytes out.old ++ flat_map note_line (fault_notes (fault_of inner.now))) }
+    ensures { let lines = flat_map note_line (fault_notes (fault_of inner.now)) in
+        OnOk result (string_bytes out.new ≡ string_bytes out.old ++ lines) }
 {
     match inner {
         Inner::ImportParseError(text, _) => write!(out, "  note: invalid import spec: '{text}'\n"),
@@ -179,7 +183,8 @@ impl Source<'_> {
 
     // Writes a place with what is said of it.
     fn push_place(self, out: &mut String, place: usize, said: &str) -> Tried
-        ensures { let line = place_line self.entry.path.now (line_column self.entry.text.now place) said.now in
+        ensures { let of = self.entry in
+            let line = place_line of.path.now (line_column of.text.now place) said.now in
             OnOk result (string_bytes out.new ≡ string_bytes out.old ++ line) }
     {
         let (line, column) = self.line_column(place);
@@ -205,7 +210,8 @@ impl Source<'_> {
     // Writes where something is wrong.
     fn push_places(self, out: &mut String, places: Places<'_>, message: &str) -> Tried
         ensures { let of = self.entry in
-            let lines = place_lines of.path.now of.text.now of.offset message.now (report_places places.entry) in
+            let at = report_places places.entry in
+            let lines = place_lines of.path.now of.text.now of.offset message.now at in
             OnOk result (string_bytes out.new ≡ string_bytes out.old ++ lines) }
     {
         match places {
@@ -219,7 +225,9 @@ impl Source<'_> {
 
     // What an error is told as, with decorated names as they stand.
     fn report_text(self, alloc: Global, inner: &Inner) -> Tried<String>
-        ensures { IfOk result (λ t. string_bytes t ≡ report_text self.entry.path.now self.entry.text.now self.entry.offset (fault_of inner.now)) }
+        ensures { let of = self.entry in
+            let told = report_text of.path.now of.text.now of.offset (fault_of inner.now) in
+            IfOk result (λ t. string_bytes t ≡ told) }
     {
         let mut message = String::new(alloc);
         push_message(&mut message, inner)?;
@@ -237,7 +245,8 @@ impl Source<'_> {
 /// note, with decorated names as a reader knows them. Takes time and memory linear in the text and the error.
 #[tactic(auto, unfolding(crate::specs::Report::report))]
 pub fn report(alloc: Global, path: &str, text: &str, offset: usize, inner: &Inner) -> Tried<String>
-    ensures { IfOk result (λ t. string_bytes t ≡ report path.now text.now offset (fault_of inner.now)) }
+    ensures { let told = report path.now text.now offset (fault_of inner.now) in
+        IfOk result (λ t. string_bytes t ≡ told) }
 {
     let starts = line_starts(alloc, text)?;
     let source = Source {

@@ -53,7 +53,8 @@ fn with_line_feeds(alloc: Global, source: &str) -> Tried<String>
 // The text with a number for each binding that asks for one, and the number behind them.
 // There is none where a number would pass the greatest.
 fn with_bindings(alloc: Global, text: &str, counter: u32) -> Tried<Option<(String, u32)>>
-    ensures { IfOk result (λ r. option_map (λ s. (string_bytes s.0, s.1)) r ≡ within counter (parts_around auto_binding text.now)) }
+    ensures { let told = within counter (parts_around auto_binding text.now) in
+        IfOk result (λ r. option_map (λ s. (string_bytes s.0, s.1)) r ≡ told) }
 {
     let mut numbered = String::with_capacity(alloc, text.len())?;
     let mut next = counter;
