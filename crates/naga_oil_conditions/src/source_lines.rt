@@ -35,8 +35,10 @@ impl<'b, 'a> Model for SourceLines<'b, 'a> {
 
     ghost Value = { Left };
 
-    ghost view = { λ s. record { place = s.offset;
-        left = placed s.offset (texts_left s.lines) (covered_lines_left s.lines) } };
+    ghost view = { λ s. record {
+      place = s.offset;
+      left = placed s.offset (texts_left s.lines) (covered_lines_left s.lines);
+    } };
 }
 
 // Where the line behind one begins, or would begin.
