@@ -29,7 +29,8 @@ impl<'a> Model for DerivedModule<'a> {
 
     ghost Value = { Derived };
 
-    ghost view = { λ a. derived_of a.shader a.copying.maps a.copying.target a.function_names.entries };
+    ghost view = { λ a.
+        derived_of a.shader a.copying.maps a.copying.target a.function_names.entries };
 
     ghost invariant = { λ a. IsDerived a.shader a.copying.maps a.copying.target };
 }

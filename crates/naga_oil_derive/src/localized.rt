@@ -35,7 +35,9 @@ pub struct Copied<'a> {
 
 #[rattlefmt::skip]
 impl Renaming for Copied<'_> {
-    ghost renames = { λ m. under_table (went m.went) m.table.now (range_under m.emitted.now m.began m.merged m.count) };
+    ghost renames = { λ m.
+        let ranges = range_under m.emitted.now m.began m.merged m.count in
+        under_table (went m.went) m.table.now ranges };
 
     fn ty(&self, handle: Handle<Type>) -> Handle<Type> { self.went.maps.ty(handle) }
     fn constant(&self, handle: Handle<Constant>) -> Handle<Constant> { self.went.maps.constant(handle) }
@@ -61,7 +63,8 @@ impl Renaming for Copied<'_> {
 fn put(target: &mut Arena<Expression>, copy: Entry, unique: bool) -> Tried<Operand>
     ensures place { let old = expression_values target.old in
         IfOk result (λ h. h ≡ place_of_copy unique old (parts copy.0)) }
-    ensures values { let made = with_copy unique (expression_values target.old) (parts copy.0) copy.1 in
+    ensures values { let old = expression_values target.old in
+        let made = with_copy unique old (parts copy.0) copy.1 in
         OnOk result (expression_values target.new ≡ made) }
 {
     if unique {
