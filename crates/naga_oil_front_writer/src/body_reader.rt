@@ -115,7 +115,8 @@ pub fn use_count(tokens: &[Token]) -> usize
 
 // Meets an expression that wasn't met.
 fn meet(met: &mut Vec<bool>, place: usize) -> Option<()>
-    ensures { MatchOption result (spec.meet place met.old.items ≡ None) (λ _. spec.meet place met.old.items ≡ Some met.new.items) }
+    ensures { let more = spec.meet place met.old.items in
+        MatchOption result (more ≡ None) (λ _. more ≡ Some met.new.items) }
 {
     if *met.get(place)? {
         return None;
@@ -126,7 +127,8 @@ fn meet(met: &mut Vec<bool>, place: usize) -> Option<()>
 
 // Meets a parameter, whose expression is the same wherever it stands.
 fn meet_parameter(met: &mut Vec<Option<usize>>, number: usize, place: usize) -> Option<()>
-    ensures { MatchOption result (spec.meet_parameter number place met.old.items ≡ None) (λ _. spec.meet_parameter number place met.old.items ≡ Some met.new.items) }
+    ensures { let more = spec.meet_parameter number place met.old.items in
+        MatchOption result (more ≡ None) (λ _. more ≡ Some met.new.items) }
 {
     let before = *met.get(number)?;
     if before.is_some_and(|other| other != place) {
@@ -166,7 +168,8 @@ fn past_initialiser(tokens: &[Token], place: usize) -> Option<&[Token]>
 
 // The arguments of a call that gives an expression, and what is left behind it.
 fn past_call(tokens: &[Token], function: usize, place: usize) -> Option<(&[Token], &[Token])>
-    ensures { option_map (λ p. (p.0.now, p.1.now)) result ≡ spec.past_call function place tokens.now }
+    ensures { let past = spec.past_call function place tokens.now in
+        option_map (λ p. (p.0.now, p.1.now)) result ≡ past }
 {
     let [Token::GiveCall(callee, given), behind @ ..] = tokens else {
         return None;
@@ -220,7 +223,9 @@ impl<'m> OwnNames<'m> {
 impl<'t, 'm> BodyReader<'t, '_, 'm> {
     // A name, if there is one.
     fn show(&mut self, name: Option<&'m str>) -> Written<()>
-        ensures { Becomes result (spec.with_name (option_map (λ n. n.now) name.entry) (spec.reading_of self.old)) (spec.reading_of self.new) }
+        ensures { let old = spec.reading_of self.old in
+            let read = spec.with_name (option_map (λ n. n.now) name.entry) old in
+            Becomes result read (spec.reading_of self.new) }
     {
         let name = name.ok_or(NotWritten::NotInMini)?;
         Ok(self.symbols.push(Symbol::Name(name))?)
@@ -228,7 +233,8 @@ impl<'t, 'm> BodyReader<'t, '_, 'm> {
 
     // A call: `)`, its arguments from the last on, and its name.
     fn read_call(&mut self, place: usize, function: usize) -> Written<()>
-        ensures { Becomes result (spec.with_call place function (spec.reading_of self.old)) (spec.reading_of self.new) }
+        ensures { let old = spec.reading_of self.old in
+            Becomes result (spec.with_call place function old) (spec.reading_of self.new) }
     {
         let functions = &self.items.functions;
         let name = functions.used(function, &mut self.room.functions);
@@ -243,7 +249,8 @@ impl<'t, 'm> BodyReader<'t, '_, 'm> {
 
     // A sum: what it adds last, `+`, and the rest.
     fn read_sum(&mut self, place: usize, left: usize, right: usize) -> Written<()>
-        ensures { Becomes result (spec.with_sum place left right (spec.reading_of self.old)) (spec.reading_of self.new) }
+        ensures { let old = spec.reading_of self.old in
+            Becomes result (spec.with_sum place left right old) (spec.reading_of self.new) }
     {
         self.tokens = past_emit(self.tokens, place).ok_or(NotWritten::NotInMini)?;
         self.parts.push(Part::Sum(left))?;
@@ -252,7 +259,8 @@ impl<'t, 'm> BodyReader<'t, '_, 'm> {
     }
 
     fn read_parameter(&mut self, place: usize, number: usize) -> Written<()>
-        ensures { Becomes result (spec.with_parameter place number (spec.reading_of self.old)) (spec.reading_of self.new) }
+        ensures { let old = spec.reading_of self.old in
+            Becomes result (spec.with_parameter place number old) (spec.reading_of self.new) }
     {
         let met = meet_parameter(&mut self.parameters_met, number, place);
         met.ok_or(NotWritten::NotInMini)?;
@@ -261,7 +269,8 @@ impl<'t, 'm> BodyReader<'t, '_, 'm> {
 
     // A constant, which stands before each global of its name.
     fn read_constant(&mut self, constant: usize) -> Written<()>
-        ensures { Becomes result (spec.with_constant constant (spec.reading_of self.old)) (spec.reading_of self.new) }
+        ensures { let old = spec.reading_of self.old in
+            Becomes result (spec.with_constant constant old) (spec.reading_of self.new) }
     {
         let constants = &self.items.constants;
         let name = constants.used(constant, &mut self.room.constants);
@@ -272,7 +281,8 @@ impl<'t, 'm> BodyReader<'t, '_, 'm> {
     }
 
     fn read_global(&mut self, global: usize) -> Written<()>
-        ensures { Becomes result (spec.with_global global (spec.reading_of self.old)) (spec.reading_of self.new) }
+        ensures { let old = spec.reading_of self.old in
+            Becomes result (spec.with_global global old) (spec.reading_of self.new) }
     {
         let globals = &self.items.globals;
         let name = globals.used(global, &mut self.room.globals);
@@ -282,7 +292,8 @@ impl<'t, 'm> BodyReader<'t, '_, 'm> {
 
     // A load of a local or a global, which is emitted alone.
     fn read_load(&mut self, place: usize, pointer: usize) -> Written<()>
-        ensures { Becomes result (spec.with_load place pointer (spec.reading_of self.old)) (spec.reading_of self.new) }
+        ensures { let old = spec.reading_of self.old in
+            Becomes result (spec.with_load place pointer old) (spec.reading_of self.new) }
     {
         self.tokens = past_emit(self.tokens, place).ok_or(NotWritten::NotInMini)?;
         meet(&mut self.met, pointer).ok_or(NotWritten::NotInMini)?;
@@ -295,7 +306,8 @@ impl<'t, 'm> BodyReader<'t, '_, 'm> {
 
     // An expression that stands here alone.
     fn read_own(&mut self, may_be_sum: bool, place: usize, shape: Shape) -> Written<()>
-        ensures { Becomes result (spec.with_own may_be_sum place shape (spec.reading_of self.old)) (spec.reading_of self.new) }
+        ensures { let old = spec.reading_of self.old in
+            Becomes result (spec.with_own may_be_sum place shape old) (spec.reading_of self.new) }
     {
         meet(&mut self.met, place).ok_or(NotWritten::NotInMini)?;
         match shape {
@@ -310,7 +322,8 @@ impl<'t, 'm> BodyReader<'t, '_, 'm> {
 
     // A parameter, or an expression that stands here alone.
     fn read(&mut self, may_be_sum: bool, place: usize) -> Written<()>
-        ensures { Becomes result (spec.with_expression may_be_sum place (spec.reading_of self.old)) (spec.reading_of self.new) }
+        ensures { let old = spec.reading_of self.old in
+            Becomes result (spec.with_expression may_be_sum place old) (spec.reading_of self.new) }
     {
         match shape_at(self.expressions, place) {
             Shape::Argument(number) => self.read_parameter(place, number as usize),
@@ -320,7 +333,8 @@ impl<'t, 'm> BodyReader<'t, '_, 'm> {
 
     // A sum of an initialiser: what it adds last, `+`, and the rest.
     fn read_initial_sum(&mut self, place: usize, left: usize, right: usize) -> Written<()>
-        ensures { Becomes result (spec.with_initial_sum place left right (spec.reading_of self.old)) (spec.reading_of self.new) }
+        ensures { let old = spec.reading_of self.old in
+            Becomes result (spec.with_initial_sum place left right old) (spec.reading_of self.new) }
     {
         self.tokens = past_initialiser(self.tokens, place).ok_or(NotWritten::NotInMini)?;
         self.parts.push(Part::Initialiser(left))?;
@@ -330,7 +344,8 @@ impl<'t, 'm> BodyReader<'t, '_, 'm> {
 
     // A constant of an initialiser.
     fn read_initial_constant(&mut self, constant: usize) -> Written<()>
-        ensures { Becomes result (spec.with_initial_constant constant (spec.reading_of self.old)) (spec.reading_of self.new) }
+        ensures { let old = spec.reading_of self.old in
+            Becomes result (spec.with_initial_constant constant old) (spec.reading_of self.new) }
     {
         let constants = &self.items.constants;
         let name = constants.used(constant, &mut self.room.constants);
@@ -339,7 +354,9 @@ impl<'t, 'm> BodyReader<'t, '_, 'm> {
 
     // An expression of an initialiser by its shape.
     fn read_initial(&mut self, may_be_sum: bool, place: usize, shape: Shape) -> Written<()>
-        ensures { Becomes result (spec.with_initial_shape may_be_sum place shape (spec.reading_of self.old)) (spec.reading_of self.new) }
+        ensures { let old = spec.reading_of self.old in
+            let read = spec.with_initial_shape may_be_sum place shape old in
+            Becomes result read (spec.reading_of self.new) }
     {
         match shape {
             Shape::Number(value) => Ok(self.symbols.push(Symbol::Number(value))?),
@@ -351,7 +368,8 @@ impl<'t, 'm> BodyReader<'t, '_, 'm> {
 
     // An expression of an initialiser, which the sum doesn't have.
     fn read_initialiser(&mut self, may_be_sum: bool, place: usize) -> Written<()>
-        ensures { Becomes result (spec.with_initialiser may_be_sum place (spec.reading_of self.old)) (spec.reading_of self.new) }
+        ensures { let old = spec.reading_of self.old in
+            Becomes result (spec.with_initialiser may_be_sum place old) (spec.reading_of self.new) }
     {
         if *self.met.get(place).ok_or(NotWritten::NotInMini)? {
             return Err(NotWritten::NotInMini);
@@ -361,7 +379,8 @@ impl<'t, 'm> BodyReader<'t, '_, 'm> {
 
     // The next argument of a call, with a `,` before it unless it is the first.
     fn read_argument(&mut self, arguments: &'t [Token]) -> Result<(), AllocError>
-        ensures { OnOk result (spec.reading_of self.new ≡ spec.with_argument arguments.now (spec.reading_of self.old)) }
+        ensures { let old = spec.reading_of self.old in
+            OnOk result (spec.reading_of self.new ≡ spec.with_argument arguments.now old) }
     {
         let [Token::Use(last), rest @ ..] = arguments else {
             return Ok(());
@@ -375,7 +394,8 @@ impl<'t, 'm> BodyReader<'t, '_, 'm> {
 
     // The next part.
     fn step(&mut self) -> Written<()>
-        ensures { Becomes result (spec.one_part (spec.reading_of self.old).parts (spec.reading_of self.old)) (spec.reading_of self.new) }
+        ensures { let old = spec.reading_of self.old in
+            Becomes result (spec.one_part old.parts old) (spec.reading_of self.new) }
     {
         match self.parts.pop() {
             None => Ok(()),
@@ -390,7 +410,8 @@ impl<'t, 'm> BodyReader<'t, '_, 'm> {
 
     // So many parts.
     fn read_parts(&mut self, count: usize) -> Written<()>
-        ensures { Becomes result (spec.parts_read count (spec.reading_of self.old)) (spec.reading_of self.new) }
+        ensures { let old = spec.reading_of self.old in
+            Becomes result (spec.parts_read count old) (spec.reading_of self.new) }
     {
         for _ in 0..count {
             self.step()?;
@@ -405,7 +426,9 @@ fn push_local<'m>(
     name: &'m str,
     initialiser: usize,
 ) -> Result<(), AllocError>
-    ensures { let old = spec.parts_of parts.old.items in OnOk result (spec.parts_of parts.new.items ≡ old ++ spec.local_parts (spec.separator old) ((name.now, initialiser) ∷ [])) }
+    ensures { let old = spec.parts_of parts.old.items in
+        let local = spec.local_parts (spec.separator old) ((name.now, initialiser) ∷ []) in
+        OnOk result (spec.parts_of parts.new.items ≡ old ++ local) }
 {
     if !parts.is_empty() {
         parts.push(Part::Show(Symbol::Comma))?;
@@ -421,7 +444,8 @@ fn line_parts<'t, 'm>(
     locals: &[(&'m str, usize)],
     value: usize,
 ) -> Result<Vec<Part<'t, 'm>>, AllocError>
-    ensures { IfOk result (λ v. spec.parts_of v.items ≡ spec.line_parts (spec.locals_of locals.now) value) }
+    ensures { let told = spec.line_parts (spec.locals_of locals.now) value in
+        IfOk result (λ v. spec.parts_of v.items ≡ told) }
 {
     let mut parts = Vec::new(alloc);
     for (name, initialiser) in locals {
@@ -445,7 +469,8 @@ pub fn end_of<'r, 'm>(
     tokens: &[Token],
 ) -> Written<(Vec<Symbol<'m>>, Room)>
     ensures { let of = expression_values expressions.now in
-        let context : spec.Context = record { expressions = of; names = names.now; items = items.now } in
+        let context : spec.Context =
+            record { expressions = of; names = names.now; items = items.now } in
         let end = spec.end_of context (spec.locals_of locals.now) tokens.now in
         Finds (λ p. (reverse (line_of p.0.items), p.1)) result end }
 {

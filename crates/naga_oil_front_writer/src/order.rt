@@ -142,7 +142,9 @@ fn need_in_order(lines: &mut [Room])
 impl Room {
     // Whether as many constants and globals may stand before the line as a function needs.
     fn allows(self, function: &Room) -> bool
-        ensures { result ≡ (nat_le function.now.constants.least self.constants.most && nat_le function.now.globals.least self.globals.most) }
+        ensures { let constants = nat_le function.now.constants.least self.constants.most in
+            let globals = nat_le function.now.globals.least self.globals.most in
+            result ≡ (constants && globals) }
     {
         function.constants.least <= self.constants.most
             && function.globals.least <= self.globals.most
@@ -169,7 +171,10 @@ impl Room {
 
 // Takes away the line that stands last.
 fn take_last(functions: &mut Vec<Room>, entry_points: &mut Vec<Room>) -> Option<Room>
-    ensures { option_map (λ line. (line, reverse functions.new.items, reverse entry_points.new.items)) result ≡ spec.take_last (reverse functions.old.items) (reverse entry_points.old.items) }
+    ensures { let rest = reverse functions.new.items in
+        let entries = reverse entry_points.new.items in
+        let taken = spec.take_last (reverse functions.old.items) (reverse entry_points.old.items) in
+        option_map (λ line. (line, rest, entries)) result ≡ taken }
 {
     match entry_points.last() {
         Some(entry_point) if entry_point.may_follow(functions) => entry_points.pop(),

@@ -19,7 +19,8 @@ use naga_oil_symbols::{Names, Symbol, is_name};
 use std::alloc::{AllocError, Global};
 
 fn push_symbol(out: &mut String, symbol: Symbol<'_>) -> Result<(), AllocError>
-    ensures { OnOk result (string_bytes out.new ≡ string_bytes out.old ++ spec.symbol_text (symbol_of symbol.entry)) }
+    ensures { let text = spec.symbol_text (symbol_of symbol.entry) in
+        OnOk result (string_bytes out.new ≡ string_bytes out.old ++ text) }
 {
     match symbol {
         Symbol::Name(name) => out.push_str(name),
@@ -37,7 +38,8 @@ fn push_symbol(out: &mut String, symbol: Symbol<'_>) -> Result<(), AllocError>
 
 // Pushes symbols, which are given from the last on.
 fn push_symbols(out: &mut String, mut symbols: Vec<Symbol<'_>>) -> Result<(), AllocError>
-    ensures { OnOk result (string_bytes out.new ≡ string_bytes out.old ++ spec.symbols_text (reverse (line_of symbols.entry.items))) }
+    ensures { let text = spec.symbols_text (reverse (line_of symbols.entry.items)) in
+        OnOk result (string_bytes out.new ≡ string_bytes out.old ++ text) }
 {
     while let Some(symbol) = symbols.pop() {
         push_symbol(out, symbol)?;
@@ -161,7 +163,8 @@ fn function_words<'m>(alloc: Global, functions: &'m [(Function, Span)]) -> Writt
 
 // The number at a place, if it is of the one type.
 fn number_at(of: &Module, ty: Handle<Type>, place: usize) -> Written<u64>
-    ensures { Finds (λ n. n) result (spec.number_at (expression_values of.now.global_expressions) ty place) }
+    ensures { let values = expression_values of.now.global_expressions in
+        Finds (λ n. n) result (spec.number_at values ty place) }
 {
     match shape_at(&of.global_expressions, place) {
         Shape::Number(value) if ty.index() == 0 => Ok(value),
@@ -171,7 +174,9 @@ fn number_at(of: &Module, ty: Handle<Type>, place: usize) -> Written<u64>
 
 // Pushes the lines of constants, and answers their names.
 fn push_constants<'m>(alloc: Global, out: &mut String, of: &'m Module) -> Written<ItemNames<'m>>
-    ensures { Writes (λ n. n) result (spec.constants_text (module_value of.now).global_expressions (module_value of.now).constants) (string_bytes out.old) (string_bytes out.new) }
+    ensures { let value = module_value of.now in
+        let lines = spec.constants_text value.global_expressions value.constants in
+        Writes (λ n. n) result lines (string_bytes out.old) (string_bytes out.new) }
 {
     let mut names = ItemNames::new(alloc);
     names.make_room(of.constants.len());
@@ -186,7 +191,9 @@ fn push_constants<'m>(alloc: Global, out: &mut String, of: &'m Module) -> Writte
 
 // The name and the number of a global.
 fn global_word<'m>(of: &'m Module, global: &'m GlobalVariable) -> Written<(&'m str, u64)>
-    ensures { Finds (λ g. (g.0.now, g.1)) result (spec.global_word (expression_values of.now.global_expressions) (global_row global.now)) }
+    ensures { let values = expression_values of.now.global_expressions in
+        let word = spec.global_word values (global_row global.now) in
+        Finds (λ g. (g.0.now, g.1)) result word }
 {
     let name = valid_name(&global.name)?;
     match global.init {
@@ -199,7 +206,9 @@ fn global_word<'m>(of: &'m Module, global: &'m GlobalVariable) -> Written<(&'m s
 
 // Pushes the lines of globals, and answers their names.
 fn push_globals<'m>(alloc: Global, out: &mut String, of: &'m Module) -> Written<ItemNames<'m>>
-    ensures { Writes (λ n. n) result (spec.globals_text (module_value of.now).global_expressions (module_value of.now).global_variables) (string_bytes out.old) (string_bytes out.new) }
+    ensures { let value = module_value of.now in
+        let lines = spec.globals_text value.global_expressions value.global_variables in
+        Writes (λ n. n) result lines (string_bytes out.old) (string_bytes out.new) }
 {
     let mut names = ItemNames::new(alloc);
     names.make_room(of.global_variables.len());
@@ -256,7 +265,9 @@ impl<'m> Writer<'m> {
         function: &'m Function,
         tokens: &[Token],
     ) -> Written<Room>
-        ensures text { Writes (λ r. r) result (spec.end_text self.old.items parameters.entry (function_value function.now) tokens.now) (string_bytes self.old.text) (string_bytes self.new.text) }
+        ensures text { let value = function_value function.now in
+            let line = spec.end_text self.old.items parameters.entry value tokens.now in
+            Writes (λ r. r) result line (string_bytes self.old.text) (string_bytes self.new.text) }
         ensures items { OnOk result (self.new.items ≡ self.old.items) }
     {
         let locals = local_words(self.alloc, function.local_variables.as_slice())?;
@@ -283,7 +294,9 @@ impl<'m> Writer<'m> {
     #[tactic(auto, unfolding(crate::specs::Writer::body_line))]
     fn push_stub(&mut self, function: &Function) -> Written<Room>
         requires stub { IsTrue (spec.is_empty (function_value function.now).body) }
-        ensures text { (parameters : List (List ℕ)) → Writes (λ r. r) result (spec.body_line self.old.items parameters (function_value function.now)) (string_bytes self.old.text) (string_bytes self.new.text) }
+        ensures text { (parameters : List (List ℕ)) →
+            let line = spec.body_line self.old.items parameters (function_value function.now) in
+            Writes (λ r. r) result line (string_bytes self.old.text) (string_bytes self.new.text) }
         ensures items { OnOk result (self.new.items ≡ self.old.items) }
     {
         if !is_plain_function(function) {
@@ -299,7 +312,9 @@ impl<'m> Writer<'m> {
     // What stands behind the header of a line. Answers the line's room.
     #[tactic(auto, unfolding(crate::specs::Writer::body_line))]
     fn push_body(&mut self, parameters: Names<'m>, function: &'m Function) -> Written<Room>
-        ensures text { Writes (λ r. r) result (spec.body_line self.old.items parameters.entry (function_value function.now)) (string_bytes self.old.text) (string_bytes self.new.text) }
+        ensures text { let value = function_value function.now in
+            let line = spec.body_line self.old.items parameters.entry value in
+            Writes (λ r. r) result line (string_bytes self.old.text) (string_bytes self.new.text) }
         ensures items { OnOk result (self.new.items ≡ self.old.items) }
     {
         if function.body.body.is_empty() {
@@ -317,7 +332,8 @@ impl<'m> Writer<'m> {
     #[tactic(auto, unfolding(crate::specs::Writer::function_text))]
     fn push_function(&mut self, function: &'m Function) -> Written<Room>
         requires named { IsSome (spec.valid_name (function_value function.now).name) }
-        ensures text { Writes (λ r. r) result (spec.function_text self.old.items (function_value function.now)) (string_bytes self.old.text) (string_bytes self.new.text) }
+        ensures text { let line = spec.function_text self.old.items (function_value function.now) in
+            Writes (λ r. r) result line (string_bytes self.old.text) (string_bytes self.new.text) }
         ensures items { OnOk result (self.new.items ≡ self.old.items) }
     {
         let name = known_name(&function.name);
@@ -331,7 +347,8 @@ impl<'m> Writer<'m> {
 
     #[tactic(auto, unfolding(crate::specs::Writer::entry_text))]
     fn push_entry_point(&mut self, entry_point: &'m EntryPoint) -> Written<Room>
-        ensures text { Writes (λ r. r) result (spec.entry_text self.old.items (entry_value entry_point.now)) (string_bytes self.old.text) (string_bytes self.new.text) }
+        ensures text { let line = spec.entry_text self.old.items (entry_value entry_point.now) in
+            Writes (λ r. r) result line (string_bytes self.old.text) (string_bytes self.new.text) }
         ensures items { OnOk result (self.new.items ≡ self.old.items) }
     {
         let name = valid_name(&entry_point.function.name)?;
@@ -346,7 +363,10 @@ impl<'m> Writer<'m> {
     // The lines of functions whose names can be written.
     fn push_functions(&mut self, of: &'m Module) -> Written<Vec<Room>>
         requires named { IsSome (spec.function_words (module_value of.now).functions) }
-        ensures text { Writes (λ v. v.items) result (spec.functions_text self.old.items (module_value of.now).functions) (string_bytes self.old.text) (string_bytes self.new.text) }
+        ensures text { let value = module_value of.now in
+            let lines = spec.functions_text self.old.items value.functions in
+            let text = string_bytes self.new.text in
+            Writes (λ v. v.items) result lines (string_bytes self.old.text) text }
         ensures items { OnOk result (self.new.items ≡ self.old.items) }
     {
         let mut rooms = Vec::with_capacity(self.alloc, of.functions.len())?;
@@ -357,7 +377,10 @@ impl<'m> Writer<'m> {
     }
 
     fn push_entry_points(&mut self, of: &'m Module) -> Written<Vec<Room>>
-        ensures text { Writes (λ v. v.items) result (spec.entries_text self.old.items (module_value of.now).entry_points) (string_bytes self.old.text) (string_bytes self.new.text) }
+        ensures text { let value = module_value of.now in
+            let lines = spec.entries_text self.old.items value.entry_points in
+            let text = string_bytes self.new.text in
+            Writes (λ v. v.items) result lines (string_bytes self.old.text) text }
         ensures items { OnOk result (self.new.items ≡ self.old.items) }
     {
         let mut rooms = Vec::new(self.alloc);
@@ -405,7 +428,8 @@ const LINE: usize = 32;
 // The lines of constants and globals, and the names of constants, globals and functions.
 #[tactic(auto, unfolding(crate::specs::Writer::items_text))]
 fn begun(alloc: Global, of: &Module) -> Written<Writer<'_>>
-    ensures text { Finds (λ w. (string_bytes w.text, w.items)) result (spec.items_text (module_value of.now)) }
+    ensures text { let lines = spec.items_text (module_value of.now) in
+        Finds (λ w. (string_bytes w.text, w.items)) result lines }
     ensures named { OnOk result (IsSome (spec.function_words (module_value of.now).functions)) }
 {
     let mut text = String::new(alloc);
