@@ -470,7 +470,7 @@ pub fn end_of<'r, 'm>(
 ) -> Written<(Vec<Symbol<'m>>, Room)>
     ensures { let of = expression_values expressions.now in
         let context : spec.Context =
-            record { expressions = of; names = names.now; items = items.now } in
+        record { expressions = of; names = names.now; items = items.now } in
         let end = spec.end_of context (spec.locals_of locals.now) tokens.now in
         Finds (λ p. (reverse (line_of p.0.items), p.1)) result end }
 {

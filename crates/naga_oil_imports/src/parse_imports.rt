@@ -208,7 +208,7 @@ fn unit<'t, 'a>(name: &'a str, behind: &'t [Token<'a>]) -> (Part<'a>, &'t [Token
 fn next_part<'t, 'a>(tokens: &'t [Token<'a>]) -> Option<(Part<'a>, &'t [Token<'a>])>
     ensures parts { let whole = parts 0 (map lexeme_of tokens.now) in
         MatchOption result (whole ≡ []) (λ r.
-            whole ≡ part_of r.0 ∷ parts 0 (map lexeme_of r.1.now)) }
+        whole ≡ part_of r.0 ∷ parts 0 (map lexeme_of r.1.now)) }
     ensures shorter { IfSome result (λ r. length r.1.now < length tokens.now) }
 {
     let Some((first, behind)) = tokens.split_first() else {

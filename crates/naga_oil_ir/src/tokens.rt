@@ -61,7 +61,7 @@ fn push_ray_query(fun: &RayQueryFunction, out: &mut Vec<Token>) -> Result<(), Al
     ensures { let old = out.old.items in
         let told = ray_query_tokens fun.now in
         MatchResult result (λ _. out.new.items ≡ old ++ told)
-            (λ _. take (length old) out.new.items ≡ old) }
+        (λ _. take (length old) out.new.items ≡ old) }
 {
     match fun {
         RayQueryFunction::Initialize { acceleration_structure, descriptor } =>
@@ -77,7 +77,7 @@ fn push_uses(handles: &[Operand], out: &mut Vec<Token>) -> Result<(), AllocError
     ensures { let old = out.old.items in
         let told = map Token.Use handles.now in
         MatchResult result (λ _. out.new.items ≡ old ++ told)
-            (λ _. take (length old) out.new.items ≡ old) }
+        (λ _. take (length old) out.new.items ≡ old) }
 {
     for h in handles {
         out.push(Token::Use(*h))?;
@@ -91,7 +91,7 @@ fn push_inside(block: &Block, out: &mut Vec<Token>) -> Result<(), AllocError>
     ensures { let old = out.old.items in
         let told = inside (block_tokens block.now) in
         MatchResult result (λ _. out.new.items ≡ old ++ told)
-            (λ _. take (length old) out.new.items ≡ old) }
+        (λ _. take (length old) out.new.items ≡ old) }
 {
     out.push(Token::Open)?;
     push_block(block, out)?;
@@ -105,7 +105,7 @@ pub fn push_block(block: &Block, out: &mut Vec<Token>) -> Result<(), AllocError>
     ensures { let old = out.old.items in
         let told = block_tokens block.now in
         MatchResult result (λ _. out.new.items ≡ old ++ told)
-            (λ _. take (length old) out.new.items ≡ old) }
+        (λ _. take (length old) out.new.items ≡ old) }
 {
     for entry in &block.body {
         out.push(Token::At(entry.1))?;
@@ -122,7 +122,7 @@ fn push_statement(statement: &Statement, out: &mut Vec<Token>) -> Result<(), All
     ensures { let old = out.old.items in
         let told = statement_tokens statement.now in
         MatchResult result (λ _. out.new.items ≡ old ++ told)
-            (λ _. take (length old) out.new.items ≡ old) }
+        (λ _. take (length old) out.new.items ≡ old) }
 {
     match statement {
         Statement::Emit(range) => push!(out; Head(0), Emitted(*range)),
