@@ -23,8 +23,12 @@ pub fn define(
     offset: usize,
     defines: &mut BTreeMap<String, ShaderDefValue>,
 ) -> Result<(), ComposerErrorInner>
-    ensures ok { OnOk result (defined_behind allow_defines (get_by_text defines.old) offset name.now (option_copied value.entry) ≡ Ok (get_by_text defines.new)) }
-    ensures err { IfErr result (λ e. Fails e (defined_behind allow_defines (get_by_text defines.old) offset name.now (option_copied value.entry))) }
+    ensures ok { let old = get_by_text defines.old in
+        let behind = defined_behind allow_defines old offset name.now (option_copied value.entry) in
+        OnOk result (behind ≡ Ok (get_by_text defines.new)) }
+    ensures err { let old = get_by_text defines.old in
+        let behind = defined_behind allow_defines old offset name.now (option_copied value.entry) in
+        IfErr result (λ e. Fails e behind) }
 {
     if !allow_defines {
         return Err(ComposerErrorInner::DefineInModule(offset));

@@ -147,9 +147,13 @@ fn take_line(
     directives: &mut WgslDirectives,
     cleaned: &mut String,
 ) -> Result<bool, ComposerErrorInner>
-    ensures goes_on { Gives (λ b. b) result (goes_on index (trim line.now) (directive_of (trim line.now))) }
-    ensures text { OnOk result (string_bytes cleaned.new ≡ string_bytes cleaned.old ++ kept line.now (directive_of (trim line.now))) }
-    ensures found { OnOk result (directives_of directives.new ≡ directives_of directives.old and found index (directive_of (trim line.now))) }
+    ensures goes_on { let told = directive_of (trim line.now) in
+        Gives (λ b. b) result (goes_on index (trim line.now) told) }
+    ensures text { let told = directive_of (trim line.now) in
+        OnOk result (string_bytes cleaned.new ≡ string_bytes cleaned.old ++ kept line.now told) }
+    ensures found { let told = directive_of (trim line.now) in
+        let more = directives_of directives.old and found index told in
+        OnOk result (directives_of directives.new ≡ more) }
 {
     let trimmed = line.trim();
     let reason = match read_directive(alloc, trimmed)? {
@@ -199,7 +203,8 @@ fn take_line(
 
 // Writes what stands between a line of this number and the line before it.
 fn push_line_end(out: &mut String, index: usize) -> Result<(), AllocError>
-    ensures { OnOk result (string_bytes out.new ≡ string_bytes out.old ++ (if index == 0 then [] else 10 ∷ [])) }
+    ensures { let more = if index == 0 then [] else 10 ∷ [] in
+        OnOk result (string_bytes out.new ≡ string_bytes out.old ++ more) }
 {
     if index > 0 {
         out.push('\n')?;
@@ -209,7 +214,8 @@ fn push_line_end(out: &mut String, index: usize) -> Result<(), AllocError>
 
 // Writes further lines, each behind a line end.
 fn push_lines(out: &mut String, rest: Lines<'_>) -> Result<(), AllocError>
-    ensures { OnOk result (string_bytes out.new ≡ string_bytes out.old ++ flat_map (λ line. 10 ∷ line) (lines (lines_rest rest.entry))) }
+    ensures { let more = flat_map (λ line. 10 ∷ line) (lines (lines_rest rest.entry)) in
+        OnOk result (string_bytes out.new ≡ string_bytes out.old ++ more) }
 {
     for line in rest {
         out.push('\n')?;

@@ -43,7 +43,8 @@ pub fn braces_after(before: usize, covered: &str) -> usize
 
 // Writes spaces in a line's place.
 pub fn blank_line(out: &mut String, line: &str) -> Result<(), AllocError>
-    ensures { OnOk result (string_bytes out.new ≡ string_bytes out.old ++ end_line (replicate (length line.now) 32)) }
+    ensures { let spaces = end_line (replicate (length line.now) 32) in
+        OnOk result (string_bytes out.new ≡ string_bytes out.old ++ spaces) }
 {
     push_spaces(out, line.len())?;
     out.push('\n')
@@ -52,7 +53,9 @@ pub fn blank_line(out: &mut String, line: &str) -> Result<(), AllocError>
 // Fills a line up by spaces to a length, and ends it. It begins at this place of the text.
 fn fill_line(out: &mut String, start: usize, size: usize) -> Result<(), AllocError>
     requires { start ≤ length (string_bytes out.old) }
-    ensures { (front text : List ℕ) → string_bytes out.old ≡ front ++ text → length front ≡ start → OnOk result (string_bytes out.new ≡ front ++ end_line (padded size text)) }
+    ensures { (front text : List ℕ) →
+        string_bytes out.old ≡ front ++ text → length front ≡ start →
+        OnOk result (string_bytes out.new ≡ front ++ end_line (padded size text)) }
 {
     let len = out.len() - start;
     push_spaces(out, size.saturating_sub(len))?;
@@ -69,9 +72,11 @@ pub fn declare(
 ) -> Result<(), ComposerErrorInner>
     requires fits { offset + length import.now < 2 ^ 64 }
     requires marked { Covers names.old (declared_of declared.old) }
-    ensures ok { OnOk result (with_import (declared_of declared.old) (import_leaves import.now) ≡ Ok (declared_of declared.new)) }
+    ensures ok { let more = with_import (declared_of declared.old) (import_leaves import.now) in
+        OnOk result (more ≡ Ok (declared_of declared.new)) }
     ensures marked { OnOk result (Covers names.new (declared_of declared.new)) }
-    ensures err { IfErr result (λ e. (known : Known) (l : Line) → l.at ≡ offset → Fails e (imported_passage known l (import_leaves import.now))) }
+    ensures err { IfErr result (λ e. (known : Known) (l : Line) → l.at ≡ offset →
+        Fails e (imported_passage known l (import_leaves import.now))) }
 {
     let count = declared.len();
     match parse_imports(alloc, import, declared) {
@@ -95,8 +100,10 @@ fn take_line(
     out: &mut String,
 ) -> Result<usize, AllocError>
     requires { braces + length (line_of line).covered < 2 ^ 64 }
-    ensures blank { OnOk result (string_bytes out.new ≡ string_bytes out.old ++ end_line (replicate (length line.entry.text.now) 32)) }
-    ensures import { OnOk result (string_bytes import.new ≡ string_bytes import.old ++ end_line (line_of line.entry).covered) }
+    ensures blank { let spaces = end_line (replicate (length line.entry.text.now) 32) in
+        OnOk result (string_bytes out.new ≡ string_bytes out.old ++ spaces) }
+    ensures import { let more = end_line (line_of line.entry).covered in
+        OnOk result (string_bytes import.new ≡ string_bytes import.old ++ more) }
     ensures after { IfOk result (λ n. n ≡ braces_after braces (line_of line.entry).covered) }
     ensures bound { IfOk result (λ n. n ≤ braces + length (line_of line.entry).covered) }
 {
@@ -115,11 +122,16 @@ pub fn take_lines(
 ) -> Result<(), AllocError>
     requires { braces ≤ source.old.place }
     ensures left { OnOk result (source.new.left ≡ behind_taken braces source.old.left) }
-    ensures blank { OnOk result (string_bytes out.new ≡ string_bytes out.old ++ blanks (taken braces source.old.left)) }
-    ensures import { OnOk result (string_bytes import.new ≡ string_bytes import.old ++ import_text (taken braces source.old.left)) }
-    ensures fits { OnOk result (length (string_bytes import.new) + source.old.place ≤ length (string_bytes import.old) + source.new.place) }
+    ensures blank { let more = taken braces source.old.left in
+        OnOk result (string_bytes out.new ≡ string_bytes out.old ++ blanks more) }
+    ensures import { let more = taken braces source.old.left in
+        OnOk result (string_bytes import.new ≡ string_bytes import.old ++ import_text more) }
+    ensures fits { let before = length (string_bytes import.old) in
+        let after = length (string_bytes import.new) in
+        OnOk result (after + source.old.place ≤ before + source.new.place) }
     ensures room { OnOk result (source.old.place ≤ 2 ^ 63 → source.new.place ≤ 2 ^ 63) }
-    ensures end { OnOk result (end_place source.new.place source.new.left ≡ end_place source.old.place source.old.left) }
+    ensures end { let before = end_place source.old.place source.old.left in
+        OnOk result (end_place source.new.place source.new.left ≡ before) }
     ensures shorter { OnOk result (length source.new.left ≤ length source.old.left) }
 {
     let mut braces = braces;
@@ -155,15 +167,20 @@ fn record_uses(
     requires place { line.now.offset ≤ 2 ^ 63 }
     requires marked { HasMarks imports.old }
     ensures ok { let tokens = using_tokens (get_by_text definitions.now) (line_of line.now) in
-        let first = first_ambiguous (declared_of imports.old.declared) false (sites line.now.offset tokens) in
+        let found = sites line.now.offset tokens in
+        let first = first_ambiguous (declared_of imports.old.declared) false found in
         OnOk result (first ≡ None) }
     ensures used { let tokens = using_tokens (get_by_text definitions.now) (line_of line.now) in
         let used = used_by (declared_of imports.old.declared) line.now.offset tokens in
         OnOk result (uses_of imports.new.used ≡ used (uses_of imports.old.used)) }
-    ensures declared { OnOk result (declared_of imports.new.declared ≡ declared_of imports.old.declared) }
+    ensures declared { let old = declared_of imports.old.declared in
+        OnOk result (declared_of imports.new.declared ≡ old) }
     ensures marked { OnOk result (HasMarks imports.new) }
-    ensures err { IfErr result (λ e. (known : Known) → Fails e (shown_passage (get_by_text definitions.now) known (line_of line.now)
-        (first_ambiguous (declared_of imports.old.declared) false (sites line.now.offset (using_tokens (get_by_text definitions.now) (line_of line.now)))))) }
+    ensures err { let tokens = using_tokens (get_by_text definitions.now) (line_of line.now) in
+        let found = sites line.now.offset tokens in
+        let first = first_ambiguous (declared_of imports.old.declared) false found in
+        IfErr result (λ e. (known : Known) →
+            Fails e (shown_passage (get_by_text definitions.now) known (line_of line.now) first)) }
 {
     let covered = replaced_text(alloc, line.covered.as_str(), definitions)?;
     match record_identifiers(
@@ -191,17 +208,23 @@ fn write_uses(
     requires place { line.now.offset ≤ 2 ^ 63 }
     requires marked { HasMarks imports.old }
     ensures text { let tokens = using_tokens (get_by_text definitions.now) (line_of line.now) in
-        OnOk result (string_bytes out.new ≡ string_bytes out.old ++ substituted (declared_of imports.old.declared) tokens) }
+        let more = substituted (declared_of imports.old.declared) tokens in
+        OnOk result (string_bytes out.new ≡ string_bytes out.old ++ more) }
     ensures ok { let tokens = using_tokens (get_by_text definitions.now) (line_of line.now) in
-        let first = first_ambiguous (declared_of imports.old.declared) false (sites line.now.offset tokens) in
+        let found = sites line.now.offset tokens in
+        let first = first_ambiguous (declared_of imports.old.declared) false found in
         OnOk result (first ≡ None) }
     ensures used { let tokens = using_tokens (get_by_text definitions.now) (line_of line.now) in
         let used = used_by (declared_of imports.old.declared) line.now.offset tokens in
         OnOk result (uses_of imports.new.used ≡ used (uses_of imports.old.used)) }
-    ensures declared { OnOk result (declared_of imports.new.declared ≡ declared_of imports.old.declared) }
+    ensures declared { let old = declared_of imports.old.declared in
+        OnOk result (declared_of imports.new.declared ≡ old) }
     ensures marked { OnOk result (HasMarks imports.new) }
-    ensures err { IfErr result (λ e. (known : Known) → Fails e (shown_passage (get_by_text definitions.now) known (line_of line.now)
-        (first_ambiguous (declared_of imports.old.declared) false (sites line.now.offset (using_tokens (get_by_text definitions.now) (line_of line.now)))))) }
+    ensures err { let tokens = using_tokens (get_by_text definitions.now) (line_of line.now) in
+        let found = sites line.now.offset tokens in
+        let first = first_ambiguous (declared_of imports.old.declared) false found in
+        IfErr result (λ e. (known : Known) →
+            Fails e (shown_passage (get_by_text definitions.now) known (line_of line.now) first)) }
 {
     let covered = replaced_text(alloc, line.covered.as_str(), definitions)?;
     match push_substituted(
@@ -228,8 +251,9 @@ fn push_shown(
     out: &mut String,
 ) -> Result<(), AllocError>
     requires { HasMarks imports.now }
-    ensures { OnOk result (string_bytes out.new ≡ string_bytes out.old
-        ++ substituted (declared_of imports.now.declared) (tokens_of (replaced (get_by_text definitions.now) line.now.text.now))) }
+    ensures { let given = replaced (get_by_text definitions.now) line.now.text.now in
+        let more = substituted (declared_of imports.now.declared) (tokens_of given) in
+        OnOk result (string_bytes out.new ≡ string_bytes out.old ++ more) }
 {
     let replaced = replaced_text(alloc, line.text, definitions)?;
     let mut unused = IndexMap::new(alloc);
@@ -259,18 +283,25 @@ pub fn show_line(
 ) -> Result<(), ComposerErrorInner>
     requires place { line.now.offset ≤ 2 ^ 63 }
     requires marked { HasMarks imports.old }
-    ensures text { OnOk result (string_bytes out.new ≡ string_bytes out.old
-        ++ end_line (padded (length line.now.text.now) (substituted (declared_of imports.old.declared) (tokens_of (replaced (get_by_text definitions.now) line.now.text.now))))) }
+    ensures text { let given = replaced (get_by_text definitions.now) line.now.text.now in
+        let shown = substituted (declared_of imports.old.declared) (tokens_of given) in
+        let more = end_line (padded (length line.now.text.now) shown) in
+        OnOk result (string_bytes out.new ≡ string_bytes out.old ++ more) }
     ensures ok { let tokens = using_tokens (get_by_text definitions.now) (line_of line.now) in
-        let first = first_ambiguous (declared_of imports.old.declared) false (sites line.now.offset tokens) in
+        let found = sites line.now.offset tokens in
+        let first = first_ambiguous (declared_of imports.old.declared) false found in
         OnOk result (first ≡ None) }
     ensures used { let tokens = using_tokens (get_by_text definitions.now) (line_of line.now) in
         let used = used_by (declared_of imports.old.declared) line.now.offset tokens in
         OnOk result (uses_of imports.new.used ≡ used (uses_of imports.old.used)) }
-    ensures declared { OnOk result (declared_of imports.new.declared ≡ declared_of imports.old.declared) }
+    ensures declared { let old = declared_of imports.old.declared in
+        OnOk result (declared_of imports.new.declared ≡ old) }
     ensures marked { OnOk result (HasMarks imports.new) }
-    ensures err { IfErr result (λ e. (known : Known) → Fails e (shown_passage (get_by_text definitions.now) known (line_of line.now)
-        (first_ambiguous (declared_of imports.old.declared) false (sites line.now.offset (using_tokens (get_by_text definitions.now) (line_of line.now)))))) }
+    ensures err { let tokens = using_tokens (get_by_text definitions.now) (line_of line.now) in
+        let found = sites line.now.offset tokens in
+        let first = first_ambiguous (declared_of imports.old.declared) false found in
+        IfErr result (λ e. (known : Known) →
+            Fails e (shown_passage (get_by_text definitions.now) known (line_of line.now) first)) }
 {
     let start = out.len();
     if line.covered.as_str() == line.text {

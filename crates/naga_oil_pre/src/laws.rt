@@ -29,7 +29,8 @@ pub fn kinds_by_grammar()
 /// Each line has one kind: the first of the table that fits.
 pub fn one_kind()
     ensures kind { (line : List ℕ) (k : LineKind) → IsKind line k ↔ (k ≡ kind_of line) }
-    ensures unversioned { (line : List ℕ) (k : LineKind) → IsUnversionedKind line k ↔ (k ≡ unversioned_kind_of line) }
+    ensures unversioned { (line : List ℕ) (k : LineKind) →
+        IsUnversionedKind line k ↔ (k ≡ unversioned_kind_of line) }
 {}
 
 /// A line without the white space round it is one thing among directives.
@@ -39,11 +40,13 @@ pub fn one_directive()
 
 /// Under any definitions a text is read as one tree, and as no other.
 pub fn one_reading()
-    ensures { (defs : Definitions) (lines : List Line) (block : Block) → IsReading defs lines block ↔ (block ≡ reading defs lines) }
+    ensures { (defs : Definitions) (lines : List Line) (block : Block) →
+        IsReading defs lines block ↔ (block ≡ reading defs lines) }
 {}
 
 /// What a text becomes depends on the definitions through the names that it records alone: it is the same
 /// under any two that agree on these, presence included.
 pub fn recorded_names_decide()
-    ensures { (text : List ℕ) (d e : Definitions) → AgreeOn (is_recorded text) d e → preprocessed d text ≡ preprocessed e text }
+    ensures { (text : List ℕ) (d e : Definitions) →
+        AgreeOn (is_recorded text) d e → preprocessed d text ≡ preprocessed e text }
 {}

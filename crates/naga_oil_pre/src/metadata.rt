@@ -56,8 +56,11 @@ struct Findings {
 fn read_uses(alloc: Global, line: &SourceLine<'_>, imports: &mut Imports) -> Result<(), AllocError>
     requires place { line.now.offset ≤ 2 ^ 63 }
     requires marked { HasMarks imports.old }
-    ensures used { OnOk result (uses_of imports.new.used ≡ used_by (declared_of imports.old.declared) line.now.offset (tokens_of (line_of line.now).covered) (uses_of imports.old.used)) }
-    ensures declared { OnOk result (declared_of imports.new.declared ≡ declared_of imports.old.declared) }
+    ensures used { let tokens = tokens_of (line_of line.now).covered in
+        let used = used_by (declared_of imports.old.declared) line.now.offset tokens in
+        OnOk result (uses_of imports.new.used ≡ used (uses_of imports.old.used)) }
+    ensures declared { let old = declared_of imports.old.declared in
+        OnOk result (declared_of imports.new.declared ≡ old) }
     ensures marked { OnOk result (HasMarks imports.new) }
 {
     match record_identifiers(
@@ -85,7 +88,8 @@ fn take_line(
     names: &mut BTreeSet<String>,
 ) -> Result<usize, AllocError>
     requires { braces + length (line_of line).covered < 2 ^ 64 }
-    ensures import { OnOk result (string_bytes import.new ≡ string_bytes import.old ++ end_line (line_of line.entry).covered) }
+    ensures import { let more = end_line (line_of line.entry).covered in
+        OnOk result (string_bytes import.new ≡ string_bytes import.old ++ more) }
     ensures names { OnOk result (Gains names.old names.new (line_names (line_of line.entry))) }
     ensures after { IfOk result (λ n. n ≡ braces_after braces (line_of line.entry).covered) }
     ensures bound { IfOk result (λ n. n ≤ braces + length (line_of line.entry).covered) }
@@ -107,9 +111,13 @@ fn take_lines(
 ) -> Result<(), AllocError>
     requires { braces ≤ source.old.place }
     ensures left { OnOk result (source.new.left ≡ behind_taken braces source.old.left) }
-    ensures import { OnOk result (string_bytes import.new ≡ string_bytes import.old ++ import_text (taken braces source.old.left)) }
-    ensures names { OnOk result (Gains names.old names.new (names_of (taken braces source.old.left))) }
-    ensures fits { OnOk result (length (string_bytes import.new) + source.old.place ≤ length (string_bytes import.old) + source.new.place) }
+    ensures import { let more = taken braces source.old.left in
+        OnOk result (string_bytes import.new ≡ string_bytes import.old ++ import_text more) }
+    ensures names { let more = taken braces source.old.left in
+        OnOk result (Gains names.old names.new (names_of more)) }
+    ensures fits { let before = length (string_bytes import.old) in
+        let after = length (string_bytes import.new) in
+        OnOk result (after + source.old.place ≤ before + source.new.place) }
     ensures room { OnOk result (source.old.place ≤ 2 ^ 63 → source.new.place ≤ 2 ^ 63) }
     ensures shorter { OnOk result (length source.new.left ≤ length source.old.left) }
 {
@@ -134,13 +142,16 @@ fn read_import(
     requires even { length (line_of line.now).covered ≤ length line.now.text.now }
     requires room { source.old.place ≤ 2 ^ 63 }
     requires marked { HasMarks findings.old.imports }
-    ensures left { OnOk result (source.new.left ≡ behind_taken (braces_after 0 (line_of line.now).covered) source.old.left) }
+    ensures left { let braces = braces_after 0 (line_of line.now).covered in
+        OnOk result (source.new.left ≡ behind_taken braces source.old.left) }
     ensures ok { let first = line_of line.now in
         let more = taken (braces_after 0 first.covered) source.old.left in
         let leaves = import_leaves (import_text (first ∷ more)) in
         let found = with_import (found_of findings.old) line.now.offset leaves in
         OnOk result (found ≡ Ok (found_of findings.new)) }
-    ensures names { OnOk result (Gains findings.old.names findings.new.names (names_of (taken (braces_after 0 (line_of line.now).covered) source.old.left))) }
+    ensures names { let braces = braces_after 0 (line_of line.now).covered in
+        let more = taken braces source.old.left in
+        OnOk result (Gains findings.old.names findings.new.names (names_of more)) }
     ensures marked { OnOk result (HasMarks findings.new.imports) }
     ensures shorter { OnOk result (length source.new.left ≤ length source.old.left) }
     ensures err { let first = line_of line.now in
@@ -181,12 +192,21 @@ fn read_kind(
     requires even { length (line_of line.now).covered ≤ length line.now.text.now }
     requires room { source.old.place ≤ 2 ^ 63 }
     requires marked { HasMarks findings.old.imports }
-    ensures ok { OnOk result (found_in allow_defines (found_of findings.new) 0 source.new.left
-        ≡ going_on (found_behind allow_defines (found_of findings.old) (line_of line.now) (line_kind_of kind.entry) source.old.left) (λ next. found_in allow_defines next (left_open (line_of line.now) (line_kind_of kind.entry)) source.old.left)) }
-    ensures names { OnOk result ((name : List ℕ) → has_with findings.new.names (names_of source.new.left) name ≡ has_with findings.old.names (names_of source.old.left) name) }
+    ensures ok { let here = line_of line.now in
+        let told = line_kind_of kind.entry in
+        let behind = found_behind allow_defines (found_of findings.old) here told source.old.left in
+        OnOk result (found_in allow_defines (found_of findings.new) 0 source.new.left
+            ≡ going_on behind (λ next.
+                found_in allow_defines next (left_open here told) source.old.left)) }
+    ensures names { let before = has_with findings.old.names (names_of source.old.left) in
+        let after = has_with findings.new.names (names_of source.new.left) in
+        OnOk result ((name : List ℕ) → after name ≡ before name) }
     ensures marked { OnOk result (HasMarks findings.new.imports) }
     ensures shorter { OnOk result (length source.new.left ≤ length source.old.left) }
-    ensures err { IfErr result (λ e. Fails e (found_behind allow_defines (found_of findings.old) (line_of line.now) (line_kind_of kind.entry) source.old.left)) }
+    ensures err { let here = line_of line.now in
+        let told = line_kind_of kind.entry in
+        let behind = found_behind allow_defines (found_of findings.old) here told source.old.left in
+        IfErr result (λ e. Fails e behind) }
 {
     match kind {
         LineKind::Condition { .. } | LineKind::EndIf => Ok(()),
@@ -222,11 +242,18 @@ fn read_line(
     requires even { length (line_of line.now).covered ≤ length line.now.text.now }
     requires room { source.old.place ≤ 2 ^ 63 }
     requires marked { HasMarks findings.old.imports }
-    ensures ok { OnOk result (found_in allow_defines (found_of findings.new) 0 source.new.left ≡ found_in allow_defines (found_of findings.old) 0 (line_of line.now ∷ source.old.left)) }
-    ensures names { OnOk result ((name : List ℕ) → has_with findings.new.names (names_of source.new.left) name ≡ has_with findings.old.names (names_of (line_of line.now ∷ source.old.left)) name) }
+    ensures ok { let left = line_of line.now ∷ source.old.left in
+        let found = found_in allow_defines (found_of findings.old) 0 left in
+        OnOk result (found_in allow_defines (found_of findings.new) 0 source.new.left ≡ found) }
+    ensures names { let left = line_of line.now ∷ source.old.left in
+        let before = has_with findings.old.names (names_of left) in
+        let after = has_with findings.new.names (names_of source.new.left) in
+        OnOk result ((name : List ℕ) → after name ≡ before name) }
     ensures marked { OnOk result (HasMarks findings.new.imports) }
     ensures shorter { OnOk result (length source.new.left ≤ length source.old.left) }
-    ensures err { IfErr result (λ e. Fails e (found_in allow_defines (found_of findings.old) 0 (line_of line.now ∷ source.old.left))) }
+    ensures err { let left = line_of line.now ∷ source.old.left in
+        let found = found_in allow_defines (found_of findings.old) 0 left in
+        IfErr result (λ e. Fails e found) }
 {
     let kind = unversioned_line_kind(line.covered.as_str());
     record_line_names(alloc, &mut findings.names, line, kind)?;
@@ -239,9 +266,12 @@ fn read_text(
     cleaned: &str,
     allow_defines: bool,
 ) -> Result<Findings, ComposerErrorInner>
-    ensures ok { IfOk result (λ findings. found_in allow_defines nothing_found 0 (source_lines cleaned.now) ≡ Ok (found_of findings)) }
-    ensures names { IfOk result (λ findings. (name : List ℕ) → contains_text findings.names name ≡ is_recorded cleaned.now name) }
-    ensures err { IfErr result (λ e. Fails e (found_in allow_defines nothing_found 0 (source_lines cleaned.now))) }
+    ensures ok { let found = found_in allow_defines nothing_found 0 (source_lines cleaned.now) in
+        IfOk result (λ findings. found ≡ Ok (found_of findings)) }
+    ensures names { IfOk result (λ findings. (name : List ℕ) →
+        contains_text findings.names name ≡ is_recorded cleaned.now name) }
+    ensures err { let found = found_in allow_defines nothing_found 0 (source_lines cleaned.now) in
+        IfErr result (λ e. Fails e found) }
 {
     let mut lines = cleaned.lines();
     let mut source = SourceLines::new(alloc, &mut lines);
@@ -268,7 +298,8 @@ fn read_metadata(
     directives: WgslDirectives,
     allow_defines: bool,
 ) -> Result<PreprocessorMetaData, ComposerErrorInner>
-    ensures value { Gives metadata_of result (metadata_of_cleaned allow_defines (string_bytes cleaned) (directives_of directives)) }
+    ensures value { let told = directives_of directives in
+        Gives metadata_of result (metadata_of_cleaned allow_defines (string_bytes cleaned) told) }
     ensures agreement { IfOk result (λ m. let text = string_bytes m.cleaned_source in
         let agree = AgreeOn (contains_text m.effective_defs) in
         (d e : Definitions) → agree d e → preprocessed d text ≡ preprocessed e text) }
@@ -316,7 +347,8 @@ fn definitions_of(
     alloc: Global,
     imports: &[ImportDefWithOffset],
 ) -> Result<Vec<ImportDefinition>, AllocError>
-    ensures { IfOk result (λ v. map import_of v.items ≡ map (λ used. (use_of used).import) imports.now) }
+    ensures { let told = map (λ used. (use_of used).import) imports.now in
+        IfOk result (λ v. map import_of v.items ≡ told) }
 {
     let mut definitions = Vec::with_capacity(alloc, imports.len())?;
     for used in imports {
@@ -338,7 +370,9 @@ pub fn get_preprocessor_data(
     ),
     AllocError,
 >
-    ensures { IfOk result (λ r. data_of (metadata true source.now) ≡ (option_map string_bytes r.0, map import_of r.1.items, get_by_text r.2)) }
+    ensures { let told = data_of (metadata true source.now) in
+        IfOk result (λ r.
+            told ≡ (option_map string_bytes r.0, map import_of r.1.items, get_by_text r.2)) }
 {
     match Preprocessor.get_preprocessor_metadata(alloc, source, true) {
         Ok(metadata) => {

@@ -49,9 +49,13 @@ fn read_line(
 ) -> Result<Treatment, ComposerErrorInner>
     ensures ok { let here = line_of line.now in
         let next = step (get_by_text definitions.now) scope.old here (kind_of here.covered) in
-        IfOk result (λ treatment. (more : List Line) → next more ≡ (status_of treatment here more, scope.new)) }
-    ensures opened { IfOk result (λ treatment. opened scope.old (line_of line.now) (kind_of (line_of line.now).covered) ≡ open_after treatment) }
-    ensures bound { IfOk result (λ treatment. open_after treatment ≤ length (line_of line.now).covered) }
+        IfOk result (λ treatment. (more : List Line) →
+            next more ≡ (status_of treatment here more, scope.new)) }
+    ensures opened { let here = line_of line.now in
+        let braces = opened scope.old here (kind_of here.covered) in
+        IfOk result (λ treatment. braces ≡ open_after treatment) }
+    ensures bound { let here = line_of line.now in
+        IfOk result (λ treatment. open_after treatment ≤ length here.covered) }
     ensures err { let here = line_of line.now in
         let next = step (get_by_text definitions.now) scope.old here (kind_of here.covered) in
         IfErr result (λ e. (more : List Line) → Notes e ((next more).0)) }
@@ -109,13 +113,19 @@ fn write_import(
     requires room { source.old.place ≤ 2 ^ 63 }
     requires marked { HasMarks imports.old }
     requires braces { braces ≤ length (line_of line).covered }
-    ensures ok { OnOk result ((defs : Definitions) (end : ℕ) (levels : List ScopeLevel) →
-        prepend (string_bytes out.new) (written defs (known_of imports.new) (scanned defs end levels 0 source.new.left))
-        ≡ prepend (string_bytes out.old) (written defs (known_of imports.old) (imported (line_of line.entry) (taken braces source.old.left) ∷ scanned defs end levels braces source.old.left))) }
-    ensures end { OnOk result (end_place source.new.place source.new.left ≡ end_place source.old.place source.old.left) }
+    ensures ok { let first = imported (line_of line.entry) (taken braces source.old.left) in
+        OnOk result ((defs : Definitions) (end : ℕ) (levels : List ScopeLevel) →
+            let before = first ∷ scanned defs end levels braces source.old.left in
+            let after = scanned defs end levels 0 source.new.left in
+            prepend (string_bytes out.new) (written defs (known_of imports.new) after)
+            ≡ prepend (string_bytes out.old) (written defs (known_of imports.old) before)) }
+    ensures end { let before = end_place source.old.place source.old.left in
+        OnOk result (end_place source.new.place source.new.left ≡ before) }
     ensures marked { OnOk result (HasMarks imports.new) }
     ensures shorter { OnOk result (length source.new.left ≤ length source.old.left) }
-    ensures err { IfErr result (λ e. (defs : Definitions) → Fails e (passage defs (known_of imports.old) (imported (line_of line.entry) (taken braces source.old.left)))) }
+    ensures err { let first = imported (line_of line.entry) (taken braces source.old.left) in
+        IfErr result (λ e. (defs : Definitions) →
+            Fails e (passage defs (known_of imports.old) first)) }
 {
     let mut import = String::from_str(alloc, line.covered.as_str())?;
     import.push('\n')?;
@@ -144,15 +154,20 @@ fn write_line(
     requires even { length (line_of line).covered ≤ length line.text.now }
     requires room { source.old.place ≤ 2 ^ 63 }
     requires marked { HasMarks imports.old }
-    ensures ok { OnOk result ((end : ℕ) →
-        prepend (string_bytes out.new) (written (get_by_text definitions.now) (known_of imports.new) (scanned (get_by_text definitions.now) end scope.new 0 source.new.left))
-        ≡ prepend (string_bytes out.old) (written (get_by_text definitions.now) (known_of imports.old) (scanned (get_by_text definitions.now) end scope.old 0 (line_of line.entry ∷ source.old.left)))) }
-    ensures end { OnOk result (end_place source.new.place source.new.left ≡ end_place source.old.place source.old.left) }
+    ensures ok { let given = get_by_text definitions.now in
+        OnOk result ((end : ℕ) →
+            let before = scanned given end scope.old 0 (line_of line.entry ∷ source.old.left) in
+            let after = scanned given end scope.new 0 source.new.left in
+            prepend (string_bytes out.new) (written given (known_of imports.new) after)
+            ≡ prepend (string_bytes out.old) (written given (known_of imports.old) before)) }
+    ensures end { let before = end_place source.old.place source.old.left in
+        OnOk result (end_place source.new.place source.new.left ≡ before) }
     ensures marked { OnOk result (HasMarks imports.new) }
     ensures shorter { OnOk result (length source.new.left ≤ length source.old.left) }
     ensures err { let given = get_by_text definitions.now in
         let left = line_of line.entry ∷ source.old.left in
-        IfErr result (λ e. (end : ℕ) → Fails e (written given (known_of imports.old) (scanned given end scope.old 0 left))) }
+        IfErr result (λ e. (end : ℕ) →
+            Fails e (written given (known_of imports.old) (scanned given end scope.old 0 left))) }
 {
     match read_line(alloc, &line, definitions, scope)? {
         Treatment::Blank => {
@@ -185,10 +200,12 @@ impl Preprocessor {
         shader_str: &str,
         shader_defs: &BTreeMap<String, ShaderDefValue>,
     ) -> Result<PreprocessOutput, ComposerErrorInner>
-        ensures value { Gives output_of result (preprocessed (get_by_text shader_defs.now) shader_str.now) }
-        ensures line_ends { let paths = declared_paths (get_by_text shader_defs.now) shader_str.now in
-            let count = length (lines shader_str.now) in
-            All (λ path. line_ends path ≡ 0) paths → IfOk result (λ o. line_ends (string_bytes o.preprocessed_source) ≡ count) }
+        ensures value { let told = preprocessed (get_by_text shader_defs.now) shader_str.now in
+            Gives output_of result told }
+        ensures line_ends { let count = length (lines shader_str.now) in
+            let paths = declared_paths (get_by_text shader_defs.now) shader_str.now in
+            All (λ path. line_ends path ≡ 0) paths →
+            IfOk result (λ o. line_ends (string_bytes o.preprocessed_source) ≡ count) }
         // A text without `"` declares no other paths.
         ensures quoteless { let count = length (lines shader_str.now) in
             let quoteless = NoCharPasses (λ c. c == 34) shader_str.now in

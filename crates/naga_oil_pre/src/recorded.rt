@@ -26,7 +26,9 @@ fn record_behind_hash<'a>(
     names: &mut BTreeSet<String>,
     behind: &'a str,
 ) -> Result<&'a str, AllocError>
-    ensures names { IfOk result (λ rest. (name : List ℕ) → has_with names.new (names_from (chars rest.now)) name ≡ has_with names.old (names_from (35 ∷ chars behind.now)) name) }
+    ensures names { let before = has_with names.old (names_from (35 ∷ chars behind.now)) in
+        IfOk result (λ rest. (name : List ℕ) →
+            has_with names.new (names_from (chars rest.now)) name ≡ before name) }
     ensures utf8 { IfOk result (λ rest. IsUtf8 rest.now) }
     ensures bound { IfOk result (λ rest. length rest.now ≤ length behind.now) }
 {
@@ -74,7 +76,8 @@ fn record_condition_name(
     names: &mut BTreeSet<String>,
     condition: Condition<'_>,
 ) -> Result<(), AllocError>
-    ensures { OnOk result (Gains names.old names.new (condition_names (condition_of condition.entry))) }
+    ensures { let more = condition_names (condition_of condition.entry) in
+        OnOk result (Gains names.old names.new more) }
 {
     match condition {
         Condition::Defined(name) | Condition::Undefined(name) | Condition::Compares { name, .. } =>
@@ -90,7 +93,8 @@ pub fn record_line_names(
     line: &SourceLine<'_>,
     kind: LineKind<'_>,
 ) -> Result<(), AllocError>
-    ensures { OnOk result (Gains names.old names.new (kind_names (line_kind_of kind.entry) (line_of line.now))) }
+    ensures { let more = kind_names (line_kind_of kind.entry) (line_of line.now) in
+        OnOk result (Gains names.old names.new more) }
 {
     match kind {
         LineKind::Condition { condition, .. } => record_condition_name(alloc, names, condition),
