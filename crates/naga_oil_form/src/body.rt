@@ -23,7 +23,8 @@ fn is_known(of: &Known<'_>, done: &[bool], place: usize) -> bool
 }
 
 fn may_be_emitted(of: &Known<'_>, done: &[bool], operands: &[usize], place: usize) -> bool
-    ensures { IsTrue result ↔ MayBeEmitted of.now.read.now.kinds.items of.now.started.now done.now operands.now place }
+    ensures { let kinds = of.now.read.now.kinds.items in
+        IsTrue result ↔ MayBeEmitted kinds of.now.started.now done.now operands.now place }
 {
     let all_known = operands.iter().all(|operand| is_known(of, done, *operand));
     !is_external(&of.read.kinds, place)
@@ -36,7 +37,8 @@ fn may_be_emitted(of: &Known<'_>, done: &[bool], operands: &[usize], place: usiz
 fn take_range(of: &Known<'_>, done: &mut Vec<bool>, range: Range<Expression>) -> bool
     requires { length done.old.items ≡ length of.now.read.now.links.items }
     ensures long { length done.new.items ≡ length done.old.items }
-    ensures fine { IsTrue result ↔ IsFineOver of.now.read.now of.now.started.now done.old.items (Token.Emitted range) }
+    ensures fine { let started = of.now.started.now in
+        IsTrue result ↔ IsFineOver of.now.read.now started done.old.items (Token.Emitted range) }
     ensures done { IsTrue result → done.new.items ≡ marks_after done.old.items (places range) }
 {
     if range.start() > range.end() || range.end() > of.read.links.len() {
@@ -70,7 +72,8 @@ fn take_given(of: &Known<'_>, done: &mut Vec<bool>, by: Option<usize>, place: us
 fn take_token(of: &Known<'_>, done: &mut Vec<bool>, token: Token) -> bool
     requires { length done.old.items ≡ length of.now.read.now.links.items }
     ensures long { length done.new.items ≡ length done.old.items }
-    ensures fine { IsTrue result ↔ IsFineOver of.now.read.now of.now.started.now done.old.items token }
+    ensures fine { let started = of.now.started.now in
+        IsTrue result ↔ IsFineOver of.now.read.now started done.old.items token }
     ensures done { IsTrue result → done.new.items ≡ marks_after done.old.items (made token) }
 {
     match token {
@@ -84,7 +87,8 @@ fn take_token(of: &Known<'_>, done: &mut Vec<bool>, token: Token) -> bool
 
 /// Whether no marked place is a result.
 fn no_result_is_marked(kinds: &[u64], marks: &[bool]) -> bool
-    ensures { IsTrue result ↔ ((k : ℕ) → is_marked marks.now k ≡ true → is_result kinds.now k ≡ false) }
+    ensures { IsTrue result ↔
+        ((k : ℕ) → is_marked marks.now k ≡ true → is_result kinds.now k ≡ false) }
 {
     let mut places = marks.iter().enumerate();
     places.all(|(place, mark)| !*mark || !is_result(kinds, place))
@@ -92,7 +96,9 @@ fn no_result_is_marked(kinds: &[u64], marks: &[bool]) -> bool
 
 /// Whether the parts of a body may stand one after another.
 fn body_may_stand(of: &Known<'_>, tokens: &[Token], alloc: Global) -> Tested
-    ensures { IfOk result (λ b. (s : List ℕ) → AreMarks of.now.started.now s → (IsTrue b ↔ AreFineOver of.now.read.now s tokens.now)) }
+    ensures { let started = of.now.started.now in
+        IfOk result (λ b. (s : List ℕ) → AreMarks started s →
+            (IsTrue b ↔ AreFineOver of.now.read.now s tokens.now)) }
 {
     let mut done = no_marks(of.read.links.len(), alloc)?;
     for token in tokens {

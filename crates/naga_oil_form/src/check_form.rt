@@ -37,7 +37,8 @@ pub fn check_form(
     text_len: usize,
 ) -> Result<(), FormFault>
     ensures ok { OnOk result (WellFormed of.now decoration.now text_len) }
-    ensures err { IfErr result (λ e. e ≡ WrongForm → WellFormed of.now decoration.now text_len → ⊥) }
+    ensures err { IfErr result (λ e.
+        e ≡ WrongForm → WellFormed of.now decoration.now text_len → ⊥) }
 {
     let items = items_are_fine(of, alloc)?;
     let names = names_are_fine(of, decoration, alloc)?;

@@ -185,7 +185,8 @@ pub fn functions_are_fine(of: &Module, text_len: usize, alloc: Global) -> Tested
 
 /// Whether entry points pass the test of form in a text of so many bytes.
 pub fn entries_are_fine(of: &Module, text_len: usize, alloc: Global) -> Tested
-    ensures { IfOk result (λ b. IsTrue b ↔ All (EntryForm of.now text_len) of.now.entry_points.items) }
+    ensures { let entries = of.now.entry_points.items in
+        IfOk result (λ b. IsTrue b ↔ All (EntryForm of.now text_len) entries) }
 {
     for entry in &of.entry_points {
         if !entry_is_fine(of, entry, text_len, alloc)? {

@@ -60,7 +60,9 @@ fn names_override(names: &[Option<ItemPlace>]) -> bool
 
 /// Whether all that items name is there, and none of it is a marked type.
 fn items_name_well<T: Names>(of: &Module, marks: &[bool], items: &[T], alloc: Global) -> Tested
-    ensures { IfOk result (λ b. IsTrue b ↔ AtEach (λ e. NamesWell of.now (is_marked marks.now) (T.row_of e)) items.now) }
+    ensures { let marked = is_marked marks.now in
+        IfOk result (λ b.
+            IsTrue b ↔ AtEach (λ e. NamesWell of.now marked (T.row_of e)) items.now) }
 {
     for (place, item) in items.iter().enumerate() {
         let names = item.names(alloc)?;
@@ -101,7 +103,8 @@ fn type_links(types: &[Type], alloc: Global) -> Result<Vec<Vec<usize>>, AllocErr
 /// Marks the sized types.
 fn sized_types(types: &[Type], alloc: Global) -> Result<Vec<bool>, AllocError>
     requires { AreEarlier (type_links types.now) }
-    ensures { IfOk result (λ v. (k : ℕ) → is_marked v.items k ≡ reaches (type_links types.now) (pending types.now) k) }
+    ensures { let links = type_links types.now in
+        IfOk result (λ v. (k : ℕ) → is_marked v.items k ≡ reaches links (pending types.now) k) }
 {
     let mut sized = Vec::new(alloc);
     for ty in types {
@@ -190,7 +193,8 @@ fn is_plain(of: &Module, special: &[bool], place: usize) -> bool
 /// Whether marked types are unnamed or special.
 fn are_plain(of: &Module, special: &[bool], reached: &[bool]) -> bool
     requires { AreMarks special.now (special_types of.now.special_types) }
-    ensures { IsTrue result ↔ ((k : ℕ) → is_marked reached.now k ≡ true → is_plain of.now k ≡ true) }
+    ensures { IsTrue result ↔
+        ((k : ℕ) → is_marked reached.now k ≡ true → is_plain of.now k ≡ true) }
 {
     let mut marks = reached.iter().enumerate();
     marks.all(|(place, mark)| !*mark || is_plain(of, special, place))

@@ -28,7 +28,9 @@ fn name_or<'a>(function: &'a Function, other: &'a str) -> &'a str
 }
 
 fn function_names(of: &Module, decoration: &str, alloc: Global) -> Result<Vec<String>, AllocError>
-    ensures { IfOk result (λ v. map string_bytes v.items ≡ map (λ e. with_decoration decoration.now (function_name e.0)) of.now.functions) }
+    ensures { let functions = of.now.functions in
+        let told = map (λ e. with_decoration decoration.now (function_name e.0)) functions in
+        IfOk result (λ v. map string_bytes v.items ≡ told) }
 {
     let mut names = Vec::new(alloc);
     for entry in of.functions.as_slice() {
@@ -38,7 +40,9 @@ fn function_names(of: &Module, decoration: &str, alloc: Global) -> Result<Vec<St
 }
 
 fn entry_names(of: &Module, decoration: &str, alloc: Global) -> Result<Vec<String>, AllocError>
-    ensures { IfOk result (λ v. map string_bytes v.items ≡ map (λ e. with_decoration decoration.now (entry_name e.function)) of.now.entry_points.items) }
+    ensures { let entries = of.now.entry_points.items in
+        let told = map (λ e. with_decoration decoration.now (entry_name e.function)) entries in
+        IfOk result (λ v. map string_bytes v.items ≡ told) }
 {
     let mut names = Vec::new(alloc);
     for entry in &of.entry_points {
@@ -48,7 +52,8 @@ fn entry_names(of: &Module, decoration: &str, alloc: Global) -> Result<Vec<Strin
 }
 
 fn are_distinct(names: Vec<String>, alloc: Global) -> Tested
-    ensures { IfOk result (λ b. IsTrue b ↔ IsDistinct (pointwise nat_eq) (map string_bytes names.items)) }
+    ensures { let texts = map string_bytes names.items in
+        IfOk result (λ b. IsTrue b ↔ IsDistinct (pointwise nat_eq) texts) }
 {
     let count = names.len();
     let set: HashSet<String> = names.into_iter().collect(alloc)?;

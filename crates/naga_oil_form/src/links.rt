@@ -35,7 +35,8 @@ pub fn are_earlier(links: &[Vec<usize>]) -> bool
 fn mark_all(marks: &mut Vec<bool>, places: &[usize])
     requires { All (λ x. x < length marks.old.items) places.now }
     ensures long { length marks.new.items ≡ length marks.old.items }
-    ensures marked { (k : ℕ) → is_marked marks.new.items k ≡ (is_marked marks.old.items k || has places.now k) }
+    ensures marked { (k : ℕ) → is_marked marks.new.items k ≡
+        (is_marked marks.old.items k || has places.now k) }
 {
     for place in places {
         marks[*place] = true;
