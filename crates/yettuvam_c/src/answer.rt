@@ -23,7 +23,8 @@ pub const NO_ROOM: u32 = 5;
 
 // The path and the text of a source.
 fn texts<'a>(source: &Source<'a>) -> Result<(&'a str, &'a str), Refusal>
-    ensures ok { IfOk result (λ t. (t.0.now ≡ source.now.path.now) × (t.1.now ≡ source.now.text.now)) }
+    ensures ok { let of = source.now in
+        IfOk result (λ t. (t.0.now ≡ of.path.now) × (t.1.now ≡ of.text.now)) }
     ensures err { IfErr result (RefusesSource source.now) }
 {
     let Ok(path) = str::from_utf8(source.path) else {
@@ -37,7 +38,8 @@ fn texts<'a>(source: &Source<'a>) -> Result<(&'a str, &'a str), Refusal>
 
 // Tells a fault, unless it is want of memory.
 fn fault(alloc: Global, path: &str, text: &str, inner: Inner) -> Result<(u32, Sheet), AllocError>
-    ensures { IfOk result (λ a. MatchOption (fault_of inner) ⊥ (λ f. told_of a ≡ fault_told path.now text.now f)) }
+    ensures { let told = fault_told path.now text.now in
+        IfOk result (λ a. MatchOption (fault_of inner) ⊥ (λ f. told_of a ≡ told f)) }
 {
     if inner.is_memory() {
         return Err(AllocError);
@@ -55,7 +57,8 @@ fn text_told(
     text: &str,
     definitions: &Definitions,
 ) -> Result<(u32, Sheet), AllocError>
-    ensures { IfOk result (λ a. told_of a ≡ preprocess_told path.now text.now (get_by_text definitions.now)) }
+    ensures { let told = preprocess_told path.now text.now (get_by_text definitions.now) in
+        IfOk result (λ a. told_of a ≡ told) }
 {
     let output = match Preprocessor.preprocess(alloc, text, definitions) {
         Ok(output) => output,

@@ -48,7 +48,8 @@ fn define(
     name: String,
     value: ShaderDefValue,
 ) -> Result<(), AllocError>
-    ensures { OnOk result (get_by_text definitions.new ≡ with_definition (get_by_text definitions.old) (string_bytes name) value) }
+    ensures { let defined = with_definition (get_by_text definitions.old) (string_bytes name) value in
+        OnOk result (get_by_text definitions.new ≡ defined) }
 {
     definitions.insert(name, value)?;
     Ok(())
@@ -57,7 +58,8 @@ fn define(
 // A definition's name and value, or why it has none.
 fn read<'a>(index: usize, definition: &Definition<'a>) -> Result<(&'a str, ShaderDefValue), Refusal>
     ensures name { IfOk result (λ r. r.0.now ≡ definition.now.name.now) }
-    ensures value { IfOk result (λ r. given_value definition.now.kind definition.now.value ≡ Some r.1) }
+    ensures value { let of = definition.now in
+        IfOk result (λ r. given_value of.kind of.value ≡ Some r.1) }
     ensures err { IfErr result (RefusesOne index definition.now) }
 {
     let Ok(name) = str::from_utf8(definition.name) else {
@@ -71,7 +73,8 @@ fn read<'a>(index: usize, definition: &Definition<'a>) -> Result<(&'a str, Shade
 
 /// The definitions. Of one name the last counts.
 pub fn given(alloc: Global, definitions: &[Definition<'_>]) -> Result<Definitions, Refusal>
-    ensures ok { IfOk result (λ defs. defined_by 0 none_defined definitions.now ≡ Ok (get_by_text defs)) }
+    ensures ok { let told = defined_by 0 none_defined definitions.now in
+        IfOk result (λ defs. told ≡ Ok (get_by_text defs)) }
     ensures err { IfErr result (RefusesGiven definitions.now) }
 {
     let mut defs = BTreeMap::new(alloc);

@@ -42,10 +42,12 @@ pub extern "C" fn yettuvam_preprocess(
     page: &mut Page<'_>,
 ) -> u32
     ensures known { result ≤ 5 }
-    ensures told { result ≤ 1 → Tells (IsPreprocessed source.now definitions.now) result page.old page.new }
+    ensures told { let wanted = IsPreprocessed source.now definitions.now in
+        result ≤ 1 → Tells wanted result page.old page.new }
     ensures not_utf8 { result ≡ 3 → IsNotText source.now ⊎ HasOther definitions.now }
     ensures bad { result ≡ 4 → defined_by 0 none_defined definitions.now ≡ Err page.new.count }
-    ensures no_room { result ≡ 5 → TellsRoom (IsPreprocessed source.now definitions.now) page.old page.new }
+    ensures no_room { let wanted = IsPreprocessed source.now definitions.now in
+        result ≡ 5 → TellsRoom wanted page.old page.new }
     ensures unwritten { 2 ≤ result → IsUnwritten page.old page.new }
 {
     put(preprocessed(alloc, source, definitions), page)
@@ -60,10 +62,12 @@ pub extern "C" fn yettuvam_metadata(
     page: &mut Page<'_>,
 ) -> u32
     ensures known { result ≤ 5 }
-    ensures told { result ≤ 1 → Tells (IsMetadata source.now allow_defines) result page.old page.new }
+    ensures told { let wanted = IsMetadata source.now allow_defines in
+        result ≤ 1 → Tells wanted result page.old page.new }
     ensures not_utf8 { result ≡ 3 → IsNotText source.now }
     ensures good { result ≢ 4 }
-    ensures no_room { result ≡ 5 → TellsRoom (IsMetadata source.now allow_defines) page.old page.new }
+    ensures no_room { let wanted = IsMetadata source.now allow_defines in
+        result ≡ 5 → TellsRoom wanted page.old page.new }
     ensures unwritten { 2 ≤ result → IsUnwritten page.old page.new }
 {
     put(metadata(alloc, source, allow_defines), page)

@@ -54,7 +54,8 @@ impl Sheet {
 
     /// Tells one part more.
     pub fn push(&mut self, part: Part<'_>) -> Result<(), AllocError>
-        ensures { OnOk result (laid_of self.new ≡ with_part (laid_of self.old) (part_of part.entry)) }
+        ensures { let more = part_of part.entry in
+            OnOk result (laid_of self.new ≡ with_part (laid_of self.old) more) }
     {
         let field = Field {
             kind: part.kind,

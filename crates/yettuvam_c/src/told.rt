@@ -37,7 +37,8 @@ pub const FAULT_WHOLE: u32 = 12;
 
 // Tells what is used of a module: its name, and each item.
 fn push_use(sheet: &mut Sheet, used: &ImportDefWithOffset) -> Result<(), AllocError>
-    ensures { OnOk result (laid_of sheet.new ≡ fold with_part (laid_of sheet.old) (use_parts (use_of used.now))) }
+    ensures { let parts = use_parts (use_of used.now) in
+        OnOk result (laid_of sheet.new ≡ fold with_part (laid_of sheet.old) parts) }
 {
     let import = used.definition();
     sheet.push(Part::new(IMPORT, import.import.as_str(), used.offset()))?;
@@ -49,7 +50,8 @@ fn push_use(sheet: &mut Sheet, used: &ImportDefWithOffset) -> Result<(), AllocEr
 
 // Tells what is used of each module.
 fn push_uses(sheet: &mut Sheet, uses: &[ImportDefWithOffset]) -> Result<(), AllocError>
-    ensures { OnOk result (laid_of sheet.new ≡ fold with_part (laid_of sheet.old) (flat_map use_parts (map use_of uses.now))) }
+    ensures { let parts = flat_map use_parts (map use_of uses.now) in
+        OnOk result (laid_of sheet.new ≡ fold with_part (laid_of sheet.old) parts) }
 {
     for used in uses {
         push_use(sheet, used)?;
@@ -79,7 +81,8 @@ fn push_defines(
     sheet: &mut Sheet,
     defines: &BTreeMap<String, ShaderDefValue>,
 ) -> Result<(), AllocError>
-    ensures { OnOk result (laid_of sheet.new ≡ fold with_part (laid_of sheet.old) (map define_part (defs_of defines.now))) }
+    ensures { let parts = map define_part (defs_of defines.now) in
+        OnOk result (laid_of sheet.new ≡ fold with_part (laid_of sheet.old) parts) }
 {
     for (name, value) in defines {
         sheet.push(define_part(name.as_str(), *value))?;
@@ -89,7 +92,8 @@ fn push_defines(
 
 // Tells the names that a text records.
 fn push_names(sheet: &mut Sheet, names: &BTreeSet<String>) -> Result<(), AllocError>
-    ensures { OnOk result (laid_of sheet.new ≡ fold with_part (laid_of sheet.old) (map recorded_part (texts names.now.keys))) }
+    ensures { let parts = map recorded_part (texts names.now.keys) in
+        OnOk result (laid_of sheet.new ≡ fold with_part (laid_of sheet.old) parts) }
 {
     for name in names {
         sheet.push(Part::new(RECORDED, name.as_str(), 0))?;
@@ -99,7 +103,8 @@ fn push_names(sheet: &mut Sheet, names: &BTreeSet<String>) -> Result<(), AllocEr
 
 // Tells the import path that a text defines, if it does.
 fn push_path(sheet: &mut Sheet, path: &Option<String>) -> Result<(), AllocError>
-    ensures { OnOk result (laid_of sheet.new ≡ fold with_part (laid_of sheet.old) (path_parts (option_map string_bytes path.now))) }
+    ensures { let parts = path_parts (option_map string_bytes path.now) in
+        OnOk result (laid_of sheet.new ≡ fold with_part (laid_of sheet.old) parts) }
 {
     match path {
         Some(path) => sheet.push(Part::new(PATH, path.as_str(), 0)),
@@ -109,7 +114,8 @@ fn push_path(sheet: &mut Sheet, path: &Option<String>) -> Result<(), AllocError>
 
 /// Tells what a text became, and its imports.
 pub fn push_output(sheet: &mut Sheet, output: &PreprocessOutput) -> Result<(), AllocError>
-    ensures { OnOk result (laid_of sheet.new ≡ fold with_part (laid_of sheet.old) (output_parts (output_of output.now))) }
+    ensures { let parts = output_parts (output_of output.now) in
+        OnOk result (laid_of sheet.new ≡ fold with_part (laid_of sheet.old) parts) }
 {
     sheet.push(Part::new(TEXT, output.preprocessed_source.as_str(), 0))?;
     push_uses(sheet, output.imports.as_slice())
@@ -121,7 +127,8 @@ pub fn push_metadata(
     sheet: &mut Sheet,
     found: &PreprocessorMetaData,
 ) -> Result<(), AllocError>
-    ensures { OnOk result (laid_of sheet.new ≡ fold with_part (laid_of sheet.old) (metadata_parts found.now)) }
+    ensures { let parts = metadata_parts found.now in
+        OnOk result (laid_of sheet.new ≡ fold with_part (laid_of sheet.old) parts) }
 {
     sheet.push(Part::new(TEXT, found.cleaned_source.as_str(), 0))?;
     push_path(sheet, &found.name)?;
@@ -164,7 +171,8 @@ pub fn push_fault(
     text: &str,
     inner: &Inner,
 ) -> Result<(), AllocError>
-    ensures { OnOk result (laid_of sheet.new ≡ with_part (laid_of sheet.old) (fault_part path.now text.now (fault_of inner.now))) }
+    ensures { let more = fault_part path.now text.now (fault_of inner.now) in
+        OnOk result (laid_of sheet.new ≡ with_part (laid_of sheet.old) more) }
 {
     let told = report(alloc, path, text, 0, inner)?;
     let (kind, place) = fault_place(inner);
