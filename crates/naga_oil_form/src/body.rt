@@ -98,7 +98,7 @@ fn no_result_is_marked(kinds: &[u64], marks: &[bool]) -> bool
 fn body_may_stand(of: &Known<'_>, tokens: &[Token], alloc: Global) -> Tested
     ensures { let started = of.now.started.now in
         IfOk result (λ b. (s : List ℕ) → AreMarks started s →
-            (IsTrue b ↔ AreFineOver of.now.read.now s tokens.now)) }
+        (IsTrue b ↔ AreFineOver of.now.read.now s tokens.now)) }
 {
     let mut done = no_marks(of.read.links.len(), alloc)?;
     for token in tokens {

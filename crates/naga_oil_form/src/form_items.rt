@@ -62,7 +62,7 @@ fn names_override(names: &[Option<ItemPlace>]) -> bool
 fn items_name_well<T: Names>(of: &Module, marks: &[bool], items: &[T], alloc: Global) -> Tested
     ensures { let marked = is_marked marks.now in
         IfOk result (λ b.
-            IsTrue b ↔ AtEach (λ e. NamesWell of.now marked (T.row_of e)) items.now) }
+        IsTrue b ↔ AtEach (λ e. NamesWell of.now marked (T.row_of e)) items.now) }
 {
     for (place, item) in items.iter().enumerate() {
         let names = item.names(alloc)?;

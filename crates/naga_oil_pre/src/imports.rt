@@ -180,7 +180,7 @@ fn record_uses(
         let found = sites line.now.offset tokens in
         let first = first_ambiguous (declared_of imports.old.declared) false found in
         IfErr result (λ e. (known : Known) →
-            Fails e (shown_passage (get_by_text definitions.now) known (line_of line.now) first)) }
+        Fails e (shown_passage (get_by_text definitions.now) known (line_of line.now) first)) }
 {
     let covered = replaced_text(alloc, line.covered.as_str(), definitions)?;
     match record_identifiers(
@@ -224,7 +224,7 @@ fn write_uses(
         let found = sites line.now.offset tokens in
         let first = first_ambiguous (declared_of imports.old.declared) false found in
         IfErr result (λ e. (known : Known) →
-            Fails e (shown_passage (get_by_text definitions.now) known (line_of line.now) first)) }
+        Fails e (shown_passage (get_by_text definitions.now) known (line_of line.now) first)) }
 {
     let covered = replaced_text(alloc, line.covered.as_str(), definitions)?;
     match push_substituted(
@@ -301,7 +301,7 @@ pub fn show_line(
         let found = sites line.now.offset tokens in
         let first = first_ambiguous (declared_of imports.old.declared) false found in
         IfErr result (λ e. (known : Known) →
-            Fails e (shown_passage (get_by_text definitions.now) known (line_of line.now) first)) }
+        Fails e (shown_passage (get_by_text definitions.now) known (line_of line.now) first)) }
 {
     let start = out.len();
     if line.covered.as_str() == line.text {

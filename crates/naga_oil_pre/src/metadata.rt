@@ -196,8 +196,8 @@ fn read_kind(
         let told = line_kind_of kind.entry in
         let behind = found_behind allow_defines (found_of findings.old) here told source.old.left in
         OnOk result (found_in allow_defines (found_of findings.new) 0 source.new.left
-            ≡ going_on behind (λ next.
-                found_in allow_defines next (left_open here told) source.old.left)) }
+        ≡ going_on behind (λ next.
+        found_in allow_defines next (left_open here told) source.old.left)) }
     ensures names { let before = has_with findings.old.names (names_of source.old.left) in
         let after = has_with findings.new.names (names_of source.new.left) in
         OnOk result ((name : List ℕ) → after name ≡ before name) }
@@ -372,7 +372,7 @@ pub fn get_preprocessor_data(
 >
     ensures { let told = data_of (metadata true source.now) in
         IfOk result (λ r.
-            told ≡ (option_map string_bytes r.0, map import_of r.1.items, get_by_text r.2)) }
+        told ≡ (option_map string_bytes r.0, map import_of r.1.items, get_by_text r.2)) }
 {
     match Preprocessor.get_preprocessor_metadata(alloc, source, true) {
         Ok(metadata) => {

@@ -50,7 +50,7 @@ fn read_line(
     ensures ok { let here = line_of line.now in
         let next = step (get_by_text definitions.now) scope.old here (kind_of here.covered) in
         IfOk result (λ treatment. (more : List Line) →
-            next more ≡ (status_of treatment here more, scope.new)) }
+        next more ≡ (status_of treatment here more, scope.new)) }
     ensures opened { let here = line_of line.now in
         let braces = opened scope.old here (kind_of here.covered) in
         IfOk result (λ treatment. braces ≡ open_after treatment) }
@@ -115,17 +115,17 @@ fn write_import(
     requires braces { braces ≤ length (line_of line).covered }
     ensures ok { let first = imported (line_of line.entry) (taken braces source.old.left) in
         OnOk result ((defs : Definitions) (end : ℕ) (levels : List ScopeLevel) →
-            let before = first ∷ scanned defs end levels braces source.old.left in
-            let after = scanned defs end levels 0 source.new.left in
-            prepend (string_bytes out.new) (written defs (known_of imports.new) after)
-            ≡ prepend (string_bytes out.old) (written defs (known_of imports.old) before)) }
+        let before = first ∷ scanned defs end levels braces source.old.left in
+        let after = scanned defs end levels 0 source.new.left in
+        prepend (string_bytes out.new) (written defs (known_of imports.new) after)
+        ≡ prepend (string_bytes out.old) (written defs (known_of imports.old) before)) }
     ensures end { let before = end_place source.old.place source.old.left in
         OnOk result (end_place source.new.place source.new.left ≡ before) }
     ensures marked { OnOk result (HasMarks imports.new) }
     ensures shorter { OnOk result (length source.new.left ≤ length source.old.left) }
     ensures err { let first = imported (line_of line.entry) (taken braces source.old.left) in
         IfErr result (λ e. (defs : Definitions) →
-            Fails e (passage defs (known_of imports.old) first)) }
+        Fails e (passage defs (known_of imports.old) first)) }
 {
     let mut import = String::from_str(alloc, line.covered.as_str())?;
     import.push('\n')?;
@@ -156,10 +156,10 @@ fn write_line(
     requires marked { HasMarks imports.old }
     ensures ok { let given = get_by_text definitions.now in
         OnOk result ((end : ℕ) →
-            let before = scanned given end scope.old 0 (line_of line.entry ∷ source.old.left) in
-            let after = scanned given end scope.new 0 source.new.left in
-            prepend (string_bytes out.new) (written given (known_of imports.new) after)
-            ≡ prepend (string_bytes out.old) (written given (known_of imports.old) before)) }
+        let before = scanned given end scope.old 0 (line_of line.entry ∷ source.old.left) in
+        let after = scanned given end scope.new 0 source.new.left in
+        prepend (string_bytes out.new) (written given (known_of imports.new) after)
+        ≡ prepend (string_bytes out.old) (written given (known_of imports.old) before)) }
     ensures end { let before = end_place source.old.place source.old.left in
         OnOk result (end_place source.new.place source.new.left ≡ before) }
     ensures marked { OnOk result (HasMarks imports.new) }
@@ -167,7 +167,7 @@ fn write_line(
     ensures err { let given = get_by_text definitions.now in
         let left = line_of line.entry ∷ source.old.left in
         IfErr result (λ e. (end : ℕ) →
-            Fails e (written given (known_of imports.old) (scanned given end scope.old 0 left))) }
+        Fails e (written given (known_of imports.old) (scanned given end scope.old 0 left))) }
 {
     match read_line(alloc, &line, definitions, scope)? {
         Treatment::Blank => {

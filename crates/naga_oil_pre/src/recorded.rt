@@ -28,7 +28,7 @@ fn record_behind_hash<'a>(
 ) -> Result<&'a str, AllocError>
     ensures names { let before = has_with names.old (names_from (35 ∷ chars behind.now)) in
         IfOk result (λ rest. (name : List ℕ) →
-            has_with names.new (names_from (chars rest.now)) name ≡ before name) }
+        has_with names.new (names_from (chars rest.now)) name ≡ before name) }
     ensures utf8 { IfOk result (λ rest. IsUtf8 rest.now) }
     ensures bound { IfOk result (λ rest. length rest.now ≤ length behind.now) }
 {
