@@ -37,7 +37,8 @@ type Members = Vec<StructMember>;
 fn renamed_members<R: Renaming>(names: &R, list: &[StructMember], alloc: Global) -> Tried<Members>
     ensures labels { IfOk result (λ ms. map member_label ms.items ≡ map member_label list.now) }
     ensures types { let r = R.renames names.now in
-        IfOk result (λ ms. map member_type ms.items ≡ map (option_map (rename_place r)) (map member_type list.now)) }
+        let renamed = map (option_map (rename_place r)) (map member_type list.now) in
+        IfOk result (λ ms. map member_type ms.items ≡ renamed) }
 {
     let mut out = Vec::new(alloc);
     for of in list {

@@ -238,7 +238,8 @@ type Cases = Vec<SwitchCase>;
 #[cycle(renaming)]
 fn renamed_cases<R: Renaming>(names: &R, cases: &[SwitchCase], alloc: Global) -> Tried<Cases>
     ensures { let r = R.renames names.now in
-        IfOk result (λ v. flat_map case_tokens v.items ≡ rename_tokens r (flat_map case_tokens cases.now)) }
+        let renamed = rename_tokens r (flat_map case_tokens cases.now) in
+        IfOk result (λ v. flat_map case_tokens v.items ≡ renamed) }
 {
     let mut copies = Vec::new(alloc);
     for case in cases {
