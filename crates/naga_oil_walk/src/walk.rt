@@ -57,7 +57,8 @@ impl Walk {
     /// Lists a place, unless it is there.
     pub fn list(&mut self, place: usize) -> Tried
         requires { place < length self.old.marks.items }
-        ensures order { OnOk result (self.new.places.items ≡ added self.old.places.items (place ∷ [])) }
+        ensures order { let listed = added self.old.places.items (place ∷ []) in
+            OnOk result (self.new.places.items ≡ listed) }
         ensures marks { length self.new.marks.items ≡ length self.old.marks.items }
         ensures emitted { self.new.emitted ≡ self.old.emitted }
         ensures requests { self.new.requests ≡ self.old.requests }
