@@ -63,7 +63,8 @@ struct Making<'n, 'a> {
 
 impl<'a> Making<'_, 'a> {
     fn state(&mut self, statement: Statement) -> Result<(), AllocError>
-        ensures { OnOk result (spec.made_of self.new ≡ spec.stated (statement_tokens statement) (spec.made_of self.old)) }
+        ensures { let old = spec.made_of self.old in
+            OnOk result (spec.made_of self.new ≡ spec.stated (statement_tokens statement) old) }
     {
         Ok(self.body.push((statement, self.span))?)
     }
@@ -71,7 +72,8 @@ impl<'a> Making<'_, 'a> {
     // An expression more. Answers its place.
     fn put(&mut self, expression: Expression) -> Result<Handle<Expression>, AllocError>
         ensures place { IfOk result (λ h. h ≡ spec.next_place (spec.made_of self.old)) }
-        ensures made { OnOk result (spec.made_of self.new ≡ spec.put (parts expression) (spec.made_of self.old)) }
+        ensures made { let old = spec.made_of self.old in
+            OnOk result (spec.made_of self.new ≡ spec.put (parts expression) old) }
     {
         self.expressions.append(expression, self.span)
     }
@@ -79,7 +81,8 @@ impl<'a> Making<'_, 'a> {
     // An expression more, which is emitted alone. Answers its place.
     fn emit(&mut self, expression: Expression) -> Result<Handle<Expression>, AllocError>
         ensures place { IfOk result (λ h. h ≡ spec.next_place (spec.made_of self.old)) }
-        ensures made { OnOk result (spec.made_of self.new ≡ spec.emitted (parts expression) (spec.made_of self.old)) }
+        ensures made { let old = spec.made_of self.old in
+            OnOk result (spec.made_of self.new ≡ spec.emitted (parts expression) old) }
     {
         let place = self.put(expression)?;
         let end = self.expressions.len();
@@ -89,7 +92,8 @@ impl<'a> Making<'_, 'a> {
 
     // A term at a place joins the sum.
     fn join(&mut self, right: Handle<Expression>) -> Result<(), AllocError>
-        ensures { OnOk result (spec.made_of self.new ≡ spec.joined self.old.left right (spec.made_of self.old)) }
+        ensures { let old = spec.made_of self.old in
+            OnOk result (spec.made_of self.new ≡ spec.joined self.old.left right old) }
     {
         self.sum = Some(right);
         if let Some(left) = self.left.take() {
@@ -101,7 +105,8 @@ impl<'a> Making<'_, 'a> {
 
     // A term joins the sum.
     fn add(&mut self, term: Expression) -> Result<(), AllocError>
-        ensures { OnOk result (spec.made_of self.new ≡ spec.with_term (parts term) (spec.made_of self.old)) }
+        ensures { let old = spec.made_of self.old in
+            OnOk result (spec.made_of self.new ≡ spec.with_term (parts term) old) }
     {
         let term = self.put(term)?;
         self.join(term)
@@ -109,7 +114,8 @@ impl<'a> Making<'_, 'a> {
 
     // A variable joins the sum by a load of it.
     fn add_variable(&mut self, variable: Expression) -> Result<(), AllocError>
-        ensures { OnOk result (spec.made_of self.new ≡ spec.with_variable (parts variable) (spec.made_of self.old)) }
+        ensures { let old = spec.made_of self.old in
+            OnOk result (spec.made_of self.new ≡ spec.with_variable (parts variable) old) }
     {
         let pointer = self.put(variable)?;
         let load = self.emit(Expression::Load { pointer })?;
@@ -128,7 +134,8 @@ impl<'a> Making<'_, 'a> {
     }
 
     fn add_constant(&mut self, name: &'a str) -> Result<(), AllocError>
-        ensures { OnOk result (spec.made_of self.new ≡ spec.with_constant name.now (spec.made_of self.old)) }
+        ensures { let old = spec.made_of self.old in
+            OnOk result (spec.made_of self.new ≡ spec.with_constant name.now old) }
     {
         let place = self.known(name, self.scope.constants.place(name));
         self.add(Expression::Constant(Index::new(place)))
@@ -136,7 +143,8 @@ impl<'a> Making<'_, 'a> {
 
     // A name joins the sum: a parameter, else a local, else a global, else a constant.
     fn add_name(&mut self, name: &'a str) -> Result<(), AllocError>
-        ensures { OnOk result (spec.made_of self.new ≡ spec.with_name name.now (spec.made_of self.old)) }
+        ensures { let old = spec.made_of self.old in
+            OnOk result (spec.made_of self.new ≡ spec.with_name name.now old) }
     {
         if let Some(parameter) = self.scope.parameters.place(name) {
             return self.join(Index::new(parameter));
@@ -151,7 +159,8 @@ impl<'a> Making<'_, 'a> {
     }
 
     fn open_call(&mut self, name: &'a str) -> Result<(), AllocError>
-        ensures { OnOk result (spec.made_of self.new ≡ spec.function_met name.now (spec.made_of self.old)) }
+        ensures { let old = spec.made_of self.old in
+            OnOk result (spec.made_of self.new ≡ spec.function_met name.now old) }
     {
         let place = self.known(name, self.scope.functions.place(name));
         self.calls.push(OpenCall {
@@ -164,7 +173,9 @@ impl<'a> Making<'_, 'a> {
 
     // The innermost call, whose last argument is the sum so far; only a call that just began has none.
     fn last_call(&mut self) -> Result<OpenCall, Refusal<'a>>
-        ensures { Gives (λ c. (spec.open_call_of c, spec.made_of self.new)) result (spec.last_call (spec.made_of self.old)) }
+        ensures { let old = spec.made_of self.old in
+            let new = spec.made_of self.new in
+            Gives (λ c. (spec.open_call_of c, new)) result (spec.last_call old) }
     {
         let mut call = self.calls.pop().ok_or(Refusal::NotUnderstood)?;
         match self.sum.take() {
@@ -177,7 +188,8 @@ impl<'a> Making<'_, 'a> {
 
     // A call's result joins the sum before the call.
     fn end_call(&mut self, call: OpenCall) -> Result<(), AllocError>
-        ensures { OnOk result (spec.made_of self.new ≡ spec.call_ended (spec.open_call_of call) (spec.made_of self.old)) }
+        ensures { let old = spec.made_of self.old in
+            OnOk result (spec.made_of self.new ≡ spec.call_ended (spec.open_call_of call) old) }
     {
         let place = self.expressions.len();
         self.state(Statement::Call {
@@ -190,7 +202,9 @@ impl<'a> Making<'_, 'a> {
     }
 
     fn read_sum(&mut self, symbol: Symbol<'a>) -> Result<(), Refusal<'a>>
-        ensures { Gives (λ _. spec.made_of self.new) result (spec.read_behind self.old.sum (symbol_of symbol.entry) (spec.made_of self.old)) }
+        ensures { let old = spec.made_of self.old in
+            let read = spec.read_behind self.old.sum (symbol_of symbol.entry) old in
+            Gives (λ _. spec.made_of self.new) result read }
     {
         match (symbol, self.sum) {
             (Symbol::Number(bits), None) => Ok(self.add(Expression::Literal { kind: 1, bits })?),
@@ -219,7 +233,9 @@ impl<'a> Making<'_, 'a> {
         init: Handle<Expression>,
         wanted: Wanted<'a>,
     ) -> Result<(), AllocError>
-        ensures { OnOk result (spec.made_of self.new ≡ spec.with_local name.now init (spec.wanted_of wanted.entry) (spec.made_of self.old)) }
+        ensures { let old = spec.made_of self.old in
+            let made = spec.with_local name.now init (spec.wanted_of wanted.entry) old in
+            OnOk result (spec.made_of self.new ≡ made) }
     {
         let local = LocalVariable {
             name: Some(String::from_str(self.alloc, name)?),
@@ -235,7 +251,9 @@ impl<'a> Making<'_, 'a> {
 
     // Terms of an initialiser are numbers and constants.
     fn read_initialiser(&mut self, local: &'a str, symbol: Symbol<'a>) -> Result<(), Refusal<'a>>
-        ensures { Gives (λ _. spec.made_of self.new) result (spec.read_initialiser local.now self.old.sum (symbol_of symbol.entry) (spec.made_of self.old)) }
+        ensures { let old = spec.made_of self.old in
+            let read = spec.read_initialiser local.now self.old.sum (symbol_of symbol.entry) old in
+            Gives (λ _. spec.made_of self.new) result read }
     {
         match (symbol, self.sum) {
             (Symbol::Number(bits), None) => Ok(self.add(Expression::Literal { kind: 1, bits })?),
@@ -251,7 +269,9 @@ impl<'a> Making<'_, 'a> {
     }
 
     fn read(&mut self, symbol: Symbol<'a>) -> Result<(), Refusal<'a>>
-        ensures { Gives (λ _. spec.made_of self.new) result (spec.read_symbol (symbol_of symbol.entry) (spec.made_of self.old)) }
+        ensures { let old = spec.made_of self.old in
+            let read = spec.read_symbol (symbol_of symbol.entry) old in
+            Gives (λ _. spec.made_of self.new) result read }
     {
         match (self.wanted, symbol) {
             (Wanted::Sum, _) => return self.read_sum(symbol),
@@ -266,7 +286,8 @@ impl<'a> Making<'_, 'a> {
     // The arena begins with the parameters.
     fn add_parameters(&mut self) -> Result<(), AllocError>
         requires none { length self.old.expressions ≡ 0 }
-        ensures { OnOk result (spec.made_of self.new ≡ spec.begun (spec.wanted_of self.old.wanted) (spec.made_of self.old)) }
+        ensures { let old = spec.made_of self.old in
+            OnOk result (spec.made_of self.new ≡ spec.begun (spec.wanted_of self.old.wanted) old) }
     {
         for place in 0..self.scope.parameters.texts().len() {
             let number = u32::try_from(place).unwrap_or(u32::MAX);
@@ -278,7 +299,8 @@ impl<'a> Making<'_, 'a> {
     // A sum, or locals and a sum, begins.
     fn begin(&mut self, symbol: Symbol<'a>) -> Result<(), Refusal<'a>>
         requires none { length self.old.expressions ≡ 0 }
-        ensures { Gives (λ _. spec.made_of self.new) result (spec.begun_by (symbol_of symbol.entry) (spec.made_of self.old)) }
+        ensures { let old = spec.made_of self.old in
+            Gives (λ _. spec.made_of self.new) result (spec.begun_by (symbol_of symbol.entry) old) }
     {
         self.wanted = match symbol {
             Symbol::Equals => Wanted::Sum,
@@ -290,7 +312,8 @@ impl<'a> Making<'_, 'a> {
 
     // The sum is returned, where no call is open and no term is wanted.
     fn end(&mut self) -> Result<(), Refusal<'a>>
-        ensures { Gives (λ _. spec.made_of self.new) result (spec.returned (spec.made_of self.old)) }
+        ensures { let old = spec.made_of self.old in
+            Gives (λ _. spec.made_of self.new) result (spec.returned old) }
     {
         let value = self.sum;
         let is_whole = value.is_some() && self.calls.is_empty();
@@ -304,7 +327,8 @@ impl<'a> Making<'_, 'a> {
     // The end of a line: `=` and a sum, `with` and locals before them, or nothing for a stub.
     fn read_end(&mut self, symbols: &[Symbol<'a>]) -> Result<(), Refusal<'a>>
         requires none { length self.old.expressions ≡ 0 }
-        ensures { Gives (λ _. spec.made_of self.new) result (spec.read_end (line_of symbols.now) (spec.made_of self.old)) }
+        ensures { let old = spec.made_of self.old in
+            Gives (λ _. spec.made_of self.new) result (spec.read_end (line_of symbols.now) old) }
     {
         let Some((first, rest)) = symbols.split_first() else {
             return Ok(());
@@ -324,7 +348,8 @@ pub fn made<'a>(
     span: Span,
     symbols: &[Symbol<'a>],
 ) -> Result<Inside, Refusal<'a>>
-    ensures { Gives spec.inside_of result (spec.made (spec.scope_of scope.entry) span (line_of symbols.now)) }
+    ensures { let said = spec.made (spec.scope_of scope.entry) span (line_of symbols.now) in
+        Gives spec.inside_of result said }
 {
     if symbols.is_empty() {
         let body = Block {

@@ -150,7 +150,9 @@ impl<'a> Reader<'a> {
     // `NAME = INT`
     fn add_constant(&mut self, symbols: &[Symbol<'a>]) -> Result<(), Refusal<'a>>
         requires known { spec.Knows self.old }
-        ensures value { Gives (λ _. module_value self.new.module_) result (spec.constant_line (line_of symbols.now) self.old.span (module_value self.old.module_)) }
+        ensures value { let old = module_value self.old.module_ in
+            let said = spec.constant_line (line_of symbols.now) self.old.span old in
+            Gives (λ _. module_value self.new.module_) result said }
         ensures known { OnOk result (spec.Knows self.new) }
     {
         let &[Symbol::Name(name), Symbol::Equals, Symbol::Number(bits)] = symbols else {
@@ -173,7 +175,9 @@ impl<'a> Reader<'a> {
     // `NAME = INT`
     fn add_global(&mut self, symbols: &[Symbol<'a>]) -> Result<(), Refusal<'a>>
         requires known { spec.Knows self.old }
-        ensures value { Gives (λ _. module_value self.new.module_) result (spec.global_line (line_of symbols.now) self.old.span (module_value self.old.module_)) }
+        ensures value { let old = module_value self.old.module_ in
+            let said = spec.global_line (line_of symbols.now) self.old.span old in
+            Gives (λ _. module_value self.new.module_) result said }
         ensures known { OnOk result (spec.Knows self.new) }
     {
         let &[Symbol::Name(name), Symbol::Equals, Symbol::Number(bits)] = symbols else {
@@ -196,7 +200,10 @@ impl<'a> Reader<'a> {
     // The function of a name, with the parameters that were read and the body that the end of a line says.
     fn function(&self, name: &str, body: &[Symbol<'a>]) -> Result<Function, Refusal<'a>>
         requires known { spec.Knows self.now }
-        ensures { Gives function_value result (spec.function name.now self.now.parameters (line_of body.now) self.now.span (module_value self.now.module_)) }
+        ensures { let earlier = module_value self.now.module_ in
+            let end = line_of body.now in
+            let said = spec.function name.now self.now.parameters end self.now.span earlier in
+            Gives function_value result said }
     {
         let scope = Scope {
             parameters: &self.parameters,
@@ -242,7 +249,9 @@ impl<'a> Reader<'a> {
     // `NAME(P, ..) = EXPR`, `NAME(P, ..) with V = INIT, .. = EXPR` or `NAME(P, ..)`
     fn add_function(&mut self, symbols: &[Symbol<'a>]) -> Result<(), Refusal<'a>>
         requires known { spec.Knows self.old }
-        ensures value { Gives (λ _. module_value self.new.module_) result (spec.function_line (line_of symbols.now) self.old.span (module_value self.old.module_)) }
+        ensures value { let old = module_value self.old.module_ in
+            let said = spec.function_line (line_of symbols.now) self.old.span old in
+            Gives (λ _. module_value self.new.module_) result said }
         ensures known { OnOk result (spec.Knows self.new) }
     {
         let [Symbol::Opens(name), rest @ ..] = symbols else {
@@ -259,7 +268,9 @@ impl<'a> Reader<'a> {
     // `NAME = EXPR` or `NAME with V = INIT, .. = EXPR`
     fn add_entry_point(&mut self, symbols: &[Symbol<'a>]) -> Result<(), Refusal<'a>>
         requires known { spec.Knows self.old }
-        ensures value { Gives (λ _. module_value self.new.module_) result (spec.entry_line (line_of symbols.now) self.old.span (module_value self.old.module_)) }
+        ensures value { let old = module_value self.old.module_ in
+            let said = spec.entry_line (line_of symbols.now) self.old.span old in
+            Gives (λ _. module_value self.new.module_) result said }
         ensures known { OnOk result (spec.Knows self.new) }
     {
         let [Symbol::Name(name), _, ..] = symbols else {
@@ -282,7 +293,9 @@ impl<'a> Reader<'a> {
     // The item that symbols say. Most are functions.
     fn add(&mut self, symbols: &[Symbol<'a>]) -> Result<(), Refusal<'a>>
         requires known { spec.Knows self.old }
-        ensures value { Gives (λ _. module_value self.new.module_) result (spec.with_symbols self.old.span (module_value self.old.module_) (line_of symbols.now)) }
+        ensures value { let old = module_value self.old.module_ in
+            let said = spec.with_symbols self.old.span old (line_of symbols.now) in
+            Gives (λ _. module_value self.new.module_) result said }
         ensures known { OnOk result (spec.Knows self.new) }
     {
         match symbols {
@@ -298,7 +311,9 @@ impl<'a> Reader<'a> {
     #[tactic(auto, unfolding(crate::specs::Reader::with_line))]
     fn read(&mut self, line: &'a str, symbols: &mut Vec<Symbol<'a>>) -> Result<(), Refusal<'a>>
         requires known { spec.Knows self.old }
-        ensures value { Gives (λ _. module_value self.new.module_) result (spec.with_line line.now self.old.span (module_value self.old.module_)) }
+        ensures value { let old = module_value self.old.module_ in
+            let said = spec.with_line line.now self.old.span old in
+            Gives (λ _. module_value self.new.module_) result said }
         ensures known { OnOk result (spec.Knows self.new) }
     {
         if is_skipped(line) {

@@ -56,7 +56,8 @@ fn call_fault(alloc: Global, span: Span, name: &str) -> Result<ValidFault, Alloc
 }
 
 fn check_body(alloc: Global, of: &Module, body: &Block) -> Result<(), BackendRefusal<ValidFault>>
-    ensures { Answers nothing valid_fault result (spec.checked (module_value of.now) (block_tokens body.now)) }
+    ensures { let told = spec.checked (module_value of.now) (block_tokens body.now) in
+        Answers nothing valid_fault result told }
 {
     let tokens = tokens_of(alloc, body)?;
     let Some((span, function)) = wrong_call(of, &tokens) else {
