@@ -114,7 +114,8 @@ fn decoration_of(alloc: Global, of: &Definition) -> Tried<String>
 impl<B: Backend> Builder<'_, B> {
     /// What a text becomes, with what it imports: what it uses, then what it imports besides.
     pub fn preprocessed(&self, of: &Definition, defs: &Defs) -> Checked<PreprocessOutput>
-        ensures { Gives output_of result (preprocessed_of (get_by_text defs.now) (definition_of of.now)) }
+        ensures { let told = preprocessed_of (get_by_text defs.now) (definition_of of.now) in
+            Gives output_of result told }
     {
         let source = of.sanitized_source.as_str();
         let mut output = Preprocessor.preprocess(self.alloc, source, defs)?;

@@ -36,7 +36,8 @@ impl<B: Backend> Builder<'_, B> {
     fn parse_whole(&self, language: ShaderLanguage, text: &str, decoration: &str) -> Checked<Module>
         ensures form { IfOk result (λ m. WellFormed m decoration.now (length text.now)) }
         ensures fits { IfOk result (λ m. length text.now < 2097152) }
-        ensures value { Gives module_value result (parse_whole (B.front self.now.front.now) language text.now decoration.now) }
+        ensures value { let read = parse_whole (B.front self.now.front.now) in
+            Gives module_value result (read language text.now decoration.now) }
     {
         if text.len() >= 2_097_152 {
             return Err(Inner::TextTooLarge);
@@ -70,7 +71,8 @@ impl<B: Backend> Builder<'_, B> {
     // What a build holds: of the module that its whole text says, which has to be of good form.
     pub(crate) fn hold(&self, language: ShaderLanguage, text: &str, built: &mut Build) -> Checked
         ensures { let s = settings_in B.front self.now in
-            Gives (λ done. built_of built.new) result (hold s language text.now (built_of built.old)) }
+            let whole = hold s language text.now (built_of built.old) in
+            Gives (λ done. built_of built.new) result whole }
     {
         let mut source = self.parse_whole(language, text, built.decorated_name.as_str())?;
         note_functions(built, count_functions(&source));

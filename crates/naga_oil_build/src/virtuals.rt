@@ -42,7 +42,8 @@ fn add_name(alloc: Global, names: &mut Vec<String>, name: &str) -> Tried
 
 /// Adds a function that overrides another, unless it is known.
 pub(crate) fn add_override(alloc: Global, all: &mut Overrides, base: &str, name: &str) -> Tried
-    ensures { OnOk result (overriding_of all.new ≡ overridden (overriding_of all.old) base.now name.now) }
+    ensures { let more = overridden (overriding_of all.old) base.now name.now in
+        OnOk result (overriding_of all.new ≡ more) }
 {
     if let Some(known) = all.get_mut(base) {
         return add_name(alloc, known, name);
@@ -66,7 +67,8 @@ fn names_of(alloc: Global, functions: &[Marked<'_>]) -> Tried<Names>
 // Puts other characters in the place of each keyword.
 fn blank(edits: &mut Edits, functions: &[Marked<'_>], blank: &str) -> Tried
     requires { length blank.now ≤ 16 }
-    ensures { OnOk result (get nat_cmp edits.new ≡ blanked blank.now (get nat_cmp edits.old) (map marked_of functions.now)) }
+    ensures { let more = blanked blank.now (get nat_cmp edits.old) (map marked_of functions.now) in
+        OnOk result (get nat_cmp edits.new ≡ more) }
 {
     for function in functions {
         edit(edits, function.keyword, blank)?;
@@ -159,7 +161,8 @@ fn note_override(
     edits: &mut Edits,
 ) -> Tried
     requires { AreItemAndCode of.now.name.now item.now code.now }
-    ensures edits { let more = marked_override (get nat_cmp edits.old) (marked_of of.now) item.now in
+    ensures edits { let before = get nat_cmp edits.old in
+        let more = marked_override before (marked_of of.now) item.now in
         OnOk result (get nat_cmp edits.new ≡ more) }
     ensures overriding { let name = override_name item.now code.now decoration.now in
         let more = overridden (overriding_of overriding.old) of.now.name.now name in
@@ -184,7 +187,8 @@ fn read_override(
 ) -> Tried<Option<Inner>>
     ensures { let old = told_so edits.old overriding.old in
         let new = told_so edits.new overriding.new in
-        let next = λ (before : Option Fault). override_over over.entry (old before) (marked_of of.now) in
+        let next = λ (before : Option Fault).
+        override_over over.entry (old before) (marked_of of.now) in
         IfOk result (TellsNext new next) }
 {
     let Some((item, code)) = split_name(of.name) else {

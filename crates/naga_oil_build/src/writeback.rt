@@ -44,7 +44,8 @@ fn push_named<'m>(
     members: Option<&'m [StructMember]>,
     span: Span,
 ) -> Tried
-    ensures { let more = named_item (option_map string_bytes name.now) (labels_of members.entry) span in
+    ensures { let labels = labels_of members.entry in
+        let more = named_item (option_map string_bytes name.now) labels span in
         OnOk result (map named_of items.new.items ≡ map named_of items.old.items ++ more) }
 {
     if let Some(name) = named(name) {
@@ -156,7 +157,8 @@ fn by_name<'b>(alloc: Global, items: &[NamedItem<'b>]) -> Tried<Back<'b>>
 
 // The name of the first member that has another name there; without one it is empty.
 fn lost_member<'m>(ours: &'m [StructMember], theirs: &[StructMember]) -> Option<&'m str>
-    ensures { option_map (λ r. r.now) result ≡ lost_member (map member_label ours.now) (map member_label theirs.now) }
+    ensures { let first = lost_member (map member_label ours.now) (map member_label theirs.now) in
+        option_map (λ r. r.now) result ≡ first }
 {
     let mut pairs = ours.iter().zip(theirs);
     let (our, _) = pairs.find(|(our, their)| our.name != their.name)?;
@@ -165,7 +167,8 @@ fn lost_member<'m>(ours: &'m [StructMember], theirs: &[StructMember]) -> Option<
 
 // What is lost of an item: its name unless it comes back, of a struct as one, and else a member.
 fn lost_of<'m>(ours: &NamedItem<'m>, theirs: Option<&NamedItem<'_>>) -> Option<&'m str>
-    ensures { option_map (λ r. r.now) result ≡ lost_of (named_of ours.now) (option_map (λ i. named_of i.now) theirs.entry) }
+    ensures { let back = option_map (λ i. named_of i.now) theirs.entry in
+        option_map (λ r. r.now) result ≡ lost_of (named_of ours.now) back }
 {
     let Some(theirs) = theirs else {
         return Some(ours.name);

@@ -54,7 +54,8 @@ fn known(of: &Module, name: &str) -> Option<Expression>
 
 // The name that a line gives a colour, and what it is: one of its own, or an earlier one.
 fn definition<'t>(of: &Module, text: &'t str) -> Option<(&'t str, Expression)>
-    ensures { option_map (λ r. (r.0.now, parts r.1)) result ≡ spec.definition (module_value of.now) text.now }
+    ensures { let told = spec.definition (module_value of.now) text.now in
+        option_map (λ r. (r.0.now, parts r.1)) result ≡ told }
 {
     match text.split_once('=') {
         Some((name, other)) => Some((name.trim(), known(of, other.trim())?)),
@@ -81,7 +82,8 @@ fn add(
     value: Expression,
     span: Span,
 ) -> Result<(), AllocError>
-    ensures { OnOk result (module_value of.new ≡ spec.with_constant span (module_value of.old) (name.now, parts value)) }
+    ensures { let made = spec.with_constant span (module_value of.old) (name.now, parts value) in
+        OnOk result (module_value of.new ≡ made) }
 {
     let name = Some(String::from_str(alloc, name)?);
     let ty = Index::new(0);
@@ -93,7 +95,8 @@ fn add(
 
 // Reads a line, and tells whether it is understood.
 fn read(alloc: Global, of: &mut Module, line: &str, span: Span) -> Result<bool, AllocError>
-    ensures { IfOk result (λ said. spec.Reads said (module_value of.new) (spec.with_line line.now span (module_value of.old))) }
+    ensures { let told = spec.with_line line.now span (module_value of.old) in
+        IfOk result (λ said. spec.Reads said (module_value of.new) told) }
 {
     let text = line.trim();
     if is_skipped(text) {

@@ -44,7 +44,8 @@ fn name_at(of: &Module, place: usize) -> Option<&str>
 
 // The line of a constant, if it has one.
 fn line(alloc: Global, of: &Module, constant: &Constant) -> Result<Option<String>, AllocError>
-    ensures { IfOk result (λ t. option_map string_bytes t ≡ spec.line (module_value of.now) (constant_row constant.now)) }
+    ensures { let told = spec.line (module_value of.now) (constant_row constant.now) in
+        IfOk result (λ t. option_map string_bytes t ≡ told) }
 {
     let Some(name) = &constant.name else {
         return Ok(None);

@@ -79,7 +79,9 @@ impl Model for Calling {
       name = option_map (λ s. s.now) c.0.name;
       arguments = record { name = None; ty = c.0.argument; binding = None } ∷ [];
       result = Some (record { ty = c.0.result; binding = None });
-      local_variables = (record { name = None; ty = c.0.local.0; init = Some c.0.local.1 }, c.0.local_span) ∷ [];
+      local_variables =
+          (record { name = None; ty = c.0.local.0; init = Some c.0.local.1 }, c.0.local_span)
+          ∷ [];
       expressions =
           (expression_said c.0.first.0 c.0.first.1, c.0.expression_span)
           ∷ (expr 1 [] (TypeOf c.0.zero) [], c.0.expression_span)
@@ -169,10 +171,16 @@ impl Backend for Malformed {
 
     ghost front = { λ p. record {
       parse = λ language text. Ok (record {
-        types =
-            (row (TypeKind 0) (option_map (λ s. s.now) p.items.type_name) (Some 1 ∷ []) [] [], p.items.type_span)
+        types = (
+          row (TypeKind 0) (option_map (λ s. s.now) p.items.type_name) (Some 1 ∷ []) [] [],
+          p.items.type_span,
+        )
             ∷ (
-              type_row (record { name = None; inner = Array p.items.base (unwrap_or (option_map (λ o. Pending o) p.items.array_size) Dynamic) 4 }),
+              type_row (record {
+                name = None;
+                inner = Array p.items.base
+                    (unwrap_or (option_map (λ o. Pending o) p.items.array_size) Dynamic) 4;
+              }),
               p.items.type_span,
             ) ∷ [];
         special_types = record {
@@ -185,9 +193,23 @@ impl Backend for Malformed {
           constant_row (record { name = None; ty = p.items.constant.0; init = p.items.constant.1 }),
           p.items.constant_span,
         ) ∷ [];
-        overrides = (override_row (record { name = None; id = None; ty = p.items.size; init = p.items.size_init }), p.items.size_span) ∷ [];
+        overrides = (
+          override_row (record {
+            name = None;
+            id = None;
+            ty = p.items.size;
+            init = p.items.size_init;
+          }),
+          p.items.size_span,
+        ) ∷ [];
         global_variables = (
-          global_row (record { name = None; space = 1; binding = None; ty = p.items.global; init = None }),
+          global_row (record {
+            name = None;
+            space = 1;
+            binding = None;
+            ty = p.items.global;
+            init = None;
+          }),
           p.items.global_span,
         ) ∷ [];
         global_expressions =

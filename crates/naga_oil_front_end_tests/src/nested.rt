@@ -51,7 +51,9 @@ fn function(alloc: Global, levels: usize) -> Result<Function, AllocError>
 }
 
 fn functions(alloc: Global, levels: usize) -> Result<Arena<Function>, AllocError>
-    ensures { IfOk result (λ a. map {B = FunctionValue × Span} (λ e. (function_value e.0, e.1)) a ≡ (nested_function levels, undefined) ∷ []) }
+    ensures { IfOk result (λ a.
+        map {B = FunctionValue × Span} (λ e. (function_value e.0, e.1)) a ≡
+        (nested_function levels, undefined) ∷ []) }
 {
     let mut functions = Arena::new(alloc);
     functions.append(function(alloc, levels)?, Span::UNDEFINED)?;

@@ -44,7 +44,8 @@ impl Model for Saying {
 
     ghost Value = { ModuleValue };
 
-    ghost view = { λ s. said s.0.ty.now (option_map (λ m. m.now) s.0.member) s.0.function.now s.0.is_entered };
+    ghost view = { λ s.
+        said s.0.ty.now (option_map (λ m. m.now) s.0.member) s.0.function.now s.0.is_entered };
 }
 
 fn text(alloc: Global, name: &str) -> Result<Option<String>, AllocError>
@@ -55,7 +56,8 @@ fn text(alloc: Global, name: &str) -> Result<Option<String>, AllocError>
 }
 
 fn members(alloc: Global, name: &str) -> Result<Vec<StructMember>, AllocError>
-    ensures labels { IfOk result (λ v. map member_label v.items ≡ record { name = Some name.now; binding = None; offset = 0 } ∷ []) }
+    ensures labels { IfOk result (λ v. map member_label v.items ≡
+        record { name = Some name.now; binding = None; offset = 0 } ∷ []) }
     ensures types { IfOk result (λ v. map member_type v.items ≡ Some (TypeItem 0) ∷ []) }
 {
     let mut members = Vec::new(alloc);
@@ -118,7 +120,9 @@ fn function(alloc: Global, name: Option<String>) -> Function
 }
 
 fn functions(alloc: Global, name: &str) -> Result<Arena<Function>, AllocError>
-    ensures { IfOk result (λ a. map {B = FunctionValue × Span} (λ e. (function_value e.0, e.1)) a ≡ (function_said (Some name.now), place) ∷ []) }
+    ensures { IfOk result (λ a.
+        map {B = FunctionValue × Span} (λ e. (function_value e.0, e.1)) a ≡
+        (function_said (Some name.now), place) ∷ []) }
 {
     let name = text(alloc, name)?;
     let mut functions = Arena::new(alloc);
@@ -162,7 +166,8 @@ fn module_of(alloc: Global, of: &Saying) -> Result<Module, AllocError>
 }
 
 fn unread(alloc: Global) -> Result<ParseFault, AllocError>
-    ensures { IfOk result (λ f. parse_fault f ≡ record { message = codes "unread"; spans = []; notes = [] }) }
+    ensures { IfOk result (λ f. parse_fault f ≡
+        record { message = codes "unread"; spans = []; notes = [] }) }
 {
     Ok(ParseFault {
         message: String::from_str(alloc, "unread")?,
@@ -184,10 +189,12 @@ impl Backend for Returning {
 
     ghost front = { λ r. record {
       parse = λ language text.
-          if length text == 1 then unwrap_or (option_map (λ b. Ok b) r.back) (Err (record { message = codes "unread"; spans = []; notes = [] }))
+          if length text == 1 then unwrap_or (option_map (λ b. Ok b) r.back)
+          (Err (record { message = codes "unread"; spans = []; notes = [] }))
           else Ok r.first;
       write = λ m language capabilities.
-          if length m.functions == 0 then Ok [] else (if length m.functions == 1 then Ok (codes "!") else Ok (codes "!!"));
+          if length m.functions == 0 then Ok []
+          else (if length m.functions == 1 then Ok (codes "!") else Ok (codes "!!"));
       valid = λ m capabilities. Ok tt;
     } };
 

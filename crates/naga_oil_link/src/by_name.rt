@@ -65,7 +65,8 @@ impl<'m> Listed<'m> {
 
     // How the name at a place stands to another.
     fn compare(self, at: usize, name: Option<&str>) -> Ordering
-        ensures { result ≡ compare_names (text_at (listed_names self.entry) at) (option_map (λ n. n.now) name.entry) }
+        ensures { let names = listed_names self.entry in
+            result ≡ compare_names (text_at names at) (option_map (λ n. n.now) name.entry) }
     {
         self.name(at).cmp(&name)
     }
@@ -176,7 +177,8 @@ fn add_asked(
     asked: AskedItems<'_>,
 ) -> Tried
     requires { IsIndexOf (listed_names of) index.now }
-    ensures { let more = flat_map (places_named (listed_names of.entry)) (decorated_names asked.entry) in
+    ensures { let names = decorated_names asked.entry in
+        let more = flat_map (places_named (listed_names of.entry)) names in
         OnOk result (places.new.keys ≡ with_places places.old.keys more) }
 {
     if index.is_empty() {

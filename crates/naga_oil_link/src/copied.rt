@@ -54,7 +54,8 @@ pub fn has_name_among(function: &Function, names: &Names) -> bool
 
 // The arguments of a function.
 fn arguments_of(alloc: Global, arguments: &[FunctionArgument]) -> Tried<Vec<FunctionArgument>>
-    ensures { IfOk result (λ copies. map argument_value copies.items ≡ map argument_value arguments.now) }
+    ensures { let given = map argument_value arguments.now in
+        IfOk result (λ copies. map argument_value copies.items ≡ given) }
 {
     let mut copies = Vec::with_capacity(alloc, arguments.len())?;
     for argument in arguments {
@@ -101,7 +102,8 @@ fn decorated_type(
     place: ItemPlace,
     decoration: &str,
 ) -> Tried<Option<String>>
-    ensures { IfOk result (λ name. option_map string_bytes name ≡ decorated_type (module_value of.now) decoration.now place) }
+    ensures { let decorated = decorated_type (module_value of.now) decoration.now place in
+        IfOk result (λ name. option_map string_bytes name ≡ decorated) }
 {
     let Some(name) = name_at(of, place) else {
         return Ok(None);
@@ -119,7 +121,8 @@ fn import_own(
 ) -> Tried<ItemPlace>
     requires { HasItem into.old place }
     ensures keeps { Keeps into.old into.new }
-    ensures value { OnOk result (into.new ≡ import_own (module_value source.now) decoration.now into.old place) }
+    ensures value { let parsed = module_value source.now in
+        OnOk result (into.new ≡ import_own parsed decoration.now into.old place) }
     ensures place { IfOk result (λ p. p ≡ went_to into.new place) }
 {
     match place {
@@ -162,7 +165,9 @@ impl<'m> OwnCopies<'m> {
         requires there { IsThere source.now place }
         requires source { CopiesFrom source.now self.old.derived }
         ensures source { CopiesFrom source.now self.new.derived }
-        ensures value { OnOk result (copies_of self.new ≡ copy_own (module_value source.now) decoration.now (copies_of self.old) place) }
+        ensures value { let parsed = module_value source.now in
+            let copied = copy_own parsed decoration.now (copies_of self.old) place in
+            OnOk result (copies_of self.new ≡ copied) }
     {
         let went = import_own(alloc, source, decoration, place, &mut self.derived)?;
         self.own.insert(went)
@@ -173,7 +178,8 @@ impl<'m> OwnCopies<'m> {
         requires there { IsThere source.now place }
         requires source { CopiesFrom source.now self.old.derived }
         ensures source { CopiesFrom source.now self.new.derived }
-        ensures value { OnOk result (copies_of self.new ≡ copy_other all_types (copies_of self.old) place) }
+        ensures value { let copied = copy_other all_types (copies_of self.old) place in
+            OnOk result (copies_of self.new ≡ copied) }
     {
         match place {
             ItemPlace::TypeItem(_) if all_types => {
@@ -197,7 +203,8 @@ impl<'m> OwnCopies<'m> {
         requires there { IsThere source.now place.now }
         requires source { CopiesFrom source.now self.old.derived }
         ensures source { CopiesFrom source.now self.new.derived }
-        ensures value { let copy = copy_at all_types (module_value source.now) (own_of own.now) decoration.now in
+        ensures value { let parsed = module_value source.now in
+            let copy = copy_at all_types parsed (own_of own.now) decoration.now in
             OnOk result (copies_of self.new ≡ copy (copies_of self.old) place.now) }
     {
         if own.contains(*place) {
@@ -302,7 +309,9 @@ fn copy_places<'m>(
 ) -> Tried<OwnCopies<'m>>
     requires { IsModuleFormed (module_value source.now) }
     ensures source { IfOk result (λ c. CopiesFrom source.now c.derived) }
-    ensures value { IfOk result (λ c. copies_of c ≡ copy_places all_types (module_value source.now) (own_of own.now) decoration.now) }
+    ensures value { let parsed = module_value source.now in
+        let copied = copy_places all_types parsed (own_of own.now) decoration.now in
+        IfOk result (λ c. copies_of c ≡ copied) }
 {
     let mut copies = OwnCopies::new(alloc, source)?;
     let places = places_of(alloc, source)?;

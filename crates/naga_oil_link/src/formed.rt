@@ -14,7 +14,8 @@ use std::marker::Model;
 /// Tests the form of a module, whose functions' names get a decoration, over a text of so many bytes.
 pub fn check_form(alloc: Global, of: &Module, decoration: &str, len: usize) -> Formed
     ensures form { OnOk result (WellFormed of.now decoration.now len) }
-    ensures value { GivesFormed (λ done. done) result (if is_formed (module_value of.now) decoration.now len then Some tt else None) }
+    ensures value { let passes = is_formed (module_value of.now) decoration.now len in
+        GivesFormed (λ done. done) result (if passes then Some tt else None) }
 {
     naga_oil_form::check_form::check_form(of, alloc, decoration, len)
 }

@@ -61,7 +61,8 @@ pub fn name_at(of: &Module, place: ItemPlace) -> Option<&str>
 
 // The names of the special types.
 fn special_names(alloc: Global, of: &Module) -> Tried<Names>
-    ensures { IfOk result (λ names. texts names.keys ≡ in_order (special_names (module_value of.now))) }
+    ensures { let special = special_names (module_value of.now) in
+        IfOk result (λ names. texts names.keys ≡ in_order special) }
 {
     let entries = special_entries(&of.special_types, alloc)?;
     let mut names = Names::new(alloc);
@@ -87,8 +88,8 @@ fn own_type(
     owned: &mut Names,
 ) -> Tried<bool>
     ensures own { let name = option_map string_bytes ty.now.name in
-        IfOk result (λ own. (m : ModuleValue) → texts special.now.keys ≡ in_order (special_names m) →
-        own ≡ is_own_type m name) }
+        IfOk result (λ own. (m : ModuleValue) →
+        texts special.now.keys ≡ in_order (special_names m) → own ≡ is_own_type m name) }
     ensures owned { let name = option_map string_bytes ty.now.name in
         OnOk result ((m : ModuleValue) → texts special.now.keys ≡ in_order (special_names m) →
         texts owned.new.keys ≡ with_own_type m suffix.now (texts owned.old.keys) name) }
@@ -124,8 +125,11 @@ fn own_types(alloc: Global, of: &Module, suffix: &str, owned: &mut Names) -> Tri
 // Decorates a name if it is owned, and notes it. Says whether it is.
 fn own_name(name: &mut String, suffix: &str, owned: &mut Names) -> Tried<bool>
     ensures own { IfOk result (λ own. own ≡ not (has_module_mark (string_bytes name.old))) }
-    ensures name { OnOk result (string_bytes name.new ≡ with_decoration suffix.now (string_bytes name.old)) }
-    ensures owned { OnOk result (texts owned.new.keys ≡ with_owned_name suffix.now (texts owned.old.keys) (string_bytes name.old)) }
+    ensures name { let old = string_bytes name.old in
+        OnOk result (string_bytes name.new ≡ with_decoration suffix.now old) }
+    ensures owned { let old = string_bytes name.old in
+        let own = with_owned_name suffix.now (texts owned.old.keys) old in
+        OnOk result (texts owned.new.keys ≡ own) }
 {
     let own = add_decoration(name, suffix)?;
     if own {
@@ -137,8 +141,12 @@ fn own_name(name: &mut String, suffix: &str, owned: &mut Names) -> Tried<bool>
 // The same of a name that may be absent.
 fn own_text(name: &mut Option<String>, suffix: &str, owned: &mut Names) -> Tried<bool>
     ensures own { IfOk result (λ own. own ≡ is_own_name (option_map string_bytes name.old)) }
-    ensures name { OnOk result (option_map string_bytes name.new ≡ option_map (with_decoration suffix.now) (option_map string_bytes name.old)) }
-    ensures owned { OnOk result (texts owned.new.keys ≡ with_owned suffix.now (texts owned.old.keys) (option_map string_bytes name.old)) }
+    ensures name { let old = option_map string_bytes name.old in
+        let decorated = option_map (with_decoration suffix.now) old in
+        OnOk result (option_map string_bytes name.new ≡ decorated) }
+    ensures owned { let old = option_map string_bytes name.old in
+        let own = with_owned suffix.now (texts owned.old.keys) old in
+        OnOk result (texts owned.new.keys ≡ own) }
 {
     match name {
         Some(name) => own_name(name, suffix, owned),
@@ -153,9 +161,13 @@ fn own_constants(
     suffix: &str,
     owned: &mut Names,
 ) -> Tried<Places>
-    ensures items { OnOk result (constant_rows of.new ≡ map (owned_item suffix.now) (constant_rows of.old)) }
-    ensures owned { OnOk result (texts owned.new.keys ≡ fold (with_owned suffix.now) (texts owned.old.keys) (item_names (constant_rows of.old))) }
-    ensures places { IfOk result (λ places. places.keys ≡ places_where is_own_name (item_names (constant_rows of.old))) }
+    ensures items { let old = constant_rows of.old in
+        OnOk result (constant_rows of.new ≡ map (owned_item suffix.now) old) }
+    ensures owned { let names = item_names (constant_rows of.old) in
+        let own = fold (with_owned suffix.now) (texts owned.old.keys) names in
+        OnOk result (texts owned.new.keys ≡ own) }
+    ensures places { let names = item_names (constant_rows of.old) in
+        IfOk result (λ places. places.keys ≡ places_where is_own_name names) }
 {
     let mut items = mem::replace(of, Arena::new(alloc)).into_items();
     let mut places = Places::new(alloc);
@@ -175,9 +187,13 @@ fn own_overrides(
     suffix: &str,
     owned: &mut Names,
 ) -> Tried<Places>
-    ensures items { OnOk result (override_rows of.new ≡ map (owned_item suffix.now) (override_rows of.old)) }
-    ensures owned { OnOk result (texts owned.new.keys ≡ fold (with_owned suffix.now) (texts owned.old.keys) (item_names (override_rows of.old))) }
-    ensures places { IfOk result (λ places. places.keys ≡ places_where is_own_name (item_names (override_rows of.old))) }
+    ensures items { let old = override_rows of.old in
+        OnOk result (override_rows of.new ≡ map (owned_item suffix.now) old) }
+    ensures owned { let names = item_names (override_rows of.old) in
+        let own = fold (with_owned suffix.now) (texts owned.old.keys) names in
+        OnOk result (texts owned.new.keys ≡ own) }
+    ensures places { let names = item_names (override_rows of.old) in
+        IfOk result (λ places. places.keys ≡ places_where is_own_name names) }
 {
     let mut items = mem::replace(of, Arena::new(alloc)).into_items();
     let mut places = Places::new(alloc);
@@ -197,9 +213,13 @@ fn own_vars(
     suffix: &str,
     owned: &mut Names,
 ) -> Tried<Places>
-    ensures items { OnOk result (global_rows of.new ≡ map (owned_item suffix.now) (global_rows of.old)) }
-    ensures owned { OnOk result (texts owned.new.keys ≡ fold (with_owned suffix.now) (texts owned.old.keys) (item_names (global_rows of.old))) }
-    ensures places { IfOk result (λ places. places.keys ≡ places_where is_own_name (item_names (global_rows of.old))) }
+    ensures items { let old = global_rows of.old in
+        OnOk result (global_rows of.new ≡ map (owned_item suffix.now) old) }
+    ensures owned { let names = item_names (global_rows of.old) in
+        let own = fold (with_owned suffix.now) (texts owned.old.keys) names in
+        OnOk result (texts owned.new.keys ≡ own) }
+    ensures places { let names = item_names (global_rows of.old) in
+        IfOk result (λ places. places.keys ≡ places_where is_own_name names) }
 {
     let mut items = mem::replace(of, Arena::new(alloc)).into_items();
     let mut places = Places::new(alloc);
@@ -214,9 +234,11 @@ fn own_vars(
 
 // Decorates the functions that are owned.
 fn own_functions(alloc: Global, of: &mut Arena<Function>, suffix: &str, owned: &mut Names) -> Tried
-    ensures items { OnOk result (function_values of.new ≡ map (owned_function suffix.now) (function_values of.old)) }
+    ensures items { let old = function_values of.old in
+        OnOk result (function_values of.new ≡ map (owned_function suffix.now) old) }
     ensures owned { let names = function_texts (function_values of.old) in
-        OnOk result (texts owned.new.keys ≡ fold (with_owned suffix.now) (texts owned.old.keys) names) }
+        let own = fold (with_owned suffix.now) (texts owned.old.keys) names in
+        OnOk result (texts owned.new.keys ≡ own) }
 {
     let mut items = mem::replace(of, Arena::new(alloc)).into_items();
     for item in items.iter_mut() {
@@ -228,8 +250,11 @@ fn own_functions(alloc: Global, of: &mut Arena<Function>, suffix: &str, owned: &
 
 // Decorates what a parsed module owns, but for its types, which are decorated as they are copied; gives the places of all of it.
 fn own_items(alloc: Global, of: &mut Module, built: &mut Build) -> Tried<OwnItems>
-    ensures items { OnOk result (module_value of.new ≡ decorated_items (string_bytes built.old.decorated_name) (module_value of.old)) }
-    ensures built { OnOk result (built_of built.new ≡ owning (module_value of.old) (built_of built.old)) }
+    ensures items { let m = module_value of.old in
+        let decoration = string_bytes built.old.decorated_name in
+        OnOk result (module_value of.new ≡ decorated_items decoration m) }
+    ensures built { let m = module_value of.old in
+        OnOk result (built_of built.new ≡ owning m (built_of built.old)) }
     ensures own { IfOk result (λ own. own_of own ≡ own_places (module_value of.old)) }
 {
     let decoration = built.decorated_name.as_str();
@@ -258,7 +283,8 @@ fn name_or_main(alloc: Global, name: Option<String>) -> Tried<String>
 
 // Takes the bindings of arguments away.
 fn unbind(arguments: &mut [FunctionArgument])
-    ensures { map argument_value arguments.new ≡ map unbound_argument (map argument_value arguments.old) }
+    ensures { let old = map argument_value arguments.old in
+        map argument_value arguments.new ≡ map unbound_argument old }
 {
     for argument in arguments.iter_mut() {
         argument.binding = None;
@@ -275,8 +301,10 @@ fn unbound(of: Option<FunctionResult>) -> Option<FunctionResult>
 
 // The function of an entry point, decorated and without bindings, and its name.
 fn demoted(alloc: Global, of: EntryPoint, decoration: &str) -> Tried<(String, Function)>
-    ensures name { IfOk result (λ r. string_bytes r.0 ≡ demoted_name decoration.now (entry_value of)) }
-    ensures function { IfOk result (λ r. function_value r.1 ≡ demoted_function decoration.now (entry_value of)) }
+    ensures name { let name = demoted_name decoration.now (entry_value of) in
+        IfOk result (λ r. string_bytes r.0 ≡ name) }
+    ensures function { let function = demoted_function decoration.now (entry_value of) in
+        IfOk result (λ r. function_value r.1 ≡ function) }
 {
     let mut function = of.function;
     let mut name = name_or_main(alloc, function.name.take())?;
@@ -289,7 +317,8 @@ fn demoted(alloc: Global, of: EntryPoint, decoration: &str) -> Tried<(String, Fu
 
 /// Notes a name, if there is one.
 pub fn note(alloc: Global, names: &mut Names, name: Option<&str>) -> Tried
-    ensures { OnOk result (texts names.new.keys ≡ with_text (texts names.old.keys) (option_map (λ n. n.now) name.entry)) }
+    ensures { let text = option_map (λ n. n.now) name.entry in
+        OnOk result (texts names.new.keys ≡ with_text (texts names.old.keys) text) }
 {
     if let Some(name) = name {
         names.insert(String::from_str(alloc, name)?)?;
@@ -299,7 +328,8 @@ pub fn note(alloc: Global, names: &mut Names, name: Option<&str>) -> Tried
 
 // The names of functions.
 fn function_names(alloc: Global, functions: &Arena<Function>) -> Tried<Names>
-    ensures { IfOk result (λ names. texts names.keys ≡ in_order (function_names (function_values functions.now))) }
+    ensures { let values = function_values functions.now in
+        IfOk result (λ names. texts names.keys ≡ in_order (function_names values)) }
 {
     let mut names = Names::new(alloc);
     for item in functions.as_slice() {
@@ -317,10 +347,13 @@ fn demote_one(
     functions: &mut Arena<Function>,
     owned: &mut Names,
 ) -> Tried
-    ensures functions { let more = demoted decoration.now (texts names.now.keys) (entry_value entry_point) in
+    ensures functions { let taken = texts names.now.keys in
+        let more = demoted decoration.now taken (entry_value entry_point) in
         OnOk result (function_values functions.new ≡ function_values functions.old ++ more) }
-    ensures owned { let more = demoted decoration.now (texts names.now.keys) (entry_value entry_point) in
-        OnOk result (texts owned.new.keys ≡ fold with_name (texts owned.old.keys) (function_names more)) }
+    ensures owned { let taken = texts names.now.keys in
+        let more = demoted decoration.now taken (entry_value entry_point) in
+        OnOk result (texts owned.new.keys ≡
+        fold with_name (texts owned.old.keys) (function_names more)) }
 {
     let (name, function) = demoted(alloc, entry_point, decoration)?;
     if names.contains(name.as_str()) {
@@ -340,11 +373,14 @@ fn demote_all(
     owned: &mut Names,
 ) -> Tried
     ensures functions { let before = function_values functions.old in
-        let more = flat_map (demoted decoration.now (function_names before)) (map entry_value entry_points.items) in
+        let values = map entry_value entry_points.items in
+        let more = flat_map (demoted decoration.now (function_names before)) values in
         OnOk result (function_values functions.new ≡ before ++ more) }
     ensures owned { let before = function_values functions.old in
-        let more = flat_map (demoted decoration.now (function_names before)) (map entry_value entry_points.items) in
-        OnOk result (texts owned.new.keys ≡ fold with_name (texts owned.old.keys) (function_names more)) }
+        let values = map entry_value entry_points.items in
+        let more = flat_map (demoted decoration.now (function_names before)) values in
+        OnOk result (texts owned.new.keys ≡
+        fold with_name (texts owned.old.keys) (function_names more)) }
 {
     if entry_points.is_empty() {
         return Ok(());
@@ -362,7 +398,8 @@ fn demote(alloc: Global, of: &mut Module, built: &mut Build) -> Tried
     ensures items { let m = module_value of.old in
         let fs = demotable (string_bytes built.old.decorated_name) m in
         OnOk result (module_value of.new ≡ with_demoted fs m) }
-    ensures built { let fs = demotable (string_bytes built.old.decorated_name) (module_value of.old) in
+    ensures built { let m = module_value of.old in
+        let fs = demotable (string_bytes built.old.decorated_name) m in
         OnOk result (built_of built.new ≡ owning_demoted fs (built_of built.old)) }
 {
     let entry_points = mem::replace(&mut of.entry_points, Vec::new(alloc));
@@ -378,10 +415,13 @@ pub fn own(alloc: Global, source: &mut Module, built: &mut Build) -> Tried<(OwnI
     ensures own { IfOk result (λ r. own_of r.0 ≡ own_places (module_value source.old)) }
     ensures functions { IfOk result (λ r. r.1 ≡ length (module_value source.old).functions) }
     ensures items { let decoration = string_bytes built.old.decorated_name in
-        OnOk result (module_value source.new ≡ owned_module built.old.index decoration (module_value source.old)) }
-    ensures built { OnOk result (built_of built.new ≡ owned_build built.old.index (module_value source.old) (built_of built.old)) }
+        let m = module_value source.old in
+        OnOk result (module_value source.new ≡ owned_module built.old.index decoration m) }
+    ensures built { let m = module_value source.old in
+        OnOk result (built_of built.new ≡ owned_build built.old.index m (built_of built.old)) }
     ensures form { let passes = WellFormed source.old (string_bytes built.old.decorated_name) in
-        OnOk result ((n : ℕ) → n ≤ 4294967295 → passes n → IsModuleFormed (module_value source.new)) }
+        OnOk result ((n : ℕ) → n ≤ 4294967295 → passes n →
+        IsModuleFormed (module_value source.new)) }
 {
     well_formed_modules_are_formed(source);
     let own = own_items(alloc, source, built)?;

@@ -8,5 +8,6 @@ ghost use Rattle.naga_oil_link.specs.Form.{is_formed};
 
 /// A module passes it exactly if it is well formed.
 pub fn form_is_tested()
-    ensures { (m : ModuleOf) (d : List ℕ) (n : ℕ) → Decides (is_formed (module_value m) d n) (WellFormed m d n) }
+    ensures { (m : ModuleOf) (d : List ℕ) (n : ℕ) →
+        Decides (is_formed (module_value m) d n) (WellFormed m d n) }
 {}

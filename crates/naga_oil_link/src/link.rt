@@ -23,7 +23,8 @@ pub type Builds = IndexMap<String, Arc<Build>>;
 
 // Adds names.
 fn add_names(names: &mut Names, others: &[String]) -> Tried
-    ensures { OnOk result (texts names.new.keys ≡ fold with_name (texts names.old.keys) (texts others.now)) }
+    ensures { let more = texts others.now in
+        OnOk result (texts names.new.keys ≡ fold with_name (texts names.old.keys) more) }
 {
     for name in others {
         names.insert(name.clone()?)?;
@@ -33,7 +34,8 @@ fn add_names(names: &mut Names, others: &[String]) -> Tried
 
 // The functions that override others.
 fn overriding(alloc: Global, of: &Build) -> Tried<Names>
-    ensures { IfOk result (λ names. texts names.keys ≡ in_order (overriding_names (built_of of.now))) }
+    ensures { let overriding = overriding_names (built_of of.now) in
+        IfOk result (λ names. texts names.keys ≡ in_order overriding) }
 {
     let mut names = Names::new(alloc);
     for others in of.override_functions.values() {
@@ -46,7 +48,8 @@ fn overriding(alloc: Global, of: &Build) -> Tried<Names>
 fn link_function(into: &mut DerivedModule, of: &Build, source: &Module, at: usize) -> Tried
     requires { CopiesFrom source.now into.old }
     ensures source { CopiesFrom source.now into.new }
-    ensures value { OnOk result (into.new ≡ link_own_function (built_of of.now) into.old (slice_get (module_value source.now).functions at)) }
+    ensures value { let function = slice_get (module_value source.now).functions at in
+        OnOk result (into.new ≡ link_own_function (built_of of.now) into.old function) }
 {
     let Some(item) = source.functions.as_slice().get(at) else {
         return Ok(());
@@ -135,8 +138,8 @@ impl<'b> Linker<'b> {
         requires items { HasItems (module_value of.from.now) of.by.now }
         requires source { CopiesFrom of.from.now self.old.derived }
         ensures value { let b = built_of of.entry.of.now in
-            let link = link_functions b (module_value of.entry.from.now) (asked_names asked.entry) in
-            OnOk result (self.new.derived ≡ link self.old.derived) }
+            let link = link_functions b (module_value of.entry.from.now) in
+            OnOk result (self.new.derived ≡ link (asked_names asked.entry) self.old.derived) }
         ensures rest { self.new ≡ record self.old { derived = self.new.derived } }
     {
         let overriding = overriding(self.alloc, of.of)?;
@@ -156,8 +159,8 @@ impl<'b> Linker<'b> {
         requires formed { IsLinkFormed self.old.derived }
         ensures value { let b = built_of of.entry.of.now in
             let own = own_of of.entry.own.now in
-            let link = link_source b own (module_value of.entry.from.now) (asked_names asked.entry) in
-            OnOk result (self.new.derived ≡ link self.old.derived) }
+            let link = link_source b own (module_value of.entry.from.now) in
+            OnOk result (self.new.derived ≡ link (asked_names asked.entry) self.old.derived) }
         ensures formed { OnOk result (IsLinkFormed self.new.derived) }
         ensures rest { self.new ≡ record self.old { derived = self.new.derived } }
     {
@@ -172,8 +175,8 @@ impl<'b> Linker<'b> {
     // Links the items of a build that are asked for; by none all that it owns.
     fn link_items(&mut self, of: &'b Build, asked: Asked<'_>) -> Tried
         requires { IsLinkFormed self.old.derived }
-        ensures value { let link = link_items self.old.of_headers (built_of of.now) (asked_names asked.entry) in
-            OnOk result (self.new.derived ≡ link self.old.derived) }
+        ensures value { let link = link_items self.old.of_headers (built_of of.now) in
+            OnOk result (self.new.derived ≡ link (asked_names asked.entry) self.old.derived) }
         ensures formed { OnOk result (IsLinkFormed self.new.derived) }
         ensures rest { self.new ≡ record self.old { derived = self.new.derived } }
     {
@@ -209,9 +212,11 @@ impl<'b> Linker<'b> {
         requires { IsLinkFormed self.old.derived }
         ensures value { let builds = builds_of self.old.builds.now in
             let links = LinksImports self.old.of_headers builds end (map import_of imports.now) in
-            OnOk result (links self.old.derived self.old.descended.keys self.new.derived self.new.descended.keys) }
+            OnOk result (links self.old.derived self.old.descended.keys
+            self.new.derived self.new.descended.keys) }
         ensures formed { OnOk result (IsLinkFormed self.new.derived) }
-        ensures rest { (self.new.builds ≡ self.old.builds) × (self.new.of_headers ≡ self.old.of_headers) }
+        ensures rest { (self.new.builds ≡ self.old.builds)
+            × (self.new.of_headers ≡ self.old.of_headers) }
     {
         // With the length it is known that no two builds have one name.
         let _unique = self.builds.len();
@@ -234,7 +239,8 @@ impl<'b> Linker<'b> {
 /// The header of imports: what they ask for of the headers of their builds, behind what those import; it is of good form.
 pub fn link_header(alloc: Global, builds: &Builds, imports: &[Import]) -> Tried<Module>
     ensures form { IfOk result (λ header. IsModuleFormed (module_value header)) }
-    ensures value { IfOk result (λ header. module_value header ≡ link_header (builds_of builds.now) (map import_of imports.now)) }
+    ensures value { let made = link_header (builds_of builds.now) (map import_of imports.now) in
+        IfOk result (λ header. module_value header ≡ made) }
 {
     let likely = likely_functions(builds, imports);
     let mut linker = Linker::new(alloc, builds, true, likely)?;
@@ -245,7 +251,8 @@ pub fn link_header(alloc: Global, builds: &Builds, imports: &[Import]) -> Tried<
 /// The whole of a build: all that it owns, behind what it imports, with its entry points; it is of good form.
 pub fn link_whole<'b>(alloc: Global, builds: &'b Builds, of: &'b Build) -> Tried<Module>
     ensures form { IfOk result (λ whole. IsModuleFormed (module_value whole)) }
-    ensures value { IfOk result (λ whole. module_value whole ≡ link_whole (builds_of builds.now) (built_of of.now)) }
+    ensures value { let made = link_whole (builds_of builds.now) (built_of of.now) in
+        IfOk result (λ whole. module_value whole ≡ made) }
 {
     let mut linker = Linker::new(alloc, builds, false, of.text_functions)?;
     linker.link_imports(&of.imports, builds.len())?;

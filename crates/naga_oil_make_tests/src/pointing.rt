@@ -21,7 +21,11 @@ struct Pointing {
 }
 
 fn pointed(alloc: Global, span: Option<Span>) -> Result<ValidFault, AllocError>
-    ensures { IfOk result (λ f. valid_fault f ≡ record { message = []; spans = unwrap_or (option_map (λ s. (s, []) ∷ []) span) []; notes = [] }) }
+    ensures { IfOk result (λ f. valid_fault f ≡ record {
+      message = [];
+      spans = unwrap_or (option_map (λ s. (s, []) ∷ []) span) [];
+      notes = [];
+    }) }
 {
     let mut spans = Vec::new(alloc);
     if let Some(span) = span {
@@ -38,7 +42,17 @@ impl Backend for Pointing {
     ghost use Rattle.std.specs.Prelude.{[], ◌∷◌, ◌==◌, if◌then◌else◌, length, Ok, Err, option_map, unwrap_or};
     ghost use Rattle.naga_oil_front.specs.Front.{mini};
 
-    ghost front = { λ p. record { parse = mini.parse; write = mini.write; valid = λ m capabilities. if length m.entry_points == 0 then Ok tt else Err (record { message = []; spans = unwrap_or (option_map (λ s. (s, []) ∷ []) p.span) []; notes = [] }) } };
+    ghost front = { λ p. record {
+      parse = mini.parse;
+      write = mini.write;
+      valid = λ m capabilities.
+          if length m.entry_points == 0 then Ok tt
+          else Err (record {
+            message = [];
+            spans = unwrap_or (option_map (λ s. (s, []) ∷ []) p.span) [];
+            notes = [];
+          });
+    } };
 
     fn parse(
         &self,

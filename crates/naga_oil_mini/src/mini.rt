@@ -33,7 +33,8 @@ fn answer<'a, F: FnMut(&str) -> Result<Option<Vec<u8>>, AllocError> + Drop, O: W
 ) -> Result<(), Refusal<'a>>
     requires { F.IsAlwaysCallable read }
     ensures ok { OnOk result (IsAsked (texts words.now)) }
-    ensures written { OnOk result (Writes (texts words.now) (O.contents out.old) (O.contents out.new)) }
+    ensures written { let said = texts words.now in
+        OnOk result (Writes said (O.contents out.old) (O.contents out.new)) }
     ensures err { IfErr result (Refuses (texts words.now)) }
     ensures untouched { IfErr result (λ e. LeavesOut e out.old out.new) }
 {
@@ -126,11 +127,16 @@ pub fn oil<F: FnMut(&str) -> Result<Option<Vec<u8>>, AllocError> + Drop, O: Writ
     requires { F.IsAlwaysCallable read }
     ensures statuses { result ≤ 2 }
     ensures asked { result ≡ 0 → IsAsked (texts words.now) }
-    ensures written { result ≡ 0 → Writes (texts words.now) (O.contents out.old) (O.contents out.new) × (err.new ≡ err.old) }
+    ensures written { let said = texts words.now in
+        result ≡ 0 → Writes said (O.contents out.old) (O.contents out.new) × (err.new ≡ err.old) }
     // Nothing stands on `out` but what a write that failed left there.
-    ensures refused { 1 ≤ result → (e : Refusal) × Refuses (texts words.now) e × LeavesOut e out.old out.new × TellsFront e (E.contents err.old) (E.contents err.new) }
+    ensures refused { let said = texts words.now in
+        1 ≤ result → (e : Refusal) × Refuses said e × LeavesOut e out.old out.new
+        × TellsFront e (E.contents err.old) (E.contents err.new) }
     // The words and the files are refused by a line.
-    ensures told { result ≡ 2 → (e : Refusal) × Refuses (texts words.now) e × (status_of e ≡ 2) × Tells e (E.contents err.old) (E.contents err.new) × LeavesOut e out.old out.new }
+    ensures told { let said = texts words.now in
+        result ≡ 2 → (e : Refusal) × Refuses said e × (status_of e ≡ 2)
+        × Tells e (E.contents err.old) (E.contents err.new) × LeavesOut e out.old out.new }
     ensures usage { asked (texts words.now) ≡ None → 1 ≤ result }
 {
     let Err(refusal) = answer(alloc, words, read, out) else {

@@ -26,7 +26,9 @@ fn no_places(count: usize, alloc: Global) -> Tried<Vec<Vec<usize>>>
 fn push_caller(callers: &mut Vec<Vec<usize>>, function: usize, callees: &[usize]) -> Tried
     requires { All (λ c. c < length callers.old.items) callees.now }
     ensures long { OnOk result (length callers.new.items ≡ length callers.old.items) }
-    ensures callers { OnOk result ((c k : ℕ) → times k (linked (lists callers.new.items) c) ≡ times k (linked (lists callers.old.items) c) + times c (if function == k then callees.now else [])) }
+    ensures callers { let old = lists callers.old.items in
+        OnOk result ((c k : ℕ) → times k (linked (lists callers.new.items) c) ≡
+        times k (linked old c) + times c (if function == k then callees.now else [])) }
 {
     for callee in callees {
         callers[*callee].push(function)?;
@@ -38,7 +40,9 @@ fn push_caller(callers: &mut Vec<Vec<usize>>, function: usize, callees: &[usize]
 fn callers_of(calls: &[Vec<usize>], alloc: Global) -> Tried<Vec<Vec<usize>>>
     requires { StayWithin (lists calls.now) }
     ensures long { IfOk result (λ v. length v.items ≡ length calls.now) }
-    ensures callers { IfOk result (λ v. (c k : ℕ) → times k (linked (lists v.items) c) ≡ times c (linked (lists calls.now) k)) }
+    ensures callers { let called = lists calls.now in
+        IfOk result (λ v. (c k : ℕ) →
+        times k (linked (lists v.items) c) ≡ times c (linked called k)) }
 {
     let mut callers = no_places(calls.len(), alloc)?;
     for (function, callees) in calls.iter().enumerate() {
@@ -64,8 +68,11 @@ fn level_above(callees: &[usize], levels: &[Option<usize>]) -> Option<usize>
 fn count_off(callers: &[usize], pending: &mut Vec<usize>, ready: &mut Vec<usize>) -> Tried
     requires { (k : ℕ) → times k callers.now ≤ get_or pending.old.items k 0 }
     ensures long { OnOk result (length pending.new.items ≡ length pending.old.items) }
-    ensures pending { OnOk result ((k : ℕ) → get_or pending.new.items k 0 + times k callers.now ≡ get_or pending.old.items k 0) }
-    ensures ready { OnOk result ((k : ℕ) → times k ready.new.items + bit (get_or pending.old.items k 0 == 0) ≡ times k ready.old.items + bit (get_or pending.new.items k 0 == 0)) }
+    ensures pending { OnOk result ((k : ℕ) →
+        get_or pending.new.items k 0 + times k callers.now ≡ get_or pending.old.items k 0) }
+    ensures ready { OnOk result ((k : ℕ) →
+        times k ready.new.items + bit (get_or pending.old.items k 0 == 0) ≡
+        times k ready.old.items + bit (get_or pending.new.items k 0 == 0)) }
 {
     for caller in callers {
         let left = pending[*caller] - 1;
@@ -80,7 +87,9 @@ fn count_off(callers: &[usize], pending: &mut Vec<usize>, ready: &mut Vec<usize>
 /// Of each function how many calls it has, and the functions that have none.
 fn open_calls(calls: &[Vec<usize>], alloc: Global) -> Tried<(Vec<usize>, Vec<usize>)>
     ensures pending { IfOk result (λ r. r.0.items ≡ map length (lists calls.now)) }
-    ensures ready { IfOk result (λ r. (k : ℕ) → times k r.1.items ≡ bit (nat_lt k (length calls.now) && (length (linked (lists calls.now) k) == 0))) }
+    ensures ready { let called = lists calls.now in
+        IfOk result (λ r. (k : ℕ) → times k r.1.items ≡
+        bit (nat_lt k (length calls.now) && (length (linked called k) == 0))) }
 {
     let mut pending = Vec::new(alloc);
     let mut ready = Vec::new(alloc);
@@ -167,7 +176,8 @@ fn name_of(function: &Function) -> &str
 /// The names of functions at some places, joined.
 fn names_at(functions: &[(Function, Span)], places: &[usize], alloc: Global) -> Tried<String>
     requires { All (λ k. k < length functions.now) places.now }
-    ensures { IfOk result (λ s. string_bytes s ≡ names_at (function_values functions.now) places.now) }
+    ensures { let told = names_at (function_values functions.now) places.now in
+        IfOk result (λ s. string_bytes s ≡ told) }
 {
     let mut names = Vec::new(alloc);
     for place in places {
@@ -180,7 +190,8 @@ fn names_at(functions: &[(Function, Span)], places: &[usize], alloc: Global) -> 
 pub fn ordered(functions: &[(Function, Span)], alloc: Global) -> Result<Vec<usize>, RedirectError>
     requires { StayWithin (calls_of (function_values functions.now)) }
     ensures order { Gives (λ v. v.items) result (ordered (function_values functions.now)) }
-    ensures cycle { IsErr (ordered (function_values functions.now)) ↔ HasCycle (calls_of (function_values functions.now)) }
+    ensures cycle { let values = function_values functions.now in
+        IsErr (ordered values) ↔ HasCycle (calls_of values) }
 {
     let calls = calls_of(functions, alloc)?;
     let levels = levels_of(&calls, alloc)?;

@@ -49,7 +49,8 @@ fn same_results(original: &Function, replacement: &Function) -> bool
 
 /// Sends the calls of all functions but the one that they go to and the omitted ones.
 fn send_functions(arena: &mut Arena<Function>, pair: Pair, omit: &BTreeSet<String>, alloc: Global)
-    ensures { function_values arena.new ≡ map (send_at pair.0 pair.1 (contains_text omit.now)) (enumerate_from 0 (function_values arena.old)) }
+    ensures { let sends = send_at pair.0 pair.1 (contains_text omit.now) in
+        function_values arena.new ≡ map sends (enumerate_from 0 (function_values arena.old)) }
 {
     let mut items = mem::replace(arena, Arena::new(alloc)).into_items();
     for place in 0..items.len() {
@@ -62,7 +63,8 @@ fn send_functions(arena: &mut Arena<Function>, pair: Pair, omit: &BTreeSet<Strin
 
 /// Sends the calls of all entry points.
 fn send_entries(entries: &mut Vec<EntryPoint>, pair: Pair, alloc: Global)
-    ensures { map entry_value entries.new.items ≡ map (send_entry pair.0 pair.1) (map entry_value entries.old.items) }
+    ensures { let sends = send_entry pair.0 pair.1 in
+        map entry_value entries.new.items ≡ map sends (map entry_value entries.old.items) }
 {
     for entry in entries.iter_mut() {
         send_calls(&mut entry.function, pair.0, pair.1, alloc);
@@ -73,7 +75,9 @@ fn send_entries(entries: &mut Vec<EntryPoint>, pair: Pair, alloc: Global)
 fn import_in_turn<'a>(derived: &mut DerivedModule<'a>, source: &'a Module, order: &[usize]) -> Tried
     requires source { Redirectable source.now }
     requires order { ordered (function_values source.now.functions) ≡ Ok order.now }
-    ensures value { OnOk result (derived.new ≡ import_in_turn (value_of source.now) (set_source derived.old (value_of source.now) 0) order.now) }
+    ensures value { let shader = value_of source.now in
+        OnOk result (derived.new ≡
+        import_in_turn shader (set_source derived.old shader 0) order.now) }
     ensures set { OnOk result (IsSome derived.new.source) }
     ensures entries { OnOk result (CanCopyEntries derived.new) }
 {
@@ -134,7 +138,8 @@ impl Redirector {
 
     /// The first function of a name, with its place.
     fn find(&self, name: &str) -> Result<(usize, &Function), RedirectError>
-        ensures found { Gives (λ f. (f.0, function_value f.1.now)) result (found name.now self.now.functions) }
+        ensures found { let first = found name.now self.now.functions in
+            Gives (λ f. (f.0, function_value f.1.now)) result first }
         ensures within { IfOk result (λ f. f.0 < length self.now.functions) }
     {
         let functions = self.module.functions.as_slice();
@@ -149,7 +154,8 @@ impl Redirector {
 
     /// The handles of a function and its replacement, if that may stand for it.
     fn matched(&self, original: &str, replacement: &str) -> Result<Pair, RedirectError>
-        ensures matched { Gives (λ pair. (pair.0, pair.1)) result (matched self.now.functions original.now replacement.now) }
+        ensures matched { let both = matched self.now.functions original.now replacement.now in
+            Gives (λ pair. (pair.0, pair.1)) result both }
         ensures within { IfOk result (λ pair. pair.1 < length self.now.functions) }
     {
         let (from, function) = self.find(original)?;
@@ -182,8 +188,10 @@ impl Redirector {
         replacement: &str,
         omit: &BTreeSet<String>,
     ) -> Result<Pair, RedirectError>
-        ensures handles { Gives (λ pair. (pair.0, pair.1)) result (matched self.old.functions original.now replacement.now) }
-        ensures redirected { IfOk result (λ pair. self.new ≡ redirected self.old pair.0 pair.1 (contains_text omit.now)) }
+        ensures handles { let both = matched self.old.functions original.now replacement.now in
+            Gives (λ pair. (pair.0, pair.1)) result both }
+        ensures redirected { let omitted = contains_text omit.now in
+            IfOk result (λ pair. self.new ≡ redirected self.old pair.0 pair.1 omitted) }
         ensures chain { let sends = SendsOn original.now replacement.now (contains_text omit.now) in
             OnOk result (sends self.old self.new) }
         ensures apart { OnOk result (SendsApart original.now self.old self.new) }

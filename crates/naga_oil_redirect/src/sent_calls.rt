@@ -34,7 +34,8 @@ fn send_block(block: &mut Block, from: Callee, to: Callee)
 /// Sends the calls of the arms of a switch.
 #[cycle(sending)]
 fn send_cases(cases: &mut Vec<SwitchCase>, from: Callee, to: Callee)
-    ensures { flat_map case_tokens cases.new.items ≡ rename_tokens (sent from to) (flat_map case_tokens cases.old.items) }
+    ensures { let renamed = rename_tokens (sent from to) (flat_map case_tokens cases.old.items) in
+        flat_map case_tokens cases.new.items ≡ renamed }
 {
     for place in 0..cases.len() {
         send_block(&mut cases[place].body, from, to);
@@ -45,7 +46,8 @@ fn send_cases(cases: &mut Vec<SwitchCase>, from: Callee, to: Callee)
 #[rattlefmt::skip]
 #[cycle(sending)]
 fn send_statement(statement: &mut Statement, from: Callee, to: Callee)
-    ensures { statement_tokens statement.new ≡ rename_tokens (sent from to) (statement_tokens statement.old) }
+    ensures { let renamed = rename_tokens (sent from to) (statement_tokens statement.old) in
+        statement_tokens statement.new ≡ renamed }
 {
     match mem::replace(statement, Statement::Break) {
         Statement::Call { mut callee, arguments, result } => {

@@ -32,7 +32,8 @@ fn send_down(
 
 // Sends the calls of each function that is overridden down those that override it.
 fn send_all_down(alloc: Global, redirector: &mut Redirector, all: &Overrides) -> Checked
-    ensures { Gives (λ done. redirector.new) result (all_sent_down redirector.old (overriding_of all.now)) }
+    ensures { let sent = all_sent_down redirector.old (overriding_of all.now) in
+        Gives (λ done. redirector.new) result sent }
 {
     for (base, others) in all.iter() {
         send_down(alloc, redirector, base, others)?;

@@ -39,9 +39,20 @@ impl<B: Backend> Model for Composer<B> {
 
     ghost Value = { State B };
 
-    ghost view = { λ c. record { front = c.front; validate = c.validate; capabilities = c.capabilities; override_any = c.override_any; registry = c.modules; counter = c.counter; kept = kept_of c.store; builds = c.count } };
+    ghost view = { λ c. record {
+      front = c.front;
+      validate = c.validate;
+      capabilities = c.capabilities;
+      override_any = c.override_any;
+      registry = c.modules;
+      counter = c.counter;
+      kept = kept_of c.store;
+      builds = c.count;
+    } };
 
-    ghost invariant = { λ c. IsRegistry c.modules × IsStore (settings (B.front c.front) c.capabilities c.validate c.override_any) c.modules (kept_of c.store) };
+    ghost invariant = { λ c.
+        let s = settings (B.front c.front) c.capabilities c.validate c.override_any in
+        IsRegistry c.modules × IsStore s c.modules (kept_of c.store) };
 }
 
 impl<B: Backend> Composer<B> {
@@ -172,7 +183,8 @@ impl<B: Backend> Composer<B> {
 
     /// The module of this index.
     pub fn module_at(&self, index: usize) -> Option<&ComposableModuleDefinition>
-        ensures { option_map (λ d. definition_of d.now) result ≡ module_indexed index self.now.registry }
+        ensures { let indexed = module_indexed index self.now.registry in
+            option_map (λ d. definition_of d.now) result ≡ indexed }
     {
         self.modules.at_index(index)
     }
@@ -247,9 +259,11 @@ impl<B: Backend> Composer<B> {
         &mut self,
         desc: ComposableModuleDescriptor<'_>,
     ) -> Result<&ComposableModuleDefinition, ComposerError>
-        ensures* state { let adds = Adds (λ d. definition_of d.now) (λ d. d) self.old (module_source desc.entry) in
+        ensures* state { let source = module_source desc.entry in
+            let adds = Adds (λ d. definition_of d.now) (λ d. d) self.old source in
             sem 𝓛 (Rests (the_row B.row B.Backend) self.entry (adds result)) }
-        ensures reply { let told = addition self.old.registry self.old.counter (module_source desc.entry) in
+        ensures reply { let source = module_source desc.entry in
+            let told = addition self.old.registry self.old.counter source in
             Answers (λ d. definition_of d.now) result told }
     {
         let added = self.add_module(desc);

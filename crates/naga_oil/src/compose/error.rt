@@ -50,7 +50,8 @@ impl ErrSource {
     /// The text: of a module what it is behind preprocessing under the definitions, and nothing where that has a fault or the
     /// module isn't registered any more.
     pub fn source<'a, B: Backend>(&'a self, composer: &'a Composer<B>) -> Tried<CowStr<'a>>
-        ensures { IfOk result (λ text. cow_str_bytes text ≡ text_of composer.now.registry self.now) }
+        ensures { let told = text_of composer.now.registry self.now in
+            IfOk result (λ text. cow_str_bytes text ≡ told) }
     {
         let (name, defs) = match self {
             ErrSource::Constructing { source, .. } => return Ok(CowStr::Borrowed(source.as_str())),

@@ -101,7 +101,8 @@ impl<B: Backend> Maker<'_, B> {
         ensures reached { let s = settings_by B.front self.old in
             let ds = modules_in self.old in
             let defs = defs_in self.old in
-            let reaching = reach_uses s ds defs (rule_of ds defs rule.entry) (map use_of uses.now) in
+            let reaching =
+            reach_uses s ds defs (rule_of ds defs rule.entry) (map use_of uses.now) in
             let told = of_shader (definition_of shader.now).file_path text.now defs reaching in
             Replies (λ done. done) result self.new (told (builds_in self.old)) }
         ensures keeps { KeepsMore B.front refused_of result self.old self.new }
@@ -132,7 +133,8 @@ impl<B: Backend> Maker<'_, B> {
     // Reads a shader a first time: adds the definitions of what it imports, and builds that.
     fn read_first(&mut self, shader: &Definition, text: &str) -> Told
         requires registry { IsRegistry (modules_in self.old) }
-        requires store { IsStore (settings_by B.front self.old) (modules_in self.old) (kept_in self.old) }
+        requires store { let s = settings_by B.front self.old in
+            IsStore s (modules_in self.old) (kept_in self.old) }
         requires begins { builds_in self.old ≡ [] }
         ensures read { let s = settings_by B.front self.old in
             let d = definition_of shader.now in
@@ -280,12 +282,14 @@ impl<B: Backend> Maker<'_, B> {
     /// Makes a shader of a text that was read. Nothing is built yet.
     pub(crate) fn make(&mut self, desc: NagaModuleDescriptor<'_>, text: &str) -> Told<Module>
         requires registry { IsRegistry (modules_in self.old) }
-        requires store { IsStore (settings_by B.front self.old) (modules_in self.old) (kept_in self.old) }
+        requires store { let s = settings_by B.front self.old in
+            IsStore s (modules_in self.old) (kept_in self.old) }
         requires begins { builds_in self.old ≡ [] }
         ensures made { let s = settings_by B.front self.old in
             let made = make s (modules_in self.old) (shader_source desc.entry) text.now in
             Replies module_value result self.new (made (builds_in self.old)) }
-        ensures keeps { let defs = defs_of_text (modules_in self.old) (shader_source desc.entry) text.now in
+        ensures keeps { let ds = modules_in self.old in
+            let defs = defs_of_text ds (shader_source desc.entry) text.now in
             KeepsUnder B.front refused_of defs result self.old self.new }
         ensures rest { BuildsMore (record self.old { defs = self.new.defs }) self.new }
     {

@@ -94,7 +94,8 @@ impl Unreached {
 // Enters a build under its name.
 #[inline(never)]
 fn enter(alloc: Global, builds: &mut Builds, name: &str, build: Arc<Build>) -> Tried
-    ensures ok { let more = builds_with (builds_of builds.old) name.now (built_of (arc_value build)) in
+    ensures ok { let built = built_of (arc_value build) in
+        let more = builds_with (builds_of builds.old) name.now built in
         OnOk result (builds_of builds.new ≡ more) }
     ensures err { OnErr result (builds_of builds.new ≡ builds_of builds.old) }
 {
@@ -138,7 +139,8 @@ impl<B: Backend> Maker<'_, B> {
             let built = build s d (output_of output.now) (builds_in self.old) in
             Reaches (λ done. done) result self.new (enter_build d.name built (builds_in self.old)) }
         ensures kept { let s = settings_by B.front self.old in
-            let built = build s (definition_of of.now) (output_of output.now) (builds_in self.old) in
+            let d = definition_of of.now in
+            let built = build s d (output_of output.now) (builds_in self.old) in
             KeepsBuild result (key_of key) built (kept_in self.old) (kept_in self.new) }
         ensures refused { OnErr result (builds_in self.new ≡ builds_in self.old) }
         ensures rest { BuildsMore self.old self.new }
@@ -181,9 +183,10 @@ impl<B: Backend> Maker<'_, B> {
         from: usize,
     ) -> Result<(), Unreached>
         requires { IsReady B.front self.old from }
-        ensures reached { let ds = modules_in self.old in
+        ensures reached { let s = settings_by B.front self.old in
+            let ds = modules_in self.old in
             let defs = defs_in self.old in
-            let reaching = unless_built (reach (settings_by B.front self.old) defs (drop from ds)) in
+            let reaching = unless_built (reach s defs (drop from ds)) in
             let each = reach_each (rule_of ds defs rule.entry) reaching (map use_of uses.now) in
             Reaches (λ done. done) result self.new (each (builds_in self.old)) }
         ensures keeps { KeepsMore B.front unreached_of result self.old self.new }

@@ -74,7 +74,8 @@ fn agrees(known: Option<ShaderDefValue>, value: ShaderDefValue) -> bool
 
 // Adds definitions, which may not say another value of a name.
 fn add_consistent(defs: &mut Defs, others: &Defs) -> Checked
-    ensures { Gives (λ done. defs_of defs.new) result (defs_union (defs_of defs.old) (defs_of others.now)) }
+    ensures { let more = defs_union (defs_of defs.old) (defs_of others.now) in
+        Gives (λ done. defs_of defs.new) result more }
 {
     for (name, value) in others {
         let known = defs.insert(name.clone()?, *value)?;

@@ -82,7 +82,8 @@ pub(crate) fn kept_build(store: &Store, key: &Key) -> Tried<Option<Arc<Build>>>
 
 /// Keeps a build under a key, unless one is kept under it.
 pub(crate) fn keep(store: &mut Store, key: Key, build: Arc<Build>) -> Tried
-    ensures ok { let more = keep_build (kept_of store.old) (key_of key) (built_of (arc_value build)) in
+    ensures ok { let built = built_of (arc_value build) in
+        let more = keep_build (kept_of store.old) (key_of key) built in
         OnOk result (kept_of store.new ≡ more) }
     ensures err { OnErr result (kept_of store.new ≡ kept_of store.old) }
 {
@@ -98,7 +99,8 @@ pub(crate) fn forget(store: &mut Store, gone: &Names)
 {
     store.retain(
         |key: &Key, build: &mut Arc<Build>| -> bool
-            ensures { (result ≡ not (contains_text gone.entry.now (string_bytes key.now.name))) × (build.new ≡ build.old) }
+            ensures { let stays = not (contains_text gone.entry.now (string_bytes key.now.name)) in
+                (result ≡ stays) × (build.new ≡ build.old) }
         { !gone.contains(key.name.as_str()) },
     );
 }

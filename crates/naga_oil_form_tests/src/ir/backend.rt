@@ -11,7 +11,11 @@ impl Backend for Empty {
     ghost use Rattle.std.specs.Prelude.{[], Ok};
     ghost use Rattle.naga_oil_ir.specs.ModuleValue.{no_items};
 
-    ghost front = { λ _. record { parse = λ _ _. Ok no_items; write = λ _ _ _. Ok []; valid = λ _ _. Ok tt } };
+    ghost front = { λ _. record {
+      parse = λ _ _. Ok no_items;
+      write = λ _ _ _. Ok [];
+      valid = λ _ _. Ok tt;
+    } };
 
     fn parse(
         &self,
@@ -68,7 +72,8 @@ fn read<B: Backend>(
     language: ShaderLanguage,
     text: &str,
 ) -> Option<Module>
-    ensures { IfSome result (λ r. (B.front front.now).parse language text.now ≡ Ok (module_value r)) }
+    ensures { let told = (B.front front.now).parse language text.now in
+        IfSome result (λ r. told ≡ Ok (module_value r)) }
 {
     given(front.parse(alloc, language, text))
 }
@@ -92,7 +97,8 @@ fn written<B: Backend>(
     language: ShaderLanguage,
     of: &Module,
 ) -> Option<String>
-    ensures { IfSome result (λ r. (B.front front.now).write (module_value of.now) language (record { 0 = 0 }) ≡ Ok (string_bytes r)) }
+    ensures { let writes = (B.front front.now).write (module_value of.now) language in
+        IfSome result (λ r. writes (record { 0 = 0 }) ≡ Ok (string_bytes r)) }
 {
     given(front.write(alloc, of, language, Capabilities(0)))
 }

@@ -34,7 +34,11 @@ pub fn types(alloc: Global, items: &Items) -> Result<UniqueArena<Type>, AllocErr
         IfOk result (λ a. map {B = Row × Span} (λ e. (type_row e.0, e.1)) a ≡
         (row (TypeKind 0) (option_map (λ s. s.now) items.now.type_name) (Some 1 ∷ []) [] [], span)
         ∷ (
-          type_row (record { name = None; inner = Array items.now.base (unwrap_or (option_map (λ o. Pending o) items.now.array_size) Dynamic) 4 }),
+          type_row (record {
+            name = None;
+            inner = Array items.now.base
+                (unwrap_or (option_map (λ o. Pending o) items.now.array_size) Dynamic) 4;
+          }),
           span,
         ) ∷ []) }
 {
@@ -69,8 +73,9 @@ pub fn special(alloc: Global, items: &Items) -> SpecialTypes
 
 pub fn constants(alloc: Global, items: &Items) -> Result<Arena<Constant>, AllocError>
     ensures { let of = items.now.constant in
+        let span = items.now.constant_span in
         IfOk result (λ a. map {B = Row × Span} (λ e. (constant_row e.0, e.1)) a ≡
-        (constant_row (record { name = None; ty = of.0; init = of.1 }), items.now.constant_span) ∷ []) }
+        (constant_row (record { name = None; ty = of.0; init = of.1 }), span) ∷ []) }
 {
     let constant = Constant {
         name: None,
@@ -84,8 +89,15 @@ pub fn constants(alloc: Global, items: &Items) -> Result<Arena<Constant>, AllocE
 
 pub fn overrides(alloc: Global, items: &Items) -> Result<Arena<Override>, AllocError>
     ensures { let span = items.now.size_span in
-        IfOk result (λ a. map {B = Row × Span} (λ e. (override_row e.0, e.1)) a ≡
-        (override_row (record { name = None; id = None; ty = items.now.size; init = items.now.size_init }), span) ∷ []) }
+        IfOk result (λ a. map {B = Row × Span} (λ e. (override_row e.0, e.1)) a ≡ (
+          override_row (record {
+            name = None;
+            id = None;
+            ty = items.now.size;
+            init = items.now.size_init;
+          }),
+          span,
+        ) ∷ []) }
 {
     let size = Override {
         name: None,
@@ -100,7 +112,13 @@ pub fn overrides(alloc: Global, items: &Items) -> Result<Arena<Override>, AllocE
 
 pub fn globals(alloc: Global, items: &Items) -> Result<Arena<GlobalVariable>, AllocError>
     ensures { IfOk result (λ a. map {B = Row × Span} (λ e. (global_row e.0, e.1)) a ≡ (
-      global_row (record { name = None; space = 1; binding = None; ty = items.now.global; init = None }),
+      global_row (record {
+        name = None;
+        space = 1;
+        binding = None;
+        ty = items.now.global;
+        init = None;
+      }),
       items.now.global_span,
     ) ∷ []) }
 {
@@ -150,7 +168,8 @@ pub fn values(alloc: Global, items: &Items) -> Result<Arena<Expression>, AllocEr
 }
 
 fn arguments(alloc: Global, ty: usize) -> Result<Vec<FunctionArgument>, AllocError>
-    ensures { IfOk result (λ v. map argument_value v.items ≡ record { name = None; ty = ty; binding = None } ∷ []) }
+    ensures { IfOk result (λ v. map argument_value v.items ≡
+        record { name = None; ty = ty; binding = None } ∷ []) }
 {
     let mut arguments = Vec::new(alloc);
     arguments.push(FunctionArgument {
@@ -162,8 +181,9 @@ fn arguments(alloc: Global, ty: usize) -> Result<Vec<FunctionArgument>, AllocErr
 }
 
 fn locals(alloc: Global, of: &Caller) -> Result<Arena<LocalVariable>, AllocError>
-    ensures { IfOk result (λ a. map {B = LocalValue × Span} (λ l. (local_value l.0, l.1)) a ≡
-        (record { name = None; ty = of.now.local.0; init = Some of.now.local.1 }, of.now.local_span) ∷ []) }
+    ensures { let span = of.now.local_span in
+        IfOk result (λ a. map {B = LocalValue × Span} (λ l. (local_value l.0, l.1)) a ≡
+        (record { name = None; ty = of.now.local.0; init = Some of.now.local.1 }, span) ∷ []) }
 {
     let local = LocalVariable {
         name: None,
@@ -179,7 +199,8 @@ fn locals(alloc: Global, of: &Caller) -> Result<Arena<LocalVariable>, AllocError
 fn expressions(alloc: Global, of: &Caller) -> Result<Arena<Expression>, AllocError>
     ensures { let span = of.now.expression_span in
         IfOk result (λ a. expression_values a ≡
-        (expression_said of.now.first.0 of.now.first.1, span) ∷ (expr 1 [] (TypeOf of.now.zero) [], span)
+        (expression_said of.now.first.0 of.now.first.1, span)
+        ∷ (expr 1 [] (TypeOf of.now.zero) [], span)
         ∷ (expr 7 [] (FunctionAt of.now.result_of) [], span)
         ∷ (expr 22 (0 ∷ []) Nothing (Some of.now.operand ∷ []), span) ∷ []) }
 {
@@ -194,7 +215,8 @@ fn expressions(alloc: Global, of: &Caller) -> Result<Arena<Expression>, AllocErr
 }
 
 fn names(alloc: Global, place: usize) -> Result<NamedExpressions, AllocError>
-    ensures { IfOk result (λ v. map {B = ℕ × List ℕ} (λ e. (e.0, string_bytes e.1)) v.entries ≡ (place, codes "x") ∷ []) }
+    ensures { IfOk result (λ v. map {B = ℕ × List ℕ} (λ e. (e.0, string_bytes e.1)) v.entries ≡
+        (place, codes "x") ∷ []) }
 {
     let mut names = NamedExpressions::new();
     let name = String::from_str(alloc, "x")?;
@@ -206,7 +228,8 @@ fn body(alloc: Global, of: &Caller) -> Result<Block, AllocError>
     ensures { let span = of.now.statement_span in
         IfOk result (λ b. block_tokens b ≡
         At span ∷ Head 16 ∷ Callee of.now.called ∷ GiveCall of.now.called of.now.given
-        ∷ At span ∷ Head 0 ∷ Emitted of.now.emitted ∷ At span ∷ Head 10 ∷ Use of.now.returned ∷ []) }
+        ∷ At span ∷ Head 0 ∷ Emitted of.now.emitted
+        ∷ At span ∷ Head 10 ∷ Use of.now.returned ∷ []) }
 {
     let call = Statement::Call {
         callee: Index::new(of.called),

@@ -40,7 +40,8 @@ pub fn define(
     name: String,
     value: ShaderDefValue,
 ) -> Result<(), AllocError>
-    ensures { OnOk result (get_by_text definitions.new ≡ with_definition (get_by_text definitions.old) (string_bytes name) value) }
+    ensures { let defined = with_definition (get_by_text definitions.old) (string_bytes name) value in
+        OnOk result (get_by_text definitions.new ≡ defined) }
 {
     definitions.insert(name, value)?;
     Ok(())
@@ -48,7 +49,8 @@ pub fn define(
 
 /// The definitions among the words. Of one name the last counts.
 pub fn given(alloc: Global, words: &[String]) -> Result<Definitions, Refusal<'_>>
-    ensures ok { IfOk result (λ definitions. defined_by none_defined (texts words.now) ≡ Ok (get_by_text definitions)) }
+    ensures ok { let told = defined_by none_defined (texts words.now) in
+        IfOk result (λ definitions. told ≡ Ok (get_by_text definitions)) }
     ensures err { IfErr result (RefusesDefinitions (texts words.now)) }
 {
     let mut definitions = BTreeMap::new(alloc);

@@ -14,7 +14,8 @@ use std::alloc::{AllocError, Global};
 
 // Defines what the text's own defines say, in place of what was.
 fn overwrite(definitions: &mut Definitions, own: Definitions) -> Result<(), AllocError>
-    ensures { OnOk result (get_by_text definitions.new ≡ overwritten (get_by_text definitions.old) (get_by_text own)) }
+    ensures { let defined = get_by_text definitions.old in
+        OnOk result (get_by_text definitions.new ≡ overwritten defined (get_by_text own)) }
 {
     // A map's length tells that its names are in order, so each comes once.
     let _names = own.len();
@@ -59,8 +60,10 @@ pub fn shown_file<'a>(
     text: &str,
     definitions: Definitions,
 ) -> Result<String, Refusal<'a>>
-    ensures ok { IfOk result (λ t. printed (get_by_text definitions) text.now ≡ Ok (string_bytes t)) }
-    ensures err { IfErr result (Reports file.now text.now (printed (get_by_text definitions) text.now)) }
+    ensures ok { let told = printed (get_by_text definitions) text.now in
+        IfOk result (λ t. told ≡ Ok (string_bytes t)) }
+    ensures err { let told = printed (get_by_text definitions) text.now in
+        IfErr result (Reports file.now text.now told) }
 {
     match preprocessed(alloc, text, definitions) {
         Ok(source) => Ok(source),
