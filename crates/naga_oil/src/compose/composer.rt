@@ -50,9 +50,9 @@ impl<B: Backend> Model for Composer<B> {
       builds = c.count;
     } };
 
-    ghost invariant = { λ c.
-        let s = settings (B.front c.front) c.capabilities c.validate c.override_any in
-        IsRegistry c.modules × IsStore s c.modules (kept_of c.store) };
+    ghost invariant = { λ c. IsRegistry c.modules × IsStore
+        (settings (B.front c.front) c.capabilities c.validate c.override_any)
+        c.modules (kept_of c.store) };
 }
 
 impl<B: Backend> Composer<B> {
