@@ -2,6 +2,7 @@
 //!
 //! `arena` holds items with spans, as a list or found by their hash, and `handle` names their places. `types`, `expression`,
 //! `statement` and `module` are the items. `parts`, `names` and `tokens` read an expression, an item and a body by one list each.
+//! `room` says how much room is asked for ahead.
 //!
 //! An item is found in a `UniqueArena` in expected constant time, if the hasher spreads the items, and in an `Arena` by a
 //! walk over it.
@@ -18,6 +19,7 @@ pub mod named_expressions;
 pub mod names;
 pub mod parts;
 pub mod redirect_error;
+pub mod room;
 pub mod span;
 pub mod statement;
 pub mod tokens;
@@ -35,6 +37,7 @@ pub use named_expressions::NamedExpressions;
 pub use names::{ItemPlace, NameList, Names};
 pub use parts::{ExpressionParts, Named};
 pub use redirect_error::RedirectError;
+pub use room::rounded_room;
 pub use span::Span;
 pub use statement::{Block, RayQueryFunction, Statement, SwitchCase};
 pub use tokens::{Token, push_block};
