@@ -51,13 +51,14 @@ impl<'a> DerivedModule<'a> {
         }
     }
 
-    /// A module of nothing, with no source, and with room for so many functions.
+    /// A module of nothing, with no source, and with room for so many functions or up to twice as many.
     ///
     /// # Errors
     /// Where there is no memory.
     pub fn with_functions(alloc: Global, count: usize) -> Tried<Self>
         ensures { IfOk result (λ d. d ≡ nothing) }
     {
+        let count = rounded_room(count);
         let room = Vec::with_capacity(alloc, count)?;
         let function_names = IndexMap::with_capacity(alloc, count)?;
         let mut target = Module::new(alloc);

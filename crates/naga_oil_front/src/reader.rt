@@ -13,7 +13,7 @@ use crate::making::{Scope, made};
 use naga_oil_ir::{
     Arena, BackendRefusal, Constant, EntryPoint, Expression, Function, FunctionArgument,
     FunctionResult, GlobalVariable, Index, Module, NamedExpressions, ParseFault, Span, Type,
-    TypeInner,
+    TypeInner, rounded_room,
 };
 use naga_oil_symbols::{Names, Refusal, Symbol, read_symbols};
 use std::alloc::{AllocError, Global};
@@ -117,12 +117,16 @@ fn arguments(alloc: Global, parameters: &Names<'_>) -> Result<Vec<FunctionArgume
     Ok(arguments)
 }
 
-// How many items more are expected of a text, so many of which were in its first bytes: one or more, and at most seven times as
-// many.
-fn more_expected(count: usize, read: usize, length: usize) -> usize {
+// For how many items more there shall be room in a text, so many of which were in its first bytes: for as many as are expected,
+// one or more and at most seven times as many, and up to a power of two of all.
+fn more_room(count: usize, read: usize, length: usize) -> usize {
     let left = length.saturating_sub(read);
     let more = count.saturating_mul(left).checked_div(read).unwrap_or(0);
-    more.min(count.saturating_mul(7)).max(1)
+    let all = more
+        .min(count.saturating_mul(7))
+        .max(1)
+        .saturating_add(count);
+    rounded_room(all).saturating_sub(count)
 }
 
 impl<'a> Reader<'a> {
@@ -230,8 +234,8 @@ impl<'a> Reader<'a> {
     }
 
     // Room ahead for functions, where there is none left: for as many as the rest of the text has, if it goes on as it began, so
-    // that those of a long header aren't copied again and again. There come at most seven times as many as there are, whatever
-    // the text has been; and a refusal is left to what needs the room.
+    // that those of a long header aren't copied again and again. It is at most for seven times as many as there are, and up to a
+    // power of two; and a refusal is left to what needs the room.
     fn make_room(&mut self)
         ensures { self.new ≡ self.old }
     {
@@ -239,7 +243,7 @@ impl<'a> Reader<'a> {
         let mut items = functions.into_items();
         if items.len() == items.capacity() {
             let read = self.span.start as usize;
-            let more = more_expected(items.len(), read, self.length);
+            let more = more_room(items.len(), read, self.length);
             let _ = items.reserve(more);
             self.functions.make_room(more);
         }

@@ -13,7 +13,7 @@ use crate::not_written::{NotWritten, Written};
 use crate::order::{ANYWHERE, ItemNames, Items, Room, has_order};
 use naga_oil_ir::{
     EntryPoint, Function, FunctionArgument, GlobalVariable, Handle, LocalVariable, Module, Span,
-    Token, Type, TypeInner,
+    Token, Type, TypeInner, rounded_room,
 };
 use naga_oil_symbols::{Names, Symbol, is_name};
 use std::alloc::{AllocError, Global};
@@ -369,7 +369,7 @@ impl<'m> Writer<'m> {
             Writes (λ v. v.items) result lines (string_bytes self.old.text) text }
         ensures items { OnOk result (self.new.items ≡ self.old.items) }
     {
-        let mut rooms = Vec::with_capacity(self.alloc, of.functions.len())?;
+        let mut rooms = Vec::with_capacity(self.alloc, rounded_room(of.functions.len()))?;
         for function in of.functions.as_slice() {
             rooms.push(self.push_function(&function.0)?)?;
         }
@@ -433,7 +433,7 @@ fn begun(alloc: Global, of: &Module) -> Written<Writer<'_>>
     ensures named { OnOk result (IsSome (spec.function_words (module_value of.now).functions)) }
 {
     let mut text = String::new(alloc);
-    let _ = text.reserve(of.functions.len().saturating_mul(LINE));
+    let _ = text.reserve(rounded_room(of.functions.len().saturating_mul(LINE)));
     let constants = push_constants(alloc, &mut text, of)?;
     let globals = push_globals(alloc, &mut text, of)?;
     let functions = function_words(alloc, of.functions.as_slice())?;
