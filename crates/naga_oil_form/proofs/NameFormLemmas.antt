@@ -1,31 +1,59 @@
--- Distinct names.
-use Rattle.std.proofs.Common.{◌≡◌, ℕ, false, true, List, [], ◌∷◌, map, length, nat_eq, String, Global, sym, ◌∙◌, Bool}
-use Rattle.std.specs.List.{IsDistinct, AllByRecursion}
-use Rattle.std.specs.Cmp.Lexicographic.{pointwise}
-use Rattle.std.specs.Cmp.{unsigned_Decides}
-use Rattle.std.specs.Set.{distinct_count}
-use Rattle.std.specs.String.{string_bytes, string_eq, string_eq_equiv}
-use Rattle.std.proofs.lemmas.Map.Made.{IsDistinct-from_count, distinct_count-from_IsDistinct}
-use Rattle.std.proofs.lemmas.Map.Keys.{IsDistinct-cons, IsDistinct-head, IsDistinct-tail}
+-- Distinct names, found by a set that takes one after another.
+use Rattle.std.proofs.Common.{◌≡◌, not, ◌<◌, zero, suc, length, take, get_or, arith, ⊎_elim, ℕ, Bool, false, true, List, [], ◌∷◌, ◌++◌, ◌||◌, map, nat_eq, refl, sym, ap, ◌∙◌, IsPermutation}
+use Rattle.std.specs.List.{IsDistinct, AllByRecursion, list_any}
+use Rattle.std.specs.Cmp.{IsEquivalence}
+use Rattle.std.specs.Cmp.Lexicographic.{pointwise, nat_list_eq_equiv}
+use Rattle.std.proofs.lemmas.List.Sorted.{list_any-IsPermutation}
+use Rattle.std.proofs.lemmas.Map.Keys.{IsDistinct-push}
 
-apart_names : (x : String Global) (xs : List (String Global)) → AllByRecursion (λ y. string_eq x y ≡ false) xs → AllByRecursion (λ y. pointwise nat_eq (string_bytes x) y ≡ false) (map string_bytes xs)
-apart_names x [] a = a
-apart_names x (y ∷ ys) a = (a.0, apart_names x ys a.1)
+any_push : {X : Type 0} (p : X → Bool) (xs : List X) (x : X) → list_any p (x ∷ xs) ≡ list_any p (xs ++ x ∷ [])
+any_push p [] x = refl
+any_push p (y ∷ ys) x = swap (p x) (p y) (list_any p ys) ∙ ap (λ b. p y || b) (any_push p ys x)
+  where
+    swap : (a b c : Bool) → (a || (b || c)) ≡ (b || (a || c))
+    swap true true c = refl
+    swap true false c = refl
+    swap false b c = refl
 
-apart_texts : (x : String Global) (xs : List (String Global)) → AllByRecursion (λ y. pointwise nat_eq (string_bytes x) y ≡ false) (map string_bytes xs) → AllByRecursion (λ y. string_eq x y ≡ false) xs
-apart_texts x [] a = a
-apart_texts x (y ∷ ys) a = (a.0, apart_texts x ys a.1)
+any_after : {X : Type 0} (p : X → Bool) (x : X) (xs ys : List X) → AllByRecursion (λ y. p y ≡ false) (xs ++ x ∷ ys) → p x ≡ false
+any_after p x [] ys a = a.0
+any_after p x (z ∷ zs) ys a = any_after p x zs ys a.1
 
-pub distinct_names : (xs : List (String Global)) → (IsDistinct string_eq xs → IsDistinct (pointwise nat_eq) (map string_bytes xs)) × (IsDistinct (pointwise nat_eq) (map string_bytes xs) → IsDistinct string_eq xs)
+-- what stands before a text of distinct ones isn't equal to it
+pub absent_before : {X : Type 0} {eq : X → X → Bool} → IsEquivalence eq → (xs ys : List X) (x : X) → IsDistinct eq (xs ++ x ∷ ys) → list_any (eq x) xs ≡ false
 unfolding IsDistinct
-distinct_names [] = (λ d. tt, λ d. tt)
-distinct_names (x ∷ xs) =
-    let E : String Global → String Global → Bool = string_eq in
-    let F = pointwise nat_eq in
-    (λ d. IsDistinct-cons F (string_bytes x) (map string_bytes xs) (apart_names x xs (IsDistinct-head E x xs d)) ((distinct_names xs).0 (IsDistinct-tail E x xs d)), λ d. IsDistinct-cons E x xs (apart_texts x xs (IsDistinct-head F (string_bytes x) (map string_bytes xs) d)) ((distinct_names xs).1 (IsDistinct-tail F (string_bytes x) (map string_bytes xs) d)))
+absent_before laws [] ys x d = refl
+absent_before {eq = eq} laws (z ∷ zs) ys x d = ap (λ b. b || list_any (eq x) zs) (laws.symm x z ∙ any_after (eq z) x zs ys d.0) ∙ absent_before laws zs ys x d.1
 
--- as many distinct ones as there are: no two are equal
-pub count_decides : (xs : List (String Global)) (m n : ℕ) → m ≡ distinct_count string_eq xs → n ≡ length xs → (nat_eq m n ≡ true → IsDistinct (pointwise nat_eq) (map string_bytes xs)) × (IsDistinct (pointwise nat_eq) (map string_bytes xs) → nat_eq m n ≡ true)
-count_decides xs m n p q =
-    let w = distinct_names xs in
-    (λ h. w.0 (IsDistinct-from_count string_eq_equiv xs (sym p ∙ (unsigned_Decides m n).0 h ∙ q)), λ d. (unsigned_Decides m n).1 (p ∙ distinct_count-from_IsDistinct string_eq_equiv xs (w.1 d) ∙ sym q))
+module _ {K : Type 0} (text : K → List ℕ) where
+  -- texts are distinct, and keys are those texts
+  pub record AreSeen (ks : List K) (ts : List (List ℕ)) : Type 0 where
+    pub distinct : IsDistinct (pointwise nat_eq) ts
+    pub same : (bs : List ℕ) → list_any (λ k. pointwise nat_eq bs (text k)) ks ≡ list_any (pointwise nat_eq bs) ts
+
+  pub seen_none : AreSeen [] []
+  unfolding IsDistinct
+  seen_none = record { distinct = tt; same = λ bs. refl }
+
+  pub seen_push : (ks ns : List K) (k : K) (ts : List (List ℕ)) → AreSeen ks ts → list_any (λ j. pointwise nat_eq (text k) (text j)) ks ≡ false → IsPermutation (k ∷ ks) ns → AreSeen ns (ts ++ text k ∷ [])
+  seen_push ks ns k ts s absent p = record {
+    distinct = IsDistinct-push nat_list_eq_equiv ts (text k) s.distinct (sym (s.same (text k)) ∙ absent);
+    same = λ bs. sym (list_any-IsPermutation (λ j. pointwise nat_eq bs (text j)) (k ∷ ks) ns p) ∙ ap (λ b. pointwise nat_eq bs (text k) || b) (s.same bs) ∙ any_push (pointwise nat_eq bs) ts (text k);
+  }
+
+  pub seen_twice : (ks : List K) (k : K) (ts us : List (List ℕ)) → AreSeen ks ts → list_any (λ j. pointwise nat_eq (text k) (text j)) ks ≡ true → IsDistinct (pointwise nat_eq) (ts ++ text k ∷ us) → true ≡ false
+  seen_twice ks k ts us s there d = sym there ∙ s.same (text k) ∙ absent_before nat_list_eq_equiv ts us (text k) d
+
+-- the texts of a list, divided at a place
+pub divided : {X Y : Type 0} (f : X → Y) (xs : List X) (i : ℕ) (d : X) → i < length xs → (us : List Y) × (map f xs ≡ map f (take i xs) ++ f (get_or xs i d) ∷ us)
+divided f [] i d h = absurd (omega arith)
+divided f (x ∷ xs) zero d h = (map f xs, refl)
+divided f (x ∷ xs) (suc i) d h = let r = divided f xs i d (omega arith) in (r.0, ap (λ l. f x ∷ l) r.1)
+
+pub not_yes : (b a : Bool) → a ≡ not b → a ≡ true → b ≡ false
+not_yes true a p q = sym q ∙ p
+not_yes false a p q = refl
+
+pub not_no : (b a : Bool) → a ≡ not b → a ≡ false → b ≡ true
+not_no true a p q = refl
+not_no false a p q = sym q ∙ p
