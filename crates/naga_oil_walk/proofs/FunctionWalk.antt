@@ -21,7 +21,7 @@ use Rattle.naga_oil_ir.specs.declared.tokens.Token.TheVariants.{Use, Give, GiveC
 use Rattle.naga_oil_form.proofs.LinkLemmas.{All-from_has, All-has, has-append, marked_within}
 use Rattle.naga_oil_walk.specs.Walk.{IsReachOrder, IsWithin, brief, Notes, notes_after, AreWithin, AreNoted}
 use Rattle.naga_oil_walk.specs.Walks.{IsWalkOf}
-use Rattle.naga_oil_walk.proofs.WalkLemmas.{added-append}
+use Rattle.naga_oil_walk.proofs.WalkLemmas.{added-append, IsReachOrder-nil}
 use Rattle.naga_oil_walk.proofs.WalkForm.{IsPlain, IsUnder, Follows, follows, under_start}
 use Rattle.naga_oil_walk.proofs.WalkNotes.{BodyAt, body_at, no_notes}
 
@@ -119,6 +119,20 @@ walk_of ks fs ls is ts p f began o n m none es marks start ready count long empt
       noted = subst (λ q. AreNoted s q es ts) eo (subst (λ (q : Notes). AreNoted s (added s (flat_map (brief ks ls) ts)) q ts) ee b.stand);
       notes = subst (λ q. AreWithin (length s) q es) eo (subst (λ (q : Notes). AreWithin (length s) (added s (flat_map (brief ks ls) ts)) q) ee b.at.within);
     }
+
+-- where no place is an initialiser and there is no body, nothing is listed
+pub walk_none : (ks : List ℕ) (ls : Links) (is : List ℕ) (ts : Tokens) → is ≡ [] → ts ≡ [] → (o : List ℕ) (n m : ℕ) (es : Notes) → o ≡ [] → n ≡ 0 → es ≡ replicate m None → IsWalkOf ks ls is ts o n es
+walk_none ks ls is ts no_places no_tokens o n m es none count empty =
+    let bare : IsWalkOf ks ls [] [] [] 0 es = record {
+      order = refl;
+      began = refl;
+      within = All-nil (λ k. k < length ls);
+      ready = IsReachOrder-nil ls;
+      noted = tt;
+      notes = no_notes m 0 [] es empty;
+    } in
+    let listed : IsWalkOf ks ls [] [] o n es = subst (λ (q : List ℕ). IsWalkOf ks ls [] [] q n es) (sym none) (subst (λ q. IsWalkOf ks ls [] [] [] q es) (sym count) bare) in
+    subst (λ (q : List ℕ). IsWalkOf ks ls q ts o n es) (sym no_places) (subst (λ (q : Tokens). IsWalkOf ks ls [] q o n es) (sym no_tokens) listed)
 
 -- ---- what was read of expressions
 

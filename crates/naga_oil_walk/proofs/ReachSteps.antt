@@ -117,6 +117,17 @@ walk_requests f rd xs ls ts ex i el et s t u w es et1 a b =
     let all : Adds [] (function_names f) w = Adds-append [] u w (signature_names f ++ flat_map (local_names mine links) f.local_variables) (flat_map (token_names (kinds f.expressions) mine links) (block_tokens f.body)) (Adds-append [] t u (signature_names f) (flat_map (local_names mine links) f.local_variables) began first) second in
     subst (λ (q : List Request). Thins [] (function_names f) q) (sym all.1) all.2
 
+-- a function without local variables and statements names the types of its arguments and its result
+pub stub_requests : (f : Function) → f.local_variables ≡ [] → block_tokens f.body ≡ [] → (s t : List Request) → s ≡ [] → t ≡ s ++ signature_names f → Thins [] (function_names f) t
+stub_requests f no_locals no_tokens s t none asks =
+    let names : List Request = signature_names f in
+    let of_local : LocalVariable × Span → List Request = local_names (named_of f.expressions) (operand_links f.expressions) in
+    let of_token : Token → List Request = token_names (kinds f.expressions) (named_of f.expressions) (operand_links f.expressions) in
+    let all : Adds [] names t = adds_all [] t names (asks ∙ ap (λ (q : List Request). q ++ names) none) in
+    let thin : Thins [] names t = subst (λ (q : List Request). Thins [] names q) (sym all.1) all.2 in
+    let same : function_names f ≡ names = ap (λ (ls : List (LocalVariable × Span)). (names ++ flat_map of_local ls) ++ flat_map of_token (block_tokens f.body)) no_locals ∙ ap (λ (ts : Tokens). (names ++ []) ++ flat_map of_token ts) no_tokens ∙ ap (λ (q : List Request). q ++ []) (append-nil names) ∙ append-nil names in
+    subst (λ (q : List Request). Thins [] q t) (sym same) thin
+
 -- ---- what is asked for a name
 
 -- nothing is asked where no item is named

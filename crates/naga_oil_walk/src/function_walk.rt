@@ -1,5 +1,5 @@
 //! The walk over a function, in the order of copying.
-ghost use Rattle.std.specs.Prelude.{◌≡◌, ◌<◌, ◌≤◌, ◌+◌, ◌∷◌, ◌++◌, ℕ, [], length, OnOk, All, IfOk, option_to_list};
+ghost use Rattle.std.specs.Prelude.{◌≡◌, ◌<◌, ◌≤◌, ◌+◌, ◌∷◌, ◌++◌, ℕ, [], length, OnOk, All, IfOk, option_to_list, IsTrue};
 ghost use Rattle.std.specs.List.{flat_map, sum_by};
 ghost use Rattle.naga_oil_form.specs.Links.{lists, linked, added, trail};
 ghost use Rattle.naga_oil_form.specs.BodyForm.{places, kinds, callees, operand_links, MayStand};
@@ -331,6 +331,26 @@ fn reach_locals(
     Ok(())
 }
 
+/// Whether a function has neither local variables nor statements: then it names no more than the types of its arguments and its
+/// result.
+fn is_stub(function: &Function) -> bool
+    ensures { let f = function.now in
+        IsTrue result → (f.local_variables ≡ []) × (block_tokens f.body ≡ []) }
+{
+    function.local_variables.len() == 0 && function.body.body.is_empty()
+}
+
+/// Requests the types of arguments and of the result, which are all that such a function names.
+fn walk_stub(function: &Function, alloc: Global) -> Tried<Walk>
+    requires locals { function.now.local_variables ≡ [] }
+    requires body { block_tokens function.now.body ≡ [] }
+    ensures { IfOk result (Walks function.now) }
+{
+    let mut walk = Walk::new(function.expressions.len(), alloc)?;
+    request_types(function, &mut walk.requests)?;
+    Ok(walk)
+}
+
 /// Lists what a function reaches in the order of copying: the types of its arguments and its result, its local variables,
 /// each with its type and its initialiser, then its body.
 pub fn walk_function(function: &Function, alloc: Global) -> Tried<Walk>
@@ -340,6 +360,9 @@ pub fn walk_function(function: &Function, alloc: Global) -> Tried<Walk>
         MayStand (kinds es) (callees es) (operand_links es) starts tokens }
     ensures { IfOk result (Walks function.now) }
 {
+    if is_stub(function) {
+        return walk_stub(function, alloc);
+    }
     let read = read(function.expressions.as_slice(), alloc)?;
     let mut walk = Walk::new(function.expressions.len(), alloc)?;
     request_types(function, &mut walk.requests)?;

@@ -35,6 +35,7 @@ impl Walk {
     /// The walk that has listed none of so many places.
     pub fn new(count: usize, alloc: Global) -> Tried<Walk>
         ensures empty { IfOk result (λ w. (w.places.items ≡ []) × (w.requests.items ≡ [])) }
+        ensures began { IfOk result (λ w. w.began ≡ 0) }
         ensures marks { IfOk result (λ w. length w.marks.items ≡ count) }
         ensures emitted { IfOk result (λ w. w.emitted.items ≡ replicate count None) }
     {
