@@ -14,7 +14,7 @@ use Rattle.std.specs.List.{filter, flat_map, range_with_len}
 use Rattle.std.specs.List.Sorted.{IsSortedBy, IsStableBy, IsPartitionedBy}
 use Rattle.std.specs.Ordering.{is_eq, is_lt, ordering_reverse}
 use Rattle.naga_oil_ir.specs.Rows.{Text}
-use Rattle.naga_oil_link.specs.ByName.{text_at, places_where, places_named, is_name, compare_names, stands_before, ByName, IsIndexOf, IsFrom}
+use Rattle.naga_oil_link.specs.ByName.{text_at, places_where, places_named, is_name, compare_names, stands_before, ByName, IsIndexOf, IsStart}
 use Rattle.naga_oil_link.proofs.ByNameLemmas.{flipped, place_more, places_before}
 
 -- ---- names in order
@@ -169,24 +169,41 @@ none_pass_from p (x ∷ xs) zero h =
     ap (λ b. if b then x ∷ filter p xs else filter p xs) (h 0 x (omega arith) (omega arith))
     ∙ none_pass_from p xs zero (λ k d a b. h (suc k) d (omega arith) (omega arith))
 
--- what stands from a place on, where those before it stand before a name and the others don't
-pub from_there : (names : List Text) (places : List ℕ) (q : List ℕ) (n : ℕ) → n ≤ length places → IsSortedBy (stands_before names) places → ((k : ℕ) (d : ℕ) → n ≤ k → k < length places → is_lt (compare_names (text_at names (get_or places k d)) (Some q)) ≡ false) → IsFrom names q (drop n places)
-from_there names places q n le sorted after =
-    let long : length (drop n places) ≡ length places - n = length-drop n places in
+-- where those of a name start: those before it stand before the name, and the others don't
+pub start_there : (names : List Text) (index : ByName) (q : List ℕ) (n : ℕ) → n ≤ length index.items → IsIndexOf names index → ((k : ℕ) (d : ℕ) → k < n → k < length index.items → is_lt (compare_names (text_at names (get_or index.items k d)) (Some q)) ≡ true) → ((k : ℕ) (d : ℕ) → n ≤ k → k < length index.items → is_lt (compare_names (text_at names (get_or index.items k d)) (Some q)) ≡ false) → IsStart names q index.items n
+start_there names index q n le is before after =
+    let long : length (drop n index.items) ≡ length index.items - n = length-drop n index.items in
     record {
-      sorted = λ k d a b.
-          ap (λ j. stands_before names j (get_or (drop n places) k d)) (get_or-drop n places (k + 1) d)
-          ∙ ap (λ j. stands_before names (get_or places (n + (k + 1)) d) j) (get_or-drop n places k d)
-          ∙ sorted_far (stands_before names) (places_rank names) places sorted (n + k) (n + (k + 1)) d (omega arith) (omega (arith, long));
-      from = λ k d a. ap (λ j. is_lt (compare_names (text_at names j) (Some q))) (get_or-drop n places k d) ∙ after (n + k) d (omega arith) (omega (arith, long));
+      within = le;
+      named = skip (λ k. is_name q (text_at names k)) index.items n (λ k d a b. before_fails q (text_at names (get_or index.items k d)) (before k d a b)) ∙ is.each q;
+      from = λ k d a. ap (λ j. is_lt (compare_names (text_at names j) (Some q))) (get_or-drop n index.items k d) ∙ after (n + k) d (omega arith) (omega (arith, long));
     }
 
+-- a place of a name behind one that stands before it
+pub start_found : (names : List Text) (index : ByName) (q : List ℕ) (n : ℕ) → n < length index.items → IsIndexOf names index → is_eq (compare_names (text_at names (get_or index.items n 0)) (Some q)) ≡ true → ((k : ℕ) → k + 1 ≡ n → is_lt (compare_names (text_at names (get_or index.items k 0)) (Some q)) ≡ true) → IsStart names q index.items n
+start_found names index q n below is same before =
+    let xs = index.items in
+    let here : text_at names (get_or xs n 0) ≡ Some q = name_is q (text_at names (get_or xs n 0)) (sym (same_name q (text_at names (get_or xs n 0))) ∙ same) in
+    start_there names index q n (omega arith) is
+    (λ k d a b.
+    ap (λ j. is_lt (compare_names (text_at names j) (Some q))) (get_or_default_zero xs k d b)
+    ∙ before_partitioned names xs q is.sorted k (n - 1) 0 (omega arith) (omega arith) (before (n - 1) (omega arith)))
+    (λ k d a b.
+    ap (λ j. is_lt (compare_names (text_at names j) (Some q))) (get_or_default_zero xs k d b)
+    ∙ ap (λ t. is_lt (compare_names (text_at names (get_or xs k 0)) t)) (sym here)
+    ∙ sorted_far (stands_before names) (places_rank names) xs is.sorted n k 0 a b)
+
 -- from one on that is no more the name, none is
-pub past_name : (names : List Text) (places : List ℕ) (q : List ℕ) (i : ℕ) → IsFrom names q places → i < length places → is_eq (compare_names (text_at names (get_or places i 0)) (Some q)) ≡ false → filter (λ k. is_name q (text_at names k)) (drop i places) ≡ []
-past_name names places q i is below other =
-    none_pass_from (λ k. is_name q (text_at names k)) places i (λ k d a b.
-    ap (λ j. is_name q (text_at names j)) (get_or_default_zero places k d b)
-    ∙ after_fails q (text_at names (get_or places i 0)) (text_at names (get_or places k 0)) (is.from i 0 below) other (sorted_far (stands_before names) (places_rank names) places is.sorted i k 0 a b))
+pub past_name : (names : List Text) (index : ByName) (q : List ℕ) (n i : ℕ) → IsIndexOf names index → IsStart names q index.items n → n ≤ i → i < length index.items → is_eq (compare_names (text_at names (get_or index.items i 0)) (Some q)) ≡ false → filter (λ k. is_name q (text_at names k)) (drop i index.items) ≡ []
+past_name names index q n i is start le below other =
+    let xs = index.items in
+    let long : length (drop n xs) ≡ length xs - n = length-drop n xs in
+    let far : n + (i - n) ≡ i = omega arith in
+    let there : get_or (drop n xs) (i - n) 0 ≡ get_or xs i 0 = get_or-drop n xs (i - n) 0 ∙ ap (λ k. get_or xs k 0) far in
+    let later : is_lt (compare_names (text_at names (get_or xs i 0)) (Some q)) ≡ false = ap (λ j. is_lt (compare_names (text_at names j) (Some q))) (sym there) ∙ start.from (i - n) 0 (omega (arith, long)) in
+    none_pass_from (λ k. is_name q (text_at names k)) xs i (λ k d a b.
+    ap (λ j. is_name q (text_at names j)) (get_or_default_zero xs k d b)
+    ∙ after_fails q (text_at names (get_or xs i 0)) (text_at names (get_or xs k 0)) later other (sorted_far (stands_before names) (places_rank names) xs is.sorted i k 0 a b))
 
 -- an index of nothing has no places
 pub nothing_named : (names : List Text) (index : ByName) → IsIndexOf names index → index.items ≡ [] → (asked : List (List ℕ)) → flat_map (places_named names) asked ≡ []

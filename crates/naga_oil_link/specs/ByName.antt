@@ -1,5 +1,5 @@
 -- The items of a module by their names.
-use Rattle.std.specs.Prelude.{◌≡◌, ℕ, Bool, false, List, length, map, Some, None, slice_get, bytes_eq, Vec}
+use Rattle.std.specs.Prelude.{◌≡◌, ◌≤◌, ℕ, Bool, false, List, length, drop, map, Some, None, slice_get, bytes_eq, Vec}
 use Rattle.std.specs.BTreeSet.{insert_key}
 use Rattle.std.specs.Cmp.Lexicographic.{slice_cmp}
 use Rattle.std.specs.List.{filter, fold, range_with_len, All}
@@ -54,10 +54,11 @@ pub record IsIndexOf (names : List Text) (index : ByName) : Type 0 where
   pub sorted : IsSortedBy (stands_before names) index.items
   pub each : (name : List ℕ) → filter (λ k. is_name name (text_at names k)) index.items ≡ places_named names name
 
--- places by the names that stand at them, of which none is before this
-pub record IsFrom (names : List Text) (name : List ℕ) (places : List ℕ) : Type 0 where
-  pub sorted : IsSortedBy (stands_before names) places
-  pub from : All (λ k. is_lt (compare_names (text_at names k) (Some name)) ≡ false) places
+-- where in an index those of a name start: none before is the name, and none from there on stands before it
+pub record IsStart (names : List Text) (name : List ℕ) (places : List ℕ) (start : ℕ) : Type 0 where
+  pub within : start ≤ length places
+  pub named : filter (λ k. is_name name (text_at names k)) (drop start places) ≡ places_named names name
+  pub from : All (λ k. is_lt (compare_names (text_at names k) (Some name)) ≡ false) (drop start places)
 
 -- ---- the items of a module
 

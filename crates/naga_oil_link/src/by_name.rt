@@ -1,9 +1,9 @@
 //! The items of a module by their names.
-ghost use Rattle.std.specs.Prelude.{◌≡◌, ◌++◌, [], ℕ, List, Some, IfOk, OnOk, is_some, length, option_map, string_bytes};
+ghost use Rattle.std.specs.Prelude.{◌≡◌, ◌++◌, [], ℕ, List, Some, IfOk, IsTrue, OnOk, is_some, length, option_map, string_bytes};
 ghost use Rattle.std.specs.List.{filter, flat_map, range_with_len};
 ghost use Rattle.std.specs.Ordering.{is_lt};
 ghost use Rattle.naga_oil_ir.specs.ModuleValue.{module_value};
-ghost use Rattle.naga_oil_link.specs.ByName.{text_at, compare_names, is_name, places_named, places_where, with_places, listed_names, IsFrom, IsIndexOf, HasItems};
+ghost use Rattle.naga_oil_link.specs.ByName.{text_at, compare_names, is_name, places_named, places_where, with_places, listed_names, IsStart, IsIndexOf, HasItems};
 ghost use Rattle.naga_oil_lines.specs.Text.{texts};
 ghost use Rattle.naga_oil_link.specs.Linked.{decorated_names, asked_names, is_wanted};
 
@@ -115,36 +115,61 @@ impl NamedItems {
     }
 }
 
-// The places of an index from the first on whose name isn't before this one.
-fn from_name<'i>(index: &'i ByName, of: Listed<'_>, name: &str) -> &'i [usize]
+// The place of an index at which those of a name start.
+fn start_of(index: &ByName, of: Listed<'_>, name: &str) -> usize
     requires { IsIndexOf (listed_names of) index.now }
-    ensures named { let names = listed_names of.entry in
-        filter (λ k. is_name name.now (text_at names k)) result.now ≡ places_named names name.now }
-    ensures after { IsFrom (listed_names of.entry) name.now result.now }
+    ensures { IsStart (listed_names of.entry) name.now index.now.items result }
 {
-    let start = index.partition_point(
+    index.partition_point(
         |at: &usize| -> bool
             ensures { let names = listed_names of.entry in
                 result ≡ is_lt (compare_names (text_at names at.now) (Some name.entry.now)) }
         { of.compare(*at, Some(name)).is_lt() },
-    );
-    let (_, rest) = index.split_at(start);
-    rest
+    )
 }
 
-// Adds the places of a name.
-fn add_places(places: &mut Places, index: &ByName, of: Listed<'_>, name: &str) -> Tried
+// Whether those of a name start at a place; by `false` they may.
+fn starts_at(index: &ByName, of: Listed<'_>, at: usize, name: &str) -> bool
+    requires { IsIndexOf (listed_names of) index.now }
+    ensures { IsTrue result → IsStart (listed_names of.entry) name.now index.now.items at }
+{
+    if at >= index.len() || !of.compare(index[at], Some(name)).is_eq() {
+        return false;
+    }
+    at == 0 || of.compare(index[at - 1], Some(name)).is_lt()
+}
+
+// The place at which those of a name start: the first guess, if it is right.
+fn start_near(index: &ByName, of: Listed<'_>, guess: usize, name: &str) -> usize
+    requires { IsIndexOf (listed_names of) index.now }
+    ensures { IsStart (listed_names of.entry) name.now index.now.items result }
+{
+    if starts_at(index, of, guess, name) {
+        return guess;
+    }
+    start_of(index, of, name)
+}
+
+// Adds the places of a name, and tells the place of the index behind them.
+fn add_places(
+    places: &mut Places,
+    index: &ByName,
+    of: Listed<'_>,
+    guess: usize,
+    name: &str,
+) -> Tried<usize>
     requires { IsIndexOf (listed_names of) index.now }
     ensures { let more = places_named (listed_names of.entry) name.now in
         OnOk result (places.new.keys ≡ with_places places.old.keys more) }
 {
-    for at in from_name(index, of, name) {
-        if !of.compare(*at, Some(name)).is_eq() {
-            return Ok(());
+    let start = start_near(index, of, guess, name);
+    for at in start..index.len() {
+        if !of.compare(index[at], Some(name)).is_eq() {
+            return Ok(at);
         }
-        places.insert(*at)?;
+        places.insert(index[at])?;
     }
-    Ok(())
+    Ok(index.len())
 }
 
 /// Adds the places of the items that have these names.
@@ -153,8 +178,9 @@ pub fn add_named(places: &mut Places, index: &ByName, of: Listed<'_>, names: &Na
     ensures { let more = flat_map (places_named (listed_names of.entry)) (texts names.now.keys) in
         OnOk result (places.new.keys ≡ with_places places.old.keys more) }
 {
+    let mut guess = 0usize;
     for name in names.iter() {
-        add_places(places, index, of, name.as_str())?;
+        guess = add_places(places, index, of, guess, name.as_str())?;
     }
     Ok(())
 }
@@ -185,9 +211,10 @@ fn add_asked(
         return Ok(());
     }
     let mut name = String::new(alloc);
+    let mut guess = 0usize;
     for item in asked.items {
         decorate(&mut name, item.as_str(), asked.decoration)?;
-        add_places(places, index, of, name.as_str())?;
+        guess = add_places(places, index, of, guess, name.as_str())?;
     }
     Ok(())
 }
