@@ -81,15 +81,18 @@ struct Linker<'b> {
     descended: BTreeSet<usize>,
 }
 
-// How many functions the header of imports is likely to have: as many as the largest of the texts that their builds were parsed of.
+// How many functions the header of imports is likely to have: as many as all the texts that their builds were parsed of, and at
+// most twice as many as the largest of these, since what they import may be the same.
 fn likely_functions(builds: &Builds, imports: &[Import]) -> usize {
-    let mut most = 0;
+    let mut most = 0usize;
+    let mut all = 0usize;
     for import in imports {
         if let Some(build) = builds.get(import.import.as_str()) {
             most = most.max(build.text_functions);
+            all = all.saturating_add(build.text_functions);
         }
     }
-    most
+    all.min(most.saturating_mul(2))
 }
 
 impl<'b> Linker<'b> {

@@ -1,8 +1,8 @@
-use Rattle.std.proofs.Common.{◌≡◌, ℕ, Some, length, get_or, ap, sym, subst, ◌∙◌, arith, rules}
+use Rattle.std.proofs.Common.{◌≡◌, Some, length, get_or, ap, sym, subst, ◌∙◌, arith, rules}
 use Rattle.std.proofs.lemmas.List.Sorted.{IsPartitionPoint-from_clause}
 use Rattle.std.specs.List.Sorted.{IsSortedBy}
 use Rattle.std.specs.Ordering.{is_lt}
-use Rattle.naga_oil_link.specs.ByName.{text_at, compare_names, stands_before, listed_names, IsStart}
+use Rattle.naga_oil_link.specs.ByName.{text_at, compare_names, stands_before, listed_names}
 use Rattle.naga_oil_link.proofs.IndexLemmas.{before_partitioned, start_there}
 use Rattle.naga_oil_link.proofs.by_name.start_of.Goals as goal
 
