@@ -185,8 +185,11 @@ impl<B: Backend> Builder<'_, B> {
             let builds = builds_of self.now.builds in
             Gives string_bytes result (write_heading s d builds (map import_of imports.now)) }
     {
-        let mut heading = first_lines(self.alloc, of)?;
-        heading.push_str(&self.header(imports, of.language)?)?;
+        let first = first_lines(self.alloc, of)?;
+        let mut heading = self.header(imports, of.language)?;
+        if !first.is_empty() {
+            heading.insert_str(0, &first)?;
+        }
         Ok(heading)
     }
 
