@@ -1,5 +1,5 @@
 -- Distinct names, found by a set that takes one after another.
-use Rattle.std.proofs.Common.{◌≡◌, not, ◌<◌, zero, suc, length, take, get_or, arith, ⊎_elim, ℕ, Bool, false, true, List, [], ◌∷◌, ◌++◌, ◌||◌, map, nat_eq, refl, sym, ap, ◌∙◌, IsPermutation}
+use Rattle.std.proofs.Common.{◌≡◌, not, ◌<◌, zero, suc, length, take, get_or, arith, ℕ, Bool, false, true, List, [], ◌∷◌, ◌++◌, ◌||◌, map, nat_eq, refl, sym, ap, ◌∙◌, IsPermutation}
 use Rattle.std.specs.List.{IsDistinct, AllByRecursion, list_any}
 use Rattle.std.specs.Cmp.{IsEquivalence}
 use Rattle.std.specs.Cmp.Lexicographic.{pointwise, nat_list_eq_equiv}

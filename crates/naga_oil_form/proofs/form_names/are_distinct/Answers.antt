@@ -1,4 +1,4 @@
-use Rattle.std.proofs.Common.{arith, ◌≡◌, ◌∙◌, sym, ap, subst, map, take, List, ℕ, nat_eq, ◌∷◌, ◌++◌, [], Bor}
+use Rattle.std.proofs.Common.{arith, ◌∙◌, sym, ap, subst, map, take, List, ℕ, nat_eq, ◌∷◌, ◌++◌, [], Bor}
 use Rattle.std.specs.List.{IsDistinct}
 use Rattle.std.specs.HashSet as bag
 use Rattle.std.specs.Cow.{cow_str_bytes}
