@@ -333,7 +333,7 @@ fn reach_locals(
 
 /// Whether a function has neither local variables nor statements: then it names no more than the types of its arguments and its
 /// result.
-fn is_stub(function: &Function) -> bool
+pub fn is_stub(function: &Function) -> bool
     ensures { let f = function.now in
         IsTrue result → (f.local_variables ≡ []) × (block_tokens f.body ≡ []) }
 {

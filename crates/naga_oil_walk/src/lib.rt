@@ -7,7 +7,7 @@
 pub mod function_walk;
 pub mod walk;
 
-pub use function_walk::walk_function;
+pub use function_walk::{is_stub, walk_function};
 use naga_oil_form::form::{Reading, is_external, read};
 use naga_oil_form::links::{is_marked, no_marks};
 use naga_oil_ir::names::named_item;
