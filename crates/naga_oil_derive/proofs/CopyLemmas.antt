@@ -1,5 +1,4 @@
-use Rattle.std.proofs.Common.{◌≡◌, ℕ, zero, suc, ◌<◌, List, Option, Some, None, option_map, slice_get, refl, ap, sym, ◌∙◌, subst, All, Bool, false, is_some, get_or, length, replicate}
-use Rattle.std.proofs.lemmas.Bool.{false≢true}
+use Rattle.std.proofs.Common.{◌≡◌, ℕ, zero, suc, ◌<◌, List, Option, Some, None, option_map, slice_get, refl, ap, sym, ◌∙◌, subst, All, is_some, get_or, length, replicate}
 use Rattle.std.specs.Option.{option_flatten}
 use Rattle.naga_oil_ir.specs.Rows.{Row, Text}
 use Rattle.naga_oil_ir.specs.ModuleValue.{special_value}

@@ -1,5 +1,7 @@
 -- What the calls of a derived module show their callers.
-use Rattle.std.proofs.Common.{◌≡◌, ◌<◌, ℕ, List, [], length, map, Option, Some, None, option_map, refl, ap, sym, ◌∙◌, subst, All, IfSome, Global, String, string_bytes}
+use Rattle.std.proofs.Common.{◌≡◌, ◌<◌, ℕ, List, [], length, map, Option, Some, None, option_map, refl, ap, sym, ◌∙◌, subst, All, IfSome, Global}
+use Rattle.std.specs.Cow.{cow_str_bytes}
+use Rattle.std.specs.declared.borrow.CowStr.{CowStr}
 use Rattle.std.specs.Borrow.{Bor}
 use Rattle.std.proofs.lemmas.List.Elements.{All-weaker}
 use Rattle.naga_oil_form.specs.ItemForm.{special_types}
@@ -21,12 +23,12 @@ abbrev pub Shader : Type 0
 Shader = Option (Bor Module)
 
 abbrev pub FunctionNames : Type 0
-FunctionNames = List (String Global × ℕ)
+FunctionNames = List (CowStr Global × ℕ)
 
 -- ---- a module of nothing, and what is seen of others
 
 pub nothing_at : (m : Maps) (t : Module) (ns : FunctionNames) → value_of t ≡ no_items → ns ≡ [] → derived_of None m t ns ≡ nothing
-nothing_at m t ns e f = λ i. record { source = None; target = e i; function_names = map (λ (x : String Global × ℕ). (string_bytes x.0, x.1)) (f i) }
+nothing_at m t ns e f = λ i. record { source = None; target = e i; function_names = map (λ (x : CowStr Global × ℕ). (cow_str_bytes x.0, x.1)) (f i) }
 
 pub entries_seen : (o : Shader) (m : Maps) (t : Module) (ns : FunctionNames) (d : Derived) → derived_of o m t ns ≡ d → special_entries (special_value t.special_types) ≡ special_entries d.target.special_types
 entries_seen o m t ns d v = ap special_entries (special_of t) ∙ ap (λ (x : Derived). special_entries x.target.special_types) v

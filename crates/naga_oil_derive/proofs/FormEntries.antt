@@ -1,5 +1,5 @@
 -- Entry points that pass the test of form can be copied.
-use Rattle.std.proofs.Common.{◌≡◌, ℕ, ◌<◌, List, length, map, Option, Some, None, IsSome, option_map, IfSome, refl, sym, subst, All, arith}
+use Rattle.std.proofs.Common.{◌≡◌, ℕ, ◌<◌, List, length, map, Option, Some, None, IsSome, option_map, IfSome, refl, sym, subst, All}
 use Rattle.std.proofs.lemmas.List.Elements.{All-weaker, All-map}
 use Rattle.naga_oil_ir.specs.ModuleValue.{ModuleValue, FunctionValue, EntryValue, entry_value, function_value}
 use Rattle.naga_oil_ir.specs.Rows.{Row}

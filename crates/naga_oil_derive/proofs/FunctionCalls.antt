@@ -1,5 +1,6 @@
 -- Calls that copy functions, as their callers see them.
 use Rattle.std.proofs.Common.{◌≡◌, ℕ, [], length, slice_get, Option, Some, None, option_map, refl, ap, sym, ◌∙◌, subst, IfSome, Result, Ok, Err, OnOk, IfOk, String, string_bytes, Global}
+use Rattle.std.specs.declared.borrow.CowStr.{CowStr}
 use Rattle.std.specs.Borrow.{Bor}
 use Rattle.indexmap.specs.IndexMap.{IndexMap}
 use Rattle.naga_oil_ir.specs.ModuleValue.{FunctionValue, function_value}
@@ -119,5 +120,5 @@ means_ok (Ok h) o s n u g qs k e q i =
     subst (λ (y : Shader). MeansAt (derived_of y n u qs) k h) (sym e) (subst (λ (y : FunctionNames). meant_at (meanings y) (slice_get (value_of s.now).functions k) ≡ Some h) (sym q) (callee_means s.now g k h i))
 means_ok (Err y) o s n u g qs k e q i = tt
 
-pub meant_in : {S : Type 0} (o : Shader) (m : Maps) (t : Module) (names : IndexMap (String Global) ℕ S) (d : Derived) (p : Option (String Global)) → derived_of o m t names.entries ≡ d → known_as names p ≡ meant d.function_names (option_map string_bytes p)
+pub meant_in : {S : Type 0} (o : Shader) (m : Maps) (t : Module) (names : IndexMap (CowStr Global) ℕ S) (d : Derived) (p : Option (String Global)) → derived_of o m t names.entries ≡ d → known_as names p ≡ meant d.function_names (option_map string_bytes p)
 meant_in o m t names d p v = known_same names p ∙ ap (λ (x : Derived). meant x.function_names (option_map string_bytes p)) v

@@ -1,5 +1,7 @@
 -- Functions as plain data.
 use Rattle.std.proofs.Common.{◌≡◌, ⊎_elim, inl, inr, ℕ, zero, suc, ◌<◌, ◌++◌, List, [], ◌∷◌, length, map, slice_get, Option, Some, None, IsSome, IfSome, is_some, option_map, option_to_list, refl, ap, sym, ◌∙◌, subst, All, cond, String, string_bytes, bytes_eq, Global}
+use Rattle.std.specs.Cow.{cow_str_bytes}
+use Rattle.std.specs.declared.borrow.CowStr.{CowStr}
 use Rattle.std.specs.List.{flat_map}
 use Rattle.std.specs.Map.{lookup}
 use Rattle.std.proofs.lemmas.List.{length-map}
@@ -35,19 +37,19 @@ use Rattle.naga_oil_derive.proofs.Localizing.{kinds_of_values, inits_of_values}
 
 -- ---- names
 
-lookup_text : (bs : List ℕ) (es : List (String Global × ℕ)) → lookup (λ k. bytes_eq bs (string_bytes k)) es ≡ lookup (bytes_eq bs) (meanings es)
+lookup_text : (bs : List ℕ) (es : List (CowStr Global × ℕ)) → lookup (λ k. bytes_eq bs (cow_str_bytes k)) es ≡ lookup (bytes_eq bs) (meanings es)
 lookup_text bs [] = refl
-lookup_text bs (e ∷ es) = ap (λ o. cond (bytes_eq bs (string_bytes e.0)) (Some e.1) o) (lookup_text bs es)
+lookup_text bs (e ∷ es) = ap (λ o. cond (bytes_eq bs (cow_str_bytes e.0)) (Some e.1) o) (lookup_text bs es)
 
-pub known_same : {S : Type 0} (m : IndexMap (String Global) ℕ S) (o : Option (String Global)) → known_as m o ≡ meant (meanings m.entries) (option_map string_bytes o)
+pub known_same : {S : Type 0} (m : IndexMap (CowStr Global) ℕ S) (o : Option (String Global)) → known_as m o ≡ meant (meanings m.entries) (option_map string_bytes o)
 known_same m None = refl
 known_same m (Some n) = lookup_text (string_bytes n) m.entries
 
-known_at_same : {S : Type 0} (m : IndexMap (String Global) ℕ S) (o : Option (Function × Span)) → known_at m o ≡ meant_at (meanings m.entries) (option_map (λ (e : Function × Span). (function_value e.0, e.1)) o)
+known_at_same : {S : Type 0} (m : IndexMap (CowStr Global) ℕ S) (o : Option (Function × Span)) → known_at m o ≡ meant_at (meanings m.entries) (option_map (λ (e : Function × Span). (function_value e.0, e.1)) o)
 known_at_same m None = refl
 known_at_same m (Some e) = known_same m e.0.name
 
-pub callee_same : {S : Type 0} (m : IndexMap (String Global) ℕ S) (fs : List (Function × Span)) (h : ℕ) → callee_at m fs h ≡ meant_at (meanings m.entries) (slice_get (map (λ e. (function_value e.0, e.1)) fs) h)
+pub callee_same : {S : Type 0} (m : IndexMap (CowStr Global) ℕ S) (fs : List (Function × Span)) (h : ℕ) → callee_at m fs h ≡ meant_at (meanings m.entries) (slice_get (map (λ e. (function_value e.0, e.1)) fs) h)
 callee_same m fs h = known_at_same m (slice_get fs h) ∙ ap (meant_at (meanings m.entries)) (sym (slice_get-map (λ (e : Function × Span). (function_value e.0, e.1)) fs h))
 
 -- ---- what a function names

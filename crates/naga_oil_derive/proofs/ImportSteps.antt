@@ -1,6 +1,8 @@
 -- One function more.
-use Rattle.std.proofs.Common.{◌≡◌, ⊎_elim, inl, inr, ℕ, zero, suc, ◌<◌, List, [], ◌∷◌, ◌++◌, length, map, get_or, slice_get, Option, Some, None, IsSome, IfSome, is_some, option_map, unwrap_or, refl, ap, sym, ◌∙◌, subst, All, String, string_bytes, Global, Result, Ok, Err, OnOk, IfOk}
-use Rattle.std.specs.String.{string_eq}
+use Rattle.std.proofs.Common.{◌≡◌, ⊎_elim, inl, inr, ℕ, zero, suc, ◌<◌, Bool, nat_eq, List, [], ◌∷◌, ◌++◌, length, map, get_or, slice_get, Option, Some, None, IsSome, IfSome, is_some, option_map, unwrap_or, refl, ap, sym, ◌∙◌, subst, All, String, string_bytes, Global, Result, Ok, Err, OnOk, IfOk}
+use Rattle.std.specs.Cow.{cow_str_bytes}
+use Rattle.std.specs.Cmp.Lexicographic.{pointwise}
+use Rattle.std.specs.declared.borrow.CowStr.{CowStr}
 use Rattle.std.proofs.lemmas.Bool.{false≢true}
 use Rattle.std.proofs.lemmas.List.{map-append, length-map}
 use Rattle.std.proofs.lemmas.List.Elements.{All-cons, All-head, All-tail, All-weaker}
@@ -106,15 +108,19 @@ put_behind source f g span m a b made e t =
     let fs = map see a.copies in
     ap (map see) e ∙ map-append see a.copies ((g, shifted m.offset span) ∷ []) ∙ ap (λ (v : FunctionValue). fs ++ entry_of v (shifted m.offset span) ∷ []) (made ∙ ap (λ r. copy_function r (function_value f)) (going_same source m a))
 
--- its name means it
-pub name_put : (f : Function) (a b : Functions) (h : ℕ) (n : String Global) → Some (string_bytes n) ≡ option_map string_bytes f.name → b.names.entries ≡ insert_entry string_eq a.names.entries n h → meanings b.names.entries ≡ meaning (meanings a.names.entries) (function_value f).name h
-name_put f a b h n is e = ap meanings e ∙ meaning_put string_eq (λ x y. refl) a.names.entries n h ∙ ap (λ o. meaning (meanings a.names.entries) o h) is
+-- names are told apart by their bytes
+abbrev pub cow_eq : CowStr Global → CowStr Global → Bool
+cow_eq a b = pointwise nat_eq (cow_str_bytes a) (cow_str_bytes b)
 
-pub name_means : (f : Function) (a b : Functions) (h : ℕ) (n : String Global) → Some (string_bytes n) ≡ option_map string_bytes f.name → b.names.entries ≡ insert_entry string_eq a.names.entries n h → known_as b.names f.name ≡ Some h
+-- its name means it
+pub name_put : (f : Function) (a b : Functions) (h : ℕ) (n : CowStr Global) → Some (cow_str_bytes n) ≡ option_map string_bytes f.name → b.names.entries ≡ insert_entry cow_eq a.names.entries n h → meanings b.names.entries ≡ meaning (meanings a.names.entries) (function_value f).name h
+name_put f a b h n is e = ap meanings e ∙ meaning_put cow_eq (λ x y. refl) a.names.entries n h ∙ ap (λ o. meaning (meanings a.names.entries) o h) is
+
+pub name_means : (f : Function) (a b : Functions) (h : ℕ) (n : CowStr Global) → Some (cow_str_bytes n) ≡ option_map string_bytes f.name → b.names.entries ≡ insert_entry cow_eq a.names.entries n h → known_as b.names f.name ≡ Some h
 name_means f a b h n is e =
     known_same b.names f.name ∙ ap (λ (ms : Meanings). meant ms (function_value f).name) (name_put f a b h n is e) ∙ meaning_same (meanings a.names.entries) (function_value f).name h (ap is_some (sym is))
 
-pub put_value : (source : Module) (f g : Function) (span : Span) (m : Maps) (t : Module) (a b : Functions) (h : ℕ) (n : String Global) → function_value g ≡ copy_function (went_by m source a.names) (function_value f) → b.copies ≡ a.copies ++ (g, shifted m.offset span) ∷ [] → h ≡ length a.copies → Some (string_bytes n) ≡ option_map string_bytes f.name → b.names.entries ≡ insert_entry string_eq a.names.entries n h → import_state m t b ≡ with_function (value_of source) m.offset (import_state m t a) (function_value f) span
+pub put_value : (source : Module) (f g : Function) (span : Span) (m : Maps) (t : Module) (a b : Functions) (h : ℕ) (n : CowStr Global) → function_value g ≡ copy_function (went_by m source a.names) (function_value f) → b.copies ≡ a.copies ++ (g, shifted m.offset span) ∷ [] → h ≡ length a.copies → Some (cow_str_bytes n) ≡ option_map string_bytes f.name → b.names.entries ≡ insert_entry cow_eq a.names.entries n h → import_state m t b ≡ with_function (value_of source) m.offset (import_state m t a) (function_value f) span
 put_value source f g span m t a b h n made e l is i =
     let s = import_state m t a in
     let u = with_function (value_of source) m.offset s (function_value f) span in
@@ -144,11 +150,11 @@ if_ok_same (Err x) P Q w p = tt
 
 -- ---- what is known of a callee
 
-known_at_from : {S : Type 0} (m : IndexMap (String Global) ℕ S) (o : Option (Function × Span)) (f : Function) → Some f ≡ option_map (λ (e : Function × Span). e.0) o → known_at m o ≡ known_as m f.name
+known_at_from : {S : Type 0} (m : IndexMap (CowStr Global) ℕ S) (o : Option (Function × Span)) (f : Function) → Some f ≡ option_map (λ (e : Function × Span). e.0) o → known_at m o ≡ known_as m f.name
 known_at_from m None f e = absurd (none-some f (sym e))
 known_at_from m (Some x) f e = ap (λ (g : Function). known_as m g.name) (sym (same_Some f x.0 e))
 
-pub callee_from : {S : Type 0} (m : IndexMap (String Global) ℕ S) (fs : List (Function × Span)) (h : ℕ) (f : Function) → Some f ≡ option_map (λ (e : Function × Span). e.0) (slice_get fs h) → callee_at m fs h ≡ known_as m f.name
+pub callee_from : {S : Type 0} (m : IndexMap (CowStr Global) ℕ S) (fs : List (Function × Span)) (h : ℕ) (f : Function) → Some f ≡ option_map (λ (e : Function × Span). e.0) (slice_get fs h) → callee_at m fs h ≡ known_as m f.name
 callee_from m fs h f e = known_at_from m (slice_get fs h) f e
 
 -- a function that can be called though its name isn't known can be copied, where calls go less deep

@@ -49,3 +49,4 @@ pub mod EntrySteps
 pub mod EntryValues
 pub mod FormFunctions
 pub mod FormEntries
+pub mod StubLemmas

@@ -1,5 +1,7 @@
 -- Names and what they mean.
-use Rattle.std.proofs.Common.{◌≡◌, ⊎_elim, ℕ, Bool, true, false, cond, List, [], ◌∷◌, Option, Some, None, IsSome, is_some, refl, ap, sym, ◌∙◌, String, string_bytes, bytes_eq, Global}
+use Rattle.std.proofs.Common.{◌≡◌, ⊎_elim, ℕ, Bool, true, false, cond, List, [], ◌∷◌, Option, Some, None, IsSome, is_some, refl, ap, sym, ◌∙◌, bytes_eq, Global}
+use Rattle.std.specs.Cow.{cow_str_bytes}
+use Rattle.std.specs.declared.borrow.CowStr.{CowStr}
 use Rattle.std.specs.Map.{lookup}
 use Rattle.std.proofs.lemmas.Bool.{cases_Bool, cond-true, cond-false, false≢true}
 use Rattle.std.proofs.lemmas.Option.{none-some}
@@ -48,12 +50,12 @@ meaning_more ns (Some bs) h (Some cs) k =
 
 -- ---- names as they are held
 
-meaning_cond : (b : Bool) (e : String Global × ℕ) (v : ℕ) (es rest : List (String Global × ℕ)) → meanings (cond b ((e.0, v) ∷ es) (e ∷ rest)) ≡ cond b ((string_bytes e.0, v) ∷ meanings es) ((string_bytes e.0, e.1) ∷ meanings rest)
+meaning_cond : (b : Bool) (e : CowStr Global × ℕ) (v : ℕ) (es rest : List (CowStr Global × ℕ)) → meanings (cond b ((e.0, v) ∷ es) (e ∷ rest)) ≡ cond b ((cow_str_bytes e.0, v) ∷ meanings es) ((cow_str_bytes e.0, e.1) ∷ meanings rest)
 meaning_cond true e v es rest = refl
 meaning_cond false e v es rest = refl
 
 -- to insert a name is to insert its bytes
-pub meaning_put : (E : String Global → String Global → Bool) → ((a b : String Global) → E a b ≡ bytes_eq (string_bytes a) (string_bytes b)) → (es : List (String Global × ℕ)) (k : String Global) (v : ℕ) → meanings (insert_entry E es k v) ≡ insert_entry bytes_eq (meanings es) (string_bytes k) v
+pub meaning_put : (E : CowStr Global → CowStr Global → Bool) → ((a b : CowStr Global) → E a b ≡ bytes_eq (cow_str_bytes a) (cow_str_bytes b)) → (es : List (CowStr Global × ℕ)) (k : CowStr Global) (v : ℕ) → meanings (insert_entry E es k v) ≡ insert_entry bytes_eq (meanings es) (cow_str_bytes k) v
 meaning_put E f [] k v = refl
 meaning_put E f (e ∷ es) k v =
-    meaning_cond (E k e.0) e v es (insert_entry E es k v) ∙ ap (λ (xs : List (List ℕ × ℕ)). cond (E k e.0) ((string_bytes e.0, v) ∷ meanings es) ((string_bytes e.0, e.1) ∷ xs)) (meaning_put E f es k v) ∙ ap (λ b. cond b ((string_bytes e.0, v) ∷ meanings es) ((string_bytes e.0, e.1) ∷ insert_entry bytes_eq (meanings es) (string_bytes k) v)) (f k e.0)
+    meaning_cond (E k e.0) e v es (insert_entry E es k v) ∙ ap (λ (xs : List (List ℕ × ℕ)). cond (E k e.0) ((cow_str_bytes e.0, v) ∷ meanings es) ((cow_str_bytes e.0, e.1) ∷ xs)) (meaning_put E f es k v) ∙ ap (λ b. cond b ((cow_str_bytes e.0, v) ∷ meanings es) ((cow_str_bytes e.0, e.1) ∷ insert_entry bytes_eq (meanings es) (cow_str_bytes k) v)) (f k e.0)

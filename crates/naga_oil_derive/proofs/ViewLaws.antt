@@ -1,5 +1,6 @@
 -- What holds of the value of each derived module.
-use Rattle.std.proofs.Common.{ℕ, List, Option, Some, None, sym, ◌∙◌, String, Global}
+use Rattle.std.proofs.Common.{ℕ, List, Option, Some, None, sym, ◌∙◌, Global}
+use Rattle.std.specs.declared.borrow.CowStr.{CowStr}
 use Rattle.std.specs.Borrow.{Bor}
 use Rattle.std.proofs.lemmas.List.{length-map}
 use Rattle.naga_oil_ir.specs.declared.module.Module.{Module}
@@ -35,6 +36,6 @@ source s m t i a = record {
   still = λ p q h. h;
 }
 
-pub view_derived : (o : Option (Bor Module)) (m : Maps) (t : Module) (ns : List (String Global × ℕ)) → IsDerived o m t → IsDerivation (kept_by (derived_of o m t ns)) (derived_of o m t ns)
+pub view_derived : (o : Option (Bor Module)) (m : Maps) (t : Module) (ns : List (CowStr Global × ℕ)) → IsDerived o m t → IsDerivation (kept_by (derived_of o m t ns)) (derived_of o m t ns)
 view_derived None m t ns i = record { kinds = value_kinds t; sound = i.sound; special = special t i.special; source = tt }
 view_derived (Some s) m t ns i = record { kinds = value_kinds t; sound = i.sound; special = special t i.special; source = source s m t i.source.0 i.source.1 }

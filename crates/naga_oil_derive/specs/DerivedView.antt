@@ -1,6 +1,8 @@
 -- How the fields of a derived module are seen, and what holds of them.
-use Rattle.std.specs.Prelude.{◌≡◌, ℕ, List, map, Option, Some, option_map, IfSome, String, string_bytes}
+use Rattle.std.specs.Prelude.{◌≡◌, ℕ, List, map, Option, Some, option_map, IfSome}
+use Rattle.std.specs.Cow.{cow_str_bytes}
 use Rattle.std.specs.Global.{Global}
+use Rattle.std.specs.declared.borrow.CowStr.{CowStr}
 use Rattle.std.specs.Borrow.{Bor}
 use Rattle.naga_oil_ir.specs.ModuleValue.{special_value}
 use Rattle.naga_oil_ir.specs.declared.module.Module.{Module}
@@ -14,8 +16,8 @@ use Rattle.naga_oil_derive.specs.Derived.{Source, Derived}
 abbrev pub source_of : Maps → Bor Module → Source
 source_of m s = record { value = value_of s.now; offset = m.offset; places = places_of m }
 
-abbrev pub derived_of : Option (Bor Module) → Maps → Module → List (String Global × ℕ) → Derived
-derived_of shader m t names = record { source = option_map (source_of m) shader; target = value_of t; function_names = map (λ e. (string_bytes e.0, e.1)) names }
+abbrev pub derived_of : Option (Bor Module) → Maps → Module → List (CowStr Global × ℕ) → Derived
+derived_of shader m t names = record { source = option_map (source_of m) shader; target = value_of t; function_names = map (λ e. (cow_str_bytes e.0, e.1)) names }
 
 -- the special types are types that are there
 abbrev pub IsSpecialThere : Module → Type 0

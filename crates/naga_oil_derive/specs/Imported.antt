@@ -1,6 +1,8 @@
 -- Which functions can be copied.
-use Rattle.std.specs.Prelude.{ℕ, zero, suc, ◌<◌, ◌⊎◌, List, length, map, slice_get, IsSome, IfSome, All, String, string_bytes}
+use Rattle.std.specs.Prelude.{ℕ, zero, suc, ◌<◌, ◌⊎◌, List, length, map, slice_get, IsSome, IfSome, All}
+use Rattle.std.specs.Cow.{cow_str_bytes}
 use Rattle.std.specs.Global.{Global}
+use Rattle.std.specs.declared.borrow.CowStr.{CowStr}
 use Rattle.naga_oil_ir.specs.Body.{block_tokens}
 use Rattle.naga_oil_form.specs.BodyForm.{kinds, callees, operand_links, MayStand}
 use Rattle.naga_oil_form.specs.WellFormed.{initialisers}
@@ -41,5 +43,5 @@ IsImportable source fs n f = MayImport source (IsCallable source fs n) f
 -- ---- names
 
 -- names with what they mean
-abbrev pub meanings : List (String Global × ℕ) → List (List ℕ × ℕ)
-meanings es = map (λ e. (string_bytes e.0, e.1)) es
+abbrev pub meanings : List (CowStr Global × ℕ) → List (List ℕ × ℕ)
+meanings es = map (λ e. (cow_str_bytes e.0, e.1)) es

@@ -27,4 +27,5 @@ pub mod DerivedLaw
 pub mod CopiedFunctionLaw
 pub mod AnsweredLaw
 pub mod Pending
+pub mod Stubs
 pub mod Waiting

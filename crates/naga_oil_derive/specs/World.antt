@@ -2,7 +2,7 @@
 use Rattle.std.specs.Prelude.{ℕ, ◌+◌, ◌≡◌, ◌==◌, ◌&&◌, List, [], ◌∷◌, ◌++◌, map, min, nat_eq, Option, Some, None, option_map, slice_get, is_some, if◌then◌else◌}
 use Rattle.std.specs.Option.{option_flatten}
 use Rattle.std.specs.Map.{lookup}
-use Rattle.naga_oil_ir.specs.Rows.{Row, Text, parts_row}
+use Rattle.naga_oil_ir.specs.Rows.{Text, parts_row}
 use Rattle.naga_oil_ir.specs.ModuleValue.{ModuleValue, SpecialValue, module_value}
 use Rattle.naga_oil_ir.specs.declared.module.Module.{Module}
 use Rattle.naga_oil_ir.specs.declared.span.Span.{Span}

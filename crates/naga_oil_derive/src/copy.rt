@@ -5,6 +5,7 @@ ghost use Rattle.naga_oil_derive.specs.World.{value_of, world};
 ghost use Rattle.naga_oil_derive.specs.Copied.{copy_state, put_type, put, copy_item, copy_all, copy_named_type};
 ghost use Rattle.naga_oil_derive.specs.Copying.{IsThere, AreRanked, IsBelowItem, AreLong, IsCopying, AreNames, goes_under, special_names};
 ghost use Rattle.naga_oil_derive.specs.Putting.{Putting, TypePutting};
+ghost use Rattle.naga_oil_derive.specs.Stubs.{argument_types, signature_types};
 ghost use Rattle.naga_oil_derive.specs.Waiting.{AreWaiting, Awaits, finish, finish_all, steps};
 
 use super::*;
@@ -243,6 +244,50 @@ impl Copying {
         self.copy_names(source, &item, &names)?;
         self.copy_type(source, handle, name)?;
         Ok(())
+    }
+
+    // Copies the types of arguments.
+    fn copy_arguments(&mut self, source: &Module, arguments: &[FunctionArgument]) -> Tried
+        requires ranked { AreRanked source.now }
+        requires there { All (λ a. IsThere source.now (ItemPlace.TypeItem a.ty)) arguments.now }
+        requires copying { IsCopying source.now self.old.target self.old.maps }
+        ensures copied { let old = copy_state self.old.maps self.old.target in
+            let new = copy_state self.new.maps self.new.target in
+            let m = value_of source.now in
+            OnOk result (new ≡ copy_all m self.old.maps.offset old (argument_types arguments.now)) }
+        ensures putting { let old = copy_state self.old.maps self.old.target in
+            let new = copy_state self.new.maps self.new.target in
+            Putting (value_of source.now) self.old.maps.offset old new }
+        ensures offset { self.new.maps.offset ≡ self.old.maps.offset }
+    {
+        for argument in arguments {
+            self.copy_item(source, &ItemPlace::TypeItem(argument.ty))?;
+        }
+        Ok(())
+    }
+
+    /// Copies the types of a function's arguments and its result.
+    pub fn copy_signature(&mut self, source: &Module, function: &Function) -> Tried
+        requires ranked { AreRanked source.now }
+        requires arguments { let arguments = function.now.arguments.items in
+            All (λ a. IsThere source.now (ItemPlace.TypeItem a.ty)) arguments }
+        requires outcome { let outcome = function.now.result in
+            IfSome outcome (λ r. IsThere source.now (ItemPlace.TypeItem r.ty)) }
+        requires copying { IsCopying source.now self.old.target self.old.maps }
+        ensures copied { let old = copy_state self.old.maps self.old.target in
+            let new = copy_state self.new.maps self.new.target in
+            let m = value_of source.now in
+            OnOk result (new ≡ copy_all m self.old.maps.offset old (signature_types function.now)) }
+        ensures putting { let old = copy_state self.old.maps self.old.target in
+            let new = copy_state self.new.maps self.new.target in
+            Putting (value_of source.now) self.old.maps.offset old new }
+        ensures offset { self.new.maps.offset ≡ self.old.maps.offset }
+    {
+        self.copy_arguments(source, &function.arguments)?;
+        match function.result {
+            Some(outcome) => self.copy_item(source, &ItemPlace::TypeItem(outcome.ty)),
+            None => Ok(()),
+        }
     }
 
     /// Copies the special types of a source.

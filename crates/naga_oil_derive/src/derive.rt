@@ -20,7 +20,7 @@ mod functions;
 pub struct DerivedModule<'a> {
     pub(crate) shader: Option<&'a Module>,
     pub(crate) copying: Copying,
-    pub(crate) function_names: IndexMap<String, Handle<Function>>,
+    pub(crate) function_names: FunctionNames<'a>,
 }
 
 impl<'a> Model for DerivedModule<'a> {

@@ -1,5 +1,6 @@
 //! Functions that are copied with those that they call.
-ghost use Rattle.std.specs.Prelude.{◌≡◌, ◌<◌, ◌+◌, Some, IsSome, OnOk, IfOk, All};
+ghost use Rattle.std.specs.Prelude.{◌≡◌, ◌<◌, ◌+◌, Some, IsSome, OnOk, IfOk, All, option_map, string_bytes};
+ghost use Rattle.std.specs.Cow.{cow_str_bytes};
 ghost use Rattle.std.specs.List.{sum_by};
 ghost use Rattle.naga_oil_ir.specs.ModuleValue.{function_value};
 ghost use Rattle.naga_oil_derive.specs.Callees.{known_as, callee_at};
@@ -15,21 +16,22 @@ ghost use Rattle.naga_oil_derive.specs.Pending.{IsNew, IsPending, IsAnswered, Ma
 ghost use Rattle.naga_oil_walk.specs.Walks.{Walks};
 
 use super::*;
+use std::borrow::CowStr;
 
-/// The functions that names mean.
-pub type FunctionNames = IndexMap<String, Handle<Function>>;
+/// The functions that names mean. The names of a source's functions stay there.
+pub type FunctionNames<'n> = IndexMap<CowStr<'n>, Handle<Function>>;
 
 /// Where the items and functions of a source went; a function goes by its name.
 #[derive(Clone, Copy)]
 pub struct Went<'a> {
     pub maps: &'a Maps,
     pub source: &'a Module,
-    pub functions: &'a FunctionNames,
+    pub functions: &'a FunctionNames<'a>,
     pub alloc: Global,
 }
 
 /// The function that a name means.
-pub fn known_as(functions: &FunctionNames, name: &Option<String>) -> Option<Handle<Function>>
+pub fn known_as(functions: &FunctionNames<'_>, name: &Option<String>) -> Option<Handle<Function>>
     ensures { result ≡ known_as functions.now name.now }
 {
     functions.get(name.as_ref()?.as_str()).copied()
@@ -37,7 +39,7 @@ pub fn known_as(functions: &FunctionNames, name: &Option<String>) -> Option<Hand
 
 /// The function that the name of one of a source means.
 fn callee_in(
-    names: &FunctionNames,
+    names: &FunctionNames<'_>,
     source: &Module,
     handle: Handle<Function>,
 ) -> Option<Handle<Function>>
@@ -58,9 +60,9 @@ impl Went<'_> {
 
 /// Copies of functions, and those that names mean.
 #[derive(Drop)]
-pub struct Functions {
+pub struct Functions<'n> {
     pub copies: Arena<Function>,
-    pub names: FunctionNames,
+    pub names: FunctionNames<'n>,
 }
 
 /// A function that is copied once what it names is.
@@ -93,7 +95,12 @@ impl<'a> Pending<'a> {
 }
 
 /// Puts a copy of a function last, all of whose requests are answered; its name then means the copy.
-fn put(source: &Module, of: &Pending<'_>, copying: &Copying, functions: &mut Functions) -> Tried
+fn put<'n>(
+    source: &Module,
+    of: &Pending<'n>,
+    copying: &Copying,
+    functions: &mut Functions<'n>,
+) -> Tried
     requires walks { Walks of.now.function.now of.now.walk }
     requires named { IsSome of.now.function.now.name }
     ensures value { let shift = copying.now.maps.offset in
@@ -109,10 +116,11 @@ fn put(source: &Module, of: &Pending<'_>, copying: &Copying, functions: &mut Fun
     #[rattlefmt::skip]
     let names = Went { maps: &copying.maps, source, functions: &functions.names, alloc: copying.alloc };
     let copy = localized(names, of.function, &of.walk)?;
-    let name = copied_name(&of.function.name)?;
     let handle = functions.copies.append(copy, copying.maps.span(of.span))?;
-    if let Some(name) = name {
-        functions.names.insert(name, handle)?;
+    if let Some(name) = &of.function.name {
+        functions
+            .names
+            .insert(CowStr::Borrowed(name.as_str()), handle)?;
     }
     Ok(())
 }
@@ -124,7 +132,7 @@ fn open<'a>(
     depth: usize,
     pending: &mut Vec<Pending<'a>>,
     copying: &Copying,
-    functions: &Functions,
+    functions: &Functions<'_>,
 ) -> Tried
     requires ranked { AreRanked source.now }
     requires copying { IsCopying source.now copying.now.target copying.now.maps }
@@ -157,7 +165,7 @@ fn answer_items(
     source: &Module,
     top: &mut Pending<'_>,
     copying: &mut Copying,
-    functions: &Functions,
+    functions: &Functions<'_>,
 ) -> Tried<Option<Handle<Function>>>
     requires ranked { AreRanked source.now }
     requires copying { IsCopying source.now copying.old.target copying.old.maps }
@@ -193,7 +201,7 @@ fn advance<'a>(
     mut top: Pending<'a>,
     pending: &mut Vec<Pending<'a>>,
     copying: &mut Copying,
-    functions: &mut Functions,
+    functions: &mut Functions<'a>,
 ) -> Tried
     requires ranked { AreRanked source.now }
     requires copying { IsCopying source.now copying.old.target copying.old.maps }
@@ -230,7 +238,7 @@ fn copy_pending<'a>(
     source: &'a Module,
     mut pending: Vec<Pending<'a>>,
     copying: &mut Copying,
-    functions: &mut Functions,
+    functions: &mut Functions<'a>,
 ) -> Tried
     requires ranked { AreRanked source.now }
     requires copying { IsCopying source.now copying.old.target copying.old.maps }
@@ -255,17 +263,18 @@ fn copy_pending<'a>(
 
 /// Puts a copy of a function last; its name then means the copy. Calls of functions whose names aren't known go so deep at
 /// most.
-pub fn import<'a>(
-    source: &'a Module,
-    function: &'a Function,
+pub fn import<'n>(
+    source: &'n Module,
+    function: &Function,
+    name: CowStr<'n>,
     span: Span,
     depth: usize,
     copying: &mut Copying,
-    functions: &mut Functions,
+    functions: &mut Functions<'n>,
 ) -> Result<Handle<Function>, AllocError>
     requires ranked { AreRanked source.now }
     requires copying { IsCopying source.now copying.old.target copying.old.maps }
-    requires named { IsSome function.now.name }
+    requires named { option_map string_bytes function.now.name ≡ Some (cow_str_bytes name) }
     requires form { IsImportable source.now functions.old depth function.now }
     ensures means { IfOk result (λ h. known_as functions.new.names function.now.name ≡ Some h) }
     ensures value { let m = value_of source.now in
@@ -280,21 +289,19 @@ pub fn import<'a>(
         Adding m shift old new }
     ensures offset { copying.new.maps.offset ≡ copying.old.maps.offset }
 {
-    let first = Pending::new(function, span, depth, copying.alloc)?;
-    let mut pending = Vec::new(copying.alloc);
-    advance(source, first, &mut pending, copying, functions)?;
-    copy_pending(source, pending, copying, functions)?;
-    let last = Handle::<Function>::new(functions.copies.len() - 1);
-    Ok(last)
+    let copy = localize(source, function, depth, copying, functions)?;
+    let handle = functions.copies.append(copy, copying.maps.span(span))?;
+    functions.names.insert(name, handle)?;
+    Ok(handle)
 }
 
 /// A copy of a function; what it names is copied first.
-pub fn localize(
-    source: &Module,
+pub fn localize<'n>(
+    source: &'n Module,
     function: &Function,
     depth: usize,
     copying: &mut Copying,
-    functions: &mut Functions,
+    functions: &mut Functions<'n>,
 ) -> Result<Function, AllocError>
     requires ranked { AreRanked source.now }
     requires copying { IsCopying source.now copying.old.target copying.old.maps }
@@ -314,6 +321,10 @@ pub fn localize(
         Adding m shift old new }
     ensures offset { copying.new.maps.offset ≡ copying.old.maps.offset }
 {
+    if is_stub(function) {
+        copying.copy_signature(source, function)?;
+        return localized_stub(&copying.maps, function, copying.alloc);
+    }
     let walk = walk_function(function, copying.alloc)?;
     for request in &walk.requests {
         match request {
@@ -329,12 +340,12 @@ pub fn localize(
 }
 
 /// The function that a callee's name means, copied if the name isn't known.
-pub fn import_callee(
-    source: &Module,
+pub fn import_callee<'n>(
+    source: &'n Module,
     handle: Handle<Function>,
     depth: usize,
     copying: &mut Copying,
-    functions: &mut Functions,
+    functions: &mut Functions<'n>,
 ) -> Result<Handle<Function>, AllocError>
     requires ranked { AreRanked source.now }
     requires copying { IsCopying source.now copying.old.target copying.old.maps }
@@ -353,7 +364,7 @@ pub fn import_callee(
         Adding m shift old new }
     ensures offset { copying.new.maps.offset ≡ copying.old.maps.offset }
 {
-    let mut pending = Vec::new(copying.alloc);
+    let mut pending: Vec<Pending<'n>> = Vec::new(copying.alloc);
     open(source, handle, depth, &mut pending, copying, functions)?;
     copy_pending(source, pending, copying, functions)?;
     #[rattlefmt::skip]

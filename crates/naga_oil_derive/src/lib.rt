@@ -18,7 +18,7 @@ pub use copy::Copying;
 pub use derive::DerivedModule;
 use import::{FunctionNames, Functions, known_as};
 use indexmap::IndexMap;
-use localized::localized;
+use localized::{localized, localized_stub};
 pub use maps::Maps;
 use maps::{nowhere, place_of, stands_at};
 use naga_oil_ir::*;
@@ -27,7 +27,7 @@ use naga_oil_rename::{
     Name, Renaming, copied_name, renamed_block, renamed_constant, renamed_expression,
     renamed_global, renamed_option, renamed_override, renamed_type,
 };
-use naga_oil_walk::{Bounds, Request, Walk, walk_function};
+use naga_oil_walk::{Bounds, Request, Walk, is_stub, walk_function};
 use special::{SpecialEntry, keep_special, set_specials, special_entries};
 use std::alloc::{AllocError, Global};
 use std::marker::Model;

@@ -1,6 +1,7 @@
 //! A function, copied with its expressions in the order of a walk.
 ghost use Rattle.std.specs.Prelude.{◌≡◌, ◌<◌, length, OnOk, IfOk, slice_get, [], map, option_map, string_bytes};
 ghost use Rattle.std.specs.Option.{option_flatten};
+ghost use Rattle.naga_oil_ir.specs.Body.{block_tokens};
 ghost use Rattle.naga_oil_ir.specs.Parts.{parts};
 ghost use Rattle.naga_oil_ir.specs.ModuleValue.{expression_values, argument_value, local_value, function_value};
 ghost use Rattle.naga_oil_walk.specs.Walks.{Walks};
@@ -8,6 +9,8 @@ ghost use Rattle.naga_oil_derive.specs.Went.{went};
 ghost use Rattle.naga_oil_derive.specs.Copies.{under_table, range_under, FitIn};
 ghost use Rattle.naga_oil_derive.specs.CopiedFunction.{copy_place as place_of_copy, with_copy, expression_state, copy_expression, copy_expressions, copy_function};
 ghost use Rattle.naga_oil_derive.specs.Expressions.{IsCopyAt};
+ghost use Rattle.naga_oil_derive.specs.Copying.{renames_under};
+ghost use Rattle.naga_oil_derive.specs.Stubs.{IsStub};
 ghost use Rattle.naga_oil_derive.specs.Functions.{argument_under, result_under, local_under, names_under, name_put, named_values, local_values};
 
 use super::import::Went;
@@ -140,21 +143,25 @@ fn renamed_result<R: Renaming>(names: &R, outcome: Option<FunctionResult>) -> Op
     })
 }
 
-impl Copied<'_> {
-    /// Arguments with their types renamed.
-    fn arguments(&self, arguments: &[FunctionArgument]) -> Tried<Vec<FunctionArgument>>
-        ensures { let r = went self.now.went in
-            let made = map (argument_under r) (map argument_value arguments.now) in
-            IfOk result (λ v. map argument_value v.items ≡ made) }
-    {
-        let mut copies = Vec::with_capacity(self.went.alloc, arguments.len())?;
-        for of in arguments {
-            let (name, ty) = (copied_name(&of.name)?, self.ty(of.ty));
-            copies.push(FunctionArgument { name, ty, ..*of })?;
-        }
-        Ok(copies)
+/// Arguments with their types renamed.
+fn renamed_arguments<R: Renaming>(
+    names: &R,
+    arguments: &[FunctionArgument],
+    alloc: Global,
+) -> Tried<Vec<FunctionArgument>>
+    ensures { let r = R.renames names.now in
+        let made = map (argument_under r) (map argument_value arguments.now) in
+        IfOk result (λ v. map argument_value v.items ≡ made) }
+{
+    let mut copies = Vec::with_capacity(alloc, arguments.len())?;
+    for of in arguments {
+        let (name, ty) = (copied_name(&of.name)?, names.ty(of.ty));
+        copies.push(FunctionArgument { name, ty, ..*of })?;
     }
+    Ok(copies)
+}
 
+impl Copied<'_> {
     /// Local variables with their types and initialisers renamed.
     fn locals(&self, locals: &[(LocalVariable, Span)]) -> Tried<Arena<LocalVariable>>
         ensures { let c = self.now in
@@ -204,12 +211,46 @@ pub fn localized(names: Went<'_>, function: &Function, walk: &Walk) -> Tried<Fun
     };
     Ok(Function {
         name: copied_name(&function.name)?,
-        arguments: copied.arguments(&function.arguments)?,
+        arguments: renamed_arguments(&copied, &function.arguments, names.alloc)?,
         result: renamed_result(&copied, function.result),
         local_variables: copied.locals(function.local_variables.as_slice())?,
         named_expressions: copied.named(&function.named_expressions)?,
         body: renamed_block(&copied, &function.body, names.alloc)?,
         expressions: target,
         diagnostic_filter_leaf: None,
+    })
+}
+
+/// A body of no statements.
+fn no_body(alloc: Global) -> Block
+    ensures { block_tokens result ≡ [] }
+{
+    let body = Vec::new(alloc);
+    Block { body }
+}
+
+/// The copy of a function of no local variables and no statements, whose types were copied.
+pub fn localized_stub(maps: &Maps, function: &Function, alloc: Global) -> Tried<Function>
+    requires { IsStub function.now }
+    ensures { let made = copy_function (renames_under maps.now) (function_value function.now) in
+        IfOk result (λ f. function_value f ≡ made) }
+{
+    let name = copied_name(&function.name)?;
+    let arguments = renamed_arguments(maps, &function.arguments, alloc)?;
+    let result = renamed_result(maps, function.result);
+    let local_variables = Arena::new(alloc);
+    let expressions = Arena::new(alloc);
+    let named_expressions = NamedExpressions::new();
+    let body = no_body(alloc);
+    let diagnostic_filter_leaf = None;
+    Ok(Function {
+        name,
+        arguments,
+        result,
+        local_variables,
+        expressions,
+        named_expressions,
+        body,
+        diagnostic_filter_leaf,
     })
 }

@@ -1,13 +1,15 @@
 //! Functions that are copied into the module.
 ghost use Rattle.std.specs.Prelude.{◌≡◌, [], Some, IfOk, OnOk};
+ghost use Rattle.std.specs.Cow.{cow_str_bytes};
 ghost use Rattle.naga_oil_ir.specs.ModuleValue.{function_value};
 ghost use Rattle.naga_oil_derive.specs.DerivedValue.{import_function, import_function_if_new, answer_requests, call_function, localize_function};
 ghost use Rattle.naga_oil_derive.specs.DerivedFunctions.{having, meant, CanCopy, CanImport, CanCall, KeepsFunctions, MeansAt, requests_of};
 
 use super::*;
+use std::borrow::CowStr;
 
 /// Takes the functions out of a module.
-fn take(target: &mut Module, names: &mut FunctionNames, alloc: Global) -> Functions
+fn take<'n>(target: &mut Module, names: &mut FunctionNames<'n>, alloc: Global) -> Functions<'n>
     ensures taken { (result.copies ≡ target.old.functions) × (result.names ≡ names.old) }
     ensures left { target.new ≡ having target.old [] }
 {
@@ -18,12 +20,16 @@ fn take(target: &mut Module, names: &mut FunctionNames, alloc: Global) -> Functi
 }
 
 /// Puts functions into a module.
-fn put(functions: Functions, target: &mut Module, names: &mut FunctionNames)
-    ensures target { target.new ≡ having target.old functions.copies }
-    ensures names { names.new ≡ functions.names }
+fn put<'n>(functions: Functions<'n>, target: &mut Module, names: &mut FunctionNames<'n>)
+    ensures target { target.new ≡ having target.old functions.entry.copies }
+    ensures names { names.new ≡ functions.entry.names }
 {
-    target.functions = functions.copies;
-    *names = functions.names;
+    let Functions {
+        copies,
+        names: known,
+    } = functions;
+    target.functions = copies;
+    let _before = mem::replace(names, known);
 }
 
 impl<'a> DerivedModule<'a> {
@@ -48,9 +54,10 @@ impl<'a> DerivedModule<'a> {
         copy
     }
 
-    /// Puts a copy of a function last, also if its name is known, which then means the copy; and first what it names.
-    pub fn import_function(&mut self, func: &Function, span: Span) -> Placed<Function>
-        requires { CanImport self.old (function_value func.now) }
+    // Puts a copy of a function of this name last.
+    fn put_function(&mut self, func: &Function, name: CowStr<'a>, span: Span) -> Placed<Function>
+        requires function { CanImport self.old (function_value func.now) }
+        requires name { (function_value func.now).name ≡ Some (cow_str_bytes name) }
         ensures keeps { KeepsFunctions self.old self.new }
         ensures value { let made = import_function self.old (function_value func.now) span in
             OnOk result (self.new ≡ made) }
@@ -62,13 +69,28 @@ impl<'a> DerivedModule<'a> {
         let depth = source.functions.len();
         let copying = &mut self.copying;
         let mut taken = take(&mut copying.target, &mut self.function_names, copying.alloc);
-        let handle = import::import(source, func, span, depth, copying, &mut taken);
+        let handle = import::import(source, func, name, span, depth, copying, &mut taken);
         put(taken, &mut copying.target, &mut self.function_names);
         handle
     }
 
-    /// The function that the name of one means, copied if the name isn't known.
-    pub fn import_function_if_new(&mut self, func: &Function, span: Span) -> Placed<Function>
+    /// Puts a copy of a function last, also if its name is known, which then means the copy; and first what it names.
+    pub fn import_function(&mut self, func: &Function, span: Span) -> Placed<Function>
+        requires { CanImport self.old (function_value func.now) }
+        ensures keeps { KeepsFunctions self.old self.new }
+        ensures value { let made = import_function self.old (function_value func.now) span in
+            OnOk result (self.new ≡ made) }
+        ensures means { let v = function_value func.now in
+            let meaning = meant self.new.function_names v.name in
+            IfOk result (λ h. meaning ≡ Some h) }
+    {
+        let name = func.name.as_ref().unwrap().clone()?;
+        self.put_function(func, CowStr::Owned(name), span)
+    }
+
+    /// The function that the name of one means, copied if the name isn't known. It lives as long as the sources, and its name
+    /// stays there.
+    pub fn import_function_if_new(&mut self, func: &'a Function, span: Span) -> Placed<Function>
         requires { CanImport self.old (function_value func.now) }
         ensures keeps { KeepsFunctions self.old self.new }
         ensures value { let made = import_function_if_new self.old (function_value func.now) span in
@@ -79,7 +101,10 @@ impl<'a> DerivedModule<'a> {
     {
         match known_as(&self.function_names, &func.name) {
             Some(known) => Ok(known),
-            None => self.import_function(func, span),
+            None => {
+                let name = func.name.as_ref().unwrap().as_str();
+                self.put_function(func, CowStr::Borrowed(name), span)
+            }
         }
     }
 

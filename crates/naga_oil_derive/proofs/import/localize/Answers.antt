@@ -2,10 +2,12 @@ use Rattle.std.proofs.Common.{refl, take, ◌+◌, ◌≡◌, ◌∙◌, ◌∷�
 use Rattle.std.proofs.lemmas.Option.{none-some}
 use Rattle.naga_oil_ir.specs.ModuleValue.{function_value}
 use Rattle.naga_oil_derive.specs.World.{value_of}
-use Rattle.naga_oil_derive.specs.Copying.{AreRanked, IsCopying, kept_between}
+use Rattle.naga_oil_derive.specs.Copying.{AreRanked, IsCopying, kept_between, renames_under}
+use Rattle.naga_oil_derive.specs.CopiedFunction.{copy_function}
+use Rattle.naga_oil_derive.specs.Went.{went_by}
 use Rattle.naga_oil_derive.specs.Copied.{CopyState, copy_state, copy_item}
 use Rattle.naga_oil_derive.specs.DerivedFunctions.{requests_of}
-use Rattle.naga_oil_derive.specs.Imported.{IsAnswerable}
+use Rattle.naga_oil_derive.specs.Imported.{IsAnswerable, IsCallable}
 use Rattle.naga_oil_walk.specs.Naming.{function_names}
 use Rattle.naga_oil_derive.specs.Answered.{ImportState, import_state, answer_one, answer_all, import_callee}
 use Rattle.naga_oil_derive.specs.Putting.{Putting, Adding, NothingAdded}
@@ -16,11 +18,50 @@ use Rattle.naga_oil_walk.specs.declared.walk.Request.TheVariants.{Call}
 use Rattle.naga_oil_derive.proofs.KindLaws.{value_kinds}
 use Rattle.naga_oil_derive.proofs.PuttingLemmas.{midway_of}
 use Rattle.naga_oil_derive.proofs.AddingLemmas.{Added, adding_adds, Adding-append, items_added, copying_added}
-use Rattle.naga_oil_derive.proofs.ImportSteps.{request_added, item_went, on_ok}
+use Rattle.naga_oil_derive.proofs.ImportSteps.{request_added, item_went, on_ok, if_ok_same}
+use Rattle.naga_oil_derive.proofs.StubLemmas.{signature_there, stub_answered, stub_copied}
 use Rattle.naga_oil_derive.proofs.FunctionValues.{requests_same, callee_value}
 use Rattle.naga_oil_derive.proofs.AnsweredValues.{Trail, Still, Step, trail-more, was_later, thin_answered}
 use Rattle.naga_oil_derive.proofs.import.localize.Goals as goal
 use Rattle.naga_oil_derive.proofs.import.localize.Goals.{in-Item+in_ok-copy_item-in-Item, in-Call+in_ok-import_callee-in-Call}
+
+-- ---- a function that names no more than the types of its signature
+
+pub copy_signature-requires-clause-arguments : goal.copy_signature-requires-clause-arguments
+copy_signature-requires-clause-arguments c =
+    (signature_there c.args.source.now (IsCallable c.args.source.now c.args.functions.now c.args.depth) c.args.function.now c.requires.form.requests).0
+
+pub copy_signature-requires-clause-outcome : goal.copy_signature-requires-clause-outcome
+copy_signature-requires-clause-outcome c =
+    (signature_there c.args.source.now (IsCallable c.args.source.now c.args.functions.now c.args.depth) c.args.function.now c.requires.form.requests).1
+
+pub returns-in_err-copy_signature-clause-adding : goal.returns-in_err-copy_signature-clause-adding
+returns-in_err-copy_signature-clause-adding c = items_added c.copy_signature.ensures.putting
+
+pub returns-then-is_stub-clause-adding : goal.returns-then-is_stub-clause-adding
+returns-then-is_stub-clause-adding c = items_added c.copy_signature.ensures.putting
+
+pub returns-then-is_stub-clause-copied : goal.returns-then-is_stub-clause-copied
+returns-then-is_stub-clause-copied c =
+    let f = c.args.function.now in
+    let is = c.is_stub.ensures c.if-is_stub.true in
+    let n = c.copy_signature.new.self.maps in
+    let r = renames_under n in
+    let went = went_by n c.args.source.now c.args.functions.now.names in
+    if_ok_same c.localized_stub.result (λ g. function_value g ≡ copy_function r (function_value f)) (λ g. function_value g ≡ copy_function went (function_value f)) (λ g e. e ∙ stub_copied r f is ∙ sym (stub_copied went f is)) c.localized_stub.ensures
+
+pub returns-then-is_stub-clause-value : goal.returns-then-is_stub-clause-value
+returns-then-is_stub-clause-value c =
+    let f = c.args.function.now in
+    let m = value_of c.args.source.now in
+    let old = c.args.copying.now in
+    let new = c.copy_signature.new.self in
+    let fs = c.args.functions.now in
+    let s = import_state old.maps old.target fs in
+    let is = ap (λ (y : CopyState). record s { copying = y }) c.in_ok-copy_signature.ensures.copied ∙ sym (stub_answered m c.args.depth old.maps.offset s f (c.is_stub.ensures c.if-is_stub.true)) in
+    on_ok c.localized_stub.result (import_state new.maps new.target fs ≡ answer_all c.args.depth m old.maps.offset s (requests_of (function_value f))) is
+
+-- ---- one that is walked
 
 pub copy_item-requires-clause-there : goal.copy_item-requires-clause-there
 copy_item-requires-clause-there c =

@@ -46,4 +46,4 @@ returns c =
     let at : t ≡ c.in_ok-target.field-0.table.items = c.deref.ensures.value in
     let copied = ap (λ (u : Table). expression_state u target) at ∙ c.in_ok-target.ensures in
     let range = range_under c.deref-2.result.now w.began m n in
-    function_same r f w t target c.deref-2.result.now m n _ _ _ _ _ _ c.requires copied c.deref-2.ensures.value (omega (arith, c.len.ensures, c.len-2.ensures, w.places.ok.0)) c.len-3.ensures c.in_ok-copied_name.ensures (c.in_ok-arguments.ensures ∙ ap (λ (xs : List FunctionArgument). map (argument_under r) (map argument_value xs)) c.deref-3.ensures.value) c.renamed_result.ensures (c.in_ok-locals.ensures ∙ ap (λ (ls : List (LocalVariable × Span)). map (local_under (under_table r t range)) (local_values ls)) c.as_slice.ensures) c.in_ok-named.ensures c.in_ok-renamed_block.ensures
+    function_same r f w t target c.deref-2.result.now m n _ _ _ _ _ _ c.requires copied c.deref-2.ensures.value (omega (arith, c.len.ensures, c.len-2.ensures, w.places.ok.0)) c.len-3.ensures c.in_ok-copied_name.ensures (c.in_ok-renamed_arguments.ensures ∙ ap (λ (xs : List FunctionArgument). map (argument_under r) (map argument_value xs)) c.deref-3.ensures.value) c.renamed_result.ensures (c.in_ok-locals.ensures ∙ ap (λ (ls : List (LocalVariable × Span)). map (local_under (under_table r t range)) (local_values ls)) c.as_slice.ensures) c.in_ok-named.ensures c.in_ok-renamed_block.ensures

@@ -23,6 +23,6 @@ returns-in-None-clause-value c =
     let s = c.self.inside in
     let d = c.args.self.now in
     let o = c.args.func.now.name in
-    let e = c.import_function.new.self in
+    let e = c.put_function.new.self in
     let is = c.in-None.ensures ∙ meant_in s.shader s.copying.maps s.copying.target s.function_names d o c.self.view_is in
-    subst (λ x. OnOk c.import_function.result (e ≡ if is_some x then d else import_function d (function_value c.args.func.now) c.args.span)) is c.import_function.ensures.value
+    subst (λ x. OnOk c.put_function.result (e ≡ if is_some x then d else import_function d (function_value c.args.func.now) c.args.span)) is c.put_function.ensures.value

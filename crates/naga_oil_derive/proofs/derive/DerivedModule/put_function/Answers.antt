@@ -4,9 +4,9 @@ use Rattle.naga_oil_derive.specs.World.{value_of}
 use Rattle.naga_oil_derive.specs.DerivedValue.{import_function}
 use Rattle.naga_oil_derive.specs.DerivedView.{derived_of}
 use Rattle.naga_oil_derive.specs.Answered.{import_state, import_copy}
-use Rattle.naga_oil_derive.proofs.FunctionValues.{functions_length, named_there}
+use Rattle.naga_oil_derive.proofs.FunctionValues.{functions_length}
 use Rattle.naga_oil_derive.proofs.FunctionCalls.{IsCall, call_holds, call_keeps, call_value, one_in, copying_in, name_ok}
-use Rattle.naga_oil_derive.proofs.derive.DerivedModule.import_function.Goals as goal
+use Rattle.naga_oil_derive.proofs.derive.DerivedModule.put_function.Goals as goal
 
 -- functions are taken out and put back
 call : (c : goal.After-put) → IsCall c.self.inside.shader c.unwrap-source.result c.self.inside.copying.target c.take-taken.new.target c.import-handle.new.copying.target c.put.new.target c.self.inside.copying.maps c.import-handle.new.copying.maps c.take-taken.result c.import-handle.new.functions c.self.inside.function_names.entries c.put.new.names.entries c.args.self.now
@@ -29,10 +29,10 @@ import-handle-requires-clause-copying c = copying_in c.self.inside.shader c.unwr
 pub import-handle-requires-clause-form : goal.import-handle-requires-clause-form
 import-handle-requires-clause-form c =
     let s = c.self.inside in
-    one_in s.shader c.unwrap-source.result s.copying.maps s.copying.target c.take-taken.result s.function_names.entries c.args.self.now c.len-depth.result c.args.func.now c.unwrap-source.ensures c.self.view_is (λ i. (c.take-taken.ensures.taken.1 i).entries) c.len-depth.ensures c.requires.0.1
+    one_in s.shader c.unwrap-source.result s.copying.maps s.copying.target c.take-taken.result s.function_names.entries c.args.self.now c.len-depth.result c.args.func.now c.unwrap-source.ensures c.self.view_is (λ i. (c.take-taken.ensures.taken.1 i).entries) c.len-depth.ensures c.requires.function.0.1
 
 pub import-handle-requires-clause-named : goal.import-handle-requires-clause-named
-import-handle-requires-clause-named c = named_there c.args.func.now c.requires.1
+import-handle-requires-clause-named c = c.requires.name
 
 pub invariant_of-self : goal.invariant_of-self
 invariant_of-self c = call_holds c.self.inside.shader c.unwrap-source.result c.self.inside.copying.target c.take-taken.new.target c.import-handle.new.copying.target c.put.new.target c.self.inside.copying.maps c.import-handle.new.copying.maps c.take-taken.result c.import-handle.new.functions c.self.inside.function_names.entries c.put.new.names.entries c.args.self.now (call c)
