@@ -14,7 +14,7 @@ use Rattle.std.specs.List.{filter, flat_map, range_with_len}
 use Rattle.std.specs.List.Sorted.{IsSortedBy, IsStableBy, IsPartitionedBy}
 use Rattle.std.specs.Ordering.{is_eq, is_lt, ordering_reverse}
 use Rattle.naga_oil_ir.specs.Rows.{Text}
-use Rattle.naga_oil_link.specs.ByName.{text_at, places_where, places_named, is_name, compare_names, stands_before, ByName, IsIndexOf, IsStart}
+use Rattle.naga_oil_link.specs.ByName.{text_at, places_where, places_named, is_name, compare_names, stands_before, ByName, IsIndexOf, IsReached, IsStart, MayStart}
 use Rattle.naga_oil_link.proofs.ByNameLemmas.{flipped, place_more, places_before}
 
 -- ---- names in order
@@ -126,6 +126,14 @@ before_partitioned names places q sorted i j d le below before =
     by true e = refl
     by false e = sym (texts_rank.chain (text_at names (get_or places j d)) (text_at names (get_or places i d)) (Some q) (sorted_far (stands_before names) (places_rank names) places sorted i j d le below) e) ∙ before
 
+-- no name stands before itself
+irreflexive : (q : List ℕ) → is_lt (compare_names (Some q) (Some q)) ≡ false
+irreflexive q = by (is_lt (compare_names (Some q) (Some q))) refl
+  where
+    by : (b : Bool) → is_lt (compare_names (Some q) (Some q)) ≡ b → b ≡ false
+    by false e = refl
+    by true e = sym e ∙ texts_rank.one_way (Some q) (Some q) e
+
 -- one that stands before a name isn't it
 pub before_fails : (q : List ℕ) (x : Text) → is_lt (compare_names x (Some q)) ≡ true → is_name q x ≡ false
 before_fails q x e = sym (same_name q x) ∙ by (compare_names x (Some q)) e
@@ -174,9 +182,12 @@ pub start_there : (names : List Text) (index : ByName) (q : List ℕ) (n : ℕ) 
 start_there names index q n le is before after =
     let long : length (drop n index.items) ≡ length index.items - n = length-drop n index.items in
     record {
-      within = le;
+      reached = record {
+        within = le;
+        from = λ k d a. ap (λ j. is_lt (compare_names (text_at names j) (Some q))) (get_or-drop n index.items k d) ∙ after (n + k) d (omega arith) (omega (arith, long));
+        before = λ k e. texts_rank.one_way (text_at names (get_or index.items k 0)) (Some q) (before k 0 (omega (arith, e)) (omega (arith, e)));
+      };
       named = skip (λ k. is_name q (text_at names k)) index.items n (λ k d a b. before_fails q (text_at names (get_or index.items k d)) (before k d a b)) ∙ is.each q;
-      from = λ k d a. ap (λ j. is_lt (compare_names (text_at names j) (Some q))) (get_or-drop n index.items k d) ∙ after (n + k) d (omega arith) (omega (arith, long));
     }
 
 -- a place of a name behind one that stands before it
@@ -193,8 +204,14 @@ start_found names index q n below is same before =
     ∙ ap (λ t. is_lt (compare_names (text_at names (get_or xs k 0)) t)) (sym here)
     ∙ sorted_far (stands_before names) (places_rank names) xs is.sorted n k 0 a b)
 
+-- those of a name start where one stands and a name may start
+pub start_there_is : (names : List Text) (index : ByName) (q : List ℕ) (n : ℕ) → n < length index.items → IsIndexOf names index → MayStart names index.items n → is_name q (text_at names (get_or index.items n 0)) ≡ true → IsStart names q index.items n
+start_there_is names index q n below is may named =
+    let here : text_at names (get_or index.items n 0) ≡ Some q = name_is q (text_at names (get_or index.items n 0)) named in
+    start_found names index q n below is (same_name q (text_at names (get_or index.items n 0)) ∙ named) (λ k e. ap (λ t. is_lt (compare_names (text_at names (get_or index.items k 0)) t)) (sym here) ∙ may k e below)
+
 -- from one on that is no more the name, none is
-pub past_name : (names : List Text) (index : ByName) (q : List ℕ) (n i : ℕ) → IsIndexOf names index → IsStart names q index.items n → n ≤ i → i < length index.items → is_eq (compare_names (text_at names (get_or index.items i 0)) (Some q)) ≡ false → filter (λ k. is_name q (text_at names k)) (drop i index.items) ≡ []
+pub past_name : (names : List Text) (index : ByName) (q : List ℕ) (n i : ℕ) → IsIndexOf names index → IsReached names q index.items n → n ≤ i → i < length index.items → is_eq (compare_names (text_at names (get_or index.items i 0)) (Some q)) ≡ false → filter (λ k. is_name q (text_at names k)) (drop i index.items) ≡ []
 past_name names index q n i is start le below other =
     let xs = index.items in
     let long : length (drop n xs) ≡ length xs - n = length-drop n xs in
@@ -204,6 +221,51 @@ past_name names index q n i is start le below other =
     none_pass_from (λ k. is_name q (text_at names k)) xs i (λ k d a b.
     ap (λ j. is_name q (text_at names j)) (get_or_default_zero xs k d b)
     ∙ after_fails q (text_at names (get_or xs i 0)) (text_at names (get_or xs k 0)) later other (sorted_far (stands_before names) (places_rank names) xs is.sorted i k 0 a b))
+
+-- a name reached where another stands ends there: what stands before isn't behind the name, and the other is
+pub ends_there : (names : List Text) (places : List ℕ) (q : List ℕ) (i : ℕ) → IsReached names q places i → (i < length places → is_eq (compare_names (text_at names (get_or places i 0)) (Some q)) ≡ false) → MayStart names places i
+ends_there names places q i reached other k e below = by (is_lt (compare_names before here)) refl
+  where
+    before : Text
+    before = text_at names (get_or places k 0)
+
+    here : Text
+    here = text_at names (get_or places i 0)
+
+    not_less : is_lt (compare_names here (Some q)) ≡ false
+    not_less =
+        let none : i + 0 ≡ i = omega arith in
+        let there : get_or (drop i places) 0 0 ≡ get_or places i 0 = get_or-drop i places 0 0 ∙ ap (λ k. get_or places k 0) none in
+        let long : length (drop i places) ≡ length places - i = length-drop i places in
+        ap (λ j. is_lt (compare_names (text_at names j) (Some q))) (sym there) ∙ reached.from 0 0 (omega (arith, long, below))
+
+    behind : is_lt (compare_names (Some q) here) ≡ true
+    behind = ap is_lt (names_total.antisymm (Some q) here) ∙ greater (compare_names here (Some q)) not_less (other below)
+      where
+        greater : (o : Ordering) → is_lt o ≡ false → is_eq o ≡ false → is_lt (ordering_reverse o) ≡ true
+        greater Less a b = absurd (true≢false a)
+        greater Equal a b = absurd (true≢false b)
+        greater Greater a b = refl
+
+    by : (b : Bool) → is_lt (compare_names before here) ≡ b → b ≡ true
+    by true f = refl
+    by false f = sym (texts_rank.chain (Some q) before here (reached.before k e) f) ∙ behind
+
+-- a name is reached behind a place of it
+pub reached_more : (names : List Text) (places : List ℕ) (q : List ℕ) (i : ℕ) → i < length places → IsReached names q places i → is_eq (compare_names (text_at names (get_or places i 0)) (Some q)) ≡ true → IsReached names q places (i + 1)
+reached_more names places q i below reached same =
+    let here : text_at names (get_or places i 0) ≡ Some q = name_is q (text_at names (get_or places i 0)) (sym (same_name q (text_at names (get_or places i 0))) ∙ same) in
+    let long : length (drop (i + 1) places) ≡ length places - (i + 1) = length-drop (i + 1) places in
+    let longer : length (drop i places) ≡ length places - i = length-drop i places in
+    record {
+      within = omega arith;
+      from = λ k d a.
+          let far : (i + 1) + k ≡ i + (k + 1) = omega arith in
+          ap (λ j. is_lt (compare_names (text_at names j) (Some q))) (get_or-drop (i + 1) places k d ∙ ap (λ j. get_or places j d) far ∙ sym (get_or-drop i places (k + 1) d)) ∙ reached.from (k + 1) d (omega (arith, a, long, longer));
+      before = λ k e.
+          let one : k ≡ i = omega (arith, e) in
+          ap (λ j. is_lt (compare_names (Some q) (text_at names (get_or places j 0)))) one ∙ ap (λ t. is_lt (compare_names (Some q) t)) here ∙ irreflexive q;
+    }
 
 -- an index of nothing has no places
 pub nothing_named : (names : List Text) (index : ByName) → IsIndexOf names index → index.items ≡ [] → (asked : List (List ℕ)) → flat_map (places_named names) asked ≡ []

@@ -1,16 +1,20 @@
 -- Names in byte order: which are among them.
-use Rattle.std.proofs.Common.{◌≡◌, ℕ, List, [], ◌∷◌, Bool, true, false, ◌||◌, refl, sym, ap, ◌∙◌, String, Global, string_bytes, Ordering, Less, Equal, Greater}
+use Rattle.std.proofs.Common.{◌≡◌, ℕ, nat_eq, List, [], ◌∷◌, Bool, true, false, ◌||◌, refl, sym, ap, ◌∙◌, String, Global, string_bytes, Ordering, Less, Equal, Greater}
 use Rattle.std.proofs.lemmas.Map.Lookups.{exact_bytes}
 use Rattle.std.proofs.lemmas.Map.Text.{is_eq-slice_cmp}
 use Rattle.std.specs.BTreeMap.{is_at}
 use Rattle.std.specs.BTreeSet.{insert_key}
 use Rattle.std.specs.Cmp.Lexicographic.{slice_cmp}
-use Rattle.std.specs.List.{list_any, fold}
+use Rattle.std.proofs.lemmas.Bool.{false≢true}
+use Rattle.std.proofs.lemmas.List.Elements.{All-head, All-tail}
+use Rattle.std.proofs.lemmas.Slice.Eq.{bytes_eq-Decides}
+use Rattle.std.specs.List.{list_any, fold, ends_with}
 use Rattle.std.specs.Ordering.{nat_cmp, match_ordering}
 use Rattle.std.specs.Str.{bytes_eq}
 use Rattle.std.specs.String.{string_cmp}
 use Rattle.naga_oil_lines.specs.DirectivesText.{with_name, in_order}
 use Rattle.naga_oil_lines.specs.Text.{is_among, texts}
+use Rattle.naga_oil_link.specs.CopiedBuild.{EndWith}
 
 pub or_last : (a b : Bool) → (a || b) ≡ (b || a)
 or_last true true = refl
@@ -44,6 +48,18 @@ among-fold ks (name ∷ names) n = among-fold (with_name ks name) names n ∙ ap
 pub among-in_order : (names : List (List ℕ)) (n : List ℕ) → is_among (in_order names) n ≡ is_among names n
 unfolding in_order
 among-in_order names n = among-fold [] names n
+
+-- a name that ends in another way than all of some names isn't among them
+pub ends_apart : (names : List (List ℕ)) (ending n : List ℕ) → EndWith names ending → ends_with nat_eq n ending ≡ false → is_among names n ≡ false
+ends_apart [] ending n all other = refl
+ends_apart (x ∷ names) ending n all other = by (bytes_eq n x) refl (ends_apart names ending n (All-tail (λ (y : List ℕ). ends_with nat_eq y ending ≡ true) x names all) other)
+  where
+    Ends : List ℕ → Type 0
+    Ends y = ends_with nat_eq y ending ≡ true
+
+    by : (b : Bool) → bytes_eq n x ≡ b → is_among names n ≡ false → (b || is_among names n) ≡ false
+    by true e rest = absurd (false≢true (sym other ∙ ap (λ y. ends_with nat_eq y ending) ((bytes_eq-Decides n x).0 e) ∙ All-head Ends x names all))
+    by false e rest = rest
 
 -- what a set of names is asked
 pub among_texts : (ks : List (String Global)) (n : List ℕ) → list_any (is_at (λ k. slice_cmp nat_cmp n (string_bytes k))) ks ≡ is_among (texts ks) n

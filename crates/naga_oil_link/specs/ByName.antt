@@ -1,5 +1,5 @@
 -- The items of a module by their names.
-use Rattle.std.specs.Prelude.{◌≡◌, ◌≤◌, ℕ, Bool, false, List, length, drop, map, Some, None, slice_get, bytes_eq, Vec}
+use Rattle.std.specs.Prelude.{◌≡◌, ◌≤◌, ◌<◌, ◌+◌, ℕ, Bool, true, false, List, length, drop, map, Some, None, slice_get, get_or, bytes_eq, Vec}
 use Rattle.std.specs.BTreeSet.{insert_key}
 use Rattle.std.specs.Cmp.Lexicographic.{slice_cmp}
 use Rattle.std.specs.List.{filter, fold, range_with_len, All}
@@ -54,11 +54,24 @@ pub record IsIndexOf (names : List Text) (index : ByName) : Type 0 where
   pub sorted : IsSortedBy (stands_before names) index.items
   pub each : (name : List ℕ) → filter (λ k. is_name name (text_at names k)) index.items ≡ places_named names name
 
--- where in an index those of a name start: none before is the name, and none from there on stands before it
+-- the places from one of an index on that are those of a name
+abbrev pub named_from : List Text → List ℕ → List ℕ → ℕ → List ℕ
+named_from names name places start = filter (λ k. is_name name (text_at names k)) (drop start places)
+
+-- none from a place of an index on stands before a name, and the one before the place doesn't stand behind it
+pub record IsReached (names : List Text) (name : List ℕ) (places : List ℕ) (at : ℕ) : Type 0 where
+  pub within : at ≤ length places
+  pub from : All (λ k. is_lt (compare_names (text_at names k) (Some name)) ≡ false) (drop at places)
+  pub before : (k : ℕ) → k + 1 ≡ at → is_lt (compare_names (Some name) (text_at names (get_or places k 0))) ≡ false
+
+-- where in an index those of a name start: none before is the name
 pub record IsStart (names : List Text) (name : List ℕ) (places : List ℕ) (start : ℕ) : Type 0 where
-  pub within : start ≤ length places
-  pub named : filter (λ k. is_name name (text_at names k)) (drop start places) ≡ places_named names name
-  pub from : All (λ k. is_lt (compare_names (text_at names k) (Some name)) ≡ false) (drop start places)
+  pub reached : IsReached names name places start
+  pub named : named_from names name places start ≡ places_named names name
+
+-- a name may start at a place of an index: the one before it is another's
+abbrev pub MayStart : List Text → List ℕ → ℕ → Type 0
+MayStart names places at = (k : ℕ) → k + 1 ≡ at → at < length places → is_lt (compare_names (text_at names (get_or places k 0)) (text_at names (get_or places at 0))) ≡ true
 
 -- ---- the items of a module
 

@@ -1,5 +1,6 @@
 -- The module that a build holds, and its header: copies of what was parsed, as values.
-use Rattle.std.specs.Prelude.{ℕ, Bool, true, false, ◌++◌, List, fold, filter, option_map, nat_lt, length, Some, None, if◌then◌else◌}
+use Rattle.std.specs.Prelude.{◌≡◌, ℕ, Bool, true, false, ◌++◌, List, All, fold, filter, option_map, nat_eq, nat_lt, length, Some, None, if◌then◌else◌}
+use Rattle.std.specs.List.{ends_with}
 use Rattle.naga_oil_ir.specs.ModuleValue.{ModuleValue, FunctionValue}
 use Rattle.naga_oil_ir.specs.Rows.{Text}
 use Rattle.naga_oil_ir.specs.declared.names.ItemPlace.{ItemPlace}
@@ -78,6 +79,10 @@ unfoldable pub copy_places : (all_types : Bool) → ModuleValue → OwnPlaces �
 copy_places all_types m own d = fold (copy_at all_types m own d) (nothing_copied m) (places_of m)
 
 -- ---- functions
+
+-- all of some names end so
+abbrev pub EndWith : List (List ℕ) → List ℕ → Type 0
+EndWith names ending = All (λ n. ends_with nat_eq n ending ≡ true) names
 
 abbrev pub has_name_among : List (List ℕ) → Text → Bool
 has_name_among names None = false

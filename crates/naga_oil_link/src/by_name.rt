@@ -1,9 +1,9 @@
 //! The items of a module by their names.
-ghost use Rattle.std.specs.Prelude.{◌≡◌, ◌++◌, [], ℕ, List, Some, IfOk, IsTrue, OnOk, is_some, length, option_map, string_bytes};
+ghost use Rattle.std.specs.Prelude.{◌≡◌, ◌++◌, [], ℕ, List, Some, IfOk, IsTrue, OnOk, ◌<◌, true, get_or, is_some, length, option_map, string_bytes};
 ghost use Rattle.std.specs.List.{filter, flat_map, range_with_len};
 ghost use Rattle.std.specs.Ordering.{is_lt};
 ghost use Rattle.naga_oil_ir.specs.ModuleValue.{module_value};
-ghost use Rattle.naga_oil_link.specs.ByName.{text_at, compare_names, is_name, places_named, places_where, with_places, listed_names, IsStart, IsIndexOf, HasItems};
+ghost use Rattle.naga_oil_link.specs.ByName.{text_at, compare_names, is_name, places_named, places_where, with_places, named_from, listed_names, IsStart, IsReached, MayStart, IsIndexOf, HasItems};
 ghost use Rattle.naga_oil_lines.specs.Text.{texts};
 ghost use Rattle.naga_oil_link.specs.Linked.{decorated_names, asked_names, is_wanted};
 
@@ -128,41 +128,30 @@ fn start_of(index: &ByName, of: Listed<'_>, name: &str) -> usize
     )
 }
 
-// Whether those of a name start at a place; by `false` they may.
-fn starts_at(index: &ByName, of: Listed<'_>, at: usize, name: &str) -> bool
-    requires { IsIndexOf (listed_names of) index.now }
-    ensures { IsTrue result → IsStart (listed_names of.entry) name.now index.now.items at }
+// Whether one of a name stands at a place of an index.
+fn stands_at(index: &ByName, of: Listed<'_>, at: usize, name: &str) -> bool
+    ensures within { IsTrue result → at < length index.now.items }
+    ensures named { let there = text_at (listed_names of.entry) (get_or index.now.items at 0) in
+        IsTrue result → is_name name.now there ≡ true }
 {
-    if at >= index.len() || !of.compare(index[at], Some(name)).is_eq() {
-        return false;
-    }
-    at == 0 || of.compare(index[at - 1], Some(name)).is_lt()
+    at < index.len() && of.compare(index[at], Some(name)).is_eq()
 }
 
-// The place at which those of a name start: the first guess, if it is right.
-fn start_near(index: &ByName, of: Listed<'_>, guess: usize, name: &str) -> usize
-    requires { IsIndexOf (listed_names of) index.now }
-    ensures { IsStart (listed_names of.entry) name.now index.now.items result }
-{
-    if starts_at(index, of, guess, name) {
-        return guess;
-    }
-    start_of(index, of, name)
-}
-
-// Adds the places of a name, and tells the place of the index behind them.
-fn add_places(
+// Adds the places of a name from one of the index on, and tells the one behind them.
+fn add_from(
     places: &mut Places,
     index: &ByName,
     of: Listed<'_>,
-    guess: usize,
+    start: usize,
     name: &str,
 ) -> Tried<usize>
-    requires { IsIndexOf (listed_names of) index.now }
-    ensures { let more = places_named (listed_names of.entry) name.now in
+    requires index { IsIndexOf (listed_names of) index.now }
+    requires start { IsReached (listed_names of) name.now index.now.items start }
+    ensures added { let names = listed_names of.entry in
+        let more = named_from names name.now index.now.items start in
         OnOk result (places.new.keys ≡ with_places places.old.keys more) }
+    ensures behind { IfOk result (MayStart (listed_names of.entry) index.now.items) }
 {
-    let start = start_near(index, of, guess, name);
     for at in start..index.len() {
         if !of.compare(index[at], Some(name)).is_eq() {
             return Ok(at);
@@ -170,6 +159,28 @@ fn add_places(
         places.insert(index[at])?;
     }
     Ok(index.len())
+}
+
+// Adds the places of a name, which are looked for first where a name may start, and tells the place of the index behind them.
+fn add_places(
+    places: &mut Places,
+    index: &ByName,
+    of: Listed<'_>,
+    guess: usize,
+    name: &str,
+) -> Tried<usize>
+    requires index { IsIndexOf (listed_names of) index.now }
+    requires guess { MayStart (listed_names of) index.now.items guess }
+    ensures added { let more = places_named (listed_names of.entry) name.now in
+        OnOk result (places.new.keys ≡ with_places places.old.keys more) }
+    ensures behind { IfOk result (MayStart (listed_names of.entry) index.now.items) }
+{
+    if stands_at(index, of, guess, name) {
+        places.insert(index[guess])?;
+        return add_from(places, index, of, guess + 1, name);
+    }
+    let start = start_of(index, of, name);
+    add_from(places, index, of, start, name)
 }
 
 /// Adds the places of the items that have these names.

@@ -10,7 +10,7 @@ ghost use Rattle.naga_oil_derive.specs.DerivedValue.{import_item};
 ghost use Rattle.naga_oil_form_laws.specs.EntryForm.{IsModuleFormed};
 ghost use Rattle.naga_oil_lines.specs.Text.{texts};
 ghost use Rattle.naga_oil_link.specs.BuiltModule.{built_of};
-ghost use Rattle.naga_oil_link.specs.CopiedBuild.{copies_of, nothing_copied, decorated_type, went_to, import_own, copy_own, copy_other, copy_at, copy_places, with_function, with_stub, functions_among, with_stubs, with_functions, have_special, put_header, put_whole, copy_build, copies_special, has_name_among};
+ghost use Rattle.naga_oil_link.specs.CopiedBuild.{copies_of, nothing_copied, decorated_type, went_to, import_own, copy_own, copy_other, copy_at, copy_places, with_function, with_stub, functions_among, with_stubs, with_functions, have_special, put_header, put_whole, copy_build, copies_special, has_name_among, EndWith};
 ghost use Rattle.naga_oil_link.specs.CopySources.{CopiesFrom, IsFunctionOf, stub_of, shown_function, shown_functions};
 ghost use Rattle.naga_oil_link.specs.OwnPlaces.{own_of};
 ghost use Rattle.naga_oil_link.specs.Places.{places_of, name_at};
@@ -48,6 +48,29 @@ pub fn has_name_among(function: &Function, names: &Names) -> bool
 {
     match named(&function.name) {
         Some(name) => names.contains(name),
+        None => false,
+    }
+}
+
+/// The decoration, if all of these names end with it, or else nothing.
+pub fn ending_of<'a>(names: &Names, decoration: &'a str) -> &'a str
+    ensures { EndWith (texts names.now.keys) result.now }
+{
+    for name in names.iter() {
+        if !name.as_str().as_bytes().ends_with(decoration.as_bytes()) {
+            return "";
+        }
+    }
+    decoration
+}
+
+/// Whether a function has one of these names, all of which end so. Most others are told by their ends.
+pub fn has_name_ending(function: &Function, names: &Names, ending: &str) -> bool
+    requires { EndWith (texts names.now.keys) ending.now }
+    ensures { result ≡ has_name_among (texts names.now.keys) (function_value function.now).name }
+{
+    match named(&function.name) {
+        Some(name) => name.as_bytes().ends_with(ending.as_bytes()) && names.contains(name),
         None => false,
     }
 }
@@ -279,20 +302,22 @@ impl<'m> OwnCopies<'m> {
     }
 }
 
-// The functions of a source that have one of these names.
+// The functions of a source that have one of these names, which likely end with a decoration.
 fn functions_among<'m>(
     alloc: Global,
     source: &'m Module,
     names: &Names,
+    decoration: &str,
 ) -> Tried<Vec<&'m (Function, Span)>>
     ensures there { IfOk result (λ fs. All (λ f. IsFunctionOf source.now f.now) fs.items) }
     ensures functions { let functions = (module_value source.now).functions in
         let among = functions_among (texts names.now.keys) functions in
         IfOk result (λ fs. shown_functions fs.items ≡ among) }
 {
+    let ending = ending_of(names, decoration);
     let mut functions = Vec::new(alloc);
     for item in source.functions.as_slice() {
-        if has_name_among(&item.0, names) {
+        if has_name_ending(&item.0, names, ending) {
             functions.push(item)?;
         }
     }
@@ -401,7 +426,7 @@ pub fn copy_build(alloc: Global, source: &Module, own: &OwnItems, built: &mut Bu
         OnOk result (built_of built.new ≡ copied) }
 {
     let decoration = built.decorated_name.as_str();
-    let functions = functions_among(alloc, source, &built.owned_functions)?;
+    let functions = functions_among(alloc, source, &built.owned_functions, decoration)?;
     let header = copy_header(alloc, source, own, decoration, &functions)?;
     let whole = copy_whole(alloc, source, own, decoration, &functions)?;
     put_header(alloc, header, built)?;

@@ -45,7 +45,12 @@ fn overriding(alloc: Global, of: &Build) -> Tried<Names>
 }
 
 // Links the function at a place, if the build owns it, unless one of its name was linked.
-fn link_function(into: &mut DerivedModule, of: &Build, source: &Module, at: usize) -> Tried
+fn link_function<'b>(
+    into: &mut DerivedModule<'b>,
+    of: &Build,
+    source: &'b Module,
+    at: usize,
+) -> Tried
     requires { CopiesFrom source.now into.old }
     ensures source { CopiesFrom source.now into.new }
     ensures value { let function = slice_get (module_value source.now).functions at in

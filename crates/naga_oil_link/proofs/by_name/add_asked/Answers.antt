@@ -32,7 +32,8 @@ loop-item-preserved c =
     let rest = flat_map by (map decorate (texts (drop (i + 1) items))) in
     let step : drop i items ≡ x ∷ drop (i + 1) items = next_item items i x c.loop-item-test.true c.item-item.is in
     let text : c.as_str-in-loop-item.result.now ≡ name = c.as_str-in-loop-item.ensures.value ∙ c.in_ok-decorate.ensures ∙ ap decorate c.as_str.ensures.value in
-    ap (λ js. with_places js rest) (c.in_ok-guess.ensures ∙ ap (λ (q : List ℕ). with_places ks (by q)) text)
+    let places = ap (λ js. with_places js rest) (c.in_ok-guess.ensures.added ∙ ap (λ (q : List ℕ). with_places ks (by q)) text)
     ∙ sym (fold-append (insert_key nat_cmp) ks (by name) rest)
     ∙ ap (λ (is : List (String Global)). with_places ks (flat_map by (map decorate (texts is)))) (sym step)
-    ∙ c.loop-item.invariant
+    ∙ c.loop-item.invariant.places in
+    record { places = places; guess = c.in_ok-guess.ensures.behind }

@@ -15,7 +15,8 @@ loop-name-preserved c =
     let ks = c.loop-name.places.keys in
     let rest = flat_map by (texts c.next.new.self) in
     let step : c.loop-name.name-iterator ≡ c.in-Some.name.now ∷ c.next.new.self = rest_more (λ x. x.now) _ _ _ _ c.in-Some.is c.next.ensures.steps in
-    ap (λ js. with_places js rest) (c.in_ok-guess.ensures ∙ ap (λ (q : List ℕ). with_places ks (by q)) c.as_str.ensures.value)
+    let places = ap (λ js. with_places js rest) (c.in_ok-guess.ensures.added ∙ ap (λ (q : List ℕ). with_places ks (by q)) c.as_str.ensures.value)
     ∙ sym (fold-append (insert_key nat_cmp) ks (by name) rest)
     ∙ ap (λ (ns : List (String Global)). with_places ks (flat_map by (texts ns))) (sym step)
-    ∙ c.loop-name.invariant
+    ∙ c.loop-name.invariant.places in
+    record { places = places; guess = c.in_ok-guess.ensures.behind }

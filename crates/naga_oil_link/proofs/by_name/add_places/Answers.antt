@@ -1,40 +1,42 @@
-use Rattle.std.proofs.Common.{◌≡◌, ℕ, ◌∷◌, ◌+◌, ◌<◌, length, drop, get_or, if◌then◌else◌, Some, true, false, sym, ap, ◌∙◌, arith}
+use Rattle.std.proofs.Common.{◌≡◌, ℕ, Bool, ◌∷◌, ◌+◌, drop, get_or, if◌then◌else◌, sym, ap, ◌∙◌}
 use Rattle.std.proofs.lemmas.Grind.{get_or_default_zero}
 use Rattle.std.proofs.lemmas.List.{drop_more}
 use Rattle.std.specs.List.{filter}
-use Rattle.std.specs.Ordering.{is_eq}
-use Rattle.naga_oil_link.specs.ByName.{text_at, is_name, compare_names, with_places, listed_names}
-use Rattle.naga_oil_link.proofs.IndexLemmas.{same_name, past_name}
+use Rattle.naga_oil_link.specs.ByName.{text_at, is_name, with_places, places_named, listed_names}
+use Rattle.naga_oil_derive.proofs.FoundLemmas.{ok_then}
+use Rattle.naga_oil_link.proofs.IndexLemmas.{same_name, start_there_is, reached_more}
 use Rattle.naga_oil_link.proofs.by_name.add_places.Goals as goal
 
-pub loop-at-preserved : goal.loop-at-preserved
-loop-at-preserved c =
-    let q = c.args.name.now in
-    let p = λ (k : ℕ). is_name q (text_at (listed_names c.args.of) k) in
-    let xs = c.args.index.now.items in
-    let i = c.loop-at.at in
-    let below : i < length xs = omega (arith, c.args.index.now.ok.0, c.len-at-end.ensures, c.loop-at-test.true) in
-    let x = get_or xs i 0 in
-    let ks = c.loop-at.places.keys in
-    let rest = filter p (drop (i + 1) xs) in
-    let here : c.index.result.now ≡ x = c.index.ensures ∙ get_or_default_zero xs i _ below in
-    let put : c.index-in-loop-at.result.now ≡ x = c.index-in-loop-at.ensures ∙ get_or_default_zero xs i _ below in
-    let is : p x ≡ true = ap p (sym here) ∙ sym (same_name q (text_at (listed_names c.args.of) c.index.result.now)) ∙ ap is_eq (sym c.compare.ensures) ∙ sym c.if-not-is_eq.ensures in
-    ap (λ js. with_places js rest) c.in_ok-insert.ensures.keys
-    ∙ ap (λ k. with_places ks (k ∷ rest)) put
-    ∙ ap (λ b. with_places ks (if b then x ∷ rest else rest)) (sym is)
-    ∙ ap (λ ys. with_places ks (filter p ys)) (sym (drop_more xs i 0 below))
-    ∙ c.loop-at.invariant
-
-pub returns-then-not-is_eq : goal.returns-then-not-is_eq
-returns-then-not-is_eq c =
+pub add_from-requires-clause-start : goal.add_from-requires-clause-start
+add_from-requires-clause-start c =
     let names = listed_names c.args.of in
+    let index = c.args.index.now in
     let q = c.args.name.now in
+    let n = c.args.guess in
+    let below = c.stands_at.ensures.within c.if-stands_at.true in
+    let named = c.stands_at.ensures.named c.if-stands_at.true in
+    let start = start_there_is names index q n below c.requires.index c.requires.guess named in
+    reached_more names index.items q n below start.reached (same_name q (text_at names (get_or index.items n 0)) ∙ named)
+
+pub returns-then-stands_at-clause-added : goal.returns-then-stands_at-clause-added
+returns-then-stands_at-clause-added c =
+    let names = listed_names c.args.of in
     let index = c.args.index.now in
     let xs = index.items in
-    let i = c.loop-at.at in
-    let below : i < length xs = omega (arith, index.ok.0, c.len-at-end.ensures, c.loop-at-test.true) in
-    let here : c.index.result.now ≡ get_or xs i 0 = c.index.ensures ∙ get_or_default_zero xs i _ below in
-    let other : is_eq (compare_names (text_at names (get_or xs i 0)) (Some q)) ≡ false = ap (λ k. is_eq (compare_names (text_at names k) (Some q))) (sym here) ∙ ap is_eq (sym c.compare.ensures) ∙ sym c.if-not-is_eq.ensures in
-    ap (with_places c.loop-at.places.keys) (sym (past_name names index q c.start_near-start.result i c.requires c.start_near-start.ensures (omega arith) below other))
-    ∙ c.loop-at.invariant
+    let q = c.args.name.now in
+    let n = c.args.guess in
+    let below = c.stands_at.ensures.within c.if-stands_at.true in
+    let named = c.stands_at.ensures.named c.if-stands_at.true in
+    let start = start_there_is names index q n below c.requires.index c.requires.guess named in
+    let p : ℕ → Bool = λ k. is_name q (text_at names k) in
+    let x = get_or xs n 0 in
+    let ks = c.args.places.now.keys in
+    let rest = filter p (drop (n + 1) xs) in
+    let put : c.index.result.now ≡ x = c.index.ensures ∙ get_or_default_zero xs n _ below in
+    let all : with_places c.insert.new.self.keys rest ≡ with_places ks (places_named names q) =
+    ap (λ js. with_places js rest) c.in_ok-insert.ensures.keys
+    ∙ ap (λ k. with_places ks (k ∷ rest)) put
+    ∙ ap (λ b. with_places ks (if b then x ∷ rest else rest)) (sym named)
+    ∙ ap (λ ys. with_places ks (filter p ys)) (sym (drop_more xs n 0 below))
+    ∙ ap (with_places ks) start.named in
+    ok_then c.add_from.result (λ h. h ∙ all) c.add_from.ensures.added

@@ -9,7 +9,7 @@ use Rattle.naga_oil_link.specs.CopiedBuild.{has_name_among}
 use Rattle.naga_oil_link.specs.CopySources.{IsFunctionOf, shown_function, shown_functions}
 use Rattle.naga_oil_link.proofs.CopiedLemmas.{passing_more, passing_left}
 use Rattle.naga_oil_link.proofs.SourceLemmas.{item_at}
-use Rattle.naga_oil_link.proofs.copied.functions_among.Goals.{then-has_name_among+in_ok-push, else-has_name_among}
+use Rattle.naga_oil_link.proofs.copied.functions_among.Goals.{then-has_name_ending+in_ok-push, else-has_name_ending}
 use Rattle.naga_oil_link.proofs.copied.functions_among.Goals as goal
 
 pub loop-item-preserved : goal.loop-item-preserved
@@ -20,17 +20,17 @@ loop-item-preserved c =
     let i = c.loop-item.item-index in
     let x = c.item-item.result in
     let before = c.loop-item.functions.items in
-    elim c.if-has_name_among.branch [
-      | then-has_name_among+in_ok-push w ↦
+    elim c.if-has_name_ending.branch [
+      | then-has_name_ending+in_ok-push w ↦
           let pushed = ap (λ (v : Vec (Bor (Function × Span)) Global). v.items) w.functions-is ∙ w.in_ok-push.ensures.items in
           record {
             there = subst (All IsHere) (sym pushed) (All-push IsHere before _ c.loop-item.invariant.there (item_at c.args.source.now fs i x c.as_slice-item-items.ensures (omega arith) c.item-item.is));
-            functions = passing_more shown_function named fs i x (omega arith) c.item-item.is (shown_functions before) _ (sym c.has_name_among.ensures ∙ w.if-has_name_among.true) c.loop-item.invariant.functions (ap shown_functions pushed ∙ map-append (λ (f : Bor (Function × Span)). shown_function f.now) before _);
+            functions = passing_more shown_function named fs i x (omega arith) c.item-item.is (shown_functions before) _ (sym c.has_name_ending.ensures ∙ w.if-has_name_ending.true) c.loop-item.invariant.functions (ap shown_functions pushed ∙ map-append (λ (f : Bor (Function × Span)). shown_function f.now) before _);
           }
-      | else-has_name_among w ↦
+      | else-has_name_ending w ↦
           let same = ap (λ (v : Vec (Bor (Function × Span)) Global). v.items) w.functions-is in
           record {
             there = subst (All IsHere) (sym same) c.loop-item.invariant.there;
-            functions = ap shown_functions same ∙ passing_left shown_function named fs i x (omega arith) c.item-item.is (shown_functions before) (sym c.has_name_among.ensures ∙ w.if-has_name_among.false) c.loop-item.invariant.functions;
+            functions = ap shown_functions same ∙ passing_left shown_function named fs i x (omega arith) c.item-item.is (shown_functions before) (sym c.has_name_ending.ensures ∙ w.if-has_name_ending.false) c.loop-item.invariant.functions;
           }
     ]
