@@ -17,9 +17,10 @@ use Rattle.std.specs.Ordering.{nat_cmp}
 use Rattle.std.specs.Str.{bytes_eq}
 use Rattle.naga_oil_ir.specs.Backend.{FrontEnd}
 use Rattle.naga_oil_ir.specs.ModuleValue.{ModuleValue}
-use Rattle.naga_oil_ir.specs.Rows.{Row, member_label}
+use Rattle.naga_oil_ir.specs.Rows.{Row, Text, member_label}
 use Rattle.naga_oil_ir.specs.declared.backend.Capabilities.{Capabilities}
 use Rattle.naga_oil_ir.specs.declared.language.ShaderLanguage.TheVariants.{Wgsl, Glsl}
+use Rattle.naga_oil_link.specs.CopiedBuild.{has_name_among}
 use Rattle.naga_oil_link.specs.Owned.{function_values}
 use Rattle.naga_oil_ir.specs.declared.module.Function.{Function}
 use Rattle.naga_oil_ir.specs.declared.span.Span.{Span}
@@ -188,3 +189,11 @@ module _ {X : Type 0} (row : X → Row × Span) (at : Option (Bor (BTreeSet ℕ)
   -- another one doesn't
   pub item_unnamed : (items : List NamedItem) → is_asked at i ≡ false → items ≡ names_before i → items ≡ names_before (i + 1)
   item_unnamed items unasked before = before ∙ sym (append-nil (names_before i)) ∙ ap (λ b. names_before i ++ named_items (cond b (row x ∷ []) [])) (sym unasked) ∙ sym row_more
+
+-- ---- functions that aren't owned
+
+-- nothing is lost of them
+pub unowned_function : (owned : List (List ℕ)) (back : List ℕ → Option NamedItem) (name : Text) (span : Span) → has_name_among owned name ≡ false → lost_among owned [] back (named_item name None span) ≡ None
+unowned_function owned back None span e = refl
+unowned_function owned back (Some n) span e =
+    ap (λ o. option_or o None) (not_owned owned (n ++ []) back (record { name = n; members = None; span = span }) (ap (is_among owned) (append-nil n) ∙ e))

@@ -4,6 +4,7 @@ ghost use Rattle.naga_oil_ir.specs.ModuleValue.{module_value, function_value};
 ghost use Rattle.naga_oil_ir.specs.Rows.{type_row, constant_row, global_row, member_label};
 ghost use Rattle.naga_oil_conditions.specs.View.{Gives};
 ghost use Rattle.naga_oil_link.specs.BuiltModule.{built_of};
+ghost use Rattle.naga_oil_link.specs.CopiedBuild.{EndWith};
 ghost use Rattle.naga_oil_link.specs.OwnPlaces.{own_of};
 ghost use Rattle.naga_oil_lines.specs.Text.{texts};
 ghost use Rattle.naga_oil_build.specs.Writeback.{named_item, named_items, named_functions, struct_members, last_named, lost_member, lost_of, lost_by, lost_at, lost_among, lost, unless_lost, came_back};
@@ -11,6 +12,7 @@ ghost use Rattle.naga_oil_build.specs.WritebackView.{labels_of, named_of, held, 
 
 use super::*;
 use naga_oil_ir::Index;
+use naga_oil_link::copied::{ending_of, has_name_ending};
 use naga_oil_link::items::named;
 
 // An item of a name, with its span; of a struct its members.
@@ -237,12 +239,22 @@ fn lost_among<'m>(
     Ok(None)
 }
 
-// What is lost of a function, if it has a name.
-fn lost_function<'m>(function: &'m Function, span: Span, back: &Back<'_>, owned: &Names) -> Lost<'m>
+// What is lost of a function, if it has one of the owned names, all of which end so.
+fn lost_function<'m>(
+    function: &'m Function,
+    span: Span,
+    back: &Back<'_>,
+    owned: &Names,
+    ending: &str,
+) -> Lost<'m>
+    requires { EndWith (texts owned.now.keys) ending.now }
     ensures { let items = named_item (function_value function.now).name None span in
         let told = lost_among (texts owned.now.keys) [] (held back.now) items in
         seen_lost result ≡ told }
 {
+    if !has_name_ending(function, owned, ending) {
+        return None;
+    }
     let name = named(&function.name)?;
     let item = NamedItem {
         name,
@@ -252,12 +264,13 @@ fn lost_function<'m>(function: &'m Function, span: Span, back: &Back<'_>, owned:
     lost_by(&item, name, back, owned)
 }
 
-// The first of these functions that is lost.
+// The first of these functions that is lost. The owned names likely end with a decoration.
 fn lost_among_functions<'m>(
     alloc: Global,
     functions: &'m [(Function, Span)],
     back: &[NamedItem<'_>],
     owned: &Names,
+    decoration: &str,
 ) -> Tried<Lost<'m>>
     ensures { let ours = named_functions (map (λ e. (function_value e.0, e.1)) functions.now) in
         let back = last_named (map named_of back.now) in
@@ -265,8 +278,9 @@ fn lost_among_functions<'m>(
         IfOk result (λ lost. seen_lost lost ≡ told) }
 {
     let back = by_name(alloc, back)?;
+    let ending = ending_of(owned, decoration);
     for (function, span) in functions {
-        let lost = lost_function(function, *span, &back, owned);
+        let lost = lost_function(function, *span, &back, owned, ending);
         if lost.is_some() {
             return Ok(lost);
         }
@@ -310,7 +324,7 @@ fn lost<'m>(
     }
     let ours = first_functions(&source.functions, functions);
     let theirs = named_functions(alloc, &back.functions)?;
-    lost_among_functions(alloc, ours, &theirs, &built.owned_functions)
+    lost_among_functions(alloc, ours, &theirs, &built.owned_functions, decoration)
 }
 
 // Refuses the first that is lost.
