@@ -163,9 +163,3 @@ unknown_callee source fs zero h e u at c = absurd (false≢true (sym (ap is_some
 unknown_callee source fs (suc m) h e u at c =
     let own = ⊎_elim (λ s. absurd (false≢true (sym (ap is_some u) ∙ s))) (λ l. subst (λ (o : Option (Function × Span)). IfSome o (λ x. IsSome x.0.name × IsImportable source fs m x.0)) at l) c in
     (m, refl, own.0, own.1)
-
--- a copy has a name if its source has one
-pub unnamed : (o p : Option (String Global)) → ((n : String Global) → o ≡ Some n → ⊥) → option_map string_bytes o ≡ option_map string_bytes p → IsSome p → ⊥
-unnamed (Some n) p f e s = f n refl
-unnamed None None f e s = false≢true s
-unnamed None (Some k) f e s = none-some (string_bytes k) e

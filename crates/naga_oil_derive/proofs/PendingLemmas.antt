@@ -237,16 +237,6 @@ new_steps source n d k f span p new e at =
 
 -- ---- what names mean in the end
 
--- the copy that was put last is what the name of its function means
-pub last_means : (source t : Module) (m : Maps) (u : Functions) (s : ImportState) (shift n : ℕ) (f : Function) (span : Span) → IsSome f.name → import_state m t u ≡ import_copy n (value_of source) shift s (function_value f) span → (h : ℕ) × (length u.copies ≡ h + 1) × (known_as u.names f.name ≡ Some h)
-last_means source t m u s shift n f span named e =
-    let v = function_value f in
-    let w = answer_all n (value_of source) shift s (requests_of v) in
-    let h = length w.functions in
-    let last = (with_function (value_of source) shift w v span).functions in
-    let long : length u.copies ≡ length last = sym (length-map u.copies (λ (x : Function × Span). (let y : FunctionValue × Span = (function_value x.0, x.1) in y))) ∙ ap (λ (x : ImportState). length x.functions) e in
-    (h, long ∙ length_push w.functions _, known_same u.names f.name ∙ ap (λ (x : ImportState). meant x.names v.name) e ∙ meaning_same w.names v.name h (named_value f.name named))
-
 pub callee_known : (source t x : Module) (m k : Maps) (own u : Functions) (shift n h : ℕ) → AreRanked source → IsCopying source t m → IsAnswerable source own n (Call h) → import_state k x u ≡ import_callee n (value_of source) shift (import_state m t own) h → IsSome (callee_at u.names source.functions h)
 callee_known source t x m k own u shift n h a i may e =
     ap is_some (sym (callee_value source u h) ∙ ap (λ (y : ImportState). meant_at y.names (slice_get (value_of source).functions h)) e) ∙ call_means source t m own shift n h a i may

@@ -17,7 +17,7 @@ use Rattle.naga_oil_ir.specs.declared.span.Span.{Span}
 use Rattle.naga_oil_ir.specs.declared.types.LocalVariable.{LocalVariable}
 use Rattle.naga_oil_rename.specs.Renames.{Renames}
 use Rattle.naga_oil_form.specs.BodyForm.{kinds, named_of, operand_links}
-use Rattle.naga_oil_walk.specs.Naming.{signature_names, local_names, token_names, function_names}
+use Rattle.naga_oil_walk.specs.Naming.{IsStub, signature_names, local_names, token_names, function_names}
 use Rattle.naga_oil_walk.specs.declared.walk.Request.{Request}
 use Rattle.naga_oil_walk.specs.declared.walk.Request.TheVariants.{Item}
 use Rattle.naga_oil_derive.specs.Answered.{ImportState, Caller, answer_one, answer_by, answer_all, import_callee}
@@ -28,7 +28,7 @@ use Rattle.naga_oil_derive.specs.Copying.{IsThere}
 use Rattle.naga_oil_derive.specs.DerivedFunctions.{requests_of}
 use Rattle.naga_oil_derive.specs.Functions.{argument_under, result_under, name_put, names_under, named_values}
 use Rattle.naga_oil_derive.specs.Imported.{Asks}
-use Rattle.naga_oil_derive.specs.Stubs.{IsStub, argument_types, signature_types}
+use Rattle.naga_oil_derive.specs.Stubs.{argument_types, signature_types}
 use Rattle.naga_oil_derive.proofs.FunctionValues.{requests_same}
 
 -- ---- what they name

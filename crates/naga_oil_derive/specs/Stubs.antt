@@ -1,14 +1,9 @@
 -- Functions that name no more than the types of their arguments and their results.
 use Rattle.std.specs.Prelude.{◌≡◌, ◌++◌, List, [], map, Option, Some, option_map, option_to_list}
-use Rattle.naga_oil_ir.specs.Body.{block_tokens}
 use Rattle.naga_oil_ir.specs.declared.module.Function.{Function}
 use Rattle.naga_oil_ir.specs.declared.module.FunctionArgument.{FunctionArgument}
 use Rattle.naga_oil_ir.specs.declared.names.ItemPlace.{ItemPlace}
 use Rattle.naga_oil_ir.specs.declared.names.ItemPlace.TheVariants.{TypeItem}
-
--- a function has neither local variables nor statements
-abbrev pub IsStub : Function → Type 0
-IsStub f = (f.local_variables ≡ []) × (block_tokens f.body ≡ [])
 
 -- the types of arguments
 abbrev pub argument_types : List FunctionArgument → List (Option ItemPlace)

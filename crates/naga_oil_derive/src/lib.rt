@@ -18,6 +18,7 @@ pub use copy::Copying;
 pub use derive::DerivedModule;
 use import::{FunctionNames, Functions, known_as};
 use indexmap::IndexMap;
+pub use localized::no_body;
 use localized::{localized, localized_stub};
 pub use maps::Maps;
 use maps::{nowhere, place_of, stands_at};

@@ -10,7 +10,7 @@ ghost use Rattle.naga_oil_derive.specs.Copies.{under_table, range_under, FitIn};
 ghost use Rattle.naga_oil_derive.specs.CopiedFunction.{copy_place as place_of_copy, with_copy, expression_state, copy_expression, copy_expressions, copy_function};
 ghost use Rattle.naga_oil_derive.specs.Expressions.{IsCopyAt};
 ghost use Rattle.naga_oil_derive.specs.Copying.{renames_under};
-ghost use Rattle.naga_oil_derive.specs.Stubs.{IsStub};
+ghost use Rattle.naga_oil_walk.specs.Naming.{IsStub};
 ghost use Rattle.naga_oil_derive.specs.Functions.{argument_under, result_under, local_under, names_under, name_put, named_values, local_values};
 
 use super::import::Went;
@@ -222,7 +222,7 @@ pub fn localized(names: Went<'_>, function: &Function, walk: &Walk) -> Tried<Fun
 }
 
 /// A body of no statements.
-fn no_body(alloc: Global) -> Block
+pub fn no_body(alloc: Global) -> Block
     ensures { block_tokens result ≡ [] }
 {
     let body = Vec::new(alloc);

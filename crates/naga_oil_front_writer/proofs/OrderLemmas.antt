@@ -1,10 +1,13 @@
 -- Items of one name, and lines that are taken from the end.
-use Rattle.std.proofs.Common.{◌≡◌, ℕ, zero, suc, min, ◌&&◌, ◌+◌, ◌-◌, ◌<◌, Bool, true, false, cond, List, [], ◌∷◌, ◌++◌, length, Option, Some, None, is_some, option_map, refl, sym, ap, subst, ◌∙◌, arith, bytes_eq, set}
+use Rattle.std.proofs.Common.{◌≡◌, ℕ, zero, suc, min, ◌&&◌, ◌+◌, ◌-◌, ◌<◌, Bool, true, false, cond, List, [], ◌∷◌, ◌++◌, length, Option, Some, None, is_some, option_map, refl, sym, ap, subst, ◌∙◌, arith, bytes_eq, set, slice_get, get_or, drop, Bor, ◌≤◌, max}
+use lib.Seq.{drop-cons}
+use Rattle.std.proofs.lemmas.Option.{none-some, same_Some, slice_get-map, slice_get_past}
 use Rattle.std.specs.Option.{option_or, IfSome}
 use Rattle.std.proofs.lemmas.Bool.Decides.{same_from_decides}
 use Rattle.std.proofs.lemmas.Slice.Eq.{bytes_eq-Decides}
-use Rattle.naga_oil_symbols.specs.Names.{last_place}
-use Rattle.naga_oil_front_writer.specs.Order.{greatest_count, place_from, next_places, take_last, fits, fit}
+use Rattle.naga_oil_symbols.specs.Names.{last_place, texts_of}
+use Rattle.naga_oil_front_writer.specs.Order.{greatest_count, place_from, next_places, bounds_used, take_last, fits, fit}
+use Rattle.naga_oil_front_writer.specs.declared.order.Bounds.{Bounds}
 use Rattle.naga_oil_front_writer.specs.declared.order.Room.{Room}
 
 bytes_eq-sym : (a b : List ℕ) → bytes_eq a b ≡ bytes_eq b a
@@ -87,6 +90,42 @@ pub length-next_places : (i : ℕ) (ns : List (List ℕ)) → length (next_place
 length-next_places i [] = refl
 length-next_places i (n ∷ ns) = ap suc (length-next_places (i + 1) ns)
 
+-- a name's next place is the first of those behind it
+pub next_at : (i k : ℕ) (n : List ℕ) (ns : List (List ℕ)) → slice_get ns k ≡ Some n → slice_get (next_places i ns) k ≡ Some (place_from (i + suc k) n (drop (suc k) ns))
+next_at i k n [] e = absurd (none-some n e)
+next_at i zero n (m ∷ ns) e = ap (λ x. Some (place_from (i + 1) x ns)) (same_Some m n e)
+next_at i (suc k) n (m ∷ ns) e =
+    let same : i + 1 + suc k ≡ i + suc (suc k) = omega arith in
+    next_at (i + 1) k n ns e ∙ ap (λ j. Some (place_from j n (drop (suc k) ns))) same
+
+-- where there is no name there is no next one
+pub next_none : (i k : ℕ) (ns : List (List ℕ)) → slice_get ns k ≡ None → slice_get (next_places i ns) k ≡ None
+next_none i k [] e = refl
+next_none i zero (m ∷ ns) e = absurd (none-some m (sym e))
+next_none i (suc k) (m ∷ ns) e = next_none (i + 1) k ns e
+
+-- a name is the first equal one, or the first stands behind it
+pub place_step : (ts : List (Bor (List ℕ))) (k : ℕ) (n : List ℕ) (d : Bor (List ℕ)) → k < length ts
+    → place_from k n (texts_of (drop k ts)) ≡ cond (bytes_eq n (get_or ts k d).now) k (place_from (k + 1) n (texts_of (drop (k + 1) ts)))
+place_step ts k n d within =
+    let next : suc k ≡ k + 1 = omega arith in
+    ap (λ (xs : List (Bor (List ℕ))). place_from k n (texts_of xs)) (drop-cons ts k d within) ∙ ap (λ j. cond (bytes_eq n (get_or ts k d).now) k (place_from (k + 1) n (texts_of (drop j ts)))) next
+
+-- nothing is used where there is no name
+pub unused : (ns : List (List ℕ)) (k : ℕ) (b : Bounds) → slice_get ns k ≡ None → b ≡ bounds_used ns k b
+unused ns k b e = by (slice_get (next_places 0 ns) k) (next_none 0 k ns e)
+  where
+    by : (o : Option ℕ) → o ≡ None → b ≡ elim o [ None ↦ b | Some next ↦ record { least = max b.least (k + 1); most = min b.most next } ]
+    by None h = refl
+    by (Some next) h = absurd (none-some next (sym h))
+
+-- the name at a place
+pub text_there : (ts : List (Bor (List ℕ))) (k : ℕ) (t : Bor (List ℕ)) → slice_get ts k ≡ Some t → slice_get (texts_of ts) k ≡ Some t.now
+text_there ts k t e = slice_get-map (λ x. x.now) ts k ∙ ap (option_map (λ x. x.now)) e
+
+pub text_past : (ts : List (Bor (List ℕ))) (k : ℕ) → length ts ≤ k → slice_get (texts_of ts) k ≡ None
+text_past ts k e = slice_get-map (λ x. x.now) ts k ∙ ap (option_map (λ x. x.now)) (slice_get_past ts k e)
+
 bounded : (q : List ℕ) (ns : List (List ℕ)) → IfSome (last_place q ns) (λ p. p < length ns)
 bounded q [] = tt
 bounded q (n ∷ ns) = bound (bytes_eq n q) (last_place q ns) (bounded q ns)
@@ -107,8 +146,8 @@ none_from i n (m ∷ ms) e =
     elim (bytes_eq n m) as (λ b. cond b true (is_there n ms) ≡ false → cond b i (place_from (i + 1) n ms) ≡ greatest_count) [ true ↦ λ there. cc | false ↦ λ there. none_from (i + 1) n ms there ] e
 
 -- a name that has no last place has no first one
-pub first_place : (i : ℕ) (n : List ℕ) (ns : List (List ℕ)) → last_place n ns ≡ None → place_from i n ns ≡ greatest_count
-first_place i n ns e = none_from i n ns (is_there-last n ns ∙ ap is_some e)
+pub first_none : (n : List ℕ) (ns ms : List (List ℕ)) → false ≡ is_some (last_place n ns) → ns ≡ ms → greatest_count ≡ place_from 0 n ms
+first_none n ns ms e same = sym (none_from 0 n ns (is_there-last n ns ∙ sym e)) ∙ ap (place_from 0 n) same
 
 -- ---- lines that are taken from the end
 -- what the line that is taken makes of those before it

@@ -1,5 +1,6 @@
 // Where a line may stand, so that each name means its item.
-ghost use Rattle.std.specs.Prelude.{◌≡◌, ◌++◌, ◌∷◌, [], ◌&&◌, nat_le, OnOk, map, reverse, option_map};
+ghost use Rattle.std.specs.Prelude.{◌≡◌, ◌++◌, ◌∷◌, [], ◌&&◌, ◌<◌, Some, length, nat_le, OnOk, IfOk, drop, is_some, slice_get, map, reverse, option_map};
+ghost use Rattle.naga_oil_symbols.specs.Names.{last_place, texts_of};
 ghost use Rattle.naga_oil_front_writer.specs.Order as spec;
 
 use naga_oil_symbols::Names;
@@ -33,14 +34,26 @@ pub const ANYWHERE: Room = Room {
     functions: ANY,
 };
 
-/// The names of items of a kind, and for each the place of the next equal one.
+// The place of the first of these names from one on that is equal to another, or the greatest number for none.
+fn place_from(names: &[&str], from: usize, name: &str) -> usize
+    ensures { result ≡ spec.place_from from name.now (texts_of (drop from names.now)) }
+{
+    for place in from..names.len() {
+        if name == names[place] {
+            return place;
+        }
+    }
+    usize::MAX
+}
+
+/// Names, and for each the place of the next equal one.
 #[derive(Drop)]
-pub struct ItemNames<'m> {
+struct NextNames<'m> {
     names: Names<'m>,
     next: Vec<usize>,
 }
 
-impl<'m> Model for ItemNames<'m> {
+impl<'m> Model for NextNames<'m> {
     ghost use Rattle.std.specs.Prelude.{◌≡◌, ℕ, List};
     ghost use Rattle.naga_oil_front_writer.specs.Order.{next_places};
 
@@ -51,28 +64,20 @@ impl<'m> Model for ItemNames<'m> {
     ghost invariant = { λ i. i.next.items ≡ next_places 0 i.names };
 }
 
-impl<'m> ItemNames<'m> {
-    ghost use Rattle.naga_oil_front_writer.specs.Order.{name_used, bounds_used, place_from};
-
-    pub fn new(alloc: Global) -> ItemNames<'m>
+impl<'m> NextNames<'m> {
+    // No names, with room for so many where it isn't refused.
+    fn new(alloc: Global, room: usize) -> NextNames<'m>
         ensures { result ≡ [] }
     {
-        ItemNames {
-            names: Names::new(alloc),
-            next: Vec::new(alloc),
-        }
+        let mut names = Names::new(alloc);
+        names.make_room(room);
+        let mut next = Vec::new(alloc);
+        let _ = next.reserve(room);
+        NextNames { names, next }
     }
 
-    /// Room ahead for so many names more, where it isn't refused.
-    pub fn make_room(&mut self, more: usize)
-        ensures { self.new ≡ self.old }
-    {
-        self.names.make_room(more);
-        let _ = self.next.reserve(more);
-    }
-
-    /// One name more, which is the last. Without memory none is left.
-    pub fn push(&mut self, name: &'m str) -> Result<(), AllocError>
+    // One name more, which is the last. Without memory none is left.
+    fn push(&mut self, name: &'m str) -> Result<(), AllocError>
         ensures { OnOk result (self.new ≡ self.old ++ name.now ∷ []) }
     {
         let count = self.next.len();
@@ -87,33 +92,117 @@ impl<'m> ItemNames<'m> {
         Ok(())
     }
 
+    // Whether there is this name.
+    fn has(&self, name: &str) -> bool
+        ensures { result ≡ is_some (last_place name.now self.now) }
+    {
+        self.names.place(name).is_some()
+    }
+
+    // The place of the next name that is equal to the one at a place.
+    fn next(&self, place: usize) -> usize
+        requires { place < length self.now }
+        ensures { slice_get (spec.next_places 0 self.now) place ≡ Some result }
+    {
+        self.next[place]
+    }
+}
+
+// Tells of each of these names the next equal one.
+fn next_names<'m>(alloc: Global, names: &[&'m str]) -> Result<NextNames<'m>, AllocError>
+    ensures { IfOk result (λ n. n ≡ texts_of names.now) }
+{
+    let mut next = NextNames::new(alloc, names.len());
+    for name in names {
+        next.push(*name)?;
+    }
+    Ok(next)
+}
+
+/// The names of items of a kind. Which of them are equal is looked for at each use, unless it was told of all.
+#[derive(Drop)]
+pub struct ItemNames<'m> {
+    alloc: Global,
+    texts: Vec<&'m str>,
+    told: Option<NextNames<'m>>,
+}
+
+impl<'m> Model for ItemNames<'m> {
+    ghost use Rattle.std.specs.Prelude.{◌≡◌, ℕ, List, IfSome};
+    ghost use Rattle.naga_oil_symbols.specs.Names.{texts_of};
+
+    ghost Value = { List (List ℕ) };
+
+    ghost view = { λ i. texts_of i.texts.items };
+
+    ghost invariant = { λ i. IfSome i.told (λ t. t ≡ texts_of i.texts.items) };
+}
+
+impl<'m> ItemNames<'m> {
+    ghost use Rattle.naga_oil_front_writer.specs.Order.{name_used, bounds_used, place_from};
+
+    /// No names, with room for so many where it isn't refused.
+    pub fn new(alloc: Global, room: usize) -> ItemNames<'m>
+        ensures { result ≡ [] }
+    {
+        let mut texts = Vec::new(alloc);
+        let _ = texts.reserve(room);
+        ItemNames {
+            alloc,
+            texts,
+            told: None,
+        }
+    }
+
+    /// One name more, which is the last.
+    pub fn push(&mut self, name: &'m str) -> Result<(), AllocError>
+        ensures { OnOk result (self.new ≡ self.old ++ name.now ∷ []) }
+    {
+        self.told = None;
+        self.texts.push(name)?;
+        Ok(())
+    }
+
+    /// Tells which names are equal, before lines use them.
+    pub fn tell(&mut self) -> Result<(), AllocError>
+        ensures { self.new ≡ self.old }
+    {
+        if self.told.is_none() {
+            self.told = Some(next_names(self.alloc, &self.texts)?);
+        }
+        Ok(())
+    }
+
+    // The place of the next name that is equal to the one at a place.
+    fn next(&self, place: usize, name: &str) -> usize
+        requires { slice_get self.now place ≡ Some name.now }
+        ensures { slice_get (spec.next_places 0 self.now) place ≡ Some result }
+    {
+        match &self.told {
+            Some(told) => told.next(place),
+            None => place_from(&self.texts, place + 1, name),
+        }
+    }
+
     /// The name of an item that a line names; the item stands before the line, and the next of its name behind it.
     pub fn used(&self, place: usize, bounds: &mut Bounds) -> Option<&'m str>
         ensures name { option_map (λ n. n.now) result ≡ name_used self.now place }
         ensures bounds { bounds.new ≡ bounds_used self.now place bounds.old }
     {
-        if let Some(next) = self.next.get(place) {
-            bounds.least = bounds.least.max(place + 1);
-            bounds.most = bounds.most.min(*next);
-        }
-        self.names.texts().get(place).copied()
+        let name = *self.texts.get(place)?;
+        bounds.least = bounds.least.max(place + 1);
+        bounds.most = bounds.most.min(self.next(place, name));
+        Some(name)
     }
 
     /// The first place of a name, or the greatest number for none.
-    #[tactic(auto, using(crate::proofs::OrderLemmas::first_place))]
     pub fn first_place(&self, name: &str) -> usize
         ensures { result ≡ place_from 0 name.now self.now }
     {
-        if self.names.place(name).is_none() {
-            return usize::MAX;
+        match &self.told {
+            Some(told) if !told.has(name) => usize::MAX,
+            _ => place_from(&self.texts, 0, name),
         }
-        let texts = self.names.texts();
-        for (place, text) in texts.iter().enumerate() {
-            if name == *text {
-                return place;
-            }
-        }
-        usize::MAX
     }
 }
 
@@ -123,6 +212,17 @@ pub struct Items<'m> {
     pub constants: ItemNames<'m>,
     pub globals: ItemNames<'m>,
     pub functions: ItemNames<'m>,
+}
+
+impl<'m> Items<'m> {
+    /// Tells which names are equal, before lines use them.
+    pub fn tell(&mut self) -> Result<(), AllocError>
+        ensures { self.new ≡ self.old }
+    {
+        self.constants.tell()?;
+        self.globals.tell()?;
+        self.functions.tell()
+    }
 }
 
 // A line needs what the lines of its kind before it need.

@@ -153,8 +153,7 @@ fn local_names<'m>(alloc: Global, locals: &[(&'m str, usize)]) -> Result<Names<'
 fn function_words<'m>(alloc: Global, functions: &'m [(Function, Span)]) -> Written<ItemNames<'m>>
     ensures { Finds (λ n. n) result (spec.function_words (spec.function_values functions.now)) }
 {
-    let mut names = ItemNames::new(alloc);
-    names.make_room(functions.len());
+    let mut names = ItemNames::new(alloc, functions.len());
     for function in functions {
         names.push(valid_name(&function.0.name)?)?;
     }
@@ -178,8 +177,7 @@ fn push_constants<'m>(alloc: Global, out: &mut String, of: &'m Module) -> Writte
         let lines = spec.constants_text value.global_expressions value.constants in
         Writes (λ n. n) result lines (string_bytes out.old) (string_bytes out.new) }
 {
-    let mut names = ItemNames::new(alloc);
-    names.make_room(of.constants.len());
+    let mut names = ItemNames::new(alloc, of.constants.len());
     for constant in of.constants.as_slice() {
         let name = valid_name(&constant.0.name)?;
         let value = number_at(of, constant.0.ty, constant.0.init.index())?;
@@ -210,8 +208,7 @@ fn push_globals<'m>(alloc: Global, out: &mut String, of: &'m Module) -> Written<
         let lines = spec.globals_text value.global_expressions value.global_variables in
         Writes (λ n. n) result lines (string_bytes out.old) (string_bytes out.new) }
 {
-    let mut names = ItemNames::new(alloc);
-    names.make_room(of.global_variables.len());
+    let mut names = ItemNames::new(alloc, of.global_variables.len());
     for global in of.global_variables.as_slice() {
         let (name, value) = global_word(of, &global.0)?;
         write!(out, "var {name} = {value}\n")?;
@@ -270,6 +267,7 @@ impl<'m> Writer<'m> {
             Writes (λ r. r) result line (string_bytes self.old.text) (string_bytes self.new.text) }
         ensures items { OnOk result (self.new.items ≡ self.old.items) }
     {
+        self.items.tell()?;
         let locals = local_words(self.alloc, function.local_variables.as_slice())?;
         let names = OwnNames {
             parameters,

@@ -1,12 +1,12 @@
 -- Names in byte order: which are among them.
-use Rattle.std.proofs.Common.{◌≡◌, ℕ, nat_eq, List, [], ◌∷◌, Bool, true, false, ◌||◌, refl, sym, ap, ◌∙◌, String, Global, string_bytes, Ordering, Less, Equal, Greater}
+use Rattle.std.proofs.Common.{◌≡◌, ℕ, nat_eq, List, [], ◌∷◌, Bool, true, false, ◌||◌, All, Option, Some, None, Bor, subst, refl, sym, ap, ◌∙◌, String, Global, string_bytes, Ordering, Less, Equal, Greater}
 use Rattle.std.proofs.lemmas.Map.Lookups.{exact_bytes}
 use Rattle.std.proofs.lemmas.Map.Text.{is_eq-slice_cmp}
 use Rattle.std.specs.BTreeMap.{is_at}
 use Rattle.std.specs.BTreeSet.{insert_key}
 use Rattle.std.specs.Cmp.Lexicographic.{slice_cmp}
 use Rattle.std.proofs.lemmas.Bool.{false≢true}
-use Rattle.std.proofs.lemmas.List.Elements.{All-head, All-tail}
+use Rattle.std.proofs.lemmas.List.Elements.{All-head, All-tail, All-nil, All-cons}
 use Rattle.std.proofs.lemmas.Slice.Eq.{bytes_eq-Decides}
 use Rattle.std.specs.List.{list_any, fold, ends_with}
 use Rattle.std.specs.Ordering.{nat_cmp, match_ordering}
@@ -14,7 +14,8 @@ use Rattle.std.specs.Str.{bytes_eq}
 use Rattle.std.specs.String.{string_cmp}
 use Rattle.naga_oil_lines.specs.DirectivesText.{with_name, in_order}
 use Rattle.naga_oil_lines.specs.Text.{is_among, texts}
-use Rattle.naga_oil_link.specs.CopiedBuild.{EndWith}
+use Rattle.naga_oil_link.specs.CopiedBuild.{AreAmong, EndWith}
+use Rattle.std.specs.Map.Iter.{TakesFirst}
 
 pub or_last : (a b : Bool) → (a || b) ≡ (b || a)
 or_last true true = refl
@@ -61,10 +62,33 @@ ends_apart (x ∷ names) ending n all other = by (bytes_eq n x) refl (ends_apart
     by true e rest = absurd (false≢true (sym other ∙ ap (λ y. ends_with nat_eq y ending) ((bytes_eq-Decides n x).0 e) ∙ All-head Ends x names all))
     by false e rest = rest
 
+-- what is left of names that are among others is among them
+pub left_among : (ks : List (List ℕ)) (s t : List (String Global)) (r : Option (Bor (String Global))) → TakesFirst (λ x. x.now) s r t → AreAmong ks (texts s) → AreAmong ks (texts t)
+left_among ks s t None e all = subst (λ (xs : List (String Global)). AreAmong ks (texts xs)) (sym e.1) (All-nil (λ (n : List ℕ). is_among ks n ≡ true))
+left_among ks s t (Some x) e all = All-tail (λ (n : List ℕ). is_among ks n ≡ true) (string_bytes x.now) (texts t) (subst (λ (xs : List (String Global)). AreAmong ks (texts xs)) e all)
+
+-- the first of names that are among others is among them
+pub first_among : (ks : List (List ℕ)) (s t : List (String Global)) (name : String Global) → s ≡ name ∷ t → AreAmong ks (texts s) → is_among ks (string_bytes name) ≡ true
+first_among ks s t name e all = All-head (λ (n : List ℕ). is_among ks n ≡ true) (string_bytes name) (texts t) (subst (λ (xs : List (String Global)). AreAmong ks (texts xs)) e all)
+
 -- what a set of names is asked
 pub among_texts : (ks : List (String Global)) (n : List ℕ) → list_any (is_at (λ k. slice_cmp nat_cmp n (string_bytes k))) ks ≡ is_among (texts ks) n
 among_texts [] n = refl
 among_texts (k ∷ ks) n = ap (λ b. b || list_any (is_at (λ k. slice_cmp nat_cmp n (string_bytes k))) ks) (is_eq-slice_cmp n (string_bytes k)) ∙ ap (λ b. bytes_eq n (string_bytes k) || b) (among_texts ks n)
+
+-- a set's names are among them
+pub all_among : (ks s : List (String Global)) → s ≡ ks → All (λ (k : String Global). list_any (is_at (λ j. slice_cmp nat_cmp (string_bytes k) (string_bytes j))) ks ≡ true) ks → AreAmong (texts ks) (texts s)
+all_among ks s e found = subst (λ (xs : List (String Global)). AreAmong (texts ks) (texts xs)) (sym e) (by ks found)
+  where
+    Found : String Global → Type 0
+    Found k = list_any (is_at (λ j. slice_cmp nat_cmp (string_bytes k) (string_bytes j))) ks ≡ true
+
+    Among : List ℕ → Type 0
+    Among n = is_among (texts ks) n ≡ true
+
+    by : (xs : List (String Global)) → All Found xs → AreAmong (texts ks) (texts xs)
+    by [] all = All-nil Among
+    by (x ∷ xs) all = All-cons Among (string_bytes x) (texts xs) (sym (among_texts ks (string_bytes x)) ∙ All-head Found x xs all) (by xs (All-tail Found x xs all))
 
 -- a name that is inserted
 pub bytes-insert : (ks : List (String Global)) (name : String Global) → texts (insert_key string_cmp ks name) ≡ with_name (texts ks) (string_bytes name)

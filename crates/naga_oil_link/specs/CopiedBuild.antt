@@ -1,6 +1,6 @@
 -- The module that a build holds, and its header: copies of what was parsed, as values.
-use Rattle.std.specs.Prelude.{◌≡◌, ℕ, Bool, true, false, ◌++◌, List, All, fold, filter, option_map, nat_eq, nat_lt, length, Some, None, if◌then◌else◌}
-use Rattle.std.specs.List.{ends_with}
+use Rattle.std.specs.Prelude.{◌≡◌, ℕ, Bool, true, false, ◌++◌, List, [], All, fold, filter, option_map, nat_eq, nat_lt, length, Some, None, if◌then◌else◌}
+use Rattle.std.specs.List.{ends_with, list_all}
 use Rattle.naga_oil_ir.specs.ModuleValue.{ModuleValue, FunctionValue}
 use Rattle.naga_oil_ir.specs.Rows.{Text}
 use Rattle.naga_oil_ir.specs.declared.names.ItemPlace.{ItemPlace}
@@ -84,9 +84,17 @@ copy_places all_types m own d = fold (copy_at all_types m own d) (nothing_copied
 abbrev pub EndWith : List (List ℕ) → List ℕ → Type 0
 EndWith names ending = All (λ n. ends_with nat_eq n ending ≡ true) names
 
+-- the decoration, if all of some names end with it, or else nothing
+abbrev pub ending_of : List (List ℕ) → (decoration : List ℕ) → List ℕ
+ending_of names d = if list_all (λ n. ends_with nat_eq n d) names then d else []
+
 abbrev pub has_name_among : List (List ℕ) → Text → Bool
 has_name_among names None = false
 has_name_among names (Some n) = is_among names n
+
+-- all of some names are among others
+abbrev pub AreAmong : (names others : List (List ℕ)) → Type 0
+AreAmong names others = All (λ n. is_among names n ≡ true) others
 
 -- those of these names
 abbrev pub functions_among : (names : List (List ℕ)) → List (FunctionValue × Span) → List (FunctionValue × Span)

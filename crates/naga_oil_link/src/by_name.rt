@@ -1,5 +1,5 @@
 //! The items of a module by their names.
-ghost use Rattle.std.specs.Prelude.{◌≡◌, ◌++◌, [], ℕ, List, Some, IfOk, IsTrue, OnOk, ◌<◌, true, get_or, is_some, length, option_map, string_bytes};
+ghost use Rattle.std.specs.Prelude.{◌≡◌, ◌++◌, ◌↔◌, [], ℕ, List, Some, IfOk, IsTrue, OnOk, ◌<◌, true, get_or, is_some, length, option_map, string_bytes};
 ghost use Rattle.std.specs.List.{filter, flat_map, range_with_len};
 ghost use Rattle.std.specs.Ordering.{is_lt};
 ghost use Rattle.naga_oil_ir.specs.ModuleValue.{module_value};
@@ -129,10 +129,9 @@ fn start_of(index: &ByName, of: Listed<'_>, name: &str) -> usize
 }
 
 // Whether one of a name stands at a place of an index.
-fn stands_at(index: &ByName, of: Listed<'_>, at: usize, name: &str) -> bool
-    ensures within { IsTrue result → at < length index.now.items }
-    ensures named { let there = text_at (listed_names of.entry) (get_or index.now.items at 0) in
-        IsTrue result → is_name name.now there ≡ true }
+fn is_named_at(index: &ByName, of: Listed<'_>, at: usize, name: &str) -> bool
+    ensures { let there = text_at (listed_names of.entry) (get_or index.now.items at 0) in
+        IsTrue result ↔ (at < length index.now.items) × (is_name name.now there ≡ true) }
 {
     at < index.len() && of.compare(index[at], Some(name)).is_eq()
 }
@@ -175,7 +174,7 @@ fn add_places(
         OnOk result (places.new.keys ≡ with_places places.old.keys more) }
     ensures behind { IfOk result (MayStart (listed_names of.entry) index.now.items) }
 {
-    if stands_at(index, of, guess, name) {
+    if is_named_at(index, of, guess, name) {
         places.insert(index[guess])?;
         return add_from(places, index, of, guess + 1, name);
     }

@@ -1,6 +1,5 @@
 //! The module that a build holds and its header, copied from what was parsed.
 ghost use Rattle.std.specs.Prelude.{◌≡◌, [], true, false, All, IfOk, IsSome, OnOk, fold, map, option_map, string_bytes};
-ghost use Rattle.naga_oil_ir.specs.Body.{block_tokens};
 ghost use Rattle.naga_oil_form.specs.ItemForm.{IsThere};
 ghost use Rattle.naga_oil_ir.specs.ModuleValue.{argument_value, function_value, module_value};
 ghost use Rattle.naga_oil_derive.specs.CopiedEntry.{make_module};
@@ -10,14 +9,14 @@ ghost use Rattle.naga_oil_derive.specs.DerivedValue.{import_item};
 ghost use Rattle.naga_oil_form_laws.specs.EntryForm.{IsModuleFormed};
 ghost use Rattle.naga_oil_lines.specs.Text.{texts};
 ghost use Rattle.naga_oil_link.specs.BuiltModule.{built_of};
-ghost use Rattle.naga_oil_link.specs.CopiedBuild.{copies_of, nothing_copied, decorated_type, went_to, import_own, copy_own, copy_other, copy_at, copy_places, with_function, with_stub, functions_among, with_stubs, with_functions, have_special, put_header, put_whole, copy_build, copies_special, has_name_among, EndWith};
+ghost use Rattle.naga_oil_link.specs.CopiedBuild.{copies_of, nothing_copied, decorated_type, went_to, import_own, copy_own, copy_other, copy_at, copy_places, with_function, with_stub, functions_among, with_stubs, with_functions, have_special, put_header, put_whole, copy_build, copies_special, has_name_among, EndWith, ending_of, AreAmong};
 ghost use Rattle.naga_oil_link.specs.CopySources.{CopiesFrom, IsFunctionOf, stub_of, shown_function, shown_functions};
 ghost use Rattle.naga_oil_link.specs.OwnPlaces.{own_of};
 ghost use Rattle.naga_oil_link.specs.Places.{places_of, name_at};
 
 use super::items::{name_at, named, places_of};
 use super::*;
-use naga_oil_ir::Block;
+use naga_oil_derive::no_body;
 use naga_oil_rename::copied_name;
 
 /// Copies an item of the source, and answers where it went.
@@ -42,19 +41,28 @@ pub fn import_item(into: &mut DerivedModule<'_>, place: ItemPlace) -> Tried<Item
     }
 }
 
-/// Whether a function has one of these names.
-pub fn has_name_among(function: &Function, names: &Names) -> bool
-    ensures { result ≡ has_name_among (texts names.now.keys) (function_value function.now).name }
+/// Whether a function has one of these names. The next of them is compared first, which it often has where functions are asked
+/// in the order of names.
+pub fn has_name_next(function: &Function, names: &Names, next: &mut NamesIter<'_>) -> bool
+    requires { AreAmong (texts names.now.keys) (texts next.old) }
+    ensures next { AreAmong (texts names.now.keys) (texts next.new) }
+    ensures told { let name = (function_value function.now).name in
+        result ≡ has_name_among (texts names.now.keys) name }
 {
-    match named(&function.name) {
-        Some(name) => names.contains(name),
-        None => false,
+    let Some(name) = named(&function.name) else {
+        return false;
+    };
+    if let Some(guess) = next.next() {
+        if guess.as_str() == name {
+            return true;
+        }
     }
+    names.contains(name)
 }
 
 /// The decoration, if all of these names end with it, or else nothing.
 pub fn ending_of<'a>(names: &Names, decoration: &'a str) -> &'a str
-    ensures { EndWith (texts names.now.keys) result.now }
+    ensures { result.now ≡ ending_of (texts names.now.keys) decoration.now }
 {
     for name in names.iter() {
         if !name.as_str().as_bytes().ends_with(decoration.as_bytes()) {
@@ -86,14 +94,6 @@ fn arguments_of(alloc: Global, arguments: &[FunctionArgument]) -> Tried<Vec<Func
         copies.push(FunctionArgument { name, ..*argument })?;
     }
     Ok(copies)
-}
-
-// A body of no statements.
-fn no_body(alloc: Global) -> Block
-    ensures { block_tokens result ≡ [] }
-{
-    let body = Vec::new(alloc);
-    Block { body }
 }
 
 // A function's name, arguments and result alone.

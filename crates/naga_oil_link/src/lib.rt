@@ -32,12 +32,15 @@ use naga_oil_ir::{
 use naga_oil_marks::{add_decoration, has_module_mark};
 pub use own_items::OwnItems;
 use std::alloc::Global;
-use std::collections::BTreeSet;
+use std::collections::{BTreeSet, btree_set};
 use std::mem;
 use std::sync::Arc;
 
 /// Names, in byte order.
 pub type Names = BTreeSet<String>;
+
+/// Names in byte order, one by one.
+pub type NamesIter<'n> = btree_set::Iter<'n, String>;
 
 /// Places in a list of items, in order.
 pub type Places = BTreeSet<usize>;

@@ -8,13 +8,14 @@ ghost use Rattle.naga_oil_lines.specs.Text.{texts};
 ghost use Rattle.naga_oil_imports.specs.Uses.{import_of};
 ghost use Rattle.naga_oil_link.specs.BuiltModule.{built_of, builds_of};
 ghost use Rattle.naga_oil_link.specs.ByName.{HasItems};
+ghost use Rattle.naga_oil_link.specs.CopiedBuild.{AreAmong};
 ghost use Rattle.naga_oil_link.specs.CopySources.{CopiesFrom};
 ghost use Rattle.naga_oil_link.specs.Linked.{asked_names, asked_of, overriding_names, link_places, link_functions, link_source, link_items, link_header, link_whole};
 ghost use Rattle.naga_oil_link.specs.LinkView.{IsLinkFormed, link_own_function, LinksImports};
 ghost use Rattle.naga_oil_link.specs.OwnPlaces.{own_of};
 
 use super::by_name::{Asked, AskedItems, Listed, NamedItems, add_named, wanted};
-use super::copied::{has_name_among, import_item};
+use super::copied::{has_name_next, import_item};
 use super::*;
 use naga_oil_imports::ImportDefinition as Import;
 
@@ -44,14 +45,17 @@ fn overriding(alloc: Global, of: &Build) -> Tried<Names>
     Ok(names)
 }
 
-// Links the function at a place, if the build owns it, unless one of its name was linked.
+// Links the function at a place, if the build owns it, unless one of its name was linked. The next of the owned names is likely its.
 fn link_function<'b>(
     into: &mut DerivedModule<'b>,
     of: &Build,
     source: &'b Module,
     at: usize,
+    next: &mut NamesIter<'_>,
 ) -> Tried
-    requires { CopiesFrom source.now into.old }
+    requires copies { CopiesFrom source.now into.old }
+    requires among { AreAmong (texts of.now.owned_functions.keys) (texts next.old) }
+    ensures among { AreAmong (texts of.now.owned_functions.keys) (texts next.new) }
     ensures source { CopiesFrom source.now into.new }
     ensures value { let function = slice_get (module_value source.now).functions at in
         OnOk result (into.new ≡ link_own_function (built_of of.now) into.old function) }
@@ -59,7 +63,7 @@ fn link_function<'b>(
     let Some(item) = source.functions.as_slice().get(at) else {
         return Ok(());
     };
-    if !has_name_among(&item.0, &of.owned_functions) {
+    if !has_name_next(&item.0, &of.owned_functions, next) {
         return Ok(());
     }
     into.import_function_if_new(&item.0, item.1)?;
@@ -154,8 +158,9 @@ impl<'b> Linker<'b> {
         let listed = Listed::Functions(of.from);
         let mut places = wanted(self.alloc, &of.by.functions, listed, asked)?;
         add_named(&mut places, &of.by.functions, listed, &overriding)?;
+        let mut next = of.of.owned_functions.iter();
         for at in places.iter() {
-            link_function(&mut self.derived, of.of, of.from, *at)?;
+            link_function(&mut self.derived, of.of, of.from, *at, &mut next)?;
         }
         Ok(())
     }

@@ -6,3 +6,4 @@ pub mod FunctionWalk
 pub mod NamingLemmas
 pub mod ReachSteps
 pub mod WaitingLemmas
+pub mod StubLemmas

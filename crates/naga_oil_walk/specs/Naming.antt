@@ -55,6 +55,10 @@ token_names ks ns ls t = flat_map (requests_at ns) (brief ks ls t)
 abbrev pub signature_names : Function → List Request
 signature_names f = map (λ a. Item (TypeItem a.ty)) f.arguments.items ++ option_to_list (option_map (λ r. Item (TypeItem r.ty)) f.result)
 
+-- a function has neither local variables nor statements
+abbrev pub IsStub : Function → Type 0
+IsStub f = (f.local_variables ≡ []) × (block_tokens f.body ≡ [])
+
 -- what a function names, with repeats
 abbrev pub function_names : Function → List Request
 function_names f =

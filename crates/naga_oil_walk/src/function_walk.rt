@@ -1,12 +1,12 @@
 //! The walk over a function, in the order of copying.
-ghost use Rattle.std.specs.Prelude.{◌≡◌, ◌<◌, ◌≤◌, ◌+◌, ◌∷◌, ◌++◌, ℕ, [], length, OnOk, All, IfOk, option_to_list, IsTrue};
+ghost use Rattle.std.specs.Prelude.{◌≡◌, ◌<◌, ◌≤◌, ◌+◌, ◌∷◌, ◌++◌, ◌↔◌, ℕ, [], length, OnOk, All, IfOk, option_to_list, IsTrue};
 ghost use Rattle.std.specs.List.{flat_map, sum_by};
 ghost use Rattle.naga_oil_form.specs.Links.{lists, linked, added, trail};
 ghost use Rattle.naga_oil_form.specs.BodyForm.{places, kinds, callees, operand_links, MayStand};
 ghost use Rattle.naga_oil_walk.specs.Walk.{IsReachOrder, externals, brief, IsWithin, notes_of, notes_after};
 ghost use Rattle.naga_oil_walk.specs.Walks.{IsOver, Walks};
 ghost use Rattle.naga_oil_walk.specs.Waiting.{AreWaiting, AsksOn, Awaits, finish, finish_all, names_left, steps};
-ghost use Rattle.naga_oil_walk.specs.Naming.{names_from, requests_at, asked, token_names, Adds, local_names, signature_names};
+ghost use Rattle.naga_oil_walk.specs.Naming.{names_from, requests_at, asked, token_names, Adds, local_names, signature_names, IsStub};
 ghost use Rattle.naga_oil_ir.specs.Body.{block_tokens};
 ghost use Rattle.naga_oil_form.specs.WellFormed.{initialisers, initialisers_of};
 
@@ -334,16 +334,14 @@ fn reach_locals(
 /// Whether a function has neither local variables nor statements: then it names no more than the types of its arguments and its
 /// result.
 pub fn is_stub(function: &Function) -> bool
-    ensures { let f = function.now in
-        IsTrue result → (f.local_variables ≡ []) × (block_tokens f.body ≡ []) }
+    ensures { IsTrue result ↔ IsStub function.now }
 {
     function.local_variables.len() == 0 && function.body.body.is_empty()
 }
 
 /// Requests the types of arguments and of the result, which are all that such a function names.
 fn walk_stub(function: &Function, alloc: Global) -> Tried<Walk>
-    requires locals { function.now.local_variables ≡ [] }
-    requires body { block_tokens function.now.body ≡ [] }
+    requires { IsStub function.now }
     ensures { IfOk result (Walks function.now) }
 {
     let mut walk = Walk::new(function.expressions.len(), alloc)?;

@@ -44,7 +44,7 @@ returns-then-is_stub-clause-adding c = items_added c.copy_signature.ensures.putt
 pub returns-then-is_stub-clause-copied : goal.returns-then-is_stub-clause-copied
 returns-then-is_stub-clause-copied c =
     let f = c.args.function.now in
-    let is = c.is_stub.ensures c.if-is_stub.true in
+    let is = c.is_stub.ensures.0 c.if-is_stub.true in
     let n = c.copy_signature.new.self.maps in
     let r = renames_under n in
     let went = went_by n c.args.source.now c.args.functions.now.names in
@@ -58,7 +58,7 @@ returns-then-is_stub-clause-value c =
     let new = c.copy_signature.new.self in
     let fs = c.args.functions.now in
     let s = import_state old.maps old.target fs in
-    let is = ap (λ (y : CopyState). record s { copying = y }) c.in_ok-copy_signature.ensures.copied ∙ sym (stub_answered m c.args.depth old.maps.offset s f (c.is_stub.ensures c.if-is_stub.true)) in
+    let is = ap (λ (y : CopyState). record s { copying = y }) c.in_ok-copy_signature.ensures.copied ∙ sym (stub_answered m c.args.depth old.maps.offset s f (c.is_stub.ensures.0 c.if-is_stub.true)) in
     on_ok c.localized_stub.result (import_state new.maps new.target fs ≡ answer_all c.args.depth m old.maps.offset s (requests_of (function_value f))) is
 
 -- ---- one that is walked

@@ -13,20 +13,20 @@ add_from-requires-clause-start c =
     let index = c.args.index.now in
     let q = c.args.name.now in
     let n = c.args.guess in
-    let below = c.stands_at.ensures.within c.if-stands_at.true in
-    let named = c.stands_at.ensures.named c.if-stands_at.true in
+    let below = (c.is_named_at.ensures.0 c.if-is_named_at.true).0 in
+    let named = (c.is_named_at.ensures.0 c.if-is_named_at.true).1 in
     let start = start_there_is names index q n below c.requires.index c.requires.guess named in
     reached_more names index.items q n below start.reached (same_name q (text_at names (get_or index.items n 0)) ∙ named)
 
-pub returns-then-stands_at-clause-added : goal.returns-then-stands_at-clause-added
-returns-then-stands_at-clause-added c =
+pub returns-then-is_named_at-clause-added : goal.returns-then-is_named_at-clause-added
+returns-then-is_named_at-clause-added c =
     let names = listed_names c.args.of in
     let index = c.args.index.now in
     let xs = index.items in
     let q = c.args.name.now in
     let n = c.args.guess in
-    let below = c.stands_at.ensures.within c.if-stands_at.true in
-    let named = c.stands_at.ensures.named c.if-stands_at.true in
+    let below = (c.is_named_at.ensures.0 c.if-is_named_at.true).0 in
+    let named = (c.is_named_at.ensures.0 c.if-is_named_at.true).1 in
     let start = start_there_is names index q n below c.requires.index c.requires.guess named in
     let p : ℕ → Bool = λ k. is_name q (text_at names k) in
     let x = get_or xs n 0 in

@@ -1,6 +1,7 @@
+use Rattle.std.proofs.Common.{◌≡◌}
 use Rattle.naga_oil_lines.specs.Text.{texts}
-use Rattle.naga_oil_link.specs.CopiedBuild.{EndWith}
+use Rattle.naga_oil_link.specs.CopiedBuild.{ending_of}
 use Rattle.naga_oil_link.proofs.copied.ending_of.Given as goal
 
 abbrev pub invariant-loop-name : goal.invariant-loop-name
-invariant-loop-name l = EndWith (texts l.name-iterator) l.decoration → EndWith (texts l.names.keys) l.decoration
+invariant-loop-name l = ending_of (texts l.name-iterator) l.decoration ≡ ending_of (texts l.names.keys) l.decoration

@@ -15,13 +15,13 @@ import_function_if_new-requires c =
     let k = c.args.at in
     let f = c.in-Some.item.now in
     let at : slice_get c.args.source.now.functions k ≡ Some f = ap (λ (fs : List (Function × Span)). slice_get fs k) (sym c.as_slice.ensures) ∙ slice_get-get_or c.as_slice.result.now k f c.in-Some.ensures.lookup.3.0 ∙ ap Some (sym c.in-Some.ensures.lookup.1) in
-    can_import _ _ c.requires _ (k, at)
+    can_import _ _ c.requires.copies _ (k, at)
 
 pub returns-in_err-import_function_if_new-clause-source : goal.returns-in_err-import_function_if_new-clause-source
-returns-in_err-import_function_if_new-clause-source c = from_keeps_functions _ _ _ c.requires c.import_function_if_new.ensures.keeps
+returns-in_err-import_function_if_new-clause-source c = from_keeps_functions _ _ _ c.requires.copies c.import_function_if_new.ensures.keeps
 
 pub returns-clause-source : goal.returns-clause-source
-returns-clause-source c = from_keeps_functions _ _ _ c.requires c.import_function_if_new.ensures.keeps
+returns-clause-source c = from_keeps_functions _ _ _ c.requires.copies c.import_function_if_new.ensures.keeps
 
 pub returns-clause-value : goal.returns-clause-value
 returns-clause-value c =
@@ -30,5 +30,5 @@ returns-clause-value c =
     let k = c.args.at in
     let f = c.in-Some.item.now in
     let at : slice_get c.args.source.now.functions k ≡ Some f = ap (λ (fs : List (Function × Span)). slice_get fs k) (sym c.as_slice.ensures) ∙ slice_get-get_or c.as_slice.result.now k f c.in-Some.ensures.lookup.3.0 ∙ ap Some (sym c.in-Some.ensures.lookup.1) in
-    let own = same_test names (view f).0.name ∙ sym c.has_name_among.ensures ∙ c.if-not-has_name_among.false in
+    let own = same_test names (view f).0.name ∙ sym c.has_name_next.ensures.told ∙ c.if-not-has_name_next.false in
     made_there (λ (g : FunctionValue × Span). passes (is_among names) g.0.name) link_function c.args.into.now _ (view f) (slice_get-map view c.args.source.now.functions k ∙ ap (option_map view) at) own c.import_function_if_new.new.self c.in_ok-import_function_if_new.ensures.value

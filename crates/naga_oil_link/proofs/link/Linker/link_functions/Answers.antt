@@ -11,14 +11,18 @@ use Rattle.naga_oil_link.specs.Linked.{asked_names, passes, is_wanted_function, 
 use Rattle.naga_oil_link.specs.LinkView.{link_own_function}
 use Rattle.naga_oil_link.specs.declared.link.Linker.{Linker}
 use Rattle.naga_oil_link.proofs.ByNameLemmas.{functions_wanted}
+use Rattle.naga_oil_link.proofs.NamesLemmas.{all_among}
 use Rattle.naga_oil_link.proofs.LinkedLemmas.{fold_step, fold_end, folded_where}
 use Rattle.naga_oil_link.proofs.link.Linker.link_functions.Goals as goal
 
 pub loop-at-init : goal.loop-at-init
-loop-at-init c = record { source = c.requires.source; value = refl; rest = refl }
+loop-at-init c = record { among = all_among _ _ c.iter-next.ensures.rest c.iter-next.ensures.found; source = c.requires.source; value = refl; rest = refl }
 
-pub link_function-requires : goal.link_function-requires
-link_function-requires c = c.loop-at.invariant.source
+pub link_function-requires-clause-copies : goal.link_function-requires-clause-copies
+link_function-requires-clause-copies c = c.loop-at.invariant.source
+
+pub link_function-requires-clause-among : goal.link_function-requires-clause-among
+link_function-requires-clause-among c = c.loop-at.invariant.among
 
 pub loop-at-preserved : goal.loop-at-preserved
 loop-at-preserved c =
@@ -27,6 +31,7 @@ loop-at-preserved c =
     let k = c.in-Some.at.now in
     let next : c.loop-at.at-iterator ≡ k ∷ c.next.new.self = rest_more (λ x. x.now) _ _ _ _ c.in-Some.is c.next.ensures.steps in
     record {
+      among = c.link_function.ensures.among;
       source = c.link_function.ensures.source;
       value = fold_step (λ (e : Derived) (k : ℕ). link_own_function b e (slice_get fs k)) c.loop-at.self.derived c.link_function.new.into k c.next.new.self c.loop-at.at-iterator _ next c.in_ok-link_function.ensures.value c.loop-at.invariant.value;
       rest = ap (λ (s : Linker). record s { derived = c.link_function.new.into }) c.loop-at.invariant.rest;

@@ -4,7 +4,7 @@ use Rattle.std.proofs.lemmas.List.{set-append_left}
 use Rattle.naga_oil_symbols.specs.Names.{last_place}
 use Rattle.naga_oil_front_writer.specs.Order.{greatest_count, next_places}
 use Rattle.naga_oil_front_writer.proofs.OrderLemmas.{next_places-more, length-next_places, last_place-bound}
-use Rattle.naga_oil_front_writer.proofs.order.ItemNames.push.Goals as goal
+use Rattle.naga_oil_front_writer.proofs.order.NextNames.push.Goals as goal
 
 pub index_mut-requires : goal.index_mut-requires
 index_mut-requires c =
