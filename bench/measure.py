@@ -7,6 +7,7 @@ processor, user and system, the least of RUNS runs (of two, where one takes more
 import os
 import re
 import shutil
+import statistics
 import subprocess
 import sys
 
@@ -59,6 +60,28 @@ def seconds(command, kind, size):
     while taken[-1] is not None and len(taken) < (RUNS if taken[0] <= 2 else min(RUNS, 2)):
         taken.append(run_once(command))
     return None if None in taken else min(taken)
+
+
+def times_longer(command, kind, size, before):
+    """How many times as long a command takes at a size as at the one before, by runs in turn on one processor: each longer run
+    beside the median of twelve shorter ones, six before it and six behind it, and of these ratios the median. What else a
+    machine does changes its pace, for seconds at a time; so runs that are compared stand side by side."""
+    processors = os.sched_getaffinity(0)
+    os.sched_setaffinity(0, {max(processors)})
+
+    def run(at, count):
+        os.chdir(folder_of(kind, at))
+        words = list(filled(command))
+        return [run_once(words) for _ in range(count)]
+
+    ratios = []
+    for _ in range(2 * RUNS + 1):
+        shorter = run(before, 6)
+        (longer,) = run(size, 1)
+        ratios.append(longer / statistics.median(shorter + run(before, 6)))
+    os.sched_setaffinity(0, processors)
+    tell(f"{kind}: times {' '.join(f'{ratio:.2f}' for ratio in sorted(ratios))}")
+    return statistics.median(ratios)
 
 
 def peak(command, kind, size):
@@ -191,11 +214,12 @@ def goals(tables, tree):
         goal(f"{kind}: `oil pre` beside `wc`, times", taken[last] / rows["wc"][0][last], 2)
         if memory:
             goal(f"{kind}: memory of `oil pre` at its peak beside the text, times", memory / bytes_of(kind, last), 4)
-    taken, memory = tree
+    memory = tree[1]
     if len(SIZES) > 1:
         before = SIZES[-2]
         longer = bytes_of("tree", last) / bytes_of("tree", before)
-        goal("tree: a make beside linear growth from the size before, times", taken[last] / taken[before] / longer, 1.2)
+        times = times_longer([OIL, "make", "@files"], "tree", last, before)
+        goal("tree: a make beside linear growth from the size before, times", times / longer, 1.2)
     if memory:
         goal("tree: MB of a make at its peak", memory / 2**20, 64)
 
