@@ -212,6 +212,10 @@ impl Copying {
             Putting (value_of source.now) self.old.maps.offset old new }
         ensures offset { self.new.maps.offset ≡ self.old.maps.offset }
     {
+        // Most went somewhere before.
+        if self.maps.has_gone(*item) {
+            return Ok(());
+        }
         let Some(first) = self.awaited(source, &Some(*item))? else {
             return Ok(());
         };

@@ -1,7 +1,16 @@
-use Rattle.std.proofs.Common.{◌≡◌, Decides, ⊎_elim, ℕ, ◌+◌, ◌<◌, ◌≤◌, Bool, true, false, List, [], ◌∷◌, map, length, get_or, slice_get, Some, All, ap, sym, ◌∙◌, subst, arith}
-use Rattle.std.proofs.lemmas.List.Elements.{All-nil, All-cons, All-head, All-tail, All-map}
+use Rattle.std.proofs.Common.{◌≡◌, Decides, ⊎_elim, ℕ, zero, suc, ◌+◌, ◌<◌, ◌≤◌, Bool, true, false, nat_eq, List, [], ◌∷◌, map, length, get_or, slice_get, Some, All, IsSome, refl, ap, sym, ◌∙◌, subst, arith}
+use Rattle.std.specs.List.{IsDistinct}
+use Rattle.std.specs.Cmp.Lexicographic.{pointwise}
+use Rattle.std.proofs.lemmas.List.Elements.{All-nil, All-cons, All-head, All-tail, All-map, All-get_or}
 use Rattle.std.proofs.lemmas.Bool.{cases_order}
-use Rattle.std.proofs.lemmas.Option.{slice_get_within, same_Some}
+use Rattle.std.proofs.lemmas.Option.{slice_get_within, same_Some, get_or_from_slice_get}
+use Rattle.naga_oil_ir.specs.declared.module.Function.{Function}
+use Rattle.naga_oil_ir.specs.declared.module.Module.{Module}
+use Rattle.naga_oil_ir.specs.declared.span.Span.{Span}
+use Rattle.naga_oil_marks.specs.Marks.{with_decoration}
+use Rattle.naga_oil_form.specs.BodyForm.{IsSpanFine}
+use Rattle.naga_oil_form.specs.NameForm.{Name, function_name}
+use Rattle.naga_oil_form.specs.WellFormed.{NamedForm, FunctionsForm, FunctionListForm}
 use Rattle.naga_oil_form.specs.Links.{is_marked, AreMarks}
 use Rattle.naga_oil_form.proofs.FormLemmas.{at_place, decides_same}
 use Rattle.naga_oil_form.proofs.LinkLemmas.{All-has, All-from_has}
@@ -35,3 +44,26 @@ each_more {A} P xs i x h is p f k e l at =
 -- and at the end
 pub each_all : {A : Type 0} (P : ℕ → A → Type 0) (xs : List A) (i : ℕ) → ((k : ℕ) (e : A) → k < i → slice_get xs k ≡ Some e → P k e) → length xs ≤ i → (k : ℕ) (e : A) → slice_get xs k ≡ Some e → P k e
 each_all P xs i f h = λ k e at. let within = slice_get_within xs k e at in f k e (omega arith) at
+
+-- a fact of each element, whatever its place
+pub all_each : {A : Type 0} (P : A → Type 0) (xs : List A) → ((k : ℕ) (e : A) → slice_get xs k ≡ Some e → P e) → All P xs
+all_each P [] f = All-nil P
+all_each P (x ∷ xs) f = All-cons P x xs (f zero x refl) (all_each P xs (λ k e at. f (suc k) e at))
+
+each_all_of : {A : Type 0} (P : A → Type 0) (xs : List A) (k : ℕ) (e : A) → All P xs → slice_get xs k ≡ Some e → P e
+each_all_of P xs k e a at = subst P (get_or_from_slice_get xs k e e at) (All-get_or P xs k e (slice_get_within xs k e at) a)
+
+-- functions that are fine one by one, and whose names are distinct
+module _ (m : Module) (d : Name) (n : ℕ) where
+  pub list_form : ((k : ℕ) (e : Function × Span) → slice_get m.functions k ≡ Some e → NamedForm m k n e) → IsDistinct (pointwise nat_eq) (map (λ e. with_decoration d (function_name e.0)) m.functions) → FunctionListForm m d n
+  unfolding FunctionsForm
+  list_form f distinct = record {
+    named = all_each (λ e. IsSome e.0.name) m.functions (λ k e at. (f k e at).0);
+    spans = all_each (λ e. IsSpanFine n e.1) m.functions (λ k e at. (f k e at).1);
+    functions = λ k e at. (f k e at).2;
+    distinct = distinct;
+  }
+
+  pub list_each : FunctionListForm m d n → (k : ℕ) (e : Function × Span) → slice_get m.functions k ≡ Some e → NamedForm m k n e
+  unfolding FunctionsForm
+  list_each r k e at = (each_all_of (λ e. IsSome e.0.name) m.functions k e r.named at, each_all_of (λ e. IsSpanFine n e.1) m.functions k e r.spans at, r.functions k e at)

@@ -4,3 +4,4 @@ pub mod BodyFormLemmas
 pub mod BodyFormWords
 pub mod FunctionLemmas
 pub mod NameFormLemmas
+pub mod StubLemmas

@@ -1,5 +1,5 @@
 -- Which items may stand: what they name, and the order and kinds of global expressions.
-use Rattle.std.specs.Prelude.{◌≡◌, ◌<◌, ◌⊎◌, ℕ, Bool, true, false, List, [], ◌++◌, length, map, slice_get, Option, Some, None, option_to_list, is_none, All, IfSome, nat_eq, ◌||◌}
+use Rattle.std.specs.Prelude.{◌≡◌, ◌<◌, ◌⊎◌, ℕ, Bool, true, false, List, ◌++◌, length, map, slice_get, Option, Some, None, option_to_list, is_none, All, IfSome, nat_eq, ◌||◌}
 use Rattle.std.specs.List.{filter_map, list_any, IsDistinct}
 use Rattle.naga_oil_form.specs.BodyForm.{kinds, operand_links}
 use Rattle.naga_oil_ir.specs.Rows.{Row, type_row, constant_row, override_row, global_row, expression_row}

@@ -1,10 +1,12 @@
 -- Which modules are well formed.
-use Rattle.std.specs.Prelude.{◌≡◌, ◌<◌, ℕ, List, length, slice_get, Option, Some, option_to_list, All, IfSome}
-use Rattle.std.specs.List.{flat_map}
+use Rattle.std.specs.Prelude.{◌≡◌, ◌<◌, ℕ, List, length, slice_get, map, nat_eq, Option, Some, [], option_to_list, All, IsSome, IfSome}
+use Rattle.std.specs.List.{flat_map, IsDistinct}
+use Rattle.std.specs.Cmp.Lexicographic.{pointwise}
+use Rattle.naga_oil_marks.specs.Marks.{with_decoration}
 use Rattle.naga_oil_ir.specs.Body.{Tokens, block_tokens}
 use Rattle.naga_oil_form.specs.ItemForm.{ItemForm}
 use Rattle.naga_oil_form.specs.BodyForm.{named_of, kinds, callees, MayStand, IsSpanFine, IsTokenFine, operand_links}
-use Rattle.naga_oil_form.specs.NameForm.{Name, NameForm}
+use Rattle.naga_oil_form.specs.NameForm.{Name, NameForm, function_name}
 use Rattle.naga_oil_ir.specs.declared.parts.Named.{Named}
 use Rattle.naga_oil_ir.specs.declared.parts.Named.TheVariants.{Nothing, TypeOf, ConstantAt, OverrideAt, GlobalAt, LocalAt, ArgumentAt, FunctionAt}
 use Rattle.naga_oil_ir.specs.declared.module.Module.{Module}
@@ -40,6 +42,10 @@ pub record SpansWithin (n : ℕ) (f : Function) : Type 0 where
   pub locals : All (λ e. IsSpanFine n e.1) f.local_variables
   pub expressions : All (λ e. IsSpanFine n e.1) f.expressions
 
+-- a function has neither local variables, expressions nor statements
+abbrev pub IsBare : Function → Type 0
+IsBare f = (f.local_variables ≡ []) × (f.expressions ≡ []) × (block_tokens f.body ≡ [])
+
 -- the types of arguments, result and local variables, and the expressions that have names, are there
 abbrev pub SignatureForm : Module → Function → Type 0
 SignatureForm m f =
@@ -65,6 +71,17 @@ pub record FunctionForm (m : Module) (c n : ℕ) (f : Function) : Type 0 where
 unfoldable pub FunctionsForm : Module → ℕ → List (Function × Span) → Type 0
 FunctionsForm m n fs = (k : ℕ) (e : Function × Span) → slice_get fs k ≡ Some e → FunctionForm m k n e.0
 
+-- a function is named and passes the test of form, its calls going to the first c functions, and its span lies in a text of n bytes
+abbrev pub NamedForm : Module → ℕ → ℕ → Function × Span → Type 0
+NamedForm m c n e = IsSome e.0.name × IsSpanFine n e.1 × FunctionForm m c n e.0
+
+-- the same of all functions, and their decorated names are distinct
+pub record FunctionListForm (m : Module) (d : Name) (n : ℕ) : Type 0 where
+  pub named : All (λ e. IsSome e.0.name) m.functions
+  pub spans : All (λ e. IsSpanFine n e.1) m.functions
+  pub functions : FunctionsForm m n m.functions
+  pub distinct : IsDistinct (pointwise nat_eq) (map (λ e. with_decoration d (function_name e.0)) m.functions)
+
 abbrev pub IsExpressionThere : Module → Option ℕ → Type 0
 IsExpressionThere m o = IfSome o (λ k. k < length m.global_expressions)
 
@@ -82,6 +99,14 @@ pub record EntryForm (m : Module) (n : ℕ) (e : EntryPoint) : Type 0 where
   pub workgroup_size : IfSome e.workgroup_size_overrides (λ os. All (IsExpressionThere m) os)
   pub mesh_info : IfSome e.mesh_info (MeshForm m)
   pub task_payload : IfSome e.task_payload (λ k. k < length m.global_variables)
+
+-- the spans of the items of a module, but for functions
+pub record ItemSpans (m : Module) (n : ℕ) : Type 0 where
+  pub types : All (λ e. IsSpanFine n e.1) m.types
+  pub constants : All (λ e. IsSpanFine n e.1) m.constants
+  pub overrides : All (λ e. IsSpanFine n e.1) m.overrides
+  pub globals : All (λ e. IsSpanFine n e.1) m.global_variables
+  pub expressions : All (λ e. IsSpanFine n e.1) m.global_expressions
 
 -- the spans of the items of a module
 pub record SpanForm (m : Module) (n : ℕ) : Type 0 where

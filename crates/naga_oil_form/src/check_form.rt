@@ -3,9 +3,9 @@ ghost use Rattle.std.specs.Prelude.{◌≡◌, IfErr, OnOk};
 ghost use Rattle.naga_oil_form.specs.WellFormed.{WellFormed};
 ghost use Rattle.naga_oil_form.specs.declared.check_form.FormFault.TheVariants.{WrongForm};
 
-use super::form_function::{entries_are_fine, functions_are_fine};
+use super::form_function::entries_are_fine;
 use super::form_items::{items_are_fine, spans_are_fine};
-use super::form_names::names_are_fine;
+use super::form_names::{entries_are_distinct, functions_are_fine};
 use naga_oil_ir::Module;
 use std::alloc::{AllocError, Global};
 
@@ -41,10 +41,10 @@ pub fn check_form(
         e ≡ WrongForm → WellFormed of.now decoration.now text_len → ⊥) }
 {
     let items = items_are_fine(of, alloc)?;
-    let names = names_are_fine(of, decoration, alloc)?;
-    let functions = functions_are_fine(of, text_len, alloc)?;
+    let functions = functions_are_fine(of, decoration, text_len, alloc)?;
+    let names = entries_are_distinct(&of.entry_points, decoration, alloc)?;
     let entries = entries_are_fine(of, text_len, alloc)?;
-    if items & names & functions & entries & spans_are_fine(of, text_len) {
+    if items & functions & names & entries & spans_are_fine(of, text_len) {
         return Ok(());
     }
     Err(FormFault::WrongForm)

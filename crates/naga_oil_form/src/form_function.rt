@@ -1,6 +1,6 @@
 // The test of form of functions and entry points.
-ghost use Rattle.std.specs.Prelude.{◌≡◌, ◌↔◌, ◌<◌, IsTrue, IsSome, IfOk, IfSome, All, length, Some};
-ghost use Rattle.naga_oil_form.specs.WellFormed.{NamedThere, SignatureForm, ExpressionsForm, initialisers_of, initialisers, SpansWithin, FunctionForm, FunctionsForm, IsExpressionThere, MeshForm, EntryForm};
+ghost use Rattle.std.specs.Prelude.{◌≡◌, ◌↔◌, ◌<◌, IsTrue, IfOk, IfSome, All, length, Some};
+ghost use Rattle.naga_oil_form.specs.WellFormed.{NamedThere, SignatureForm, ExpressionsForm, initialisers_of, initialisers, SpansWithin, IsBare, FunctionForm, IsExpressionThere, MeshForm, EntryForm};
 
 use super::body::may_stand;
 use super::form::{Tested, are_spans_fine, are_tokens_fine, read};
@@ -110,9 +110,18 @@ fn expressions_are_fine(of: &Module, function: &Function, tokens: &[Token], allo
     Ok(are_named_there(of, function, &read.named) & stand)
 }
 
+/// Whether a function has neither local variables, expressions nor statements: then its form is that of its signature.
+fn is_bare(function: &Function) -> bool
+    ensures { IsTrue result ↔ IsBare function.now }
+{
+    function.local_variables.len() == 0
+        && function.expressions.len() == 0
+        && function.body.body.is_empty()
+}
+
 /// Whether a function whose calls may go to the first functions, so many of them, passes the test of form in a text of so
 /// many bytes.
-fn function_is_fine(
+pub fn function_is_fine(
     of: &Module,
     function: &Function,
     calls_below: usize,
@@ -121,12 +130,15 @@ fn function_is_fine(
 ) -> Tested
     ensures { IfOk result (λ b. IsTrue b ↔ FunctionForm of.now calls_below text_len function.now) }
 {
+    let signed = signature_is_fine(of, function);
+    if !signed || is_bare(function) {
+        return Ok(signed);
+    }
     let mut tokens = Vec::new(alloc);
     push_block(&function.body, &mut tokens)?;
     let fine = expressions_are_fine(of, function, &tokens, alloc)?;
-    let signed = signature_is_fine(of, function);
     let spanned = spans_are_within(function, text_len);
-    Ok(fine & signed & spanned & are_tokens_fine(&tokens, calls_below, text_len))
+    Ok(fine & spanned & are_tokens_fine(&tokens, calls_below, text_len))
 }
 
 /// Whether a handle that may be absent names one of the first places, so many of them.
@@ -170,19 +182,6 @@ fn entry_is_fine(of: &Module, entry: &EntryPoint, text_len: usize, alloc: Global
     )
 }
 
-/// Whether functions pass the test of form in a text of so many bytes; the calls of each go to those before it.
-pub fn functions_are_fine(of: &Module, text_len: usize, alloc: Global) -> Tested
-    ensures { IfOk result (λ b. IsTrue b ↔ FunctionsForm of.now text_len of.now.functions) }
-{
-    let functions = of.functions.as_slice();
-    for (place, entry) in functions.iter().enumerate() {
-        if !function_is_fine(of, &entry.0, place, text_len, alloc)? {
-            return Ok(false);
-        }
-    }
-    Ok(true)
-}
-
 /// Whether entry points pass the test of form in a text of so many bytes.
 pub fn entries_are_fine(of: &Module, text_len: usize, alloc: Global) -> Tested
     ensures { let entries = of.now.entry_points.items in
@@ -194,11 +193,4 @@ pub fn entries_are_fine(of: &Module, text_len: usize, alloc: Global) -> Tested
         }
     }
     Ok(true)
-}
-
-/// Whether each function is named.
-pub fn functions_are_named(functions: &[(Function, Span)]) -> bool
-    ensures { IsTrue result ↔ All (λ e. IsSome e.0.name) functions.now }
-{
-    functions.iter().all(|function| function.0.name.is_some())
 }

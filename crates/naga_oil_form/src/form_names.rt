@@ -1,14 +1,15 @@
-//! The names of functions in the test of form.
+//! Functions and their names in the test of form.
 ghost use Rattle.std.specs.Prelude.{◌≡◌, ◌↔◌, IsTrue, IfOk, map, nat_eq, option_map, unwrap_or, string_bytes};
 ghost use Rattle.std.specs.List.{IsDistinct};
 ghost use Rattle.std.specs.Cow.{cow_str_bytes};
 ghost use Rattle.std.specs.Cmp.Lexicographic.{pointwise};
-ghost use Rattle.naga_oil_form.specs.NameForm.{function_name, entry_name, NameForm};
+ghost use Rattle.naga_oil_form.specs.NameForm.{entry_name};
+ghost use Rattle.naga_oil_form.specs.WellFormed.{NamedForm, FunctionListForm};
 ghost use Rattle.naga_oil_marks.specs.Marks.{with_decoration};
 
-use super::form::Tested;
-use super::form_function::functions_are_named;
-use naga_oil_ir::{Function, Module, Span};
+use super::form::{Tested, is_span_fine};
+use super::form_function::function_is_fine;
+use naga_oil_ir::{EntryPoint, Function, Module, Span};
 use naga_oil_marks::has_module_mark;
 use std::alloc::{AllocError, Global};
 use std::borrow::CowStr;
@@ -36,57 +37,52 @@ fn name_or<'a>(function: &'a Function, other: &'a str) -> &'a str
     function.name.as_ref().map_or(other, |name| name.as_str())
 }
 
-fn function_names<'a>(
-    of: &'a Module,
-    decoration: &str,
+/// Whether a function is named and passes the test of form, and its span lies in the text.
+fn item_is_fine(
+    of: &Module,
+    item: &(Function, Span),
+    calls_below: usize,
+    text_len: usize,
     alloc: Global,
-) -> Result<Vec<CowStr<'a>>, AllocError>
-    ensures { let functions = of.now.functions in
-        let told = map (λ e. with_decoration decoration.now (function_name e.0)) functions in
-        IfOk result (λ v. map cow_str_bytes v.items ≡ told) }
+) -> Tested
+    ensures { IfOk result (λ b. IsTrue b ↔ NamedForm of.now calls_below text_len item.now) }
 {
-    let mut names = Vec::new(alloc);
-    for entry in of.functions.as_slice() {
-        names.push(with_decoration(name_or(&entry.0, ""), decoration, alloc)?)?;
+    if item.0.name.is_none() || !is_span_fine(item.1, text_len) {
+        return Ok(false);
     }
-    Ok(names)
+    function_is_fine(of, &item.0, calls_below, text_len, alloc)
 }
 
-fn entry_names<'a>(
-    of: &'a Module,
-    decoration: &str,
-    alloc: Global,
-) -> Result<Vec<CowStr<'a>>, AllocError>
-    ensures { let entries = of.now.entry_points.items in
-        let told = map (λ e. with_decoration decoration.now (entry_name e.function)) entries in
-        IfOk result (λ v. map cow_str_bytes v.items ≡ told) }
+/// Whether functions are named and pass the test of form in a text of so many bytes, the calls of each going to those before it,
+/// and their names, decorated, are distinct. Each is looked at once.
+pub fn functions_are_fine(of: &Module, decoration: &str, text_len: usize, alloc: Global) -> Tested
+    ensures { IfOk result (λ b. IsTrue b ↔ FunctionListForm of.now decoration.now text_len) }
 {
-    let mut names = Vec::new(alloc);
-    for entry in &of.entry_points {
-        names.push(with_decoration(name_or(&entry.function, "main"), decoration, alloc)?)?;
-    }
-    Ok(names)
-}
-
-fn are_distinct(names: &[CowStr<'_>], alloc: Global) -> Tested
-    ensures { let texts = map cow_str_bytes names.now in
-        IfOk result (λ b. IsTrue b ↔ IsDistinct (pointwise nat_eq) texts) }
-{
-    let mut set: HashSet<&str> = HashSet::with_capacity(alloc, names.len())?;
-    for name in names {
-        if !set.insert(name.as_str())? {
+    let functions = of.functions.as_slice();
+    let mut names: HashSet<CowStr<'_>> = HashSet::with_capacity(alloc, functions.len())?;
+    for (place, item) in functions.iter().enumerate() {
+        if !item_is_fine(of, item, place, text_len, alloc)? {
+            return Ok(false);
+        }
+        let name = with_decoration(name_or(&item.0, ""), decoration, alloc)?;
+        if !names.insert(name)? {
             return Ok(false);
         }
     }
     Ok(true)
 }
 
-/// Whether functions are named, and their names, decorated, are distinct, and so are those of entry points' functions.
-pub fn names_are_fine(of: &Module, decoration: &str, alloc: Global) -> Tested
-    ensures { IfOk result (λ b. IsTrue b ↔ NameForm of.now decoration.now) }
+/// Whether the names of entry points' functions, decorated, are distinct.
+pub fn entries_are_distinct(entries: &[EntryPoint], decoration: &str, alloc: Global) -> Tested
+    ensures { let told = map (λ e. with_decoration decoration.now (entry_name e.function)) entries.now in
+        IfOk result (λ b. IsTrue b ↔ IsDistinct (pointwise nat_eq) told) }
 {
-    let functions = function_names(of, decoration, alloc)?;
-    let entries = entry_names(of, decoration, alloc)?;
-    let apart = are_distinct(&functions, alloc)? & are_distinct(&entries, alloc)?;
-    Ok(functions_are_named(of.functions.as_slice()) & apart)
+    let mut names: HashSet<CowStr<'_>> = HashSet::with_capacity(alloc, entries.len())?;
+    for entry in entries {
+        let name = with_decoration(name_or(&entry.function, "main"), decoration, alloc)?;
+        if !names.insert(name)? {
+            return Ok(false);
+        }
+    }
+    Ok(true)
 }

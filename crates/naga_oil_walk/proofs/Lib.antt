@@ -6,4 +6,3 @@ pub mod FunctionWalk
 pub mod NamingLemmas
 pub mod ReachSteps
 pub mod WaitingLemmas
-pub mod StubLemmas

@@ -2,7 +2,7 @@ use Rattle.std.proofs.Common.{◌≡◌, ◌∙◌, ap, sym, length, ℕ, [], �
 use borrow.Author.Tests.{eqb-true}
 use Rattle.std.proofs.lemmas.List.{nil_from_length}
 use Rattle.naga_oil_ir.specs.declared.statement.Block.{out-Block}
-use Rattle.naga_oil_walk.proofs.StubLemmas.{no_tokens, without_tokens}
+use Rattle.naga_oil_form.proofs.StubLemmas.{no_tokens, without_tokens}
 use Rattle.naga_oil_walk.proofs.function_walk.is_stub.Goals as goal
 
 pub returns-then-len-eq0 : goal.returns-then-len-eq0

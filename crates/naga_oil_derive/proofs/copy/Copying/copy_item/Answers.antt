@@ -1,4 +1,6 @@
-use Rattle.std.proofs.Common.{◌≡◌, ◌∙◌, ◌++◌, ◌∷◌, [], Some, ap, sym, subst, List}
+use Rattle.std.proofs.Common.{◌≡◌, ◌∙◌, ◌++◌, ◌∷◌, [], Bool, true, Option, Some, None, is_some, refl, ap, sym, subst, List}
+use Rattle.std.proofs.lemmas.Bool.{false≢true}
+use Rattle.naga_oil_ir.specs.declared.names.ItemPlace.{ItemPlace}
 use Rattle.std.proofs.lemmas.Option.{same_Some}
 use Rattle.naga_oil_derive.specs.World.{value_of}
 use Rattle.naga_oil_derive.specs.Copying.{goes_under}
@@ -15,6 +17,19 @@ pub returns-in_err-first-clause-putting : goal.returns-in_err-first-clause-putti
 returns-in_err-first-clause-putting c = NothingPut
 
 -- ---- it went somewhere
+
+gone_to : (o : Option ItemPlace) (b : Bool) → b ≡ is_some o → b ≡ true → (q : ItemPlace) × (o ≡ Some q)
+gone_to None b e f = absurd (false≢true (sym e ∙ f))
+gone_to (Some q) b e f = (q, refl)
+
+pub returns-then-has_gone-clause-copied : goal.returns-then-has_gone-clause-copied
+unfolding goes_under
+returns-then-has_gone-clause-copied c =
+    let old = c.args.self.now in
+    sym (copied_again (value_of c.args.source.now) old.maps.offset (copy_state old.maps old.target) c.args.item.now (gone_to (goes_under old.maps c.args.item.now) c.has_gone.result c.has_gone.ensures c.if-has_gone.true))
+
+pub returns-then-has_gone-clause-putting : goal.returns-then-has_gone-clause-putting
+returns-then-has_gone-clause-putting c = NothingPut
 
 pub returns-in_default-clause-copied : goal.returns-in_default-clause-copied
 unfolding goes_under
