@@ -1,6 +1,7 @@
 -- What comes back, by names.
-use Rattle.std.proofs.Common.{◌≡◌, ℕ, ◌+◌, ◌<◌, List, [], ◌∷◌, ◌++◌, map, filter, nat_eq, get_or, slice_get, arith, Bool, true, false, not, cond, Option, Some, None, option_map, unwrap_or, Result, Ok, Err, Bor, find, take, length, refl, sym, ap, ◌∙◌, string_bytes, String, Global}
-use Rattle.std.proofs.Math.Seq.{take-length}
+use Rattle.std.proofs.Common.{◌≡◌, ◌&&◌, ◌||◌, ℕ, ◌+◌, ◌<◌, List, [], ◌∷◌, ◌++◌, map, filter, nat_eq, get_or, slice_get, arith, Bool, true, false, not, cond, Option, Some, None, option_map, unwrap_or, Result, Ok, Err, Bor, find, take, length, refl, sym, ap, ◌∙◌, string_bytes, String, Global}
+use Rattle.std.proofs.lemmas.Bool.{false≢true}
+use Rattle.std.proofs.lemmas.Slice.Eq.{bytes_eq-Decides}
 use Rattle.std.proofs.lemmas.Grind.{flat_map-append}
 use Rattle.std.proofs.lemmas.List.{append-nil, length-map, length-take-le, map-append, take_more}
 use Rattle.std.proofs.lemmas.List.Elements.{filter-append}
@@ -16,13 +17,11 @@ use Rattle.std.specs.Option.{option_eq, option_or, option_copied, is_some}
 use Rattle.std.specs.Ordering.{nat_cmp}
 use Rattle.std.specs.Str.{bytes_eq}
 use Rattle.naga_oil_ir.specs.Backend.{FrontEnd}
-use Rattle.naga_oil_ir.specs.ModuleValue.{ModuleValue}
+use Rattle.naga_oil_ir.specs.ModuleValue.{ModuleValue, FunctionValue}
 use Rattle.naga_oil_ir.specs.Rows.{Row, Text, member_label}
 use Rattle.naga_oil_ir.specs.declared.backend.Capabilities.{Capabilities}
 use Rattle.naga_oil_ir.specs.declared.language.ShaderLanguage.TheVariants.{Wgsl, Glsl}
 use Rattle.naga_oil_link.specs.CopiedBuild.{has_name_among}
-use Rattle.naga_oil_link.specs.Owned.{function_values}
-use Rattle.naga_oil_ir.specs.declared.module.Function.{Function}
 use Rattle.naga_oil_ir.specs.declared.span.Span.{Span}
 use Rattle.naga_oil_ir.specs.Spans.{undefined}
 use Rattle.naga_oil_ir.specs.declared.types.StructMember.{StructMember}
@@ -34,7 +33,7 @@ use Rattle.naga_oil_conditions.specs.declared.fault.ComposerErrorInner.{Composer
 use Rattle.naga_oil_build.specs.Built.{header_text, parsed_text}
 use Rattle.naga_oil_link.specs.BuiltModule.{BuiltModule}
 use Rattle.naga_oil_link.specs.OwnPlaces.{OwnPlaces}
-use Rattle.naga_oil_build.specs.Writeback.{NamedItem, named_item, named_items, items_at, struct_members, named_functions, last_named, has_other_name, lost_member, lost_of, lost_by, lost_among, lost, unless_lost, came_back}
+use Rattle.naga_oil_build.specs.Writeback.{NamedItem, named_item, named_items, items_at, struct_members, named_functions, last_named, has_other_name, lost_member, lost_of, lost_by, lost_among, have_come_back, lost, unless_lost, came_back}
 use Rattle.naga_oil_build.specs.WritebackView.{named_of, held, is_asked, items_asked}
 use Rattle.naga_oil_build.specs.declared.writeback.NamedItem.{NamedItem as CodeItem}
 
@@ -197,3 +196,47 @@ pub unowned_function : (owned : List (List ℕ)) (back : List ℕ → Option Nam
 unowned_function owned back None span e = refl
 unowned_function owned back (Some n) span e =
     ap (λ o. option_or o None) (not_owned owned (n ++ []) back (record { name = n; members = None; span = span }) (ap (is_among owned) (append-nil n) ∙ e))
+
+-- ---- names that all come back
+
+and_both : (a b : Bool) → (a && b) ≡ true → (a ≡ true) × (b ≡ true)
+and_both true b e = (refl, e)
+and_both false b e = absurd (false≢true e)
+
+came_by : (back : List ℕ → Option NamedItem) (names : List (List ℕ)) (q : List ℕ) → have_come_back back names ≡ true → is_among names q ≡ true → is_some (back q) ≡ true
+came_by back [] q all e = absurd (false≢true e)
+came_by back (n ∷ ns) q all e =
+    let there = and_both (is_some (back n)) (have_come_back back ns) all in
+    by (bytes_eq q n) refl there.0 (came_by back ns q there.1) e
+  where
+    by : (b : Bool) → bytes_eq q n ≡ b → is_some (back n) ≡ true → (is_among ns q ≡ true → is_some (back q) ≡ true) → (b || is_among ns q) ≡ true → is_some (back q) ≡ true
+    by true same here more h = ap (λ m. is_some (back m)) ((bytes_eq-Decides q n).0 same) ∙ here
+    by false other here more h = more h
+
+back_alone : (o : Option NamedItem) (n : List ℕ) (span : Span) → is_some o ≡ true → lost_of (record { name = n; members = None; span = span }) o ≡ None
+back_alone None n span e = absurd (false≢true e)
+back_alone (Some i) n span e = refl
+
+kept_function : (owned : List (List ℕ)) (back : List ℕ → Option NamedItem) (name : Text) (span : Span) → have_come_back back owned ≡ true → lost_among owned [] back (named_item name None span) ≡ None
+kept_function owned back None span all = refl
+kept_function owned back (Some n) span all = by (is_among owned (n ++ [])) refl
+  where
+    i : NamedItem
+    i = record { name = n; members = None; span = span }
+
+    by : (b : Bool) → is_among owned (n ++ []) ≡ b → option_or (lost_by owned (n ++ []) back i) None ≡ None
+    by true e = ap (λ o. option_or o None) (sym (owned_lost owned (n ++ []) back i None e (sym (back_alone (back (n ++ [])) n span (came_by back owned (n ++ []) all e)))))
+    by false e = ap (λ o. option_or o None) (not_owned owned (n ++ []) back i e)
+
+first_kept : (owned : List (List ℕ)) (back : List ℕ → Option NamedItem) (one more : List NamedItem) → lost_among owned [] back one ≡ None → lost_among owned [] back more ≡ None → lost_among owned [] back (one ++ more) ≡ None
+first_kept owned back [] more e f = f
+first_kept owned back (i ∷ one) more e f = by (lost_by owned (i.name ++ []) back i) e (λ h. first_kept owned back one more h f)
+  where
+    by : (o : Option (List ℕ × Span)) → option_or o (lost_among owned [] back one) ≡ None → (lost_among owned [] back one ≡ None → lost_among owned [] back (one ++ more) ≡ None) → option_or o (lost_among owned [] back (one ++ more)) ≡ None
+    by None h g = g h
+    by (Some l) h g = absurd cc
+
+-- then no function is lost
+pub functions_kept : (owned : List (List ℕ)) (back : List ℕ → Option NamedItem) (fs : List (FunctionValue × Span)) → have_come_back back owned ≡ true → lost_among owned [] back (named_functions fs) ≡ None
+functions_kept owned back [] all = refl
+functions_kept owned back (f ∷ fs) all = first_kept owned back (named_item f.0.name None f.1) (named_functions fs) (kept_function owned back f.0.name f.1 all) (functions_kept owned back fs all)

@@ -1,7 +1,7 @@
 -- What doesn't come back when a header is written and read again.
 use Rattle.std.specs.Prelude.{ℕ, Bool, not, ◌==◌, if◌then◌else◌, Option, Some, None, option_map, unwrap_or, Result, Ok, Err, List, [], ◌∷◌, ◌++◌, map, take, bytes_eq, nat_eq, filter, find, zip}
-use Rattle.std.specs.List.{flat_map, list_any, enumerate_from}
-use Rattle.std.specs.Option.{option_eq, option_or}
+use Rattle.std.specs.List.{flat_map, list_any, list_all, enumerate_from}
+use Rattle.std.specs.Option.{option_eq, option_or, is_some}
 use Rattle.naga_oil_ir.specs.Backend.{FrontEnd}
 use Rattle.naga_oil_ir.specs.ModuleValue.{ModuleValue, FunctionValue}
 use Rattle.naga_oil_ir.specs.Rows.{Row, Member, Kind, TypeKind, ConstantKind, OverrideKind, GlobalKind, ExpressionKind, Text}
@@ -83,6 +83,10 @@ lost_at owned decoration back i = lost_by owned (i.name ++ decoration) back i
 abbrev pub lost_among : (owned : List (List ℕ)) → (decoration : List ℕ) → (back : List ℕ → Option NamedItem) → List NamedItem → Option (List ℕ × Span)
 lost_among owned decoration back [] = None
 lost_among owned decoration back (i ∷ more) = option_or (lost_at owned decoration back i) (lost_among owned decoration back more)
+
+-- whether there is an item of each of these names
+abbrev pub have_come_back : (back : List ℕ → Option NamedItem) → List (List ℕ) → Bool
+have_come_back back names = list_all (λ n. is_some (back n)) names
 
 -- the first of the own items of a module that doesn't come back: types, which get the decoration as they are copied, then constants, globals,
 -- and the first so many functions

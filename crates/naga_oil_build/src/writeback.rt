@@ -7,7 +7,7 @@ ghost use Rattle.naga_oil_link.specs.BuiltModule.{built_of};
 ghost use Rattle.naga_oil_link.specs.CopiedBuild.{EndWith};
 ghost use Rattle.naga_oil_link.specs.OwnPlaces.{own_of};
 ghost use Rattle.naga_oil_lines.specs.Text.{texts};
-ghost use Rattle.naga_oil_build.specs.Writeback.{named_item, named_items, named_functions, struct_members, last_named, lost_member, lost_of, lost_by, lost_at, lost_among, lost, unless_lost, came_back};
+ghost use Rattle.naga_oil_build.specs.Writeback.{named_item, named_items, named_functions, struct_members, last_named, lost_member, lost_of, lost_by, lost_at, lost_among, have_come_back, lost, unless_lost, came_back};
 ghost use Rattle.naga_oil_build.specs.WritebackView.{labels_of, named_of, held, seen_lost, is_asked, items_asked};
 
 use super::*;
@@ -264,7 +264,19 @@ fn lost_function<'m>(
     lost_by(&item, name, back, owned)
 }
 
-// The first of these functions that is lost. The owned names likely end with a decoration.
+// Whether there is an item of each of these names.
+fn have_come_back(names: &Names, back: &Back<'_>) -> bool
+    ensures { result ≡ have_come_back (held back.now) (texts names.now.keys) }
+{
+    for name in names.iter() {
+        if back.get(name.as_str()).is_none() {
+            return false;
+        }
+    }
+    true
+}
+
+// The first of these functions that is lost: none where all owned names come back. These likely end with a decoration.
 fn lost_among_functions<'m>(
     alloc: Global,
     functions: &'m [(Function, Span)],
@@ -278,6 +290,9 @@ fn lost_among_functions<'m>(
         IfOk result (λ lost. seen_lost lost ≡ told) }
 {
     let back = by_name(alloc, back)?;
+    if have_come_back(owned, &back) {
+        return Ok(None);
+    }
     let ending = ending_of(owned, decoration);
     for (function, span) in functions {
         let lost = lost_function(function, *span, &back, owned, ending);

@@ -5,9 +5,11 @@
 //! - `copied`: the module and the header that a build holds.
 //! - `by_name`: the items of a module by their names.
 //! - `link`: one module out of builds, each behind what it imports.
+//! - `ahead`: what is read before it is linked.
 //! - `formed`: modules that pass the test of form; `laws` say what it tests.
 #![tactic(auto)]
 
+mod ahead;
 pub mod by_name;
 pub mod copied;
 pub mod formed;

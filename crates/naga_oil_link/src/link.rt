@@ -14,6 +14,7 @@ ghost use Rattle.naga_oil_link.specs.Linked.{asked_names, asked_of, overriding_n
 ghost use Rattle.naga_oil_link.specs.LinkView.{IsLinkFormed, link_own_function, LinksImports};
 ghost use Rattle.naga_oil_link.specs.OwnPlaces.{own_of};
 
+use super::ahead::read_ahead;
 use super::by_name::{Asked, AskedItems, Listed, NamedItems, add_named, wanted};
 use super::copied::{has_name_next, import_item};
 use super::*;
@@ -88,6 +89,8 @@ struct Linker<'b> {
     derived: DerivedModule<'b>,
     // The places of the builds whose imports were linked.
     descended: BTreeSet<usize>,
+    // What was read ahead. It has no meaning.
+    read: usize,
 }
 
 // How many functions the header of imports is likely to have: as many as all the texts that their builds were parsed of, and at
@@ -118,7 +121,7 @@ impl<'b> Linker<'b> {
         let derived = DerivedModule::with_functions(alloc, functions)?;
         let descended = BTreeSet::new(alloc);
         #[rattlefmt::skip]
-        Ok(Linker { alloc, builds, of_headers, derived, descended })
+        Ok(Linker { alloc, builds, of_headers, derived, descended, read: 0 })
     }
 
     // Links the types, constants, overrides and globals of a build that are asked for.
@@ -243,6 +246,7 @@ impl<'b> Linker<'b> {
             if self.descended.insert(place)? {
                 self.link_imports(&build.imports, place)?;
             }
+            self.read = self.read.wrapping_add(read_ahead(build, &import.items));
             self.link_asked(import, build)?;
         }
         Ok(())
