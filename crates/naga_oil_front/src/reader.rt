@@ -118,12 +118,12 @@ fn arguments(alloc: Global, parameters: &Names<'_>) -> Result<Vec<FunctionArgume
 }
 
 // For how many items more there shall be room in a text, so many of which were in its first bytes: for as many as are expected,
-// one or more and at most seven times as many, and up to a power of two of all.
+// one or more and at most 63 times as many, and up to a power of two of all.
 fn more_room(count: usize, read: usize, length: usize) -> usize {
     let left = length.saturating_sub(read);
     let more = count.saturating_mul(left).checked_div(read).unwrap_or(0);
     let all = more
-        .min(count.saturating_mul(7))
+        .min(count.saturating_mul(63))
         .max(1)
         .saturating_add(count);
     rounded_room(all).saturating_sub(count)
@@ -234,7 +234,7 @@ impl<'a> Reader<'a> {
     }
 
     // Room ahead for functions, where there is none left: for as many as the rest of the text has, if it goes on as it began, so
-    // that those of a long header aren't copied again and again. It is at most for seven times as many as there are, and up to a
+    // that those of a long header aren't copied again and again. It is at most for 63 times as many as there are, and up to a
     // power of two; and a refusal is left to what needs the room.
     fn make_room(&mut self)
         ensures { self.new ≡ self.old }

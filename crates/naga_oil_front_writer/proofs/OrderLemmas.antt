@@ -1,12 +1,13 @@
 -- Items of one name, and lines that are taken from the end.
-use Rattle.std.proofs.Common.{◌≡◌, ℕ, zero, suc, min, ◌&&◌, ◌+◌, ◌-◌, ◌<◌, Bool, true, false, cond, List, [], ◌∷◌, ◌++◌, length, Option, Some, None, is_some, option_map, refl, sym, ap, subst, ◌∙◌, arith, bytes_eq, set, slice_get, get_or, drop, Bor, ◌≤◌, max}
+use Rattle.std.proofs.Common.{◌≡◌, ℕ, zero, suc, min, ◌&&◌, ◌+◌, ◌-◌, ◌<◌, Bool, true, false, cond, List, [], ◌∷◌, ◌++◌, length, Option, Some, None, is_some, option_map, refl, sym, ap, subst, ◌∙◌, arith, bytes_eq, set, slice_get, get_or, drop, Bor, ◌≤◌, max, replicate, reverse}
 use lib.Seq.{drop-cons}
 use Rattle.std.proofs.lemmas.Option.{none-some, same_Some, slice_get-map, slice_get_past}
 use Rattle.std.specs.Option.{option_or, IfSome}
-use Rattle.std.proofs.lemmas.Bool.Decides.{same_from_decides}
+use Rattle.std.proofs.lemmas.Bool.Decides.{same_from_decides, nat_tests}
+use Rattle.std.proofs.lemmas.List.{length-replicate, reverse-append, replicate_more}
 use Rattle.std.proofs.lemmas.Slice.Eq.{bytes_eq-Decides}
 use Rattle.naga_oil_symbols.specs.Names.{last_place, texts_of}
-use Rattle.naga_oil_front_writer.specs.Order.{greatest_count, place_from, next_places, bounds_used, take_last, fits, fit}
+use Rattle.naga_oil_front_writer.specs.Order.{greatest_count, place_from, next_places, bounds_used, take_last, fits, fit, anywhere, needing, has_order}
 use Rattle.naga_oil_front_writer.specs.declared.order.Bounds.{Bounds}
 use Rattle.naga_oil_front_writer.specs.declared.order.Room.{Room}
 
@@ -170,3 +171,32 @@ fit_taken n i c g k j f fs es l gs hs b whole h e ek ej ef eb w =
 pub fit_none : (k c g : ℕ) (fs es : List Room) → take_last fs es ≡ None → fit k c g fs es ≡ true
 fit_none zero c g fs es e = refl
 fit_none (suc k) c g fs es e = ap (onward k c g) e
+
+-- ---- lines that name nothing
+needing_nothing : (n : ℕ) → needing 0 0 (replicate n anywhere) ≡ replicate n anywhere
+needing_nothing zero = refl
+needing_nothing (suc n) = ap (λ ls. anywhere ∷ ls) (needing_nothing n)
+
+fits_anywhere : (f c g : ℕ) → f ≤ greatest_count → fits anywhere f c g ≡ true
+fits_anywhere f c g e = grind (arith, nat_tests)
+
+fit_anywhere : (n c g : ℕ) → n ≤ greatest_count → fit n c g (replicate n anywhere) [] ≡ true
+fit_anywhere zero c g e = refl
+fit_anywhere (suc n) c g e =
+    let k = min c greatest_count in
+    let j = min g greatest_count in
+    let first : fits anywhere (length (replicate n anywhere)) k j ≡ true = fits_anywhere (length (replicate n anywhere)) k j (omega (arith, length-replicate n anywhere)) in
+    rw first (fit_anywhere n k j (omega arith))
+
+reverse_same : (n : ℕ) (r : Room) → reverse (replicate n r) ≡ replicate n r
+reverse_same zero r = refl
+reverse_same (suc n) r =
+    let next : n + 1 ≡ suc n = omega arith in
+    reverse-append (r ∷ []) (replicate n r) ∙ ap (λ t. t ++ r ∷ []) (reverse_same n r) ∙ replicate_more n r ∙ ap (λ k. replicate k r) next
+
+-- they have an order
+pub anywhere_has_order : (n : ℕ) → n ≤ greatest_count → has_order (replicate n anywhere) [] ≡ true
+unfolding has_order
+anywhere_has_order n e =
+    let count : length (replicate n anywhere) + 0 ≡ n = omega (arith, length-replicate n anywhere) in
+    rw (needing_nothing n, reverse_same n anywhere, count) (fit_anywhere n greatest_count greatest_count e)

@@ -1,5 +1,5 @@
 -- The text of a module: constants, globals, functions, entry points, a line each.
-use Rattle.std.specs.Prelude.{ℕ, Bool, false, ◌==◌, ◌&&◌, not, if◌then◌else◌, List, [], ◌∷◌, ◌++◌, length, map, reverse, Option, Some, None, option_map, is_none, bytes_eq, codes}
+use Rattle.std.specs.Prelude.{ℕ, ◌+◌, Bool, false, ◌==◌, ◌&&◌, not, if◌then◌else◌, List, [], ◌∷◌, ◌++◌, length, map, reverse, drop, replicate, Option, Some, None, option_map, is_none, bytes_eq, codes}
 use Rattle.std.specs.Fmt.{decimal}
 use Rattle.std.specs.List.{flat_map, join_by}
 use Rattle.naga_oil_ir.specs.Parts.{Parts}
@@ -189,6 +189,30 @@ abbrev pub functions_text : Items → List (FunctionValue × Span) → Option (L
 functions_text i [] = Some ([], [])
 functions_text i (f ∷ fs) = before (function_text i f.0) (functions_text i fs)
 
+-- the line of a function without body, which names no item
+unfoldable pub stub_text : FunctionValue → Option (List ℕ)
+stub_text f = do
+  n ← valid_name f.name
+  ps ← parameter_words f.arguments
+  when (is_plain_function f && is_empty f.local_variables) (header_text n ps ++ 10 ∷ [])
+
+-- so many lines behind others
+abbrev pub counted : List ℕ × ℕ → List ℕ × ℕ → List ℕ × ℕ
+counted a b = (a.0 ++ b.0, a.1 + b.1)
+
+-- one line before others
+abbrev pub one_more : Option (List ℕ) → Option (List ℕ × ℕ) → Option (List ℕ × ℕ)
+one_more l ls = l >>= λ t. option_map (counted (t, 1)) ls
+
+-- the lines of the functions that stand first without bodies, and how many these are
+abbrev pub stubs_text : List (FunctionValue × Span) → Option (List ℕ × ℕ)
+stubs_text [] = Some ([], 0)
+stubs_text (f ∷ fs) = if is_empty f.0.body then one_more (stub_text f.0) (stubs_text fs) else Some ([], 0)
+
+-- the lines of functions, behind so many that name nothing
+abbrev pub functions_behind : Items → ℕ → List (FunctionValue × Span) → Option (Lines Room)
+functions_behind i n fs = option_map (behind ([], replicate n anywhere)) (functions_text i fs)
+
 -- ---- entry points
 abbrev pub is_ones : List ℕ → Bool
 is_ones ns = bytes_eq ns (1 ∷ 1 ∷ 1 ∷ [])
@@ -242,13 +266,19 @@ is_plain_module m =
     ((((has_type m && is_plain_special m.special_types) && is_empty m.overrides) && is_empty m.diagnostic_filters) && is_none m.diagnostic_filter_leaf)
     && is_none m.doc_comments
 
--- the lines of constants and globals, and the names of constants, globals and functions
-unfoldable pub items_text : ModuleValue → Option (List ℕ × Items)
-items_text m = do
+-- the lines of constants and globals, and their names
+abbrev pub begin_text : ModuleValue → Option (List ℕ × Items)
+begin_text m = do
   cs ← constants_text m.global_expressions m.constants
   gs ← globals_text m.global_expressions m.global_variables
+  Some (cs.0 ++ gs.0, record { constants = cs.1; globals = gs.1; functions = [] })
+
+-- the same, and the names of functions
+unfoldable pub items_text : ModuleValue → Option (List ℕ × Items)
+items_text m = do
+  is ← begin_text m
   ns ← function_words m.functions
-  Some (cs.0 ++ gs.0, record { constants = cs.1; globals = gs.1; functions = ns })
+  Some (is.0, record is.1 { functions = ns })
 
 -- the text of a module, if it has one: a line each, which have an order in which each name means its item
 unfoldable pub module_text : ModuleValue → Option (List ℕ)
@@ -258,6 +288,18 @@ module_text m = do
   fs ← functions_text cs.1 plain.functions
   es ← entries_text cs.1 plain.entry_points
   when (has_order fs.1 es.1) ((cs.0 ++ fs.0) ++ es.0)
+
+-- nothing stands behind so many stubs, which stand first
+abbrev pub ends_with_stubs : ModuleValue → ℕ → Bool
+ends_with_stubs m n = (n == length m.functions) && is_empty m.entry_points
+
+-- the lines behind so many stubs, which stand first
+unfoldable pub rest_text : Items → ModuleValue → ℕ → Option (List ℕ)
+rest_text i m n = do
+  ns ← function_words m.functions
+  fs ← functions_behind (record i { functions = ns }) n (drop n m.functions)
+  es ← entries_text (record i { functions = ns }) m.entry_points
+  when (has_order fs.1 es.1) (fs.0 ++ es.0)
 
 -- the fault of a module that has no text
 abbrev pub not_in_mini : FaultValue

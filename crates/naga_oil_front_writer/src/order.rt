@@ -223,6 +223,17 @@ impl<'m> Items<'m> {
         self.globals.tell()?;
         self.functions.tell()
     }
+
+    /// The same with these names of functions.
+    pub fn with_functions(self, functions: ItemNames<'m>) -> Items<'m>
+        ensures { result ≡ record self.entry { functions = functions.entry } }
+    {
+        Items {
+            constants: self.constants,
+            globals: self.globals,
+            functions,
+        }
+    }
 }
 
 // A line needs what the lines of its kind before it need.

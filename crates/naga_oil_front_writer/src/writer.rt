@@ -1,10 +1,11 @@
 // The text of a module: constants, globals, functions, entry points, a line each.
-ghost use Rattle.std.specs.Prelude.{◌≡◌, ◌++◌, OnOk, IfOk, IsSome, IsTrue, Some, ℕ, List, map, reverse, option_map, string_bytes};
+ghost use Rattle.std.specs.Prelude.{◌≡◌, ◌++◌, ◌≤◌, OnOk, IfOk, IsSome, IsTrue, Some, ℕ, List, drop, length, map, reverse, replicate, option_map, string_bytes};
 ghost use Rattle.naga_oil_ir.specs.Rows.{global_row};
 ghost use Rattle.naga_oil_ir.specs.ModuleValue.{module_value, function_value, entry_value, argument_value, local_value, expression_values};
 ghost use Rattle.naga_oil_symbols.specs.Symbols.{symbol_of, line_of};
 ghost use Rattle.naga_oil_front_writer.specs.Writer.{local_values};
 ghost use Rattle.naga_oil_front_writer.specs.BodyReader.{locals_of};
+ghost use Rattle.naga_oil_front_writer.specs.Order.{anywhere};
 ghost use Rattle.naga_oil_front_writer.specs.NotWritten.{Becomes, Finds, Writes};
 ghost use Rattle.naga_oil_front_writer.specs.Writer as spec;
 
@@ -246,6 +247,23 @@ fn opening(locals: &[(&str, usize)]) -> &'static str
     if locals.is_empty() { " = " } else { " with " }
 }
 
+// The functions from a place on.
+fn functions_from(functions: &[(Function, Span)], from: usize) -> &[(Function, Span)]
+    requires { from ≤ length functions.now }
+    ensures { spec.function_values result.now ≡ drop from (spec.function_values functions.now) }
+{
+    &functions[from..]
+}
+
+// The rooms of so many lines that name nothing, with room for more.
+fn rooms_of_stubs(alloc: Global, stubs: usize, more: usize) -> Result<Vec<Room>, AllocError>
+    ensures { IfOk result (λ v. v.items ≡ replicate stubs anywhere) }
+{
+    let mut rooms = Vec::with_capacity(alloc, rounded_room(stubs.saturating_add(more)))?;
+    rooms.resize(stubs, ANYWHERE)?;
+    Ok(rooms)
+}
+
 // The lines so far, and the names that they may use.
 #[derive(Drop)]
 struct Writer<'m> {
@@ -358,17 +376,54 @@ impl<'m> Writer<'m> {
         self.push_body(Names::new(self.alloc), &entry_point.function)
     }
 
-    // The lines of functions whose names can be written.
-    fn push_functions(&mut self, of: &'m Module) -> Written<Vec<Room>>
-        requires named { IsSome (spec.function_words (module_value of.now).functions) }
-        ensures text { let value = module_value of.now in
-            let lines = spec.functions_text self.old.items value.functions in
+    // The line of a function without body.
+    #[tactic(auto, unfolding(crate::specs::Writer::stub_text))]
+    fn push_stub_line(&mut self, function: &Function) -> Written<()>
+        requires stub { IsTrue (spec.is_empty (function_value function.now).body) }
+        ensures text { let text = spec.stub_text (function_value function.now) in
+            let new = option_map (λ t. string_bytes self.old.text ++ t) text in
+            Becomes result new (string_bytes self.new.text) }
+        ensures items { OnOk result (self.new.items ≡ self.old.items) }
+    {
+        let name = valid_name(&function.name)?;
+        push_header(&mut self.text, name, function.arguments.as_slice())?;
+        self.push_stub(function)?;
+        Ok(())
+    }
+
+    // The lines of the functions that stand first without bodies. Answers how many these are.
+    fn push_stubs(&mut self, of: &Module) -> Written<usize>
+        ensures text { let lines = spec.stubs_text (module_value of.now).functions in
+            let text = string_bytes self.new.text in
+            Writes (λ n. n) result lines (string_bytes self.old.text) text }
+        ensures items { OnOk result (self.new.items ≡ self.old.items) }
+    {
+        let mut count = 0;
+        for function in of.functions.as_slice() {
+            if !function.0.body.body.is_empty() {
+                return Ok(count);
+            }
+            self.push_stub_line(&function.0)?;
+            count += 1;
+        }
+        Ok(count)
+    }
+
+    // The lines of functions whose names can be written, behind so many lines that name nothing.
+    fn push_functions(
+        &mut self,
+        functions: &'m [(Function, Span)],
+        stubs: usize,
+    ) -> Written<Vec<Room>>
+        requires named { IsSome (spec.function_words (spec.function_values functions.now)) }
+        ensures text { let values = spec.function_values functions.now in
+            let lines = spec.functions_behind self.old.items stubs values in
             let text = string_bytes self.new.text in
             Writes (λ v. v.items) result lines (string_bytes self.old.text) text }
         ensures items { OnOk result (self.new.items ≡ self.old.items) }
     {
-        let mut rooms = Vec::with_capacity(self.alloc, rounded_room(of.functions.len()))?;
-        for function in of.functions.as_slice() {
+        let mut rooms = rooms_of_stubs(self.alloc, stubs, functions.len())?;
+        for function in functions {
             rooms.push(self.push_function(&function.0)?)?;
         }
         Ok(rooms)
@@ -386,6 +441,29 @@ impl<'m> Writer<'m> {
             rooms.push(self.push_entry_point(entry_point)?)?;
         }
         Ok(rooms)
+    }
+
+    // The text, with the lines behind so many stubs.
+    #[tactic(auto, unfolding(crate::specs::Writer::rest_text))]
+    fn finished(self, of: &'m Module, stubs: usize) -> Written<String>
+        requires { stubs ≤ length (module_value of.now).functions }
+        ensures { let rest = spec.rest_text self.entry.items (module_value of.now) stubs in
+            let text = option_map (λ t. string_bytes self.entry.text ++ t) rest in
+            Finds string_bytes result text }
+    {
+        let functions = of.functions.as_slice();
+        let names = function_words(self.alloc, functions)?;
+        let mut writer = Writer {
+            alloc: self.alloc,
+            text: self.text,
+            items: self.items.with_functions(names),
+        };
+        let mut functions = writer.push_functions(functions_from(functions, stubs), stubs)?;
+        let mut entry_points = writer.push_entry_points(of)?;
+        if !has_order(&mut functions, &mut entry_points) {
+            return Err(NotWritten::NotInMini);
+        }
+        Ok(writer.text)
     }
 }
 
@@ -421,26 +499,30 @@ fn is_plain_module(of: &Module) -> bool
 }
 
 // A line of a function has about so many bytes or more.
-const LINE: usize = 32;
+const LINE: usize = 40;
 
-// The lines of constants and globals, and the names of constants, globals and functions.
-#[tactic(auto, unfolding(crate::specs::Writer::items_text))]
+// The lines of constants and globals, and their names.
 fn begun(alloc: Global, of: &Module) -> Written<Writer<'_>>
-    ensures text { let lines = spec.items_text (module_value of.now) in
+    ensures { let lines = spec.begin_text (module_value of.now) in
         Finds (λ w. (string_bytes w.text, w.items)) result lines }
-    ensures named { OnOk result (IsSome (spec.function_words (module_value of.now).functions)) }
 {
     let mut text = String::new(alloc);
     let _ = text.reserve(rounded_room(of.functions.len().saturating_mul(LINE)));
     let constants = push_constants(alloc, &mut text, of)?;
     let globals = push_globals(alloc, &mut text, of)?;
-    let functions = function_words(alloc, of.functions.as_slice())?;
     let items = Items {
         constants,
         globals,
-        functions,
+        functions: ItemNames::new(alloc, 0),
     };
     Ok(Writer { alloc, text, items })
+}
+
+// Whether nothing stands behind so many stubs, which stand first.
+fn ends_with_stubs(of: &Module, stubs: usize) -> bool
+    ensures { result ≡ spec.ends_with_stubs (module_value of.now) stubs }
+{
+    stubs == of.functions.len() && of.entry_points.is_empty()
 }
 
 /// The text of a module.
@@ -452,10 +534,9 @@ pub fn module_text(alloc: Global, of: &Module) -> Written<String>
         return Err(NotWritten::NotInMini);
     }
     let mut writer = begun(alloc, of)?;
-    let mut functions = writer.push_functions(of)?;
-    let mut entry_points = writer.push_entry_points(of)?;
-    if !has_order(&mut functions, &mut entry_points) {
-        return Err(NotWritten::NotInMini);
+    let stubs = writer.push_stubs(of)?;
+    if ends_with_stubs(of, stubs) {
+        return Ok(writer.text);
     }
-    Ok(writer.text)
+    writer.finished(of, stubs)
 }
