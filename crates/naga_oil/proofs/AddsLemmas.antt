@@ -1,18 +1,19 @@
--- What an addition comes to, at each of its ends.
+-- The outcome of an addition, at each of its returns.
 use Rattle.std.proofs.Common.{◌≡◌, ℕ, List, Option, Some, None, MatchOption, option_map, Result, Ok, Err, refl, sym, ap, subst, ◌∙◌, inl, inr}
 use Rattle.naga_oil_conditions.specs.Fault.{Fault}
 use Rattle.naga_oil_conditions.specs.View.{fault_of, Fails}
 use Rattle.naga_oil_conditions.specs.declared.fault.ComposerErrorInner.{ComposerErrorInner}
 use Rattle.naga_oil.specs.declared.compose.error.ComposerError.{ComposerError}
-use Rattle.naga_oil_registry.specs.Added.{read_source, counter_behind, counter_after, Described, described, new_definition, registry_with, shown_by, ◌>>=◌}
+use Rattle.naga_oil_words.specs.ResultSteps.{◌>>=◌}
+use Rattle.naga_oil_registry.specs.Added.{read_source, counter_behind, counter_after, Described, described, new_definition, registry_with, shown_by}
 use Rattle.naga_oil.specs.Addition.{addition}
-use Rattle.naga_oil_registry.specs.Definition.{Definition}
+use Rattle.naga_oil_registry.specs.Registered.{Registered}
 use Rattle.naga_oil_registry.specs.Descriptor.{ModuleSource}
 use Rattle.naga_oil.specs.Refused.{Place, in_text, nowhere, place_of, Refused, refused_of, Tells, placed}
 use Rattle.naga_oil_registry.specs.Registry.{removed}
 use Rattle.naga_oil.specs.State.{State, Adds, forget_with}
 
--- an error tells what is wrong at the place, or it is want of memory
+-- an error reports what is wrong at the place, or out of memory
 abbrev pub IsRefusal : ComposerErrorInner → ComposerError → Place → Type 0
 IsRefusal inner e place = MatchOption (refused_of e) (place_of e.source ≡ nowhere) (λ r. (fault_of inner ≡ Some r.fault) × (r.place ≡ place))
 
@@ -21,7 +22,7 @@ at_place inner place r v is at fails =
     let e : v ≡ Err r.fault = subst (λ (o : Option Fault). MatchOption o (Unit {0}) (λ f. v ≡ Err f)) is fails in
     ap (placed place) e ∙ ap (λ p. Err (record { fault = r.fault; place = p })) (sym at)
 
--- what the value is refused for is told by the error
+-- the error reports what the value is refused for
 tells : {Y Z : Type 0} (inner : ComposerErrorInner) (e : ComposerError) (place : Place) (v : Result Y Fault) (whole : Result Z Refused) → IsRefusal inner e place → Fails inner v → ((r : Refused) → placed place v ≡ Err r → whole ≡ Err r) → Tells e whole
 tells inner e place v whole is fails up = go (refused_of e) is
   where
@@ -29,7 +30,7 @@ tells inner e place v whole is fails up = go (refused_of e) is
     go None h = h
     go (Some r) h = up r (at_place inner place r v h.0 h.1 fails)
 
--- a fact that holds where the inner fault does holds unless memory ran out
+-- a fact that holds given the inner fault holds unless memory ran out
 pub unless_memory : (inner : ComposerErrorInner) (e : ComposerError) (place : Place) (P : Type 0) → IsRefusal inner e place → ((f : Fault) → fault_of inner ≡ Some f → P) → MatchOption (fault_of e.inner) (Unit {0}) (λ f. P)
 unless_memory inner e place P is h = go (fault_of e.inner) is
   where
@@ -40,11 +41,11 @@ unless_memory inner e place P is h = go (fault_of e.inner) is
 pub failed : {Y : Type 0} (inner : ComposerErrorInner) (f : Fault) (v : Result Y Fault) → fault_of inner ≡ Some f → Fails inner v → v ≡ Err f
 failed inner f v is fails = subst (λ (o : Option Fault). MatchOption o (Unit {0}) (λ f. v ≡ Err f)) is fails
 
-module _ {B X Y : Type 0} (view : X → Y) (shown : Definition → Y) (old : State B) (m : ModuleSource) (inner : ComposerErrorInner) (e : ComposerError) where
-  shown_err : (r : Refused) (v : Result Definition Refused) → v ≡ Err r → shown_by shown v ≡ Err r
+module _ {B X Y : Type 0} (view : X → Y) (shown : Registered → Y) (old : State B) (m : ModuleSource) (inner : ComposerErrorInner) (e : ComposerError) where
+  shown_err : (r : Refused) (v : Result Registered Refused) → v ≡ Err r → shown_by shown v ≡ Err r
   shown_err r v is = ap (shown_by shown) is
 
-  -- the source isn't read
+  -- the source can't be read
   pub adds-unread : IsRefusal inner e (in_text m.file_path m.source 0) → Fails inner (read_source old.counter m.source) → Adds view shown old m (Err e) old
   unfolding addition
   adds-unread is fails = record {
@@ -64,12 +65,12 @@ module _ {B X Y : Type 0} (view : X → Y) (shown : Definition → Y) (old : Sta
     counted : counter ≡ counter_after old.counter m.source
     counted = ap (counter_behind old.counter) (sym read)
 
-    -- behind the reading
+    -- after the reading
     behind_read : addition old.registry old.counter m ≡ (placed (in_text m.file_path m.source 0) (described m.as_name text) >>= λ d. placed (in_text m.file_path text 0) (new_definition (removed d.name old.registry) m d))
     unfolding addition
     behind_read = ap (λ (v : Result (List ℕ × ℕ) Fault). placed (in_text m.file_path m.source 0) v >>= λ read. placed (in_text m.file_path m.source 0) (described m.as_name read.0) >>= λ d. placed (in_text m.file_path read.0 0) (new_definition (removed d.name old.registry) m d)) read
 
-    -- the text says nothing of a module
+    -- the text describes no module
     pub adds-undescribed : IsRefusal inner e (in_text m.file_path m.source 0) → Fails inner (described m.as_name text) → Adds view shown old m (Err e) (record old { counter = counter })
     adds-undescribed is fails = record {
       reply = tells inner e (in_text m.file_path m.source 0) (described m.as_name text) (shown_by shown (addition old.registry old.counter m)) is fails
@@ -97,12 +98,12 @@ module _ {B X Y : Type 0} (view : X → Y) (shown : Definition → Y) (old : Sta
         rest = refl;
       }
         where
-          unshown : (v : Result Definition Fault) (r : Refused) → placed (in_text m.file_path text 0) (shown_by (λ n. n.index) v) ≡ Err r → placed (in_text m.file_path text 0) v ≡ Err r
+          unshown : (v : Result Registered Fault) (r : Refused) → placed (in_text m.file_path text 0) (shown_by (λ n. n.index) v) ≡ Err r → placed (in_text m.file_path text 0) v ≡ Err r
           unshown (Ok n) r bad = absurd cc
           unshown (Err f) r bad = let same : record { fault = f; place = in_text m.file_path text 0 } ≡ r = cc in ap (λ (q : Refused). Err q) same
 
 -- the module is registered
-pub adds-registered : {B X Y : Type 0} (view : X → Y) (shown : Definition → Y) (old : State B) (m : ModuleSource) (text : List ℕ) (counter : ℕ) (d : Described) (new : Definition) (x : X) → read_source old.counter m.source ≡ Ok (text, counter) → described m.as_name text ≡ Ok d → new_definition (removed d.name old.registry) m d ≡ Ok new → view x ≡ shown new → Adds view shown old m (Ok x) (record old { counter = counter; registry = registry_with old.registry new; kept = forget_with old.registry new.name old.kept })
+pub adds-registered : {B X Y : Type 0} (view : X → Y) (shown : Registered → Y) (old : State B) (m : ModuleSource) (text : List ℕ) (counter : ℕ) (d : Described) (new : Registered) (x : X) → read_source old.counter m.source ≡ Ok (text, counter) → described m.as_name text ≡ Ok d → new_definition (removed d.name old.registry) m d ≡ Ok new → view x ≡ shown new → Adds view shown old m (Ok x) (record old { counter = counter; registry = registry_with old.registry new; kept = forget_with old.registry new.name old.kept })
 unfolding addition
 adds-registered view shown old m text counter d new x read known added is =
     let whole : addition old.registry old.counter m ≡ Ok new =

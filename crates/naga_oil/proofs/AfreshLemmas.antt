@@ -1,4 +1,4 @@
--- That what a make reaches is what reaching it from no builds gives.
+-- Law: reaching a module over builds gives what reaching it from no builds gives.
 use Rattle.std.proofs.Common.{◌≡◌, ℕ, List, [], ◌∷◌, ◌++◌, map, reverse, Bool, true, false, ◌||◌, cond, refl, sym, ap, subst, ◌∙◌, Option, Some, None, unwrap_or, slice_index_or, Result, Ok, Err, append_assoc, append-nil}
 use Rattle.std.proofs.lemmas.Bool.{true≢false}
 use Rattle.std.proofs.lemmas.List.{reverse-append, map-append}
@@ -14,7 +14,7 @@ use Rattle.indexmap.specs.IndexMap.{insert_entry}
 use Rattle.naga_oil_imports.specs.Uses.{Use}
 use Rattle.naga_oil_conditions.specs.Fault.{Fault}
 use Rattle.naga_oil_pre.specs.Preprocessed.{Output}
-use Rattle.naga_oil_registry.specs.Definition.{Definition, Defs}
+use Rattle.naga_oil_registry.specs.Registered.{Registered, Defs}
 use Rattle.naga_oil_registry.specs.Registry.{registered, IsRegistry}
 use Rattle.naga_oil_registry.proofs.RegistryLemmas.{bytes_same}
 use Rattle.naga_oil_link.specs.BuiltModule.{BuiltModule, Builds}
@@ -31,9 +31,9 @@ use Rattle.naga_oil.proofs.LocalLemmas.{bytes_equiv, named_alike, build_alike}
 use Rattle.naga_oil.proofs.ReachLawLemmas.{allowed, imported_registered, or_true, reach-first, reach-past}
 use Rattle.naga_oil.proofs.ReachLemmas.{each_none, each_refused, each_ended, each_more, module_unread, module_ended, module_over}
 
--- ---- what stands alike
+-- ---- names that stand alike
 
--- by what is newest
+-- by the newest build
 abbrev NewestAlike : Option (BuiltModule × Builds) → Option (BuiltModule × Builds) → Type 0
 NewestAlike None o = o ≡ None
 NewestAlike (Some e) o = IsSomeAnd o (λ f. AreOne (AlikeIn e.1 f.1) e.0 f.0)
@@ -68,7 +68,7 @@ some_alike e (Some g) (Some f) one k known =
     let behind : All (λ i. AlikeIn g.1 f.1 i.import) e.0.imports = subst (λ (b : BuiltModule). All (λ i. AlikeIn g.1 f.1 i.import) b.imports) (k.same ∙ sym one.same) k.imports in
     record { same = one.same ∙ sym k.same; imports = λ j d l. known g.1 f.1 (slice_index_or e.0.imports j d).import (one.imports j d l) (behind j d l) }
 
--- what stands as in a third stands alike
+-- names that stand in two rows as in a third stand alike
 both_alike : (ps bs cs : Builds) (name : List ℕ) → AlikeIn ps cs name → AlikeIn bs cs name → AlikeIn ps bs name
 unfolding AlikeIn
 both_alike [] bs cs name h k = none_alike (newest name bs) (newest name cs) h (at_newest bs cs name k)
@@ -78,7 +78,7 @@ both_alike (e ∷ earlier) bs cs name h k = by (bytes_eq name e.0) h (λ b c n. 
     by true one known = some_alike (e.1, earlier) (newest name bs) (newest name cs) one (at_newest bs cs name k) known
     by false more known = known bs cs name more k
 
--- another build before it changes nothing
+-- a build of another name before it changes nothing
 alike_past : (e : List ℕ × BuiltModule) (bs cs : Builds) (name : List ℕ) → bytes_eq name e.0 ≡ false → AlikeIn bs cs name → AlikeIn (e ∷ bs) cs name
 alike_past e bs cs name q h = from_newest (e ∷ bs) cs name (subst (λ b. NewestAlike (cond b (Some (e.1, bs)) (newest name bs)) (newest name cs)) (sym q) (at_newest bs cs name h))
 
@@ -86,7 +86,7 @@ alike_past e bs cs name q h = from_newest (e ∷ bs) cs name (subst (λ b. Newes
 alike_first : (name : List ℕ) (b : BuiltModule) (bs cs : Builds) → All (λ i. AlikeIn bs cs i.import) b.imports → AlikeIn ((name, b) ∷ bs) ((name, b) ∷ cs) name
 alike_first name b bs cs all = from_newest ((name, b) ∷ bs) ((name, b) ∷ cs) name (subst (λ q. NewestAlike (cond q (Some (b, bs)) (newest name bs)) (cond q (Some (b, cs)) (newest name cs))) (sym ((bytes_eq-Decides name name).1 refl)) (record { same = refl; imports = all }))
 
--- ---- one build more
+-- ---- one more build
 
 pub with_there : (bs : Builds) (name : List ℕ) (b : BuiltModule) → is_built bs name ≡ true → builds_with bs name b ≡ bs
 with_there [] name b h = absurd (true≢false (sym h))
@@ -140,7 +140,7 @@ grows_with bs name b = by (is_built bs name) refl
     by true q = subst (Grows bs) (sym (with_there bs name b q)) (grows_none bs)
     by false q = record { more = (name, b) ∷ []; is = with_last bs name b q }
 
--- what is built stays
+-- a build stays
 stays : (bs cs : Builds) (name : List ℕ) → Grows bs cs → is_built bs name ≡ true → is_built cs name ≡ true
 stays bs cs name g h = ap (λ xs. is_built xs name) g.is ∙ list_any-append (λ b. bytes_eq name b.0) bs g.more ∙ ap (λ b. b || is_built g.more name) h
 
@@ -154,10 +154,10 @@ built_with bs name b = by (is_built bs name) refl
 pub outcome_is : {X F : Type 0} (o : Outcome X F) (r : Result X F) → o.result ≡ r → o ≡ record { builds = o.builds; result = r }
 outcome_is o r e = λ i. record { builds = o.builds; result = e i }
 
--- ---- what is not reached isn't built
+-- ---- a module that isn't reached isn't built
 
 module _ (n : List ℕ) where
-  -- what leaves a name unbuilt
+  -- steps that don't build a name
   abbrev pub Leaves : {X F : Type 0} → Doing X F → Type 0
   Leaves doing = (bs : Builds) → is_built bs n ≡ false → is_built (doing bs).builds n ≡ false
 
@@ -193,17 +193,17 @@ module _ (n : List ℕ) where
   leaves_enter name (Err u) other bs none = none
 
   module _ (s : Settings) (defs : Defs) where
-    leaves_read : (d : Definition) (r : Result Output Fault) → Leaves (preprocess_module defs d r)
+    leaves_read : (d : Registered) (r : Result Output Fault) → Leaves (preprocess_module defs d r)
     leaves_read d (Ok out) bs none = none
     leaves_read d (Err f) bs none = none
 
-    leaves_module : (d : Definition) (f : Reaching) → bytes_eq n d.name ≡ false → ((name : List ℕ) → Leaves (f name)) → Leaves (reach_module s defs d f)
+    leaves_module : (d : Registered) (f : Reaching) → bytes_eq n d.name ≡ false → ((name : List ℕ) → Leaves (f name)) → Leaves (reach_module s defs d f)
     unfolding reach_module
     leaves_module d f other h =
         leaves_then (preprocess_module defs d (preprocessed_of (defined defs) d)) (λ out. reach_each (as_recorded d) f out.uses >>= λ done. λ builds. enter_build d.name (build s d out builds) builds) (leaves_read d (preprocessed_of (defined defs) d))
         (λ out. leaves_then (reach_each (as_recorded d) f out.uses) (λ done. λ builds. enter_build d.name (build s d out builds) builds) (leaves_each (as_recorded d) f h out.uses) (λ done bs none. leaves_enter d.name (build s d out bs) other bs none))
 
-    pub leaves_reach : (es : List Definition) → registered n es ≡ false → (name : List ℕ) → Leaves (reach s defs es name)
+    pub leaves_reach : (es : List Registered) → registered n es ≡ false → (name : List ℕ) → Leaves (reach s defs es name)
     unfolding reach
     leaves_reach [] r name = λ bs none. none
     leaves_reach (d ∷ earlier) r name = by (bytes_eq d.name n) refl r (leaves_reach earlier)
@@ -216,8 +216,8 @@ module _ (n : List ℕ) where
         by true q r known = absurd (true≢false r)
         by false q r known = here (bytes_eq d.name name) (same_bytes n d.name ∙ q) (known r)
 
--- a name that isn't registered isn't reached
-unregistered_missing : (s : Settings) (defs : Defs) (ds : List Definition) (name : List ℕ) → registered name ds ≡ false → (bs : Builds) → reach s defs ds name bs ≡ record { builds = bs; result = Err (missing name 0) }
+-- a name that isn't registered can't be reached
+unregistered_missing : (s : Settings) (defs : Defs) (ds : List Registered) (name : List ℕ) → registered name ds ≡ false → (bs : Builds) → reach s defs ds name bs ≡ record { builds = bs; result = Err (missing name 0) }
 unfolding reach
 unregistered_missing s defs [] name r bs = refl
 unregistered_missing s defs (d ∷ earlier) name r bs = by (bytes_eq d.name name) r (unregistered_missing s defs earlier name)
@@ -226,16 +226,16 @@ unregistered_missing s defs (d ∷ earlier) name r bs = by (bytes_eq d.name name
     by true r known = absurd (true≢false r)
     by false r known = known r bs
 
--- ---- what is built afresh
+-- ---- builds as built afresh
 
-module _ (s : Settings) (ds : List Definition) (defs : Defs) where
+module _ (s : Settings) (ds : List Registered) (defs : Defs) where
   abbrev Stand : Builds → Type 0
   Stand = AllStandAfresh s ds defs
 
   stand_none : Stand []
   stand_none = record { differ = differ_none; each = λ name h. absurd (true≢false (sym h)) }
 
-  -- one build more that stands as it is built afresh
+  -- one more build that is as built afresh
   stand_last : (bs : Builds) (name : List ℕ) (b : BuiltModule) → Stand bs → is_built bs name ≡ false → StandsAfresh s ds defs (bs ++ (name, b) ∷ []) name → Stand (bs ++ (name, b) ∷ [])
   stand_last bs name b st none new = record { differ = differ_last bs name b st.differ none; each = λ n h. by n (bytes_eq n name) refl (sym (built_last bs (name, b) n) ∙ h) }
     where
@@ -255,7 +255,7 @@ module _ (s : Settings) (ds : List Definition) (defs : Defs) where
     stand : Stand o.builds
     built : o.result ≡ Ok tt → is_built o.builds name ≡ true
 
-  -- what doesn't enter anything
+  -- a step that enters no build
   ends_so : (bs mid : Builds) (name : List ℕ) (w : Unreached) → (afresh s ds defs name).result ≡ Err w → Grows bs mid → Stand mid → Goes bs name (record { builds = mid; result = Err w })
   ends_so bs mid name w e g st = record { result = sym e; grows = g; stand = st; built = λ k. absurd cc }
 
@@ -266,7 +266,7 @@ module _ (s : Settings) (ds : List Definition) (defs : Defs) where
       by true q = record { result = sym (st.each name q).reached; grows = grows_none bs; stand = st; built = λ _. q }
       by false q = h
 
-  -- ---- what is used in turn
+  -- ---- uses, one after the other
 
   module _ (rule : Rule) (f : Reaching) (h : (u : Use) → rule u ≡ None → (bs : Builds) → Stand bs → Goes bs u.import.import (f u.import.import bs)) where
     first_of_two : Option Unreached → Result (Unit {0}) Unreached → Result (Unit {0}) Unreached → Result (Unit {0}) Unreached
@@ -274,7 +274,7 @@ module _ (s : Settings) (ds : List Definition) (defs : Defs) where
     first_of_two None (Ok x) r = r
     first_of_two None (Err w) r = Err w
 
-    -- what reaching them in turn answers, whatever was built before
+    -- the answer of reaching them one after the other, whatever was built before
     answers : List Use → Result (Unit {0}) Unreached
     answers [] = Ok tt
     answers (u ∷ us) = first_of_two (rule u) (afresh s ds defs u.import.import).result (answers us)
@@ -313,7 +313,7 @@ module _ (s : Settings) (ds : List Definition) (defs : Defs) where
             let g = h u e bs st in
             more e g known (afresh s ds defs u.import.import).result g.result
 
-  -- what is used is alike in two rows of builds that stand as they are built afresh
+  -- the used modules stand alike in two rows of builds that are all as built afresh
   uses_alike : (us : List Use) (bs cs : Builds) → Stand bs → Stand cs → All (λ u. is_built bs u.import.import ≡ true) us → All (λ u. is_built cs u.import.import ≡ true) us → UsesAlike bs cs us
   uses_alike us bs cs st st' all all' = λ k d l. one (slice_index_or us k d).import.import (all k d l) (all' k d l)
     where
@@ -322,8 +322,8 @@ module _ (s : Settings) (ds : List Definition) (defs : Defs) where
 
   -- ---- a module
 
-  module _ (d : Definition) (f : Reaching) (first : afresh s ds defs d.name ≡ reach_module s defs d f []) (h : (u : Use) → as_recorded d u ≡ None → (bs : Builds) → Stand bs → Goes bs u.import.import (f u.import.import bs)) (leaves : (us : List Use) → is_built (reach_each (as_recorded d) f us []).builds d.name ≡ false) where
-    -- what is entered over builds that stand as they are built afresh
+  module _ (d : Registered) (f : Reaching) (first : afresh s ds defs d.name ≡ reach_module s defs d f []) (h : (u : Use) → as_recorded d u ≡ None → (bs : Builds) → Stand bs → Goes bs u.import.import (f u.import.import bs)) (leaves : (us : List Use) → is_built (reach_each (as_recorded d) f us []).builds d.name ≡ false) where
+    -- a build entered over builds that are all as built afresh
     entered : (bs : Builds) (out : Output) (mid mid' : Builds) → Grows bs mid → Stand mid → Stand mid' → is_built mid' d.name ≡ false
         → UsesAlike mid mid' out.uses → (r : Result BuiltModule Unbuilt) → build s d out mid' ≡ r → afresh s ds defs d.name ≡ enter_build d.name r mid' → Goes bs d.name (enter_build d.name r mid)
     entered bs out mid mid' g st st' none uses (Err u) e at = ends_so bs mid d.name (unbuilt d.name u) (ap (λ o. o.result) at) g st
@@ -385,20 +385,20 @@ module _ (s : Settings) (ds : List Definition) (defs : Defs) where
               let there : reach_module s defs d f [] ≡ record { builds = []; result = Err w } = module_unread s defs d f [] w (ap (λ r. preprocess_module defs d r []) read) in
               subst (Goes bs d.name) (sym (module_unread s defs d f bs w (ap (λ r. preprocess_module defs d r bs) read))) (ends_so bs bs d.name w (ap (λ o. o.result) (first ∙ there)) (grows_none bs) st)
 
-  -- ---- what is registered
+  -- ---- registered modules
 
-  -- a registry behind the whole one
-  abbrev IsBehind : List Definition → Type 0
+  -- the rest of a registry
+  abbrev IsBehind : List Registered → Type 0
   IsBehind es = (x : List ℕ) → registered x es ≡ true → (cs : Builds) → reach s defs es x cs ≡ reach s defs ds x cs
 
-  behind_first : (d : Definition) (earlier : List Definition) → registered d.name earlier ≡ false → IsBehind (d ∷ earlier) → IsBehind earlier
+  behind_first : (d : Registered) (earlier : List Registered) → registered d.name earlier ≡ false → IsBehind (d ∷ earlier) → IsBehind earlier
   behind_first d earlier fresh behind x r cs = by (bytes_eq d.name x) refl
     where
       by : (q : Bool) → bytes_eq d.name x ≡ q → reach s defs earlier x cs ≡ reach s defs ds x cs
       by true q = absurd (true≢false (sym r ∙ ap (λ n. registered n earlier) (sym (bytes_same d.name x q)) ∙ fresh))
       by false q = sym (reach-past s defs d earlier x q cs) ∙ behind x (ap (λ b. b || registered x earlier) q ∙ r) cs
 
-  all_go : (es : List Definition) → IsRegistry es → IsBehind es → (name : List ℕ) → registered name es ≡ true → (bs : Builds) → Stand bs → Goes bs name (reach s defs es name bs)
+  all_go : (es : List Registered) → IsRegistry es → IsBehind es → (name : List ℕ) → registered name es ≡ true → (bs : Builds) → Stand bs → Goes bs name (reach s defs es name bs)
   all_go [] all behind name r bs st = absurd (true≢false (sym r))
   all_go (d ∷ earlier) all behind name r bs st = by (bytes_eq d.name name) refl r (all_go earlier all.1 (behind_first d earlier all.0.name behind))
     where
@@ -423,7 +423,7 @@ module _ (s : Settings) (ds : List Definition) (defs : Defs) where
         by true q = all_go ds all (λ x r cs. refl) name q bs st
         by false q = subst (Goes bs name) (sym (unregistered_missing s defs ds name q bs)) (ends_so bs bs name (missing name 0) (ap (λ o. o.result) (unregistered_missing s defs ds name q [])) (grows_none bs) st)
 
-    -- a module that is built among such builds is built afresh
+    -- the build of a module among such builds is its build afresh
     built_afresh : (bs : Builds) (name : List ℕ) → Stand bs → is_built bs name ≡ true → IsBuiltAfresh s ds defs bs name
     built_afresh bs name st q = record { built = q; same = named_alike bs (afresh s ds defs name).builds name st.differ (goes name [] stand_none).stand.differ (st.each name q).alike }
 

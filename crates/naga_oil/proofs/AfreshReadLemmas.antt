@@ -1,7 +1,7 @@
--- That the second reading of a shader is as it is over no builds.
+-- Law: the second reading of a shader is as it is over no builds.
 use Rattle.std.proofs.Common.{◌≡◌, ℕ, List, [], refl, sym, ap, subst, ◌∙◌, Result, Ok, Err, append-nil}
 use Rattle.naga_oil_pre.specs.Preprocessed.{Output}
-use Rattle.naga_oil_registry.specs.Definition.{Definition, Defs}
+use Rattle.naga_oil_registry.specs.Registered.{Registered, Defs}
 use Rattle.naga_oil_registry.specs.Registry.{IsRegistry}
 use Rattle.naga_oil_link.specs.BuiltModule.{Builds}
 use Rattle.naga_oil_build.specs.Built.{preprocessed_of}
@@ -13,15 +13,15 @@ use Rattle.naga_oil.specs.Reach.{Unreached, defined}
 use Rattle.naga_oil.specs.Refused.{Refused}
 use Rattle.naga_oil.proofs.AfreshLemmas.{afresh_law}
 
-module _ (s : Settings) (ds : List Definition) (defs : Defs) (text : List ℕ) (shader : Definition) where
-  -- a reading, and what it uses
+module _ (s : Settings) (ds : List Registered) (defs : Defs) (text : List ℕ) (shader : Registered) where
+  -- a reading, and the modules that it uses
   record Reads (none : Result Output Refused) (bs : Builds) (o : Outcome Output Refused) : Type 0 where
     result : o.result ≡ none
     grows : Grows bs o.builds
     stand : AllStandAfresh s ds defs o.builds
     built : (out : Output) → o.result ≡ Ok out → AreBuilt o.builds out.uses
 
-  -- what was preprocessed goes on
+  -- after preprocessing
   goes_on : Output → Outcome (Unit {0}) Unreached → Outcome Output Refused
   goes_on out o = done_with (told_as (refusal shader.file_path text defs) o o.result) (λ done. given (Ok out)) (told_as (refusal shader.file_path text defs) o o.result).result
 

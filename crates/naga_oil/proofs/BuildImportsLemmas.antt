@@ -1,12 +1,12 @@
--- What a build imports.
+-- The imports of a build.
 use Rattle.std.proofs.Common.{◌≡◌, ℕ, List, [], ◌++◌, map, length, nat_lt, Bool, true, false, cond, refl, ap, ◌∙◌, Result, Ok, Err}
 use Rattle.naga_oil_ir.specs.ModuleValue.{ModuleValue}
 use Rattle.naga_oil_ir.specs.declared.language.ShaderLanguage.{ShaderLanguage}
 use Rattle.naga_oil_imports.specs.Uses.{Import}
 use Rattle.naga_oil_conditions.specs.Fault.{Fault}
 use Rattle.naga_oil_pre.specs.Preprocessed.{Output}
-use Rattle.naga_oil_registry.specs.Added.{◌>>=◌}
-use Rattle.naga_oil_registry.specs.Definition.{Definition}
+use Rattle.naga_oil_words.specs.ResultSteps.{◌>>=◌}
+use Rattle.naga_oil_registry.specs.Registered.{Registered}
 use Rattle.naga_oil_link.specs.BuiltModule.{BuiltModule, Builds}
 use Rattle.naga_oil_link.specs.CopiedBuild.{copy_build, copies_special}
 use Rattle.naga_oil_link.specs.OwnPlaces.{OwnPlaces}
@@ -15,7 +15,7 @@ use Rattle.naga_oil_build.specs.Build.{WholeText, begin_build, from_offset, writ
 use Rattle.naga_oil_build.specs.Held.{Settings, parse_whole, names_back, copy_tested, hold}
 use Rattle.naga_oil_build.specs.Virtuals.{Functions, functions_in}
 
--- what holds of the end of two steps
+-- what holds at the end of two steps
 ends_with : {X Y F : Type 0} (r : Result X F) (f : X → Result Y F) (P : Y → Type 0) → ((x : X) → r ≡ Ok x → (y : Y) → f x ≡ Ok y → P y) → (y : Y) → (r >>= f) ≡ Ok y → P y
 ends_with (Ok x) f P h y e = h x refl y e
 ends_with (Err w) f P h y e = absurd cc
@@ -45,7 +45,7 @@ held_imports s in_language text b c e =
     ends_with (parse_whole s.front in_language text b.decoration) (λ parse. copy_tested s (owned_module b.index b.decoration parse) (own_places parse) (owned_build b.index parse b) (length parse.functions)) (λ y. y.imports ≡ b.imports) (λ parse _ y k.
     tested_imports s (owned_module b.index b.decoration parse) (own_places parse) (owned_build b.index parse b) (length parse.functions) y k ∙ owned_imports b.index parse b) c e
 
-whole_imports : (s : Settings) (d : Definition) (bs : Builds) (text : List ℕ) (b : BuiltModule) (w : WholeText) → write_whole s d bs text b ≡ Ok w → w.built.imports ≡ b.imports
+whole_imports : (s : Settings) (d : Registered) (bs : Builds) (text : List ℕ) (b : BuiltModule) (w : WholeText) → write_whole s d bs text b ≡ Ok w → w.built.imports ≡ b.imports
 unfolding write_whole
 whole_imports s d bs text b w e =
     ends_with (functions_in s.override_any bs b.imports b.decoration b.overriding text) (λ functions. write_heading s d bs b.imports >>= λ heading. Ok (whole functions heading)) (λ y. y.built.imports ≡ b.imports) (λ functions _ y k.
@@ -61,8 +61,8 @@ offset_ok : {Y : Type 0} (offset : ℕ) (r : Result Y Fault) (y : Y) → from_of
 offset_ok offset (Ok x) y e = cc
 offset_ok offset (Err f) y e = absurd cc
 
--- a build imports what its text uses
-pub build_imports : (s : Settings) (d : Definition) (out : Output) (bs : Builds) (b : BuiltModule) → build s d out bs ≡ Ok b → b.imports ≡ map (λ u. u.import) out.uses
+-- a build imports the modules that its text uses
+pub build_imports : (s : Settings) (d : Registered) (out : Output) (bs : Builds) (b : BuiltModule) → build s d out bs ≡ Ok b → b.imports ≡ map (λ u. u.import) out.uses
 unfolding build
 build_imports s d out bs b e =
     let begun = begin_build bs d out.uses in

@@ -1,4 +1,4 @@
--- How builds of a make come of texts.
+-- How the builds of a make are built of texts.
 use Rattle.std.proofs.Common.{◌≡◌, ℕ, ◌<◌, ◌≤◌, nat_lt, if◌then◌else◌, Bool, true, false, List, ◌++◌, length, Result, Ok, Err, refl, ap, sym, ◌∙◌, subst, arith}
 use Rattle.std.proofs.lemmas.Bool.{ltb-true}
 use Rattle.naga_oil_ir.specs.Backend.{FrontEnd, FaultValue}
@@ -7,24 +7,25 @@ use Rattle.naga_oil_ir.specs.declared.language.ShaderLanguage.{ShaderLanguage}
 use Rattle.naga_oil_derive.specs.CopiedEntry.{make_module}
 use Rattle.naga_oil_conditions.specs.Fault.{Fault, text_too_large, wrong_form}
 use Rattle.naga_oil_pre.specs.Preprocessed.{Output}
-use Rattle.naga_oil_registry.specs.Added.{◌>>=◌}
-use Rattle.naga_oil_registry.specs.Definition.{Definition, Defs}
+use Rattle.naga_oil_words.specs.ResultSteps.{◌>>=◌}
+use Rattle.naga_oil_registry.specs.Registered.{Registered, Defs}
 use Rattle.naga_oil_form_laws.specs.EntryForm.{IsModuleFormed}
 use Rattle.naga_oil_link.specs.BuiltModule.{BuiltModule, Builds}
 use Rattle.naga_oil_link.specs.CopiedBuild.{copy_build, copy_header, copy_whole}
-use Rattle.naga_oil_link.specs.Form.{is_formed}
+use Rattle.naga_oil_form.specs.Form.{is_formed}
 use Rattle.naga_oil_link.specs.OwnPlaces.{OwnPlaces}
 use Rattle.naga_oil_link.specs.Owned.{own_places, owned_module, owned_build, owning, owning_demoted, demotable, decorated_items}
-use Rattle.naga_oil_parse_laws.proofs.ParsedShapes.{parsed_shape}
-use Rattle.naga_oil_copies.specs.ThroughBuilds.{Holds}
+use Rattle.naga_oil_link_laws.proofs.ParsedShapes.{parsed_shape}
+use Rattle.naga_oil_link_laws.specs.ThroughBuilds.{Holds}
 use Rattle.naga_oil_build.specs.Build.{WholeText, begin_build, write_heading, write_whole, from_offset, build}
 use Rattle.naga_oil_build.specs.Virtuals.{Functions, functions_in}
 use Rattle.naga_oil_build.specs.Built.{told, parse_fault, parsed_text, preprocessed_of}
 use Rattle.naga_oil_build.specs.Held.{Settings, parse_whole, copy_tested, hold}
 use Rattle.naga_oil.specs.Faithful.{ParsesModules, IsBuiltOf, owned_parse}
 use Rattle.naga_oil.specs.Reach.{defined}
+use Rattle.naga_oil_ir.specs.Spans.{span_stride}
 
--- ---- what a whole text says
+-- ---- parsing a whole text
 
 told_back : {Y : Type 0} (tell : FaultValue → Fault) (r : Result Y FaultValue) (y : Y) → told tell r ≡ Ok y → r ≡ Ok y
 told_back tell (Ok x) y e = cc
@@ -40,28 +41,28 @@ formed_back false m p e = absurd cc
 
 -- a text that was parsed is short, and its parse passes the test
 pub record IsParse (front : FrontEnd) (in_language : ShaderLanguage) (text decoration : List ℕ) (m : ModuleValue) : Type 0 where
-  pub short : length text < 2097152
+  pub short : length text < span_stride
   pub parse : front.parse in_language text ≡ Ok m
   pub formed : is_formed m decoration (length text) ≡ true
 
 pub parse_back : (front : FrontEnd) (l : ShaderLanguage) (text decoration : List ℕ) (m : ModuleValue) → parse_whole front l text decoration ≡ Ok m → IsParse front l text decoration m
 unfolding parse_whole
-parse_back front l text decoration m e = one (nat_lt (length text) 2097152) refl (parsed_text front l text) refl e
+parse_back front l text decoration m e = one (nat_lt (length text) span_stride) refl (parsed_text front l text) refl e
   where
-    one : (b : Bool) → nat_lt (length text) 2097152 ≡ b → (r : Result ModuleValue Fault) → parsed_text front l text ≡ r → ((let u : Result (Unit {0}) Fault = if b then Ok tt else Err text_too_large in u) >>= λ fits. (r >>= λ p. (let v : Result ModuleValue Fault = if is_formed p decoration (length text) then Ok p else Err wrong_form in v))) ≡ Ok m → IsParse front l text decoration m
+    one : (b : Bool) → nat_lt (length text) span_stride ≡ b → (r : Result ModuleValue Fault) → parsed_text front l text ≡ r → ((let u : Result (Unit {0}) Fault = if b then Ok tt else Err text_too_large in u) >>= λ fits. (r >>= λ p. (let v : Result ModuleValue Fault = if is_formed p decoration (length text) then Ok p else Err wrong_form in v))) ≡ Ok m → IsParse front l text decoration m
     one true s (Ok p) t e =
         let f = formed_back (is_formed p decoration (length text)) p m e in
-        record { short = ltb-true (length text) 2097152 s; parse = told_back (parse_fault l) (front.parse l text) m (t ∙ ap (λ (q : ModuleValue). Ok q) f.1); formed = ap (λ q. is_formed q decoration (length text)) (sym f.1) ∙ f.0 }
+        record { short = ltb-true (length text) span_stride s; parse = told_back (parse_fault l) (front.parse l text) m (t ∙ ap (λ (q : ModuleValue). Ok q) f.1); formed = ap (λ q. is_formed q decoration (length text)) (sym f.1) ∙ f.0 }
     one true s (Err f) t e = absurd cc
     one false s r t e = absurd cc
 
--- its own items decorated, it is of good form
+-- with its own items decorated, the parse is of good form
 pub owned_is_formed : (front : FrontEnd) (l : ShaderLanguage) (text decoration : List ℕ) (m : ModuleValue) (index : ℕ) → ParsesModules front → IsParse front l text decoration m → IsModuleFormed (owned_module index decoration m)
 owned_is_formed front l text decoration m index modules p =
     let short = p.short in
     parsed_shape m index decoration (length text) (modules l text m p.parse) (omega (arith, short)) p.formed
 
--- ---- what is held of it
+-- ---- what a build holds of the parse
 
 done_back : (r : Result (Unit {0}) Fault) (c b : BuiltModule) → (r >>= λ done. (let k : Result BuiltModule Fault = Ok c in k)) ≡ Ok b → c ≡ b
 done_back (Ok x) c b e = cc
@@ -81,7 +82,7 @@ hold_back s l text before b e = one (parse_whole s.front l text before.decoratio
     one (Ok p) t e = record { parse = p; parsed = t; copies = done_back _ _ b e }
     one (Err f) t e = absurd cc
 
--- what a build is called stays
+-- the name and index of a build stay
 abbrev Same : BuiltModule → BuiltModule → Type 0
 Same b c = (c.decoration ≡ b.decoration) × (c.index ≡ b.index)
 
@@ -128,8 +129,8 @@ offset_back : {Y : Type 0} (offset : ℕ) (r : Result Y Fault) (y : Y) → from_
 offset_back offset (Ok x) y e = cc
 offset_back offset (Err f) y e = absurd cc
 
--- the text that is put together is of the build that begins it
-written_index : (s : Settings) (d : Definition) (builds : Builds) (text : List ℕ) (b : BuiltModule) (whole : WholeText) → write_whole s d builds text b ≡ Ok whole → whole.built.index ≡ b.index
+-- the whole text belongs to the build that begins it
+written_index : (s : Settings) (d : Registered) (builds : Builds) (text : List ℕ) (b : BuiltModule) (whole : WholeText) → write_whole s d builds text b ≡ Ok whole → whole.built.index ≡ b.index
 unfolding write_whole
 written_index s d builds text b whole e = one (functions_in s.override_any builds b.imports b.decoration b.overriding text) (write_heading s d builds b.imports) e
   where
@@ -138,13 +139,13 @@ written_index s d builds text b whole e = one (functions_in s.override_any build
     one (Ok f) (Err x) q = absurd cc
     one (Err x) h q = absurd cc
 
--- a build that is answered, the text that it is of, and what it holds of that
-pub record Comes (s : Settings) (d : Definition) (out : Output) (before : Builds) (b : BuiltModule) : Type 0 where
+-- a build, its whole text, and what it holds of that text's parse
+pub record Comes (s : Settings) (d : Registered) (out : Output) (before : Builds) (b : BuiltModule) : Type 0 where
   pub whole : WholeText
   pub written : write_whole s d before out.text (begin_build before d out.uses) ≡ Ok whole
   pub holding : HoldsParse s d.language whole.text whole.built b
 
-pub build_back : (s : Settings) (d : Definition) (out : Output) (before : Builds) (b : BuiltModule) → build s d out before ≡ Ok b → Comes s d out before b
+pub build_back : (s : Settings) (d : Registered) (out : Output) (before : Builds) (b : BuiltModule) → build s d out before ≡ Ok b → Comes s d out before b
 unfolding build
 build_back s d out before b e = one (write_whole s d before out.text (begin_build before d out.uses)) refl e
   where
@@ -153,12 +154,12 @@ build_back s d out before b e = one (write_whole s d before out.text (begin_buil
     one (Err f) t e = absurd cc
 
 -- the build with its parse
-pub record BuiltOf (s : Settings) (defs : Defs) (d : Definition) (before : Builds) (b : BuiltModule) : Type 0 where
+pub record BuiltOf (s : Settings) (defs : Defs) (d : Registered) (before : Builds) (b : BuiltModule) : Type 0 where
   pub parse : ModuleValue
   pub is : IsBuiltOf s defs d before b parse
   pub holding : Holds b (owned_parse b parse) (own_places parse)
 
-pub built_of : (s : Settings) (defs : Defs) (d : Definition) (out : Output) (before : Builds) (b : BuiltModule) → ParsesModules s.front → preprocessed_of (defined defs) d ≡ Ok out → build s d out before ≡ Ok b → BuiltOf s defs d before b × (b.index ≡ d.index)
+pub built_of : (s : Settings) (defs : Defs) (d : Registered) (out : Output) (before : Builds) (b : BuiltModule) → ParsesModules s.front → preprocessed_of (defined defs) d ≡ Ok out → build s d out before ≡ Ok b → BuiltOf s defs d before b × (b.index ≡ d.index)
 built_of s defs d out before b modules p e =
     let c = build_back s d out before b e in
     let h = holds s d.language c.whole.text c.whole.built b modules c.holding in (

@@ -1,4 +1,4 @@
--- What callers call in place of functions that are overridden.
+-- What callers call in place of overridden functions.
 use Rattle.std.proofs.Common.{◌≡◌, ◌∙◌, ℕ, zero, suc, ◌||◌, Bool, true, false, if◌then◌else◌, List, [], ◌∷◌, slice_get, bytes_eq, Option, Some, None, refl, ap, sym, subst, arith}
 use Rattle.std.specs.List.{list_any}
 use Rattle.std.proofs.lemmas.Bool.{false≢true}
@@ -7,12 +7,12 @@ use Rattle.std.proofs.lemmas.Option.{none-some, same_Some}
 use Rattle.std.proofs.lemmas.Slice.Eq.{bytes_eq-Decides}
 use Rattle.naga_oil_form.specs.NameForm.{Name}
 use Rattle.naga_oil_ir.specs.Rows.{Text}
-use Rattle.naga_oil_lines.specs.Text.{is_among}
+use Rattle.naga_oil_words.specs.Texts.{is_among}
 use Rattle.naga_oil_link.specs.BuiltModule.{Overriding}
 use Rattle.naga_oil_redirect.specs.Chain.{destination}
 use Rattle.naga_oil_redirect.specs.ChainLaw.{is_in_chain}
 use Rattle.naga_oil_redirect.specs.Redirected.{is_named}
-use Rattle.naga_oil_faith.specs.SentByTree.{instead_of}
+use Rattle.naga_oil_copy_laws.specs.SentByTree.{instead_of}
 use Rattle.naga_oil.specs.CallsSent.{call_sent, call_sent_down, call_goes}
 use Rattle.naga_oil.specs.ChainsLaw.{IsApart, StandsApart, CallsLaw}
 
@@ -26,7 +26,7 @@ turned a b =
     let d = bytes_eq-Decides b a in
     same_from_decides (bytes_eq a b) (bytes_eq b a) (bytes_eq-Decides a b) (λ e. sym (d.0 e), λ e. d.1 (sym e))
 
--- the one before the or, or the one behind it
+-- the left side of the or, or the right one
 or_true : (b c : Bool) → c ≡ true → (b || c) ≡ true
 or_true true c e = refl
 or_true false c e = e
@@ -59,7 +59,7 @@ omitted_stays caller base (other ∷ more) omitted n e =
     ap (λ (b : Bool). call_sent_down (Some caller) other more (other ∷ omitted) (if b then n else instead_of (Some base) (Some other) n)) (or_true (bytes_eq other caller) (is_among omitted caller) e)
     ∙ omitted_stays caller other more (other ∷ omitted) n (or_true (bytes_eq caller other) (is_among omitted caller) e)
 
--- a call of the base goes to the other
+-- a call of the base becomes a call of the other
 base_goes : (base other : Name) → instead_of (Some base) (Some other) (Some base) ≡ Some other
 base_goes base other = ap (λ (b : Bool). let t : Text = if b then Some other else Some base in t) (same_name base)
 
@@ -91,7 +91,7 @@ base_calls : (caller : Text) (base : Name) (others : List Name) → call_sent_do
 base_calls None base others = none_calls base others []
 base_calls (Some caller) base others = named_calls caller base others [] refl
 
--- where it goes is in the chain
+-- the destination is in the chain
 ends_in : (caller : Text) (base : Name) (rs : List Name) → is_in_chain base rs (destination rs caller base) ≡ true
 ends_in caller base [] = ap (λ (b : Bool). b || false) (same_name base)
 ends_in caller base (r ∷ rs) = by (is_named (λ n. bytes_eq n r) caller) (ends_in caller r rs)
@@ -103,7 +103,7 @@ ends_in caller base (r ∷ rs) = by (is_named (λ n. bytes_eq n r) caller) (ends
 -- ---- all chains
 
 module _ (a : List ℕ × List (List ℕ)) where
-  -- a name of a chain isn't in one that stands apart
+  -- a name of a chain isn't in a chain that stands apart
   not_in : (b : List ℕ × List (List ℕ)) (n : Name) → IsApart a b → is_in_chain a.0 a.1 n ≡ true → is_in_chain b.0 b.1 n ≡ false
   not_in b n apart e = by (is_in_chain b.0 b.1 n) refl
     where

@@ -1,4 +1,4 @@
--- Calls that are sent down the functions that override another.
+-- Calls redirected along the functions that override one.
 use mathlib.Core.Path.{fun_ext}
 use Rattle.std.proofs.Common.{◌≡◌, ℕ, List, [], ◌∷◌, map, length, Bool, true, false, cond, ◌||◌, Option, Some, None, MatchOption, Result, Ok, Err, String, Vec, Global, string_bytes, refl, sym, ap, ◌∙◌}
 use Rattle.std.proofs.lemmas.List.{length-map, nil_from_length}
@@ -21,8 +21,8 @@ use Rattle.naga_oil_ir.specs.declared.redirect_error.RedirectError.{RedirectErro
 use Rattle.naga_oil_ir.specs.declared.redirect_error.RedirectError.TheVariants as code
 use Rattle.naga_oil_conditions.specs.Fault.{Fault, redirection}
 use Rattle.naga_oil_conditions.specs.declared.fault.ComposerErrorInner.{ComposerErrorInner}
-use Rattle.naga_oil_lines.specs.Text.{is_among, texts}
-use Rattle.naga_oil_registry.specs.Added.{◌>>=◌}
+use Rattle.naga_oil_words.specs.Texts.{is_among, texts}
+use Rattle.naga_oil_words.specs.ResultSteps.{◌>>=◌}
 use Rattle.naga_oil_link.specs.BuiltModule.{Overriding}
 use Rattle.naga_oil_conditions.specs.View.{fault_of, redirect_error}
 use Rattle.naga_oil.specs.Chain.{sent_down, all_sent_down, put_in_order_as, chain_all, chain}
@@ -31,7 +31,7 @@ use Rattle.naga_oil.specs.Chain.{sent_down, all_sent_down, put_in_order_as, chai
 pub same_bytes : (a b : List ℕ) → bytes_eq a b ≡ bytes_eq b a
 same_bytes a b = same_from_decides _ _ (Decides-like _ sym sym (bytes_eq-Decides a b)) (bytes_eq-Decides b a)
 
--- no names, and one name more
+-- no names, and one more name
 pub none_omitted : (set : BTreeSet (String Global)) → set.keys ≡ [] → contains_text set ≡ is_among []
 none_omitted set e = fun_ext (λ name. ap (λ ks. list_any (is_at (λ k. slice_cmp nat_cmp name (string_bytes k))) ks) e)
 
@@ -45,7 +45,7 @@ one_omitted old new key names h e = fun_ext (λ name.
     by r true = refl
     by r false = refl
 
--- ---- one function more
+-- ---- one more function
 pub sent_more : (m : ModuleValue) (original other : List ℕ) (more omitted : List (List ℕ)) (pair : ℕ × ℕ) → matched m.functions original other ≡ Ok pair
     → sent_down m original (other ∷ more) omitted ≡ sent_down (redirected m pair.0 pair.1 (is_among omitted)) other more (other ∷ omitted)
 unfolding sent_down
@@ -60,7 +60,7 @@ pub all_sent : (m : ModuleValue) (original : List ℕ) (omitted : List (List ℕ
 unfolding sent_down
 all_sent m original omitted = refl
 
--- what a redirection is refused for
+-- why a redirection is refused
 pub refused_redirection : {X : Type 0} (e : RedirectError) (value : Result X RedirectFault) (told : Result ModuleValue Fault) → ((f : RedirectFault) → value ≡ Err f → told ≡ Err (redirection f))
     → MatchOption (redirect_fault e) (Unit {0}) (λ f. value ≡ Err f) → MatchOption (fault_of (redirect_error e)) (Unit {0}) (λ f. told ≡ Err f)
 refused_redirection (code.FunctionNotFound name) value told so h = so _ h
@@ -69,7 +69,7 @@ refused_redirection (code.ReturnTypeMismatch replacement original) value told so
 refused_redirection (code.CircularReference names) value told so h = so _ h
 refused_redirection code.Memory value told so h = h
 
--- ---- one chain more
+-- ---- one more chain
 pub all_more : (m n : ModuleValue) (base : List ℕ) (others : List (List ℕ)) (more : Overriding) → sent_down m base others [] ≡ Ok n → all_sent_down m ((base, others) ∷ more) ≡ all_sent_down n more
 unfolding all_sent_down
 all_more m n base others more e = rw e refl
@@ -103,7 +103,7 @@ module _ (all : Overriding) (m : ModuleValue) where
   unfolding chain_all
   sent_and_ordered sent h = ap ordered_after h
 
--- where a function is overridden, and where none is
+-- if a function is overridden, and if none is
 pub chains : (all : Overriding) (m : ModuleValue) → (all ≡ [] → ⊥) → chain all m ≡ chain_all all m
 chains [] m some = absurd (some refl)
 chains (o ∷ more) m some = refl
@@ -114,7 +114,7 @@ no_chains all m none = ap (λ os. chain os m) none
 abbrev chain_of : String Global × Vec (String Global) Global → List ℕ × List (List ℕ)
 chain_of e = (string_bytes e.0, texts e.1.items)
 
--- a list of chains has as many as there are
+-- the length of a list of chains
 pub none_overridden : (es : List (String Global × Vec (String Global) Global)) → length es ≡ 0 → map chain_of es ≡ []
 none_overridden es e = ap (map chain_of) (nil_from_length es e)
 

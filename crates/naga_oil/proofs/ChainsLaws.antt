@@ -1,4 +1,4 @@
--- Where calls of functions that are overridden go.
+-- Where calls of overridden functions are redirected.
 use Rattle.std.proofs.Common.{◌≡◌, ◌∙◌, ⊎_elim, ℕ, zero, suc, ◌<◌, ◌≤◌, ◌||◌, Bool, true, false, if◌then◌else◌, List, [], ◌∷◌, length, get_or, slice_get, bytes_eq, Option, Some, None, Result, Ok, Err, All, refl, ap, sym, subst, arith}
 use Rattle.std.specs.List.{list_any}
 use Rattle.std.proofs.lemmas.Bool.{false≢true}
@@ -9,7 +9,7 @@ use Rattle.naga_oil_form_laws.specs.EntryForm.{IsEntryFormed, IsModuleFormed}
 use Rattle.naga_oil_ir.specs.ModuleValue.{ModuleValue, EntryValue}
 use Rattle.naga_oil_form.specs.NameForm.{Name}
 use Rattle.naga_oil_ir.specs.RedirectFault.{RedirectFault}
-use Rattle.naga_oil_lines.specs.Text.{is_among}
+use Rattle.naga_oil_words.specs.Texts.{is_among}
 use Rattle.naga_oil_conditions.specs.Fault.{Fault}
 use Rattle.naga_oil_link.specs.BuiltModule.{BuiltModule, Builds, Overriding}
 use Rattle.naga_oil_link.specs.Linked.{link_whole}
@@ -22,8 +22,8 @@ use Rattle.naga_oil_redirect.specs.Redirected.{matched, redirected}
 use Rattle.naga_oil_redirect.proofs.ChainLemmas.{chain_law, start_law, step_law}
 use Rattle.naga_oil_redirect.proofs.RedirectForm.{callees_below}
 use Rattle.naga_oil_redirect.proofs.TurnCalls.{order_law}
-use Rattle.naga_oil_registry.specs.Added.{◌>>=◌}
-use Rattle.naga_oil_registry.specs.Definition.{Defs}
+use Rattle.naga_oil_words.specs.ResultSteps.{◌>>=◌}
+use Rattle.naga_oil_registry.specs.Registered.{Defs}
 use Rattle.naga_oil_registry.specs.declared.descriptor.ShaderType.{ShaderType}
 use Rattle.naga_oil.specs.Chain.{redirected_to, sent_down, all_sent_down, put_in_order_as, chain_all, chain, with_stages}
 use Rattle.naga_oil.specs.ChainsLaw.{IsApart, StandsApart, GoDownChains, ChainsLaw, ComposedLaw}
@@ -32,7 +32,7 @@ use Rattle.naga_oil.specs.Refused.{Refused, Place, placed}
 use Rattle.naga_oil.specs.Validate.{judge, validate}
 use Rattle.naga_oil.proofs.StageFormLemmas.{stages_formed}
 
--- ---- functions of a module of good form have names of their own, and call functions that are there
+-- ---- functions of a module of good form have different names, and call functions of the module
 
 any_below : (c n : ℕ) (xs : List ℕ) → c ≤ n → All (λ x. x < c) xs → All (λ x. x < n) xs
 any_below c n xs l h = All-weaker (λ x. x < c) (λ x. x < n) (λ x i. omega (arith, l, i)) xs h
@@ -52,7 +52,7 @@ formed_named m f = record {
 
 -- ---- one chain
 
--- what is sent down a chain is sent in turn
+-- calls redirected along a chain are redirected one step after the other
 in_turn : (others : List (List ℕ)) (m n : ModuleValue) (original : List ℕ) (omitted : List (List ℕ)) → sent_down m original others omitted ≡ Ok n → SentInTurn m original others (is_among omitted) n
 unfolding sent_down
 in_turn [] m n original omitted e = let same : m ≡ n = cc in subst (SentInTurn m original [] (is_among omitted)) same NoMore
@@ -62,7 +62,7 @@ in_turn (other ∷ more) m n original omitted e = by (matched m.functions origin
     by (Ok pair) q next e = OneMore pair q (next (redirected m pair.0 pair.1 (is_among omitted)) e)
     by (Err f) q next e = absurd cc
 
--- calls that go to the base still go where its calls go then
+-- calls redirected to the base are redirected as its calls are
 sent_then : (base : List ℕ) (rs : List (List ℕ)) (w m n : ModuleValue) → IsSentDown base [] w m → IsSentDown base rs m n → IsSentDown base rs w n
 sent_then base rs w m n a b = record {
   functions = λ k g at.
@@ -87,7 +87,7 @@ later_in original other more n h = by (bytes_eq n original)
     by true = refl
     by false = h
 
--- calls that were sent down a chain stay where they went while those of another one are sent
+-- calls redirected along a chain stay while those of another chain are redirected
 sent_apart : {m n : ModuleValue} {original : Name} {others : List Name} {omitted : Name → Bool} (base : Name) (rs : List Name) (w : ModuleValue) → SentInTurn m original others omitted n → HasNamedCalls m → ((x : Name) → is_in_chain original others x ≡ true → is_in_chain base rs x ≡ false) → IsSentDown base rs w m → IsSentDown base rs w n
 sent_apart base rs w NoMore h apart s = s
 sent_apart {m} {original = original} {omitted = omitted} base rs w (OneMore {other = other} {more = more} pair matches next) h apart s =
@@ -165,7 +165,7 @@ pub chains_law : ChainsLaw
 chains_law [] m made f e i a at apart = absurd (none-some a at)
 chains_law (o ∷ more) m made f e i a at apart = all_chained (o ∷ more) m made f e i a at apart
 
--- ---- a shader that is composed
+-- ---- a composed shader
 
 valid_from : (s : Settings) (builds : Builds) (defs : Defs) (place : Place) (m made : ModuleValue) → validate s builds defs place m ≡ Ok made → m ≡ made
 valid_from s builds defs place m made e = by s.validate e

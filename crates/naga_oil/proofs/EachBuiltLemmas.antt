@@ -6,7 +6,7 @@ use Rattle.naga_oil_imports.specs.Uses.{Use}
 use Rattle.naga_oil_conditions.specs.Fault.{Fault}
 use Rattle.naga_oil_pre.specs.Preprocessed.{Output}
 use Rattle.naga_oil_registry.specs.Added.{read_source}
-use Rattle.naga_oil_registry.specs.Definition.{Definition, Defs}
+use Rattle.naga_oil_registry.specs.Registered.{Registered, Defs}
 use Rattle.naga_oil_registry.specs.Descriptor.{ShaderSource}
 use Rattle.naga_oil_registry.specs.Merged.{overwritten}
 use Rattle.naga_oil_link.specs.BuiltModule.{BuiltModule, Builds}
@@ -23,15 +23,15 @@ use Rattle.naga_oil.specs.Shader.{read_shader, defs_union_over}
 use Rattle.naga_oil.proofs.AfreshLemmas.{with_there, with_last}
 use Rattle.naga_oil.proofs.FinishedLemmas.{placed_back, defs_back, text_defs, made_defs, Finished, finished}
 
--- ---- what was built
+-- ---- builds
 
 abbrev Entry : Type 0
 Entry = List ℕ × BuiltModule
 
 -- a build of a registered module's text under definitions, over builds, none of which has its name
-pub record IsBuilt (s : Settings) (ds : List Definition) (defs : Defs) (before : Builds) (e : Entry) : Type 0 where
+pub record IsBuilt (s : Settings) (ds : List Registered) (defs : Defs) (before : Builds) (e : Entry) : Type 0 where
   pub registered : ℕ
-  pub definition : Definition
+  pub definition : Registered
   pub known : slice_get ds registered ≡ Some definition
   pub name : definition.name ≡ e.0
   pub new : is_built before e.0 ≡ false
@@ -39,7 +39,7 @@ pub record IsBuilt (s : Settings) (ds : List Definition) (defs : Defs) (before :
   pub preprocessed : preprocessed_of (defined defs) definition ≡ Ok output
   pub built : build s definition output before ≡ Ok e.1
 
--- each build is so behind those before it
+-- each build is so over those before it
 abbrev pub AllAt : (Builds → Entry → Type 0) → Builds → Type 0
 AllAt P bs = (i : ℕ) (e : Entry) → slice_get bs i ≡ Some e → P (take i bs) e
 
@@ -49,15 +49,15 @@ all_last P [] x a h (suc i) e at = absurd (none-some e at)
 all_last P (y ∷ ys) x a h zero e at = a zero e at
 all_last P (y ∷ ys) x a h (suc i) e at = all_last (λ before. P (y ∷ before)) ys x (λ j f q. a (suc j) f q) h i e at
 
-abbrev pub AllBuilt : Settings → List Definition → Defs → Builds → Type 0
+abbrev pub AllBuilt : Settings → List Registered → Defs → Builds → Type 0
 AllBuilt s ds defs bs = AllAt (IsBuilt s ds defs) bs
 
-all_none : (s : Settings) (ds : List Definition) (defs : Defs) → AllBuilt s ds defs []
+all_none : (s : Settings) (ds : List Registered) (defs : Defs) → AllBuilt s ds defs []
 all_none s ds defs i e at = absurd (none-some e at)
 
--- ---- what is done to builds
+-- ---- steps over builds
 
--- what comes of two steps comes of both
+-- what holds after two steps
 record Bound {X Y F : Type 0} (f : Doing X F) (g : X → Doing Y F) (bs : Builds) (y : Y) : Type 0 where
   value : X
   first : (f bs).result ≡ Ok value
@@ -74,7 +74,7 @@ told_keeps : {X F G : Type 0} (tell : F → G) (o : Outcome X F) (r : Result X F
 told_keeps tell o (Ok x) = refl
 told_keeps tell o (Err f) = refl
 
-module _ (s : Settings) (all : List Definition) (defs : Defs) where
+module _ (s : Settings) (all : List Registered) (defs : Defs) where
   abbrev AreBuilt : Builds → Type 0
   AreBuilt bs = AllBuilt s all defs bs
 
@@ -85,7 +85,7 @@ module _ (s : Settings) (all : List Definition) (defs : Defs) where
       one true q = subst AreBuilt (sym (with_there bs name b q)) a
       one false q = subst AreBuilt (sym (with_last bs name b q)) (all_last (IsBuilt s all defs) bs (name, b) a (h q))
 
-  -- what is done keeps them so
+  -- steps keep the builds so
   abbrev KeepsBuilt : {X F : Type 0} → Doing X F → Type 0
   KeepsBuilt f = (bs : Builds) → AreBuilt bs → AreBuilt (f bs).builds
 
@@ -113,14 +113,14 @@ module _ (s : Settings) (all : List Definition) (defs : Defs) where
       one false = h name bs a
 
   -- a definition is registered
-  abbrev IsKnown : Definition → Type 0
+  abbrev IsKnown : Registered → Type 0
   IsKnown d = (k : ℕ) × (slice_get all k ≡ Some d)
 
-  enter_keeps : (d : Definition) (out : Output) (bs : Builds) → IsKnown d → preprocessed_of (defined defs) d ≡ Ok out → AreBuilt bs → (r : Result BuiltModule Unbuilt) → build s d out bs ≡ r → AreBuilt (enter_build d.name r bs).builds
+  enter_keeps : (d : Registered) (out : Output) (bs : Builds) → IsKnown d → preprocessed_of (defined defs) d ≡ Ok out → AreBuilt bs → (r : Result BuiltModule Unbuilt) → build s d out bs ≡ r → AreBuilt (enter_build d.name r bs).builds
   enter_keeps d out bs known p a (Ok b) e = with_one d.name b bs (λ new. record { registered = known.0; definition = d; known = known.1; name = refl; new = new; output = out; preprocessed = p; built = e }) a
   enter_keeps d out bs known p a (Err u) e = a
 
-  module_keeps : (d : Definition) (reaching : Reaching) → IsKnown d → ((name : List ℕ) → KeepsBuilt (reaching name)) → KeepsBuilt (reach_module s defs d reaching)
+  module_keeps : (d : Registered) (reaching : Reaching) → IsKnown d → ((name : List ℕ) → KeepsBuilt (reaching name)) → KeepsBuilt (reach_module s defs d reaching)
   unfolding reach_module
   module_keeps d reaching known h bs a = one (preprocessed_of (defined defs) d) refl
     where
@@ -131,7 +131,7 @@ module _ (s : Settings) (all : List Definition) (defs : Defs) where
       one (Ok out) p = bind_keeps (reach_each (as_recorded d) reaching out.uses) (enters out) (each_keeps (as_recorded d) reaching h out.uses) (λ done bs a. enter_keeps d out bs known p a (build s d out bs) refl) bs a
       one (Err f) p = a
 
-  reach_keeps : (ds : List Definition) → ((k : ℕ) (d : Definition) → slice_get ds k ≡ Some d → IsKnown d) → (name : List ℕ) → KeepsBuilt (reach s defs ds name)
+  reach_keeps : (ds : List Registered) → ((k : ℕ) (d : Registered) → slice_get ds k ≡ Some d → IsKnown d) → (name : List ℕ) → KeepsBuilt (reach s defs ds name)
   unfolding reach
   reach_keeps [] known name bs a = a
   reach_keeps (d ∷ ds) known name bs a = one (reach_keeps ds (λ k x at. known (suc k) x at)) (bytes_eq d.name name)
@@ -145,14 +145,14 @@ module _ (s : Settings) (all : List Definition) (defs : Defs) where
       let o = reach_uses s all defs rule us bs in
       subst AreBuilt (sym (told_keeps (refusal path text defs) o o.result)) (each_keeps rule (unless_built (reach s defs all)) (unless_keeps (reach s defs all) (reach_keeps all (λ k d at. (k, at)))) us bs a)
 
--- ---- a shader that is read
+-- ---- reading a shader
 
 -- the first reading gives definitions, and builds under these
-record First (s : Settings) (ds : List Definition) (text : List ℕ) (d : Definition) (own defs : Defs) (bs : Builds) : Type 0 where
+record First (s : Settings) (ds : List Registered) (text : List ℕ) (d : Registered) (own defs : Defs) (bs : Builds) : Type 0 where
   merged : defs_merged ds d own ≡ Ok defs
   keeps : AllBuilt s ds defs bs → AllBuilt s ds defs (read_first s ds text d own bs).builds
 
-first_read : (s : Settings) (ds : List Definition) (text : List ℕ) (d : Definition) (own defs : Defs) (bs : Builds) → (read_first s ds text d own bs).result ≡ Ok defs → First s ds text d own defs bs
+first_read : (s : Settings) (ds : List Registered) (text : List ℕ) (d : Registered) (own defs : Defs) (bs : Builds) → (read_first s ds text d own bs).result ≡ Ok defs → First s ds text d own defs bs
 unfolding read_first
 first_read s ds text d own defs bs e =
     let place = in_text d.file_path text 0 in
@@ -181,15 +181,15 @@ first_read s ds text d own defs bs e =
     same_Ok : (a b : Defs) → (let r : Result Defs Refused = Ok a in r) ≡ Ok b → a ≡ b
     same_Ok a b q = cc
 
-    read_value : Settings → List Definition → List ℕ → Definition → Defs → Doing Defs Refused
+    read_value : Settings → List Registered → List ℕ → Registered → Defs → Doing Defs Refused
     read_value s ds text d own = read_first s ds text d own
 
--- the second gives what the shader's text is, and builds under them too
-record Second (s : Settings) (ds : List Definition) (text : List ℕ) (d : Definition) (defs : Defs) (bs : Builds) (out : Output) : Type 0 where
+-- the second reading gives the preprocessed text, and builds under these definitions too
+record Second (s : Settings) (ds : List Registered) (text : List ℕ) (d : Registered) (defs : Defs) (bs : Builds) (out : Output) : Type 0 where
   preprocessed : preprocessed_of (defined defs) d ≡ Ok out
   keeps : AllBuilt s ds defs bs → AllBuilt s ds defs (read_second s ds text d defs bs).builds
 
-second_read : (s : Settings) (ds : List Definition) (text : List ℕ) (d : Definition) (defs : Defs) (bs : Builds) (out : Output) → (read_second s ds text d defs bs).result ≡ Ok out → Second s ds text d defs bs out
+second_read : (s : Settings) (ds : List Registered) (text : List ℕ) (d : Registered) (defs : Defs) (bs : Builds) (out : Output) → (read_second s ds text d defs bs).result ≡ Ok out → Second s ds text d defs bs out
 unfolding read_second
 second_read s ds text d defs bs out e =
     let place = in_text d.file_path text 0 in
@@ -211,14 +211,14 @@ second_read s ds text d defs bs out e =
     same_Ok : (a b : Output) → (let r : Result Output Refused = Ok a in r) ≡ Ok b → a ≡ b
     same_Ok a b q = cc
 
-    read_value : Settings → List Definition → List ℕ → Definition → Defs → Doing Output Refused
+    read_value : Settings → List Registered → List ℕ → Registered → Defs → Doing Output Refused
     read_value s ds text d defs = read_second s ds text d defs
 
 -- ---- an answer
 
--- a made module is of the build of a shader's text, over builds of registered modules
-record MadeOf (s : Settings) (ds : List Definition) (m : ShaderSource) (text : List ℕ) (bs : Builds) (made : ModuleValue) : Type 0 where
-  definition : Definition
+-- a made module comes of the build of the shader's text, over builds of registered modules
+record MadeOf (s : Settings) (ds : List Registered) (m : ShaderSource) (text : List ℕ) (bs : Builds) (made : ModuleValue) : Type 0 where
+  definition : Registered
   described : read_shader m text ≡ Ok definition
   defs : Defs
   merged : defs_of_text ds m text ≡ Ok defs
@@ -227,13 +227,13 @@ record MadeOf (s : Settings) (ds : List Definition) (m : ShaderSource) (text : L
   all : AllBuilt s ds defs bs
   shader : Finished s bs definition output m.shader_type made
 
-make_made : (s : Settings) (ds : List Definition) (m : ShaderSource) (text : List ℕ) (made : ModuleValue) → (make s ds m text []).result ≡ Ok made → MadeOf s ds m text (make s ds m text []).builds made
+make_made : (s : Settings) (ds : List Registered) (m : ShaderSource) (text : List ℕ) (made : ModuleValue) → (make s ds m text []).result ≡ Ok made → MadeOf s ds m text (make s ds m text []).builds made
 unfolding make
 make_made s ds m text made e =
     let f = in_shader m.file_path text (read_shader m text) in
-    let g = λ (d : Definition) (defs : Defs) (out : Output) (cs : Builds). given (finish s defs cs d out m.shader_type) cs in
-    let h = λ (d : Definition) (defs : Defs). read_second s ds text d defs >>= g d defs in
-    let k = λ (d : Definition). read_first s ds text d (overwritten m.defs d.defs) >>= h d in
+    let g = λ (d : Registered) (defs : Defs) (out : Output) (cs : Builds). given (finish s defs cs d out m.shader_type) cs in
+    let h = λ (d : Registered) (defs : Defs). read_second s ds text d defs >>= g d defs in
+    let k = λ (d : Registered). read_first s ds text d (overwritten m.defs d.defs) >>= h d in
     let one = bound f k [] made e in
     let d = one.value in
     let own = overwritten m.defs d.defs in
@@ -261,21 +261,21 @@ make_made s ds m text made e =
       shader = finished s defs es d out m.shader_type made e3;
     })
   where
-    make_value : Settings → List Definition → ShaderSource → List ℕ → Doing ModuleValue Refused
+    make_value : Settings → List Registered → ShaderSource → List ℕ → Doing ModuleValue Refused
     make_value s ds m text = make s ds m text
 
--- so it is with an answer
-pub record Made (s : Settings) (ds : List Definition) (counter : ℕ) (m : ShaderSource) (bs : Builds) (made : ModuleValue) : Type 0 where
+-- the same holds of an answer
+pub record Made (s : Settings) (ds : List Registered) (counter : ℕ) (m : ShaderSource) (bs : Builds) (made : ModuleValue) : Type 0 where
   pub read : List ℕ × ℕ
   pub source : read_source counter m.source ≡ Ok read
-  pub definition : Definition
+  pub definition : Registered
   pub described : read_shader m read.0 ≡ Ok definition
   pub output : Output
   pub preprocessed : preprocessed_of (defined (make_defs ds counter m)) definition ≡ Ok output
   pub all : AllBuilt s ds (make_defs ds counter m) bs
   pub shader : Finished s bs definition output m.shader_type made
 
-pub answer_made : (s : Settings) (ds : List Definition) (counter : ℕ) (m : ShaderSource) (made : ModuleValue) → (answer s ds counter m).result ≡ Ok made → Made s ds counter m (answer s ds counter m).builds made
+pub answer_made : (s : Settings) (ds : List Registered) (counter : ℕ) (m : ShaderSource) (made : ModuleValue) → (answer s ds counter m).result ≡ Ok made → Made s ds counter m (answer s ds counter m).builds made
 unfolding answer
 answer_made s ds counter m made e =
     let place = in_text m.file_path m.source 0 in

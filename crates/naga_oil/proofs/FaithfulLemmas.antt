@@ -1,4 +1,4 @@
--- Each module that a make answers is faithful to what was parsed, and its calls go down its chains.
+-- Each module that a make answers is faithful, and its calls are redirected along its chains.
 use Rattle.std.proofs.Common.{◌≡◌, inl, inr, ℕ, ◌+◌, ◌*◌, List, take, [], ◌∷◌, Option, Some, None, Ok, Err, Result, option_map, is_some, IsSome, slice_get, refl, ap, sym, ◌∙◌, subst, arith}
 use Rattle.std.proofs.lemmas.List.Elements.{All-weaker}
 use Rattle.std.proofs.lemmas.Option.{none-some, same_Some, slice_get-map}
@@ -13,8 +13,9 @@ use Rattle.naga_oil_derive.specs.Tree.{World, tree}
 use Rattle.naga_oil_derive.specs.declared.special.SpecialKey.{SpecialKey}
 use Rattle.naga_oil_derive.specs.World.{world, special_at, special_entries, shifted}
 use Rattle.naga_oil_conditions.specs.Fault.{Fault}
-use Rattle.naga_oil_registry.specs.Added.{read_source, ◌>>=◌}
-use Rattle.naga_oil_registry.specs.Definition.{Definition, Defs}
+use Rattle.naga_oil_words.specs.ResultSteps.{◌>>=◌}
+use Rattle.naga_oil_registry.specs.Added.{read_source}
+use Rattle.naga_oil_registry.specs.Registered.{Registered, Defs}
 use Rattle.naga_oil_registry.specs.Descriptor.{ShaderSource}
 use Rattle.naga_oil_registry.specs.declared.descriptor.ShaderType.{ShaderType}
 use Rattle.naga_oil_registry.specs.declared.descriptor.ShaderType.TheVariants as shader
@@ -24,24 +25,24 @@ use Rattle.naga_oil_link.specs.BuiltModule.{BuiltModule, Builds, Overriding}
 use Rattle.naga_oil_link.specs.Linked.{link_header, link_whole}
 use Rattle.naga_oil_link.specs.Owned.{own_places}
 use Rattle.naga_oil_link.proofs.GoodFormLemmas.{whole_formed}
-use Rattle.naga_oil_faith.specs.Scope.{ReadAlike, scope_of}
-use Rattle.naga_oil_faith.specs.ByTree.{CopiesByTree}
-use Rattle.naga_oil_faith.specs.ByTreeLaw.{HasEarlierOperands, IsAsCopied}
-use Rattle.naga_oil_faith.proofs.ComposeLaws.{reflexive, compose, as_copied}
-use Rattle.naga_oil_faith.proofs.FrameLaws.{alike}
-use Rattle.naga_oil_copies.specs.Headers.{HasNamed}
-use Rattle.naga_oil_copies.specs.KeptAlike.{scope_alike}
-use Rattle.naga_oil_copies.specs.ReadIn.{HasKeysOf}
-use Rattle.naga_oil_copies.specs.LinkedCopies.{IsOneOrLast, header_before, CopiesFunctionOf, CopiesEntryOf, CopiesBuilds}
-use Rattle.naga_oil_copies.specs.OrderedCopies.{KeepsSpecialTypes}
-use Rattle.naga_oil_copies.specs.ThroughBuilds.{Holds, CopiesHeld, CopiesHeldFunction, CopiesHeldEntry}
-use Rattle.naga_oil_copies.proofs.Declared.{declarations}
-use Rattle.naga_oil_copies.proofs.KeptScopes.{kept_scope}
-use Rattle.naga_oil_copies.proofs.Orders.{ordered_copies}
-use Rattle.naga_oil_copies.proofs.Scopes.{alike_same, entries_of, entries_world}
-use Rattle.naga_oil_copies.proofs.SentForms.{formed_calls}
-use Rattle.naga_oil_copies.proofs.Throughs.{shifted_twice, through_law}
-use Rattle.naga_oil_copies.proofs.Wholes.{linked_copies}
+use Rattle.naga_oil_copy_laws.specs.Scope.{ReadAlike, scope_of}
+use Rattle.naga_oil_copy_laws.specs.ByTree.{CopiesByTree}
+use Rattle.naga_oil_copy_laws.specs.ByTreeLaw.{HasEarlierOperands, IsAsCopied}
+use Rattle.naga_oil_copy_laws.proofs.ComposeLaws.{reflexive, compose, as_copied}
+use Rattle.naga_oil_copy_laws.proofs.FrameLaws.{alike}
+use Rattle.naga_oil_link_laws.specs.Headers.{HasNamed}
+use Rattle.naga_oil_link_laws.specs.KeptAlike.{scope_alike}
+use Rattle.naga_oil_link_laws.specs.ReadIn.{HasKeysOf}
+use Rattle.naga_oil_link_laws.specs.LinkedCopies.{IsOneOrLast, header_before, CopiesFunctionOf, CopiesEntryOf, CopiesBuilds}
+use Rattle.naga_oil_link_laws.specs.OrderedCopies.{KeepsSpecialTypes}
+use Rattle.naga_oil_link_laws.specs.ThroughBuilds.{Holds, CopiesHeld, CopiesHeldFunction, CopiesHeldEntry}
+use Rattle.naga_oil_link_laws.proofs.Declared.{declarations}
+use Rattle.naga_oil_link_laws.proofs.KeptScopes.{kept_scope}
+use Rattle.naga_oil_link_laws.proofs.Orders.{ordered_copies}
+use Rattle.naga_oil_link_laws.proofs.Scopes.{alike_same, entries_of, entries_world}
+use Rattle.naga_oil_link_laws.proofs.SentForms.{formed_calls}
+use Rattle.naga_oil_link_laws.proofs.Throughs.{shifted_twice, through_law}
+use Rattle.naga_oil_link_laws.proofs.Wholes.{linked_copies}
 use Rattle.naga_oil_build.specs.Held.{Settings}
 use Rattle.naga_oil.specs.CallsSent.{call_goes}
 use Rattle.naga_oil.specs.Chain.{all_sent_down, staged, with_stages, put_in_order_as, chain_all, chain}
@@ -56,10 +57,11 @@ use Rattle.naga_oil.proofs.FinishedLemmas.{shader_index}
 use Rattle.naga_oil.proofs.MadeOverridingLemmas.{stands_apart, shader_shares}
 use Rattle.naga_oil.proofs.SentDownLemmas.{IsSent, AllAsCopied, all_down_sent}
 use Rattle.naga_oil.proofs.StageFormLemmas.{stages_formed}
+use Rattle.naga_oil_ir.specs.Spans.{span_stride}
 
 -- ---- the end of a chain
 
--- n is what m becomes at the end, where spans move so
+-- n is m at the end of a chain, with spans moved
 pub record Ends (moves : Span → Span) (m n : ModuleValue) : Type 0 where
   pub moved : (k : ℕ) (s : Span) → moves (shifted k s) ≡ shifted k s
   pub special : KeepsSpecialTypes m n
@@ -71,7 +73,7 @@ map_same : (o : Option ℕ) → o ≡ option_map (λ k. k) o
 map_same None = refl
 map_same (Some k) = refl
 
--- where nothing is put in order
+-- nothing is sorted
 ends_here : (t m : ModuleValue) (sends : Text → Text → Text) → IsSent t m sends → Ends (λ s. s) m m
 ends_here t m sends h = record {
   moved = λ k s. refl;
@@ -81,7 +83,7 @@ ends_here t m sends h = record {
   entry_points = λ i y at. (y, at, reflexive (scope_of m) y.function (h.entry_points i y at).3);
 }
 
--- and where functions are
+-- functions are sorted
 ends_ordered : (t m n : ModuleValue) (sends : Text → Text → Text) → IsSent t m sends → put_in_order m ≡ Ok n → Ends (shifted 0) m n
 ends_ordered t m n sends h e =
     let c = ordered_copies m n h.calls e in
@@ -168,7 +170,7 @@ mapped_some : (f : ℕ → ℕ) (o : Option ℕ) → IsSome o → IsSome (option
 mapped_some f None h = h
 mapped_some f (Some k) h = refl
 
--- special types stay through what is sent
+-- special types stay when calls are redirected
 special_kept : (t m n : ModuleValue) → world m ≡ world t → m.special_types ≡ t.special_types → KeepsSpecialTypes m n → KeepsSpecialTypes t n
 special_kept t m n same special h = record {
   places = h.places;
@@ -176,14 +178,14 @@ special_kept t m n same special h = record {
   alike = λ key k e j. h.alike key k (ap (λ v. special_at v key) special ∙ e) j ∙ ap (λ (w : World). tree j w (TypeItem k)) same;
 }
 
-module _ (s : Settings) (ds : List Definition) (counter : ℕ) (source : ShaderSource) (modules : ParsesModules s.front) (a : AllBuilt s ds (make_defs ds counter source) (made_builds s ds counter source)) where
+module _ (s : Settings) (ds : List Registered) (counter : ℕ) (source : ShaderSource) (modules : ParsesModules s.front) (a : AllBuilt s ds (make_defs ds counter source) (made_builds s ds counter source)) where
   abbrev defs : Defs
   defs = make_defs ds counter source
 
   abbrev bs : Builds
   bs = made_builds s ds counter source
 
-  module _ (read : List ℕ × ℕ) (is_read : read_source counter source.source ≡ Ok read) (d : Definition) (described : read_shader source read.0 ≡ Ok d) (b : BuiltModule) (own : BuiltOf s defs d bs b) (zero_index : b.index ≡ 0) where
+  module _ (read : List ℕ × ℕ) (is_read : read_source counter source.source ≡ Ok read) (d : Registered) (described : read_shader source read.0 ≡ Ok d) (b : BuiltModule) (own : BuiltOf s defs d bs b) (zero_index : b.index ≡ 0) where
     abbrev t : ModuleValue
     t = link_whole bs b
 
@@ -230,7 +232,7 @@ module _ (s : Settings) (ds : List Definition) (counter : ℕ) (source : ShaderS
     entry_held i y f = (through_law b (owned_parse b own.parse) (own_places own.parse) t own.holding).entry_point i y f
 
     held_as_copied : (c : BuiltModule) (p : ModuleValue) (o : _) (f g : FunctionValue) → CopiesHeld c p o t f g → IsAsCopied g
-    held_as_copied c p o f g h = as_copied (shifted (c.index * 2097152)) (λ n. n) (scope_alike h.reads p t) (scope_of t) f g h.source_earlier h.earlier h.copies
+    held_as_copied c p o f g h = as_copied (shifted (c.index * span_stride)) (λ n. n) (scope_alike h.reads p t) (scope_of t) f g h.source_earlier h.earlier h.copies
 
     start : AllAsCopied t
     start = record {
@@ -250,14 +252,14 @@ module _ (s : Settings) (ds : List Definition) (counter : ℕ) (source : ShaderS
       kept : KeepsSpecialTypes t made
       kept = special_kept t m made c.is.same_world c.is.special c.ends.special
 
-      -- so keys are
+      -- keys stay too
       keys_kept : (v : ModuleValue) → HasKeysOf v t → HasKeysOf v made
       keys_kept v keys = All-weaker (λ (e : SpecialKey × ℕ). IsSome (special_at t.special_types e.0)) (λ (e : SpecialKey × ℕ). IsSome (special_at made.special_types e.0)) (λ e there. ap is_some (kept.keys e.0) ∙ mapped_some kept.places (special_at t.special_types e.0) there) (special_entries v.special_types) keys
 
       -- a copy of a copy of a copy
       copies_through : (d : BuiltModule) (p : ModuleValue) (f z x g : FunctionValue) (sends : Text → Text) → (h : CopiesHeld d (owned_parse d p) (own_places p) t f z) → CopiesByTree (λ s. s) sends (scope_of t) z (scope_of m) x → HasEarlierOperands x → CopiesByTree c.moves (λ n. n) (scope_of m) x (scope_of made) g → CopiesParsed d p sends made f g
       copies_through d p f z x g sends h second earlier third =
-          let k = d.index * 2097152 in
+          let k = d.index * span_stride in
           let w = h.reads in
           let v = owned_parse d p in
           let a = compose (shifted k) (λ s. s) (λ n. n) sends (scope_alike w v t) (scope_of t) (scope_of m) f z x h.source_earlier h.earlier h.copies second in

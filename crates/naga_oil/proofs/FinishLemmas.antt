@@ -1,10 +1,10 @@
--- That what is made of a shader depends on the builds of what it uses alone.
+-- Law: the module made of a shader depends only on the builds that it uses.
 use Rattle.std.proofs.Common.{◌≡◌, map, reverse, cond, refl, ap, ◌∙◌, Result, Ok, Err}
 use Rattle.std.proofs.lemmas.List.Elements.{All-same, All-map}
 use Rattle.naga_oil_ir.specs.Backend.{FaultValue}
 use Rattle.naga_oil_ir.specs.ModuleValue.{ModuleValue}
-use Rattle.naga_oil_registry.specs.Added.{◌>>=◌}
-use Rattle.naga_oil_registry.specs.Definition.{Defs}
+use Rattle.naga_oil_words.specs.ResultSteps.{◌>>=◌}
+use Rattle.naga_oil_registry.specs.Registered.{Defs}
 use Rattle.naga_oil_registry.specs.declared.descriptor.ShaderType.{ShaderType}
 use Rattle.naga_oil_link.specs.BuiltModule.{BuiltModule, Builds}
 use Rattle.naga_oil_link.specs.Linked.{link_whole}

@@ -1,12 +1,13 @@
--- The shader's build, and the module that is made of it.
+-- The shader's build, and the module made of it.
 use Rattle.std.proofs.Common.{◌≡◌, ℕ, true, false, Bool, if◌then◌else◌, List, Result, Ok, Err, refl, ap, sym, ◌∙◌}
 use Rattle.naga_oil_ir.specs.Backend.{FaultValue}
 use Rattle.naga_oil_ir.specs.ModuleValue.{ModuleValue}
 use Rattle.naga_oil_conditions.specs.Fault.{Fault}
 use Rattle.naga_oil_pre.specs.Metadata.{Metadata, metadata}
 use Rattle.naga_oil_pre.specs.Preprocessed.{Output}
-use Rattle.naga_oil_registry.specs.Added.{read_source, ◌>>=◌}
-use Rattle.naga_oil_registry.specs.Definition.{Definition, Defs}
+use Rattle.naga_oil_words.specs.ResultSteps.{◌>>=◌}
+use Rattle.naga_oil_registry.specs.Added.{read_source}
+use Rattle.naga_oil_registry.specs.Registered.{Registered, Defs}
 use Rattle.naga_oil_registry.specs.Descriptor.{ShaderSource}
 use Rattle.naga_oil_registry.specs.Merged.{overwritten}
 use Rattle.naga_oil_registry.specs.declared.descriptor.ShaderType.{ShaderType}
@@ -44,29 +45,29 @@ valid_back s bs defs place m n e = one s.validate e
 
 -- ---- what is read of a shader
 
-pub shader_index : (m : ShaderSource) (text : List ℕ) (d : Definition) → read_shader m text ≡ Ok d → d.index ≡ 0
+pub shader_index : (m : ShaderSource) (text : List ℕ) (d : Registered) → read_shader m text ≡ Ok d → d.index ≡ 0
 unfolding read_shader
 shader_index m text d e = one (metadata true text) e
   where
     one : (r : Result Metadata Fault) → (r >>= λ found. Ok (shader_found m found)) ≡ Ok d → d.index ≡ 0
-    one (Ok found) q = let same : shader_found m found ≡ d = cc in ap (λ (x : Definition). x.index) (sym same)
+    one (Ok found) q = let same : shader_found m found ≡ d = cc in ap (λ (x : Registered). x.index) (sym same)
     one (Err f) q = absurd cc
 
--- its definitions, with those of what it imports
-pub defs_back : (ds : List Definition) (d : Definition) (own : Defs) (out : Output) (defs : Defs) → preprocessed_of (defined own) d ≡ Ok out → defs_union_over ds own out.uses ≡ Ok defs → defs_merged ds d own ≡ Ok defs
+-- its definitions, merged with those of the modules that it imports
+pub defs_back : (ds : List Registered) (d : Registered) (own : Defs) (out : Output) (defs : Defs) → preprocessed_of (defined own) d ≡ Ok out → defs_union_over ds own out.uses ≡ Ok defs → defs_merged ds d own ≡ Ok defs
 defs_back ds d own out defs p u = ap (λ (r : Result Output Fault). r >>= λ out. defs_union_over ds own out.uses) p ∙ u
 
-pub text_defs : (ds : List Definition) (m : ShaderSource) (text : List ℕ) (d : Definition) (defs : Defs) → read_shader m text ≡ Ok d → defs_merged ds d (overwritten m.defs d.defs) ≡ Ok defs → defs_of_text ds m text ≡ Ok defs
-text_defs ds m text d defs e h = ap (λ (r : Result Definition Fault). r >>= λ d. defs_merged ds d (overwritten m.defs d.defs)) e ∙ h
+pub text_defs : (ds : List Registered) (m : ShaderSource) (text : List ℕ) (d : Registered) (defs : Defs) → read_shader m text ≡ Ok d → defs_merged ds d (overwritten m.defs d.defs) ≡ Ok defs → defs_of_text ds m text ≡ Ok defs
+text_defs ds m text d defs e h = ap (λ (r : Result Registered Fault). r >>= λ d. defs_merged ds d (overwritten m.defs d.defs)) e ∙ h
 
-pub made_defs : (ds : List Definition) (counter : ℕ) (m : ShaderSource) (read : List ℕ × ℕ) (defs : Defs) → read_source counter m.source ≡ Ok read → defs_of_text ds m read.0 ≡ Ok defs → defs ≡ make_defs ds counter m
+pub made_defs : (ds : List Registered) (counter : ℕ) (m : ShaderSource) (read : List ℕ × ℕ) (defs : Defs) → read_source counter m.source ≡ Ok read → defs_of_text ds m read.0 ≡ Ok defs → defs ≡ make_defs ds counter m
 unfolding make_defs
 made_defs ds counter m read defs e h = sym (ap (λ (r : Result (List ℕ × ℕ) Fault). defs_or_none (r >>= λ read. defs_of_text ds m read.0)) e ∙ ap defs_or_none h)
 
--- ---- what is made of it
+-- ---- the module made of a shader
 
--- a module that is made of a shader's build over others
-pub record Finished (s : Settings) (builds : Builds) (d : Definition) (out : Output) (shader_type : ShaderType) (made : ModuleValue) : Type 0 where
+-- a module made of a shader's build over other builds
+pub record Finished (s : Settings) (builds : Builds) (d : Registered) (out : Output) (shader_type : ShaderType) (made : ModuleValue) : Type 0 where
   pub shader : BuiltModule
   pub built : build s d out builds ≡ Ok shader
   pub chained : chain shader.overriding (with_stages shader_type (link_whole builds shader)) ≡ Ok made
@@ -79,7 +80,7 @@ composed s defs bs b t place made e = one (chain b.overriding (with_stages t (li
     one (Ok m) at q = at ∙ ap (λ (x : ModuleValue). Ok x) (valid_back s bs defs place m made q)
     one (Err f) at q = absurd cc
 
-pub finished : (s : Settings) (defs : Defs) (bs : Builds) (d : Definition) (out : Output) (t : ShaderType) (made : ModuleValue) → finish s defs bs d out t ≡ Ok made → Finished s bs d out t made
+pub finished : (s : Settings) (defs : Defs) (bs : Builds) (d : Registered) (out : Output) (t : ShaderType) (made : ModuleValue) → finish s defs bs d out t ≡ Ok made → Finished s bs d out t made
 unfolding finish
 finished s defs bs d out t made e = one (built_in_text d.file_path out.text (build s d out bs)) refl e
   where

@@ -1,4 +1,4 @@
--- A `&mut` that is shared for good, and what says so. Assumes `Logic`.
+-- A `&mut` that is shared until its end, and the fact that says so. Assumes `Logic`.
 use Rattle.std.specs.Prelude.{⊤}
 use Prim.Native.Nat.{ℕ}
 use base.Fml.{Lft, GName, Share, flft, fres}
@@ -28,13 +28,13 @@ use types.Logic.{Logic, sem}
 module _ {M : Type 1} {𝓤 : Ura M} (𝓛 : Logic 𝓤) (R : RattleType) where
   open 𝓛 use {H, A}
 
-  -- what the lender ends as is known
+  -- the last value of the lender is known
   pub ends : (γ : GName) (n : R.Denot) (P : R.Denot → Type 0) → P n → ent 𝓤 (A.res γ (R.coded.code n)) (sem 𝓛 (follows_so R R γ none (λ _ _. ⊤) P))
   unfolding such_by follows_by
   ends γ n P p =
       qed 𝓛 (‵ (fres γ (R.coded.code n)) ∷ []) ∵ fpack ! ((s : (R.Denot → R.Denot) × R.Denot) × ((w : R.Denot) → ⊤) × P s.1) (λ s. fres γ (R.coded.code s.0.1)) ((λ w. w, n), (λ w. tt), p) $ done !
 
-  -- the `&mut` is a `&` for all the time that it has left
+  -- the `&mut` is a `&` for the rest of its lifetime
   pub shared : (L : Laws R) (ℓ : Lifetime) (κ : Lft) (q : Share) (b o : ℕ) (γ : GName) (n : R.Denot) → κ ⊑ R.lives
       → ent 𝓤 (sep 𝓤 (sem 𝓛 ((MutRef ℓ κ R).own_val (record { ref_ptr = (b, o); ghost_name = γ; now = n }) (vptr b o ∷ []))) (A.lft κ q))
       (H.⇛ (sep 𝓤 (sem 𝓛 ((ShrRef ℓ κ R).own_val (record { ref_ptr = (b, o); now = n }) (vptr b o ∷ []))) (sep 𝓤 (A.res γ (R.coded.code n)) (A.lft κ q))))
@@ -46,7 +46,7 @@ module _ {M : Type 1} {𝓤 : Ura M} (𝓛 : Logic 𝓤) (R : RattleType) where
 module _ {M : Type 1} {𝓤 : Ura M} (𝓛 : Logic 𝓤) where
   open 𝓛 use {H}
 
-  -- of what was passed on nothing is said
+  -- nothing is said of what was passed on
   pub goes : (n : ℕ) (s : Slot n) (k : Kept) → ((κs : Lfts n) → Mute ((s.row κs).exit k)) → Goes 𝓛 n s k (stay_dropped s k)
   goes n s k m κs x f vs ok =
       subst (λ (w : Last ((s.row κs).exit k) x). ent 𝓤 (emp 𝓤) (H.⇛ (sem 𝓛 (left ((s.row κs).exit k) x w)))) (sym ((m κs).once x f)) (via 𝓤 _ ((m κs).quiet M 𝓤 𝓛 x) (𝓛.laws.⇛_intro _))

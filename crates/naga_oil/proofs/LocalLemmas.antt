@@ -1,4 +1,4 @@
--- That what is linked and built depends on the builds of what it imports alone.
+-- Law: what is linked and built depends only on the builds that it imports.
 use Rattle.std.proofs.Common.{◌≡◌, ℕ, List, [], ◌∷◌, ◌++◌, fold, map, reverse, Bool, true, false, ◌||◌, cond, refl, sym, ap, subst, ◌∙◌, Option, Some, None, option_map, Result, Ok}
 use Rattle.std.proofs.lemmas.Bool.{true≢false}
 use Rattle.std.proofs.lemmas.List.{reverse-append}
@@ -15,8 +15,8 @@ use Rattle.std.specs.Str.{bytes_eq}
 use Rattle.naga_oil_imports.specs.Uses.{Import, Use}
 use Rattle.naga_oil_conditions.specs.Fault.{Fault}
 use Rattle.naga_oil_pre.specs.Preprocessed.{Output}
-use Rattle.naga_oil_registry.specs.Added.{◌>>=◌}
-use Rattle.naga_oil_registry.specs.Definition.{Definition}
+use Rattle.naga_oil_words.specs.ResultSteps.{◌>>=◌}
+use Rattle.naga_oil_registry.specs.Registered.{Registered}
 use Rattle.naga_oil_registry.specs.Keywords.{MarkedFunction}
 use Rattle.naga_oil_registry.proofs.RegistryLemmas.{bytes_same}
 use Rattle.naga_oil_link.specs.BuiltModule.{BuiltModule, Builds, Overriding, nothing_built}
@@ -36,10 +36,10 @@ pub fold_alike : {X Y : Type 0} (f g : Y → X → Y) (P : X → Type 0) → ((y
 fold_alike f g P h [] y all = refl
 fold_alike f g P h (x ∷ xs) y all = ap (λ z. fold f z xs) (h y x (All-head P x xs all)) ∙ fold_alike f g P h xs (g y x) (All-tail P x xs all)
 
--- ---- what is linked
+-- ---- linking
 
 module _ (of_headers : Bool) (i : Import) where
-  -- what is linked of the newest build of its name
+  -- what an import links of the newest build of its name
   abbrev link_found : Option (BuiltModule × Builds) → LinkState → LinkState
   link_found None s = s
   link_found (Some f) s = link_asked of_headers i f.0 (link_within (link_import of_headers f.1) (i.import, f.0) s)
@@ -59,7 +59,7 @@ module _ (of_headers : Bool) (i : Import) where
         ap (λ t. link_asked of_headers i b (cond (list_any (bytes_eq i.import) s.entered) s t)) (fold_alike (link_import of_headers bs) (link_import of_headers cs) (λ x. AlikeIn bs cs x.import) known b.imports (enter i.import s) one.imports)
         ∙ ap (λ x. link_found (Some (x, cs)) s) one.same
 
--- an import links alike out of builds in which its name stands alike
+-- an import links alike out of two rows of builds in which its name stands alike
 pub import_alike : ImportLaw
 unfolding AlikeIn
 import_alike of_headers [] cs s i h = links_newest of_headers i [] s ∙ ap (λ o. link_found of_headers i o s) (sym h) ∙ sym (links_newest of_headers i cs s)
@@ -101,7 +101,7 @@ bytes_equiv = record {
   congr = λ x y z e. ap (λ n. bytes_eq n z) (bytes_same x y e);
 }
 
--- the newest build of a name, without what stands behind it
+-- the newest build of a name, without the builds before it
 pub newest_is : (name : List ℕ) (bs : Builds) → option_map (λ f. f.0) (newest name bs) ≡ build_named bs name
 newest_is name [] = refl
 newest_is name (e ∷ earlier) = by (bytes_eq name e.0) (newest_is name earlier)
@@ -121,7 +121,7 @@ named_last name (x ∷ bs) e = by (bytes_eq name x.0) (named_last name bs e)
     by true known = refl
     by false known = known
 
--- where no name is built twice, it doesn't matter from which end it is looked for
+-- if no name is built twice, a name can be looked for from either end
 pub named_reverse : (name : List ℕ) (bs : Builds) → BuildsDiffer bs → build_named (reverse bs) name ≡ build_named bs name
 named_reverse name [] d = refl
 named_reverse name (e ∷ bs) d =
@@ -137,7 +137,7 @@ named_reverse name (e ∷ bs) d =
     by true q = ap (λ o. option_or o (Some e.1)) (lookup-none (bytes_eq name) bs (none_past_head bytes_equiv name e bs d q))
     by false q = or_none (build_named bs name)
 
--- what stands alike is built alike
+-- a name that stands alike has the same build
 pub newest_alike : (bs cs : Builds) (name : List ℕ) → AlikeIn bs cs name → build_named bs name ≡ build_named cs name
 unfolding AlikeIn
 newest_alike [] cs name h = sym (ap (option_map (λ f. f.0)) h) ∙ newest_is name cs
@@ -200,17 +200,17 @@ module _ (bs cs : Builds) (differ : BuildsDiffer bs) (differ' : BuildsDiffer cs)
         each_alike [] o = refl
         each_alike (f ∷ fs) o = ap (λ x. with_overrides any bs is decoration x fs) (override_alike any decoration o f) ∙ each_alike fs (with_override any cs is decoration o f)
 
-    heading_alike : (s : Settings) (d : Definition) → write_heading s d bs is ≡ write_heading s d cs is
+    heading_alike : (s : Settings) (d : Registered) → write_heading s d bs is ≡ write_heading s d cs is
     heading_alike s d = ap (λ h. header_text s.front s.capabilities d.language h >>= λ header. Ok (first_lines d.language d.directives ++ header)) (links_alike.header bs cs is all)
 
-  written_alike : (s : Settings) (d : Definition) (text : List ℕ) (b : BuiltModule) → ImportsAlike bs cs b.imports → write_whole s d bs text b ≡ write_whole s d cs text b
+  written_alike : (s : Settings) (d : Registered) (text : List ℕ) (b : BuiltModule) → ImportsAlike bs cs b.imports → write_whole s d bs text b ≡ write_whole s d cs text b
   unfolding write_whole
   written_alike s d text b all = rw (functions_alike b.imports all s.override_any b.decoration b.overriding text, heading_alike b.imports all s d) refl
 
-  begun_alike : (d : Definition) (us : List Use) → UsesAlike bs cs us → begin_build bs d us ≡ begin_build cs d us
+  begun_alike : (d : Registered) (us : List Use) → UsesAlike bs cs us → begin_build bs d us ≡ begin_build cs d us
   begun_alike d us all = ap (λ (o : Overriding). record (nothing_built (decoration_of d) d.index) { imports = map (λ u. u.import) us; overriding = o }) (overriding_alike (map (λ u. u.import) us) (All-map (λ i. AlikeIn (reverse bs) (reverse cs) i.import) (λ u. u.import) us all) [])
 
-  built_alike : (s : Settings) (d : Definition) (out : Output) → UsesAlike bs cs out.uses → build s d out bs ≡ build s d out cs
+  built_alike : (s : Settings) (d : Registered) (out : Output) → UsesAlike bs cs out.uses → build s d out bs ≡ build s d out cs
   unfolding build
   built_alike s d out all =
       ap (λ b. from_whole (write_whole s d bs out.text b)) (begun_alike d out.uses all)
@@ -219,6 +219,6 @@ module _ (bs cs : Builds) (differ : BuildsDiffer bs) (differ' : BuildsDiffer cs)
       from_whole : Result WholeText Fault → Result BuiltModule Unbuilt
       from_whole w = from_offset 0 w >>= λ whole. from_offset whole.built.offset (hold s d.language whole.text whole.built)
 
--- what is built of a module depends on the builds of what it uses alone
+-- the build of a module depends only on the builds that it uses
 pub build_alike : BuildLaw
 build_alike s d out bs cs differ differ' all = built_alike bs cs differ differ' s d out all

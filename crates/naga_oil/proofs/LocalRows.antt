@@ -1,4 +1,4 @@
--- Worked rows: what stands alike.
+-- Worked rows: builds that stand alike.
 use Rattle.std.specs.Prelude.{◌≡◌, refl, ℕ, Some, [], ◌∷◌, codes}
 use Rattle.std.proofs.Common.{ap, rules}
 use Rattle.std.proofs.lemmas.List.Elements.{All-cons, All-nil}
@@ -16,7 +16,7 @@ of_a = record { import = codes "a"; items = [] }
 abbrev over_a : BuiltModule
 over_a = record (nothing_built [] 2) { imports = of_a ∷ [] }
 
--- b over a, the newest first; and the same with others before, between and behind
+-- b over a, the newest first; and with others before, between and after these
 abbrev short : Builds
 short = (codes "b", over_a) ∷ (codes "a", leaf 1) ∷ []
 
@@ -41,12 +41,12 @@ over_alike = record { same = refl; imports = All-cons (λ i. AlikeIn ((codes "a"
     behind : AlikeIn ((codes "a", leaf 1) ∷ []) ((codes "y", leaf 8) ∷ (codes "a", leaf 1) ∷ (codes "x", leaf 7) ∷ []) (codes "a")
     behind = record { same = refl; imports = All-nil (λ i. AlikeIn [] ((codes "x", leaf 7) ∷ []) i.import) }
 
--- one build over imports that aren't one doesn't stand alike
+-- one build over imports that differ doesn't stand alike
 over_another : AlikeIn short other (codes "b") → ⊥
 unfolding AlikeIn
 over_another h = let one : ◌≡◌ {A = ℕ} 1 3 = ap (λ (b : BuiltModule). b.index) (h.imports 0 of_a (search rules)).same in cc
 
--- what is built in neither stands alike, and not what is built in one
+-- a name that is built in neither stands alike, one that is built in only one doesn't
 in_neither : AlikeIn short long (codes "c")
 unfolding AlikeIn
 in_neither = refl

@@ -1,12 +1,12 @@
--- In the builds of a make each function that is overridden is there once, and none overrides two.
+-- In the builds of a make each overridden function is listed once, and no function overrides two.
 use Rattle.std.proofs.Common.{◌≡◌, ℕ, zero, suc, ◌<◌, ◌||◌, nat_lt, if◌then◌else◌, Bool, true, false, List, [], ◌∷◌, take, Some, Ok, slice_get, bytes_eq, refl, ap, sym, ◌∙◌, subst, arith}
 use Rattle.std.proofs.lemmas.Bool.{false≢true}
 use Rattle.std.proofs.lemmas.Option.{none-some}
 use Rattle.std.proofs.lemmas.Slice.Eq.{bytes_eq-Decides}
 use Rattle.naga_oil_ir.specs.ModuleValue.{ModuleValue}
-use Rattle.naga_oil_lines.specs.Text.{is_among}
+use Rattle.naga_oil_words.specs.Texts.{is_among}
 use Rattle.naga_oil_pre.specs.Preprocessed.{Output}
-use Rattle.naga_oil_registry.specs.Definition.{Definition, Defs}
+use Rattle.naga_oil_registry.specs.Registered.{Registered, Defs}
 use Rattle.naga_oil_link.specs.BuiltModule.{BuiltModule, Builds, Overriding}
 use Rattle.naga_oil_link.specs.CopiedBuild.{copy_build}
 use Rattle.naga_oil_link.specs.OwnPlaces.{OwnPlaces}
@@ -14,9 +14,9 @@ use Rattle.naga_oil_link.specs.Owned.{own_places, owned_module, owned_build, own
 use Rattle.naga_oil_redirect.specs.ChainLaw.{is_in_chain}
 use Rattle.naga_oil_build.specs.Build.{build}
 use Rattle.naga_oil_build.specs.Held.{Settings}
-use Rattle.naga_oil_chain_laws.specs.OverridingForm.{OverridesEachOnce, BuildsOverrideOnce, ShareNoName, NoNameShared}
-use Rattle.naga_oil_chain_laws.proofs.OverridingFormLemmas.{no_name_shared}
-use Rattle.naga_oil_chain_laws.proofs.WholeTextLemmas.{whole_text}
+use Rattle.naga_oil_build.specs.OverridingForm.{OverridesEachOnce, BuildsOverrideOnce, ShareNoName, NoNameShared}
+use Rattle.naga_oil_build.proofs.OverridingFormLemmas.{no_name_shared}
+use Rattle.naga_oil_build.proofs.WholeTextLemmas.{whole_text}
 use Rattle.naga_oil.specs.ChainsLaw.{IsApart, StandsApart, NoneIsBoth, MadeOverridingLaw}
 use Rattle.naga_oil.specs.Faithful.{made_builds}
 use Rattle.naga_oil.specs.MakeDefs.{make_defs}
@@ -25,7 +25,7 @@ use Rattle.naga_oil.proofs.EachBuiltLemmas.{AllBuilt, answer_made}
 
 -- ---- one build
 
--- what is overridden stays so while a build gets what a text says
+-- an overridden function stays so while a build gets the parse of its text
 owned_overriding : (index : ℕ) (m : ModuleValue) (b : BuiltModule) → (owned_build index m b).overriding ≡ b.overriding
 owned_overriding index m b = one (nat_lt 0 index)
   where
@@ -37,7 +37,7 @@ copied_overriding : (m : ModuleValue) (own : OwnPlaces) (b : BuiltModule) → (c
 unfolding copy_build
 copied_overriding m own b = refl
 
-pub built_once : (s : Settings) (d : Definition) (out : Output) (before : Builds) (b : BuiltModule) → BuildsOverrideOnce before → build s d out before ≡ Ok b → OverridesEachOnce b.overriding
+pub built_once : (s : Settings) (d : Registered) (out : Output) (before : Builds) (b : BuiltModule) → BuildsOverrideOnce before → build s d out before ≡ Ok b → OverridesEachOnce b.overriding
 built_once s d out before b h e =
     let c = build_back s d out before b e in
     let x = c.whole.built in
@@ -46,7 +46,7 @@ built_once s d out before b h e =
     ap (λ (y : BuiltModule). y.overriding) (sym c.holding.copies) ∙ copied_overriding (owned_module x.index x.decoration p) (own_places p) (owned_build x.index p x) ∙ owned_overriding x.index p x in
     subst OverridesEachOnce (sym held) (whole_text s d before out.uses out.text c.whole h c.written)
 
--- ---- all of them
+-- ---- all builds
 
 there_before : (bs : Builds) (i j : ℕ) (e : List ℕ × BuiltModule) → slice_get (take i bs) j ≡ Some e → (j < i) × (slice_get bs j ≡ Some e)
 there_before bs zero j e at = absurd (none-some e at)
@@ -54,7 +54,7 @@ there_before [] (suc i) j e at = absurd (none-some e at)
 there_before (x ∷ xs) (suc i) zero e at = (omega arith, at)
 there_before (x ∷ xs) (suc i) (suc j) e at = let q = there_before xs i j e at in let lt = q.0 in (omega (arith, lt), q.1)
 
-module _ (s : Settings) (ds : List Definition) (defs : Defs) (bs : Builds) (all : AllBuilt s ds defs bs) where
+module _ (s : Settings) (ds : List Registered) (defs : Defs) (bs : Builds) (all : AllBuilt s ds defs bs) where
   first_once : (n i : ℕ) (e : List ℕ × BuiltModule) → i < n → slice_get bs i ≡ Some e → OverridesEachOnce e.1.overriding
   first_once zero i e lt at = absurd (omega (arith, lt))
   first_once (suc n) i e lt at =
@@ -65,7 +65,7 @@ module _ (s : Settings) (ds : List Definition) (defs : Defs) (bs : Builds) (all 
   all_once : BuildsOverrideOnce bs
   all_once i e at = first_once (suc i) i e (omega arith) at
 
-pub shader_shares : (s : Settings) (ds : List Definition) (defs : Defs) (bs : Builds) (d : Definition) (out : Output) (b : BuiltModule) → AllBuilt s ds defs bs → build s d out bs ≡ Ok b → NoNameShared b.overriding
+pub shader_shares : (s : Settings) (ds : List Registered) (defs : Defs) (bs : Builds) (d : Registered) (out : Output) (b : BuiltModule) → AllBuilt s ds defs bs → build s d out bs ≡ Ok b → NoNameShared b.overriding
 shader_shares s ds defs bs d out b all e = no_name_shared b.overriding (built_once s d out bs b (all_once s ds defs bs all) e)
 
 pub made_overriding : MadeOverridingLaw
@@ -86,6 +86,6 @@ none_else a b share both n e = one (bytes_eq n b.0) refl e
     one true q e = ap (is_in_chain a.0 a.1) ((bytes_eq-Decides n b.0).0 q) ∙ ap (λ t. t || is_among a.1 b.0) share.base ∙ both.0
     one false q e = two (bytes_eq n a.0) refl e
 
--- chains of which no function is both stand apart
+-- chains of which no function both overrides and is overridden stand apart
 pub stands_apart : (all : Overriding) (i : ℕ) (a : List ℕ × List (List ℕ)) → NoNameShared all → slice_get all i ≡ Some a → NoneIsBoth all a → StandsApart all i a
 stands_apart all i a share at both j b there other = none_else a b (share i j a b at there other) (both j b there)

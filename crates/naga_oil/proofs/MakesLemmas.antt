@@ -1,4 +1,4 @@
--- What a make comes to, and its registered modules.
+-- The outcome of a make, and its registered modules.
 use Rattle.std.proofs.Common.{◌≡◌, ◌≤◌, ◌+◌, ◌-◌, ◌∙◌, ℕ, List, [], length, min, Option, Some, None, MatchOption, Result, Ok, Err, IfOk, refl, sym, ap, subst, inl, inr, arith}
 use Rattle.std.proofs.Math.Nat.{min-eq_left}
 use Rattle.naga_oil_ir.specs.Backend.{FrontEnd}
@@ -7,8 +7,9 @@ use Rattle.naga_oil_ir.specs.declared.module.Module.{Module}
 use Rattle.naga_oil_conditions.specs.Fault.{Fault}
 use Rattle.naga_oil_conditions.specs.View.{fault_of, Fails}
 use Rattle.naga_oil_conditions.specs.declared.fault.ComposerErrorInner.{ComposerErrorInner}
-use Rattle.naga_oil_registry.specs.Added.{read_source, counter_behind, counter_after, ◌>>=◌}
-use Rattle.naga_oil_registry.specs.Definition.{Definition, Defs}
+use Rattle.naga_oil_words.specs.ResultSteps.{◌>>=◌}
+use Rattle.naga_oil_registry.specs.Added.{read_source, counter_behind, counter_after}
+use Rattle.naga_oil_registry.specs.Registered.{Registered, Defs}
 use Rattle.naga_oil_registry.specs.Descriptor.{ShaderSource}
 use Rattle.naga_oil_link.specs.BuiltModule.{Builds}
 use Rattle.naga_oil_build.specs.Held.{Settings}
@@ -16,7 +17,7 @@ use Rattle.naga_oil.specs.Answer.{make, answer}
 use Rattle.naga_oil.specs.ChainsLaw.{CallsGoDown}
 use Rattle.naga_oil.specs.Faithful.{ParsesModules, IsFaithful}
 use Rattle.naga_oil.specs.MakeDefs.{defs_of_text, defs_or_none, make_defs}
-use Rattle.naga_oil.specs.MakeView.{KeepsFirst, memory_nowhere}
+use Rattle.naga_oil.specs.MakeView.{KeepsFirst, memory_nowhere, ends_with}
 use Rattle.naga_oil.specs.Makes.{Makes, settings_of}
 use Rattle.naga_oil.specs.Outcome.{Outcome, Does, given, done_with}
 use Rattle.naga_oil.specs.Refused.{Place, Refused, refused_of, in_text, nowhere, place_of, placed, UnlessMemory, Answers}
@@ -30,15 +31,15 @@ use Rattle.naga_oil.proofs.KeepsLemmas.{always}
 use Rattle.naga_oil.proofs.StoreKeyLemmas.{keeps_none}
 use Rattle.naga_oil.proofs.PlacedLemmas.{tells_on, tells_placed, answers_same}
 
--- nothing newly kept is counted
+-- if nothing is newly kept, the count stays
 counted_none : (count : ℕ) (kept : Kept) → count ≤ 18446744073709551615 → count ≡ count_kept count kept kept
 counted_none count kept fits = sym (min-eq_left (omega (arith, fits)) ∙ (let e : count + (length kept - length kept) ≡ count = omega arith in e))
 
--- what is newly kept is added, as far as that is counted
+-- the number of newly kept builds is added to the count, up to its limit
 pub counted : (begun count before after news : ℕ) (kept more : Kept) → before ≡ length kept → after ≡ length more → news ≡ after - before → count ≡ min (begun + news) 18446744073709551615 → count ≡ count_kept begun kept more
 counted begun count before after news kept more is is' new sum = sum ∙ (λ i. min (begun + (new ∙ (λ j. is' j - is j)) i) 18446744073709551615)
 
--- what holds of the builds that were made holds of those of the value
+-- what holds of the builds made holds of the builds of the value
 does_builds : {X Y : Type 0} (view : X → Y) (result : Result X ComposerError) (builds : Builds) (v : Outcome Y Refused) (P : Builds → Type 0) → Does view refused_of memory_nowhere result builds v → UnlessMemory refused_of result (P builds) → UnlessMemory refused_of result (P v.builds)
 does_builds view (Ok x) builds v P h p = subst P (sym (ap (λ (o : Outcome _ Refused). o.builds) h)) p
 does_builds {X} {Y} view (Err e) builds v P h p = go (refused_of e) h p
@@ -62,17 +63,17 @@ module _ {B : Type 0} (front : B → FrontEnd) (old : State B) (m : ShaderSource
   abbrev behind : List ℕ × ℕ → Builds → Outcome ModuleValue Refused
   behind read = make (settings_of front old) old.registry m read.0
 
-  -- a module that is answered is faithful
+  -- an answered module is faithful
   made_faithful : (result : Result Module ComposerError) → ParsesModules (front old.front) → Answers module_value result (answer (settings_of front old) old.registry old.counter m).result → IfOk result (λ made. IsFaithful (settings_of front old) old.registry old.counter m (module_value made))
   made_faithful (Ok made) modules e = faithful (settings_of front old) old.registry old.counter m (module_value made) modules e
   made_faithful (Err e) modules h = tt
 
-  -- its calls go down its chains
+  -- its calls are redirected along its chains
   made_chained : (result : Result Module ComposerError) → ParsesModules (front old.front) → Answers module_value result (answer (settings_of front old) old.registry old.counter m).result → IfOk result (λ made. CallsGoDown (settings_of front old) old.registry old.counter m (module_value made))
   made_chained (Ok made) modules e = calls_go_down (settings_of front old) old.registry old.counter m (module_value made) modules e
   made_chained (Err e) modules h = tt
 
-  -- the source isn't read
+  -- the source can't be read
   pub makes_unread : (inner : ComposerErrorInner) (e : ComposerError) → old.builds ≤ 18446744073709551615 → IsRefusal inner e source_place → Fails inner (read_source old.counter m.source) → Makes front old m (Err e) old
   unfolding answer
   makes_unread inner e fits is fails = record {
@@ -95,9 +96,9 @@ module _ {B : Type 0} (front : B → FrontEnd) (old : State B) (m : ShaderSource
       none_built None h = tt
       none_built (Some r) h = sym (ap (λ (v : Result (List ℕ × ℕ) Fault). keep_builds old.registry (make_defs old.registry old.counter m) old.kept (done_with (given (placed source_place v) []) behind (placed source_place v)).builds) (failed inner r.fault (read_source old.counter m.source) h.0 fails))
 
-  -- it is read, and the shader is made
+  -- the source is read, and the shader is made
   pub makes_read : (result : Result Module ComposerError) (text : List ℕ) (counter : ℕ) (builds : Builds) → read_source old.counter m.source ≡ Ok (text, counter)
-      → Does module_value refused_of memory_nowhere result builds (make (settings_of front old) old.registry m text []) → (under : Defs) (more : Kept) (count : ℕ) → KeepsFirst (settings_of front old) old.registry refused_of (defs_of_text old.registry m text) result old.kept under builds more → count ≡ count_kept old.builds old.kept more → Makes front old m result (record old { counter = counter; kept = more; builds = count })
+      → Does module_value refused_of memory_nowhere result builds (make (settings_of front old) old.registry m text []) → (under : Defs) (more : Kept) (count : ℕ) → KeepsFirst (settings_of front old) old.registry refused_of (defs_of_text old.registry m text) result old.kept (ends_with under builds more) → count ≡ count_kept old.builds old.kept more → Makes front old m result (record old { counter = counter; kept = more; builds = count })
   unfolding answer make_defs
   makes_read result text counter builds read does under more count first counts =
       let counted : counter ≡ counter_after old.counter m.source = ap (counter_behind old.counter) (sym read) in
@@ -116,6 +117,6 @@ module _ {B : Type 0} (front : B → FrontEnd) (old : State B) (m : ShaderSource
         rest = refl;
       }
 
--- the same shader over the same modules, of which nothing is built
-pub same_make : (s : Settings) (ds : List Definition) (m : ShaderSource) (text read : List ℕ) (bs : Builds) → text ≡ read → bs ≡ [] → make s ds m read [] ≡ make s ds m text bs
+-- the shader over the same modules, with no builds
+pub same_make : (s : Settings) (ds : List Registered) (m : ShaderSource) (text read : List ℕ) (bs : Builds) → text ≡ read → bs ≡ [] → make s ds m read [] ≡ make s ds m text bs
 same_make s ds m text read bs b c = λ i. make s ds m (sym b i) (sym c i)

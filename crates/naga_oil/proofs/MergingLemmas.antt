@@ -1,4 +1,4 @@
--- Definitions that a make merges.
+-- The definitions that a make merges.
 use Rattle.std.proofs.Common.{◌≡◌, ℕ, List, [], ◌∷◌, refl, sym, ap, ◌∙◌, cond, Bool, true, false, not, Option, Some, None, Bor, String, Global, string_bytes, Err}
 use Rattle.std.proofs.lemmas.Map.Text.{is_eq-slice_cmp}
 use Rattle.std.specs.BTreeMap.{is_at}
@@ -12,26 +12,26 @@ use Rattle.naga_oil_conditions.specs.Fault.{inconsistent_def}
 use Rattle.naga_oil_conditions.specs.declared.shader_def.ShaderDefValue.{ShaderDefValue}
 use Rattle.naga_oil_conditions.specs.declared.shader_def.ShaderDefValue.TheVariants as def
 use Rattle.naga_oil_conditions.specs.contracts.shader_def.ShaderDefValuePartialEq.TheImpl.{ghosts}
-use Rattle.naga_oil_registry.specs.Definition.{Defs}
+use Rattle.naga_oil_registry.specs.Registered.{Defs}
 use Rattle.naga_oil_registry.specs.Merged.{with_def}
 use Rattle.naga_oil.specs.Shader.{value_of, same_value, has_value, agrees, defs_union}
 use Rattle.naga_oil_registry.proofs.MergedLemmas.{named}
 
--- what a map holds under a name
+-- the value of a name in a map
 pub value-named : (es : List (String Global × ShaderDefValue)) (name : String Global) → lookup (is_at (string_cmp name)) es ≡ value_of (named es) (string_bytes name)
 value-named [] name = refl
 value-named (e ∷ es) name =
     ap (λ b. cond b (Some e.1) (lookup (is_at (string_cmp name)) es)) (is_eq-slice_cmp (string_bytes name) (string_bytes e.0))
     ∙ ap (λ o. cond (bytes_eq (string_bytes name) (string_bytes e.0)) (Some e.1) o) (value-named es name)
 
--- a definition more that agrees, or doesn't
+-- one more definition that agrees, or doesn't
 pub joined_more : (defs : Defs) (d : List ℕ × ShaderDefValue) (more : Defs) → agrees d.1 (value_of defs d.0) ≡ true → defs_union defs (d ∷ more) ≡ defs_union (with_def defs d) more
 joined_more defs d more e = rw e refl
 
 pub joined_not : (defs : Defs) (d : List ℕ × ShaderDefValue) (more : Defs) → agrees d.1 (value_of defs d.0) ≡ false → defs_union defs (d ∷ more) ≡ Err (inconsistent_def d.0)
 joined_not defs d more e = rw e refl
 
--- whether a name has a value, as the code compares
+-- whether a name has a value, as the code compares values
 pub same_as : (a b : ShaderDefValue) → ghosts.eq a b ≡ same_value a b
 same_as (def.Bool a) (def.Bool b) = refl
 same_as (def.Bool a) (def.Int b) = refl
@@ -47,7 +47,7 @@ pub has_same : (known : Option (Bor ShaderDefValue)) (value : Bor ShaderDefValue
 has_same None value = refl
 has_same (Some x) value = same_as x.now value.now
 
--- what a map holds under a text
+-- the value of a text in a map
 pub value-texts : (es : List (String Global × ShaderDefValue)) (name : List ℕ) → lookup (is_at (λ k. slice_cmp nat_cmp name (string_bytes k))) es ≡ value_of (named es) name
 value-texts [] name = refl
 value-texts (e ∷ es) name =

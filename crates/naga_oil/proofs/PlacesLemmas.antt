@@ -1,32 +1,32 @@
--- Modules that stand from a place of the registry on, and how many there are.
+-- The modules from a place of the registry on, and their number.
 use Rattle.std.proofs.Common.{◌≡◌, ℕ, zero, suc, ◌+◌, ◌-◌, ◌<◌, ◌≤◌, List, [], ◌∷◌, Bool, ◌||◌, eqb, map, drop, get_or, length, true, false, refl, sym, ap, ◌∙◌, Some, None, Err, arith}
 use Rattle.std.specs.List.{AllByRecursion, IsDistinct, list_any, slice_get}
 use Rattle.std.proofs.lemmas.Bool.{eqb-true, eqb-false, ne_eqb, or_parts}
 use Rattle.std.proofs.lemmas.List.{drop_more, length-map}
 use Rattle.std.proofs.lemmas.Map.Steps.{length-le_from_distinct_below}
 use Rattle.naga_oil_imports.specs.declared.import_definition.ImportDefinition.{ImportDefinition}
-use Rattle.naga_oil_registry.specs.Definition.{Definition, Defs}
+use Rattle.naga_oil_registry.specs.Registered.{Registered, Defs}
 use Rattle.naga_oil_registry.specs.Registry.{place_named, taken, IsRegistry}
 use Rattle.naga_oil_link.specs.BuiltModule.{Builds}
 use Rattle.naga_oil_build.specs.Held.{Settings}
 use Rattle.naga_oil.specs.Reach.{is_built, missing, reach, reach_module, unless_built}
 use Rattle.naga_oil.proofs.ReachLemmas.{none_reached, first_reached}
 
--- ---- how many there are
+-- ---- the number of modules
 
--- an index that isn't taken is none of those of the modules
-none_has : (index : ℕ) (ds : List Definition) → taken ds index ≡ false → AllByRecursion (λ other. eqb index other ≡ false) (map (λ d. d.index) ds)
+-- a free index is the index of no module
+none_has : (index : ℕ) (ds : List Registered) → taken ds index ≡ false → AllByRecursion (λ other. eqb index other ≡ false) (map (λ d. d.index) ds)
 none_has index [] h = tt
 none_has index (d ∷ ds) h =
     let parts = or_parts (eqb d.index index) (taken ds index) h in
     (ne_eqb index d.index (λ e. eqb-false d.index index parts.0 (sym e)), none_has index ds parts.1)
 
-indices_apart : (ds : List Definition) → IsRegistry ds → IsDistinct eqb (map (λ d. d.index) ds)
+indices_apart : (ds : List Registered) → IsRegistry ds → IsDistinct eqb (map (λ d. d.index) ds)
 unfolding IsDistinct
 indices_apart [] all = tt
 indices_apart (d ∷ ds) all = (none_has d.index ds all.0.index, indices_apart ds all.1)
 
-indices_small : (ds : List Definition) → IsRegistry ds → (index : ℕ) → list_any (eqb index) (map (λ d. d.index) ds) ≡ true → index < 2048
+indices_small : (ds : List Registered) → IsRegistry ds → (index : ℕ) → list_any (eqb index) (map (λ d. d.index) ds) ≡ true → index < 2048
 indices_small [] all index h = absurd cc
 indices_small (d ∷ ds) all index h = by (eqb index d.index) refl h (indices_small ds all.1 index)
   where
@@ -34,11 +34,11 @@ indices_small (d ∷ ds) all index h = by (eqb index d.index) refl h (indices_sm
     by true e h rest = let same : index ≡ d.index = eqb-true index d.index e in omega (arith, all.0.small, same)
     by false e h rest = rest h
 
--- no two modules have one index, so there are few
-pub few_modules : (ds : List Definition) → IsRegistry ds → length ds ≤ 2048
+-- no two modules have one index, so their number is limited
+pub few_modules : (ds : List Registered) → IsRegistry ds → length ds ≤ 2048
 few_modules ds all = omega (arith, length-le_from_distinct_below (map (λ d. d.index) ds) 2048 (indices_apart ds all) (indices_small ds all), length-map ds (λ d. d.index))
 
--- ---- from a place on
+-- ---- modules from a place on
 
 drop_none : {A : Type 0} (n : ℕ) → ◌≡◌ {A = List A} (drop n []) []
 drop_none zero = refl
@@ -54,20 +54,20 @@ got_behind xs zero j = ap (slice_get xs) (let e : j ≡ zero + j = omega arith i
 got_behind [] (suc i) j = refl
 got_behind (x ∷ xs) (suc i) j = got_behind xs i j ∙ ap (slice_get (x ∷ xs)) (let e : suc (i + j) ≡ suc i + j = omega arith in e)
 
-module _ (s : Settings) (defs : Defs) (name : List ℕ) (bs : Builds) (absent : is_built bs name ≡ false) (ds : List Definition) (from : ℕ) where
+module _ (s : Settings) (defs : Defs) (name : List ℕ) (bs : Builds) (absent : is_built bs name ≡ false) (ds : List Registered) (from : ℕ) where
   -- no module from the place on has the name
   pub none_from : place_named name (drop from ds) ≡ None → unless_built (reach s defs (drop from ds)) name bs ≡ record { builds = bs; result = Err (missing name 0) }
   none_from e = none_reached s defs name bs absent (drop from ds) e
 
-  -- the first of them that has it is reached over what stands behind it
-  pub first_from : (place : ℕ) (d : Definition) → (from ≤ place) × (place_named name (drop from ds) ≡ Some (place - from)) → slice_get ds place ≡ Some d
+  -- the first module that has the name is reached over the modules after it
+  pub first_from : (place : ℕ) (d : Registered) → (from ≤ place) × (place_named name (drop from ds) ≡ Some (place - from)) → slice_get ds place ≡ Some d
       → unless_built (reach s defs (drop from ds)) name bs ≡ reach_module s defs d (unless_built (reach s defs (drop (place + 1) ds))) bs
   first_from place d at is =
       let here : from + (place - from) ≡ place = omega (arith, at.0) in
       let next : from + (place - from + 1) ≡ place + 1 = omega (arith, at.0) in
       first_reached s defs name bs absent (drop from ds) (place - from) d at.1 (got_behind ds from (place - from) ∙ ap (slice_get ds) here ∙ is)
-      ∙ ap (λ (rest : List Definition). reach_module s defs d (unless_built (reach s defs rest)) bs) (dropped_on ds from (place - from + 1) ∙ ap (λ n. drop n ds) next)
+      ∙ ap (λ (rest : List Registered). reach_module s defs d (unless_built (reach s defs rest)) bs) (dropped_on ds from (place - from + 1) ∙ ap (λ n. drop n ds) next)
 
--- the next of the imports that are left
+-- the next of the remaining imports
 pub next_import : (xs : List ImportDefinition) (i : ℕ) (x : ImportDefinition) → i < length xs → x ≡ get_or xs i x → drop i xs ≡ x ∷ drop (i + 1) xs
 next_import xs i x within is = drop_more xs i x within ∙ ap (λ y. y ∷ drop (i + 1) xs) (sym is)

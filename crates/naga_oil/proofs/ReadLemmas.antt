@@ -14,9 +14,8 @@ use Rattle.std.specs.Ordering.{nat_cmp, is_eq, ordering_reverse}
 use Rattle.std.specs.Str.{bytes_eq}
 use Rattle.std.specs.String.{string_cmp}
 use Rattle.naga_oil_lines.specs.Directives.{Directives}
-use Rattle.naga_oil_lines.specs.DirectivesText.{in_order}
+use Rattle.naga_oil_words.specs.Texts.{in_order, is_among, texts}
 use Rattle.naga_oil_imports.specs.Leaves.{Leaf, SyntaxFault}
-use Rattle.naga_oil_lines.specs.Text.{is_among, texts}
 use Rattle.naga_oil_lines.proofs.NamesInOrder.{names_rise}
 use Rattle.naga_oil_conditions.specs.DefineValue.{defined_value}
 use Rattle.naga_oil_pre.specs.Extracted.{extracted}
@@ -26,8 +25,8 @@ use Rattle.naga_oil_conditions.specs.Line.{Line, source_lines}
 use Rattle.naga_oil_pre.specs.Metadata.{Found, Metadata, metadata, metadata_behind, metadata_with, found_in, found_behind, nothing_found, defined_as, defined_behind, with_defines, with_import, going_on, left_open}
 use Rattle.naga_oil_pre.specs.Reading.{braces_after}
 use Rattle.naga_oil_conditions.specs.declared.shader_def.ShaderDefValue.{ShaderDefValue}
-use Rattle.naga_oil_registry.specs.Added.{◌>>=◌}
-use Rattle.naga_oil_registry.specs.Definition.{Definition, Defs}
+use Rattle.naga_oil_words.specs.ResultSteps.{◌>>=◌}
+use Rattle.naga_oil_registry.specs.Registered.{Registered, Defs}
 use Rattle.naga_oil_registry.specs.Descriptor.{ShaderSource}
 use Rattle.naga_oil_registry.specs.Merged.{recorded_names}
 use Rattle.naga_oil_registry.proofs.MergedLemmas.{named}
@@ -35,12 +34,12 @@ use Rattle.naga_oil_registry.proofs.NamesLemmas.{sorted_texts, among-in_order}
 use Rattle.naga_oil.specs.Reach.{defined}
 use Rattle.naga_oil.specs.Shader.{name_defined, names_defined, defs_among, shader_definition, shader_found, read_shader}
 
--- ---- definitions in byte order are told by what they say of names among which theirs are
+-- ---- sorted definitions are determined by their values of names that include theirs
 
 abbrev order : List ℕ → List ℕ → Ordering
 order a b = slice_cmp nat_cmp a b
 
--- each name stands above this one
+-- each name is above this one
 abbrev Above : List ℕ → List (List ℕ) → Type 0
 Above n names = AllByRecursion (λ m. order n m ≡ Less) names
 
@@ -51,12 +50,12 @@ above_more : (x y : List ℕ) (zs : List (List ℕ)) → order x y ≡ Less → 
 above_more x y [] e h = tt
 above_more x y (z ∷ zs) e h = (nat_list_cmp_total.trans x y z e h.0, above_more x y zs e h.1)
 
--- a name below all is among none
+-- a name below all names isn't among them
 not_above : (x : List ℕ) (zs : List (List ℕ)) → Above x zs → is_among zs x ≡ false
 not_above x [] h = refl
 not_above x (z ∷ zs) h = or_from (bytes_eq x z) (is_among zs x) (sym (is_eq-slice_cmp x z) ∙ ap is_eq h.0) (not_above x zs h.1)
 
--- and isn't defined
+-- and it isn't defined
 undefined_above : (x : List ℕ) (defs : Defs) → Above x (names_in defs) → defined defs x ≡ None
 undefined_above x [] h = refl
 undefined_above x (d ∷ defs) h = ap (λ o. cond (is_eq o) (Some d.1) (defined defs x)) h.0 ∙ undefined_above x defs h.1
@@ -64,7 +63,7 @@ undefined_above x (d ∷ defs) h = ap (λ o. cond (is_eq o) (Some d.1) (defined 
 first_defined : (d : List ℕ × ShaderDefValue) (defs : Defs) → defined (d ∷ defs) d.0 ≡ Some d.1
 first_defined d defs = ap (λ b. cond b (Some d.1) (defined defs d.0)) (is_eq-slice_cmp d.0 d.0 ∙ (bytes_eq-Decides d.0 d.0).1 refl)
 
--- of names above the first, the others say as much
+-- of names above the first, the other definitions say the same
 behind_first : (d : List ℕ × ShaderDefValue) (defs : Defs) (names : List (List ℕ)) → Above d.0 names → defs_among (defined (d ∷ defs)) names ≡ defs_among (defined defs) names
 behind_first d defs [] h = refl
 behind_first d defs (n ∷ names) h =
@@ -83,7 +82,7 @@ from_names [] (d ∷ defs) s t h = let none = h d.0 refl in let some = first_def
 from_names (n ∷ names) [] s t h = from_names names [] s.1 t (λ m e. refl)
 from_names (n ∷ names) (d ∷ defs) s t h = by (order n d.0) refl (λ k. from_names names defs s.1 t.1 k) (λ k. from_names names (d ∷ defs) s.1 t k)
   where
-    -- but for the first name
+    -- all but the first name
     but_first : (P : List ℕ → Type 0) (m : List ℕ) → P n → (bytes_eq m n ≡ false → P m) → P m
     but_first P m p k = go (bytes_eq m n) refl
       where
@@ -159,7 +158,7 @@ module _ (name : List ℕ) where
       go true b e = absurd (true≢false e)
       go false b e = (refl, e)
 
-  -- of the lines that an import takes nothing is defined
+  -- the lines that an import takes define nothing
   behind_lines : (allow_defines : Bool) (found : Found) (braces : ℕ) (lines : List Line) → found.defines name ≡ None → is_among (flat_map line_names lines) name ≡ false → Undefined (found_in allow_defines found braces lines)
   behind_lines allow_defines found braces [] h e = h
   behind_lines allow_defines found zero (l ∷ more) h e =
@@ -187,13 +186,13 @@ module _ (name : List ℕ) where
   unfolding metadata
   undefined-cleaned allow_defines text m e = subst DefinesOwn e (behind-defines allow_defines (extracted text))
 
--- ---- what a text says
+-- ---- reading a text
 
 names_named : (es : List (String Global × ShaderDefValue)) → texts (keys_of es) ≡ names_in (named es)
 names_named [] = refl
 names_named (e ∷ es) = ap (λ ns. string_bytes e.0 ∷ ns) (names_named es)
 
--- a map of what a text defines, as a list
+-- the map of a text's defines, as a list
 pub defines_listed : (text : List ℕ) (found : Metadata) (es : List (String Global × ShaderDefValue)) → metadata true text ≡ Ok found → found.defines ≡ defined (named es) → IsStrictlySortedBy string_cmp (keys_of es) → named es ≡ defs_among found.defines (names_defined found.cleaned)
 defines_listed text found es says is order =
     let names = flat_map (λ l. name_defined (unversioned_kind_of l.covered)) (source_lines found.cleaned) in
@@ -201,12 +200,12 @@ defines_listed text found es says is order =
     sym (from_names (in_order names) (named es) (names_rise names) (subst (λ (ns : List (List ℕ)). IsStrictlySortedBy (slice_cmp nat_cmp) ns) (names_named es) (sorted_texts (keys_of es) order)) covers)
     ∙ ap (λ (f : Definitions). defs_among f (in_order names)) (sym is)
 
-pub shader_read : (m : ShaderSource) (text : List ℕ) (found : Metadata) (defs : Defs) (recorded : List (List ℕ)) (d : Definition) → metadata true text ≡ Ok found
+pub shader_read : (m : ShaderSource) (text : List ℕ) (found : Metadata) (defs : Defs) (recorded : List (List ℕ)) (d : Registered) → metadata true text ≡ Ok found
     → defs ≡ defs_among found.defines (names_defined found.cleaned) → recorded ≡ in_order (recorded_names found.cleaned) → d ≡ shader_definition m found defs recorded → read_shader m text ≡ Ok d
 unfolding read_shader
 shader_read m text found defs recorded d says own names is =
     ap (λ (r : Result Metadata Fault). r >>= λ found. Ok (shader_found m found)) says
-    ∙ ap (λ (x : Definition). Ok x) (sym (is ∙ (λ i. shader_definition m found (own i) (names i))))
+    ∙ ap (λ (x : Registered). Ok x) (sym (is ∙ (λ i. shader_definition m found (own i) (names i))))
 
 pub shader_unread : (m : ShaderSource) (text : List ℕ) (f : Fault) → metadata true text ≡ Err f → read_shader m text ≡ Err f
 unfolding read_shader

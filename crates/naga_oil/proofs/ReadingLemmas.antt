@@ -1,11 +1,11 @@
--- The two readings of a shader, and what is made behind them.
+-- The two readings of a shader, and the module made after them.
 use Rattle.std.proofs.Common.{◌≡◌, ◌∙◌, ◌≤◌, ℕ, true, List, Result, Ok, Err, IsErrAnd, refl, sym, ap, arith}
 use Rattle.naga_oil_ir.specs.ModuleValue.{ModuleValue}
 use Rattle.naga_oil_conditions.specs.Fault.{Fault}
 use Rattle.naga_oil_pre.specs.Metadata.{Metadata, metadata}
 use Rattle.naga_oil_pre.specs.Preprocessed.{Output}
-use Rattle.naga_oil_registry.specs.Added as registry
-use Rattle.naga_oil_registry.specs.Definition.{Definition, Defs}
+use Rattle.naga_oil_words.specs.ResultSteps as results
+use Rattle.naga_oil_registry.specs.Registered.{Registered, Defs}
 use Rattle.naga_oil_registry.specs.Descriptor.{ShaderSource}
 use Rattle.naga_oil_registry.specs.Merged.{overwritten}
 use Rattle.naga_oil_link.specs.BuiltModule.{Builds}
@@ -22,7 +22,7 @@ use Rattle.naga_oil.specs.declared.compose.error.ComposerError.{ComposerError}
 use Rattle.naga_oil.proofs.DoesLemmas.{Ends, does_given, does_same, does_end, does_then}
 use Rattle.naga_oil.proofs.ReachLemmas.{bind_ok, bind_err}
 
-module _ (s : Settings) (ds : List Definition) (text : List ℕ) (d : Definition) (own : Defs) (bs : Builds) where
+module _ (s : Settings) (ds : List Registered) (text : List ℕ) (d : Registered) (own : Defs) (bs : Builds) where
   abbrev place : Place
   place = in_text d.file_path text 0
 
@@ -45,7 +45,7 @@ module _ (s : Settings) (ds : List Definition) (text : List ℕ) (d : Definition
   in_second out = reached own (as_merged ds own) out >>= λ done. given (Ok out)
 
   module _ {Z : Type 0} (e : ComposerError) (result : Result Z ComposerError) (is : IsErrAnd result (λ o. o ≡ e)) where
-    -- the text isn't preprocessed
+    -- the text can't be preprocessed
     pub first_unread : (view : Z → Defs) → Tells e (placed place becomes) → Does view refused_of memory_nowhere result bs (read_first s ds text d own bs)
     unfolding read_first
     first_unread view h =
@@ -74,12 +74,12 @@ module _ (s : Settings) (ds : List Definition) (text : List ℕ) (d : Definition
           does_end view e result bs (in_shader d.file_path text (merges out) bs) (read_first s ds text d own bs) (λ r k. behind_first ∙ bind_err (in_shader d.file_path text (merges out)) (behind_merging out) bs bs r k)
           (does_given (λ (x : Defs). x) (Err e) (placed place (merges out)) bs h) is
 
-      -- what it imports isn't built
+      -- an imported module can't be built
       pub second_ended : (view : Z → Output) (new : Builds) → Ends e new (reached own (as_merged ds own) out bs) → Does view refused_of memory_nowhere result new (read_second s ds text d own bs)
       second_ended view new h =
           does_end view e result new (reached own (as_merged ds own) out bs) (read_second s ds text d own bs) (λ r k. behind_second ∙ bind_err (reached own (as_merged ds own) out) (λ done. given (Ok out)) bs new r k) h is
 
-    -- what it imports is built, or not
+    -- the imported modules are built, or one can't be
     pub first_read : (defs : Defs) (result : Result (Unit {0}) ComposerError) (view : Unit {0} → Defs) (new : Builds) → placed place (merges out) ≡ Ok defs → view tt ≡ defs → Does (λ done. done) refused_of memory_nowhere result new (reached defs any_use out bs)
         → Does view refused_of memory_nowhere result new (read_first s ds text d own bs)
     first_read defs result view new merged is does =
@@ -89,29 +89,29 @@ module _ (s : Settings) (ds : List Definition) (text : List ℕ) (d : Definition
     pub second_read : (new : Builds) → reached own (as_merged ds own) out bs ≡ record { builds = new; result = Ok tt } → read_second s ds text d own bs ≡ record { builds = new; result = Ok out }
     second_read new h = behind_second ∙ bind_ok (reached own (as_merged ds own) out) (λ done. given (Ok out)) bs new tt h
 
-module _ (s : Settings) (ds : List Definition) (m : ShaderSource) (text : List ℕ) (bs : Builds) where
+module _ (s : Settings) (ds : List Registered) (m : ShaderSource) (text : List ℕ) (bs : Builds) where
   abbrev shader_place : Place
   shader_place = in_text m.file_path text 0
 
-  abbrev read_again : Definition → Defs → Doing ModuleValue Refused
+  abbrev read_again : Registered → Defs → Doing ModuleValue Refused
   read_again d defs = read_second s ds text d defs >>= λ out. λ builds. given (finish s defs builds d out m.shader_type) builds
 
-  abbrev read_twice : Definition → Doing ModuleValue Refused
+  abbrev read_twice : Registered → Doing ModuleValue Refused
   read_twice d = read_first s ds text d (overwritten m.defs d.defs) >>= read_again d
 
-  -- the text isn't read
+  -- the text can't be read
   pub make_unread : {Z : Type 0} (view : Z → ModuleValue) (e : ComposerError) (result : Result Z ComposerError) → IsErrAnd result (λ o. o ≡ e) → Tells e (placed shader_place (read_shader m text)) → Does view refused_of memory_nowhere result bs (make s ds m text bs)
   unfolding make
   make_unread view e result is h =
       does_end view e result bs (in_shader m.file_path text (read_shader m text) bs) (make s ds m text bs) (λ r k. bind_err (in_shader m.file_path text (read_shader m text)) read_twice bs bs r k)
-      (does_given (λ (x : Definition). x) (Err e) (placed shader_place (read_shader m text)) bs h) is
+      (does_given (λ (x : Registered). x) (Err e) (placed shader_place (read_shader m text)) bs h) is
 
-  module _ (d : Definition) (read : placed shader_place (read_shader m text) ≡ Ok d) where
+  module _ (d : Registered) (read : placed shader_place (read_shader m text) ≡ Ok d) where
     behind_shader : make s ds m text bs ≡ read_twice d bs
     unfolding make
     behind_shader = bind_ok (in_shader m.file_path text (read_shader m text)) read_twice bs bs d (ap (λ r. given r bs) read)
 
-    -- the first reading ends it
+    -- the first reading ends in a fault
     pub make_not_first : {Z : Type 0} (view : Z → ModuleValue) (e : ComposerError) (result : Result Z ComposerError) (new : Builds) → IsErrAnd result (λ o. o ≡ e) → Ends e new (read_first s ds text d (overwritten m.defs d.defs) bs) → Does view refused_of memory_nowhere result new (make s ds m text bs)
     make_not_first view e result new is h =
         does_end view e result new (read_first s ds text d (overwritten m.defs d.defs) bs) (make s ds m text bs) (λ r k. behind_shader ∙ bind_err (read_first s ds text d (overwritten m.defs d.defs)) (read_again d) bs new r k) h is
@@ -120,28 +120,28 @@ module _ (s : Settings) (ds : List Definition) (m : ShaderSource) (text : List �
       behind_reading : make s ds m text bs ≡ read_again d defs mid
       behind_reading = behind_shader ∙ bind_ok (read_first s ds text d (overwritten m.defs d.defs)) (read_again d) bs mid defs first
 
-      -- the second ends it
+      -- the second reading ends in a fault
       pub make_not_second : {Z : Type 0} (view : Z → ModuleValue) (e : ComposerError) (result : Result Z ComposerError) (new : Builds) → IsErrAnd result (λ o. o ≡ e) → Ends e new (read_second s ds text d defs mid) → Does view refused_of memory_nowhere result new (make s ds m text bs)
       make_not_second view e result new is h =
           does_end view e result new (read_second s ds text d defs mid) (make s ds m text bs) (λ r k. behind_reading ∙ bind_err (read_second s ds text d defs) (λ out. λ builds. given (finish s defs builds d out m.shader_type) builds) mid new r k) h is
 
-      -- the shader is finished, or not
+      -- the shader is finished, or can't be
       pub make_finished : {Z : Type 0} (view : Z → ModuleValue) (result : Result Z ComposerError) (out : Output) (new : Builds) → read_second s ds text d defs mid ≡ record { builds = new; result = Ok out } → Answers view result (finish s defs new d out m.shader_type) → Does view refused_of memory_nowhere result new (make s ds m text bs)
       make_finished view result out new second h =
           does_same view result new (given (finish s defs new d out m.shader_type) new) (make s ds m text bs) (behind_reading ∙ bind_ok (read_second s ds text d defs) (λ out. λ builds. given (finish s defs builds d out m.shader_type) builds) mid new out second)
           (does_given view result (finish s defs new d out m.shader_type) new h)
 
 -- a shader's index is 0
-index_read : Result Definition Refused → ℕ
+index_read : Result Registered Refused → ℕ
 index_read (Ok d) = d.index
 index_read (Err r) = 0
 
-index_of_found : (at : Place) (m : ShaderSource) (r : Result Metadata Fault) → index_read (placed at (registry.◌>>=◌ r (λ found. Ok (shader_found m found)))) ≡ 0
+index_of_found : (at : Place) (m : ShaderSource) (r : Result Metadata Fault) → index_read (placed at (results.◌>>=◌ r (λ found. Ok (shader_found m found)))) ≡ 0
 unfolding index_read
 index_of_found at m (Ok found) = refl
 index_of_found at m (Err f) = refl
 
-pub shader_index : (at : Place) (m : ShaderSource) (text : List ℕ) (d : Definition) → placed at (read_shader m text) ≡ Ok d → d.index ≤ 2047
+pub shader_index : (at : Place) (m : ShaderSource) (text : List ℕ) (d : Registered) → placed at (read_shader m text) ≡ Ok d → d.index ≤ 2047
 unfolding read_shader index_read
 shader_index at m text d read =
     let none : d.index ≡ 0 = sym (ap index_read read) ∙ index_of_found at m (metadata true text) in

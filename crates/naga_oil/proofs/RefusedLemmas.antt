@@ -1,4 +1,4 @@
--- What a refused call tells.
+-- What the error of a refused call reports.
 use Rattle.std.proofs.Common.{◌≡◌, Option, Some, None, MatchOption, option_map, refl}
 use Rattle.naga_oil_conditions.specs.Fault.{Fault}
 use Rattle.naga_oil_conditions.specs.View.{fault_of}

@@ -1,4 +1,4 @@
--- Functions whose calls are sent down what overrides functions copy those that they were.
+-- Functions whose calls are redirected copy the functions that they were.
 use mathlib.Core.Path.{fun_ext}
 use Rattle.std.proofs.Common.{◌≡◌, ℕ, suc, ◌+◌, ◌==◌, ◌||◌, if◌then◌else◌, not, Bool, true, false, List, [], ◌∷◌, Option, Some, None, option_map, Result, Ok, Err, slice_get, nat_eq, bytes_eq, refl, ap, sym, ◌∙◌, subst, arith}
 use Rattle.std.specs.Option.{option_flatten}
@@ -14,18 +14,18 @@ use Rattle.naga_oil_ir.specs.declared.span.Span.{Span}
 use Rattle.naga_oil_form.proofs.LinkLemmas.{eqb_eq, eq_eqb}
 use Rattle.naga_oil_derive.specs.World.{world}
 use Rattle.naga_oil_conditions.specs.Fault.{Fault}
-use Rattle.naga_oil_lines.specs.Text.{is_among}
-use Rattle.naga_oil_registry.specs.Added.{◌>>=◌}
+use Rattle.naga_oil_words.specs.Texts.{is_among}
+use Rattle.naga_oil_words.specs.ResultSteps.{◌>>=◌}
 use Rattle.naga_oil_link.specs.BuiltModule.{Overriding}
 use Rattle.naga_oil_redirect.specs.Redirected.{send, send_entry, redirected, is_named, found, found_from, compared, matching, matched, same_arguments, same_results}
-use Rattle.naga_oil_faith.specs.Scope.{name_of_function, scope_of}
-use Rattle.naga_oil_faith.specs.ByTree.{CopiesByTree}
-use Rattle.naga_oil_faith.specs.ByTreeLaw.{IsAsCopied}
-use Rattle.naga_oil_faith.specs.SentByTree.{instead_of, IsOnlyOfItsName, sends_at, AreAsCopied}
-use Rattle.naga_oil_faith.proofs.ComposeLaws.{compose}
-use Rattle.naga_oil_faith.proofs.SentLaws.{redirected_law, entry_law, world_same}
-use Rattle.naga_oil_copies.specs.OrderedCopies.{CallsAnywhere, MaySend}
-use Rattle.naga_oil_copies.proofs.SentForms.{sent_calls}
+use Rattle.naga_oil_copy_laws.specs.Scope.{name_of_function, scope_of}
+use Rattle.naga_oil_copy_laws.specs.ByTree.{CopiesByTree}
+use Rattle.naga_oil_copy_laws.specs.ByTreeLaw.{IsAsCopied}
+use Rattle.naga_oil_copy_laws.specs.SentByTree.{instead_of, IsOnlyOfItsName, sends_at, AreAsCopied}
+use Rattle.naga_oil_copy_laws.proofs.ComposeLaws.{compose}
+use Rattle.naga_oil_copy_laws.proofs.SentLaws.{redirected_law, entry_law, world_same}
+use Rattle.naga_oil_link_laws.specs.OrderedCopies.{CallsAnywhere, MaySend}
+use Rattle.naga_oil_link_laws.proofs.SentForms.{sent_calls}
 use Rattle.naga_oil.specs.CallsSent.{call_sent, call_sent_down, call_goes}
 use Rattle.naga_oil.specs.Chain.{redirected_to, sent_to, sent_down, all_sent_down}
 
@@ -120,9 +120,9 @@ if_sends false false f g e h n = ap (λ (k : Text → Text). k n) h
 if_sends true false f g e h n = absurd (false≢true (sym e))
 if_sends false true f g e h n = absurd (false≢true e)
 
--- ---- what calls that were sent are
+-- ---- redirected calls
 
--- m is t with calls sent, as a caller's name tells
+-- m is t with its calls redirected, by the name of the caller
 pub record IsSent (t m : ModuleValue) (sends : Text → Text → Text) : Type 0 where
   pub calls : CallsAnywhere m
   pub same_world : world m ≡ world t
@@ -132,7 +132,7 @@ pub record IsSent (t m : ModuleValue) (sends : Text → Text → Text) : Type 0 
   pub entry_points : (i : ℕ) (y : EntryValue) → slice_get m.entry_points i ≡ Some y →
       (x : EntryValue) × (slice_get t.entry_points i ≡ Some x) × CopiesByTree (λ s. s) (sends None) (scope_of t) x.function (scope_of m) y.function × IsAsCopied y.function
 
--- what it is made of is as copies are
+-- the parts of m are copies
 pub record AllAsCopied (t : ModuleValue) : Type 0 where
   pub functions : AreAsCopied t
   pub entry_points : (i : ℕ) (x : EntryValue) → slice_get t.entry_points i ≡ Some x → IsAsCopied x.function
@@ -162,7 +162,7 @@ module _ (t m : ModuleValue) (sends : Text → Text → Text) (start : AllAsCopi
   sends_instead : instead_of (name_of_function m from) (name_of_function m to) ≡ instead_of (Some base) (Some other)
   sends_instead = ap (λ a. instead_of a (name_of_function m to)) (name_at_place m from w.from w.from_at ∙ w.from_name) ∙ ap (instead_of (Some base)) (name_at_place m to w.to w.to_at ∙ w.to_name)
 
-  -- the one that calls go to is that of its name
+  -- the function that calls are redirected to is the one with its name
   is_other : (k : ℕ) (x : FunctionValue × Span) → slice_get m.functions k ≡ Some x → (k == to) ≡ is_named (bytes_eq other) x.0.name
   is_other k x at =
       bool_same (k == to) (is_named (bytes_eq other) x.0.name)
@@ -210,7 +210,7 @@ module _ (t m : ModuleValue) (sends : Text → Text → Text) (start : AllAsCopi
         entry_points = entry_sent;
       }
 
--- ---- one after another
+-- ---- steps, one after the other
 
 sent_back : (t m n : ModuleValue) (sends : Text → Text → Text) → AllAsCopied t → (base other : List ℕ) (omitted : List (List ℕ)) → IsSent t m sends → sent_to m base other omitted ≡ Ok n → IsSent t n (λ caller c. call_sent caller base other omitted (sends caller c))
 sent_back t m n sends start base other omitted h e = one (matched m.functions base other) refl e

@@ -1,4 +1,4 @@
--- A whole of good form, with the stages of its entry points: its calls can be sent elsewhere.
+-- A whole of good form, with the stages of its entry points: its calls can be redirected.
 use Rattle.std.proofs.Common.{◌≡◌, ◌∙◌, ℕ, ◌<◌, ◌≤◌, List, length, map, get_or, slice_get, Some, refl, ap, sym, subst, arith, All}
 use Rattle.std.proofs.lemmas.List.Elements.{All-map, All-weaker}
 use Rattle.std.proofs.lemmas.Option.{slice_get-get_or}
@@ -94,13 +94,13 @@ module _ (stage : ℕ) (m : ModuleValue) where
   staged_formed : IsModuleFormed m → IsModuleFormed n
   staged_formed f = record { items = items_stay f.items; functions = functions_stay f.functions; entry_points = entries_stay f.entry_points }
 
--- a whole of good form is, with the stages of its entry points
+-- a whole of good form is of good form with the stages of its entry points
 pub stages_formed : (t : ShaderType) (m : ModuleValue) → IsModuleFormed m → IsModuleFormed (with_stages t m)
 stages_formed shader.Wgsl m f = f
 stages_formed shader.GlslVertex m f = staged_formed 0 m f
 stages_formed shader.GlslFragment m f = staged_formed 1 m f
 
--- ---- calls that may be sent elsewhere
+-- ---- calls that can be redirected
 
 calls_any : (c d : ℕ) → c ≤ d → (t : Token) → IsTokenFine c 4294967295 t → IsTokenFine d 4294967295 t
 calls_any c d l (Callee f) h = omega (arith, l, h)
@@ -123,7 +123,7 @@ functions_any : (m : Module) → FunctionsForm m 4294967295 m.functions → All 
 unfolding FunctionsForm
 functions_any m h k d l = function_any m k (length m.functions) (get_or m.functions k d).0 (omega (arith, l)) (h k (get_or m.functions k d) (slice_get-get_or m.functions k d l))
 
--- the calls of a module of good form can be sent elsewhere
+-- the calls of a module of good form can be redirected
 pub formed_redirectable : (m : Module) → IsModuleFormed (module_value m) → Redirectable m
 unfolding value_of
 formed_redirectable m f =

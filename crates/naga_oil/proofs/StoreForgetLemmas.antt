@@ -1,4 +1,4 @@
--- That what stays kept when modules go is what building it afresh gives then.
+-- Law: after modules are removed, the builds still kept are what building them afresh gives.
 use Rattle.std.proofs.Common.{◌≡◌, ℕ, List, [], ◌∷◌, Bool, true, false, not, ◌&&◌, ◌||◌, cond, refl, sym, ap, subst, ◌∙◌, Option, Some, None, option_map, slice_index_or}
 use Rattle.std.proofs.lemmas.Bool.{true≢false, false_from_ne_true}
 use Rattle.std.proofs.lemmas.Map.Entries.{lookup-filter-keys}
@@ -8,7 +8,7 @@ use Rattle.std.specs.List.{All, list_any}
 use Rattle.std.specs.Option.{IsSomeAnd}
 use Rattle.std.specs.Str.{bytes_eq}
 use Rattle.naga_oil_registry.specs.Added.{registry_with}
-use Rattle.naga_oil_registry.specs.Definition.{Definition, Defs}
+use Rattle.naga_oil_registry.specs.Registered.{Registered, Defs}
 use Rattle.naga_oil_registry.specs.Registry.{registered, module_named, reaches, removed, IsRegistry}
 use Rattle.naga_oil_registry.proofs.RegistryLemmas.{bytes_same, standing-named}
 use Rattle.naga_oil_registry.proofs.RemovedLemmas.{reaches-unregistered, removed-registry}
@@ -23,7 +23,7 @@ use Rattle.naga_oil.proofs.ReachLawLemmas.{imports_name, reaches-first, reaches-
 use Rattle.naga_oil.proofs.StoreKeyLemmas.{key-Decides}
 use Rattle.naga_oil.proofs.StoreReachLemmas.{StandsAt, place_of, name_found, key_name, registered_named, reaches_import, built_from, imports_may}
 
--- ---- what reaches what is reached
+-- ---- what a reached module reaches
 
 any_weaker : {X : Type 0} (p q : X → Bool) → ((x : X) → p x ≡ true → q x ≡ true) → (xs : List X) → list_any p xs ≡ true → list_any q xs ≡ true
 any_weaker p q h [] e = absurd (true≢false (sym e))
@@ -37,22 +37,22 @@ any_weaker p q h (x ∷ xs) e = by (p x) refl e (any_weaker p q h xs)
     by true k e known = ap (λ b. b || list_any q xs) (h x k)
     by false k e known = or_right (q x) (list_any q xs) (known e)
 
--- what is reached is registered
-reached_registered : (ds : List Definition) (x y : List ℕ) → reaches ds x y ≡ true → registered y ds ≡ true
+-- each reached module is registered
+reached_registered : (ds : List Registered) (x y : List ℕ) → reaches ds x y ≡ true → registered y ds ≡ true
 reached_registered ds x y h = by (registered y ds) refl
   where
     by : (b : Bool) → registered y ds ≡ b → b ≡ true
     by true e = refl
     by false e = absurd (true≢false (sym h ∙ reaches-unregistered y ds x e))
 
-reaches_on : (ds : List Definition) → IsRegistry ds → (x y z : List ℕ) → reaches ds x y ≡ true → reaches ds y z ≡ true → reaches ds x z ≡ true
+reaches_on : (ds : List Registered) → IsRegistry ds → (x y z : List ℕ) → reaches ds x y ≡ true → reaches ds y z ≡ true → reaches ds x z ≡ true
 reaches_on [] all x y z h k = absurd (true≢false (sym (reached_registered [] x y h)))
 reaches_on (d ∷ earlier) all x y z h k = by (bytes_eq d.name x) refl (reaches_on earlier all.1)
   where
     Known : Type 0
     Known = (x y z : List ℕ) → reaches earlier x y ≡ true → reaches earlier y z ≡ true → reaches earlier x z ≡ true
 
-    -- what is reached behind the module is another
+    -- a module reached from the rest of the registry is another one
     past : (w : List ℕ) → reaches earlier w y ≡ true → reaches earlier y z ≡ true
     past w r = sym (reaches-past d earlier y z (false_from_ne_true (bytes_eq d.name y) (λ q. true≢false (sym (reached_registered earlier w y r) ∙ ap (λ n. registered n earlier) (sym (bytes_same d.name y q)) ∙ all.0.name)))) ∙ k
 
@@ -76,17 +76,17 @@ reaches_on (d ∷ earlier) all x y z h k = by (bytes_eq d.name x) refl (reaches_
             or_right true b k = refl
             or_right false b k = k
 
--- ---- what stays kept
+-- ---- the builds that stay kept
 
--- where modules go with all that reaches them, and those that stay are registered alike
-module _ (s : Settings) (ds es : List Definition) (all : IsRegistry ds) (all' : IsRegistry es) (goes : List ℕ → Bool)
+-- modules are removed with all that reach them, and those that stay are registered alike
+module _ (s : Settings) (ds es : List Registered) (all : IsRegistry ds) (all' : IsRegistry es) (goes : List ℕ → Bool)
     (back : (x y : List ℕ) → reaches ds x y ≡ true → goes y ≡ true → goes x ≡ true)
     (stays : (x : List ℕ) → registered x ds ≡ true → goes x ≡ false → module_named x es ≡ module_named x ds)
     (kept : Kept) (store : IsStore s ds kept) where
   abbrev left : Kept
   left = forget goes kept
 
-  -- a build is found as before, unless it goes
+  -- a build is found as before, unless it is removed
   found_left : (k : Key) → kept_under left k ≡ cond (not (goes k.name)) (kept_under kept k) None
   found_left k = lookup-filter-keys (same_key k) (λ l. not (goes l.name)) (not (goes k.name)) (λ l e. ap (λ (x : Key). not (goes x.name)) (sym ((key-Decides k l).0 e))) kept
 
@@ -99,8 +99,8 @@ module _ (s : Settings) (ds es : List Definition) (all : IsRegistry ds) (all' : 
   left_under x defs g None e h = h
   left_under x defs g (Some k) e h = is_left k (ap goes (key_name ds x defs k e) ∙ g) h
 
-  module _ (k : Key) (b : BuiltModule) (here : goes k.name ≡ false) (old : IsKeptAfresh s ds kept k b) (d : Definition) (named : module_named k.name ds ≡ Some d) where
-    behind : List Definition
+  module _ (k : Key) (b : BuiltModule) (here : goes k.name ≡ false) (old : IsKeptAfresh s ds kept k b) (d : Registered) (named : module_named k.name ds ≡ Some d) where
+    behind : List Registered
     behind = (place_of ds k.name d all named).0
 
     at : StandsAt ds d behind
@@ -113,7 +113,7 @@ module _ (s : Settings) (ds es : List Definition) (all : IsRegistry ds) (all' : 
     known : registered k.name ds ≡ true
     known = registered_named k.name ds d named
 
-    -- nothing that it reaches goes
+    -- no module that it reaches is removed
     reached_stays : (x : List ℕ) → reaches ds k.name x ≡ true → goes x ≡ false
     reached_stays x r = false_from_ne_true (goes x) (λ g. true≢false (sym (back k.name x r g) ∙ here))
 
@@ -128,7 +128,7 @@ module _ (s : Settings) (ds es : List Definition) (all : IsRegistry ds) (all' : 
         (ap (λ n. (afresh s ds k.defs n).result) is_name ∙ old.reached)
         ((λ i. build_named (afresh s ds k.defs (is_name i)).builds (is_name i)) ∙ old.built))
 
-    -- it imports what it reaches
+    -- the modules that it imports are among those that it reaches
     reaches_it : (x : List ℕ) → imports_name d x ≡ true → reaches ds k.name x ≡ true
     reaches_it x m = ap (λ n. reaches ds n x) (sym is_name) ∙ reaches_import ds d behind at x m
 
@@ -148,7 +148,7 @@ module _ (s : Settings) (ds es : List Definition) (all : IsRegistry ds) (all' : 
   each_left : (k : Key) (b : BuiltModule) → kept_under left k ≡ Some b → IsKeptAfresh s es left k b
   each_left k b h = by (goes k.name) refl (sym (found_left k) ∙ h)
     where
-      of_named : goes k.name ≡ false → IsKeptAfresh s ds kept k b → (o : Option Definition) → module_named k.name ds ≡ o → option_map (λ d. key_under d k.defs) o ≡ Some k → IsKeptAfresh s es left k b
+      of_named : goes k.name ≡ false → IsKeptAfresh s ds kept k b → (o : Option Registered) → module_named k.name ds ≡ o → option_map (λ d. key_under d k.defs) o ≡ Some k → IsKeptAfresh s es left k b
       of_named g old None e q = absurd cc
       of_named g old (Some d) e q = afresh_left k b g old d e
 
@@ -159,11 +159,11 @@ module _ (s : Settings) (ds es : List Definition) (all : IsRegistry ds) (all' : 
   pub store_left : IsStore s es left
   store_left = record { differ = IsDistinct-keys_filter same_key (λ e. not (goes e.0.name)) kept store.differ; each = each_left }
 
-removal : (s : Settings) (ds : List Definition) (name : List ℕ) (kept : Kept) → IsRegistry ds → IsStore s ds kept → IsStore s (removed name ds) (forget (λ other. reaches ds other name) kept)
+removal : (s : Settings) (ds : List Registered) (name : List ℕ) (kept : Kept) → IsRegistry ds → IsStore s ds kept → IsStore s (removed name ds) (forget (λ other. reaches ds other name) kept)
 removal s ds name kept all store =
     store_left s ds (removed name ds) all (removed-registry name ds all) (λ other. reaches ds other name) (λ x y r g. reaches_on ds all x y name r g) (λ x r g. standing-named (λ other. reaches ds other name) x ds g) kept store
 
-addition : (s : Settings) (ds : List Definition) (d : Definition) (kept : Kept) → IsRegistry ds → IsRegistry (registry_with ds d) → IsStore s ds kept → IsStore s (registry_with ds d) (forget (λ other. reaches ds other d.name) kept)
+addition : (s : Settings) (ds : List Registered) (d : Registered) (kept : Kept) → IsRegistry ds → IsRegistry (registry_with ds d) → IsStore s ds kept → IsStore s (registry_with ds d) (forget (λ other. reaches ds other d.name) kept)
 addition s ds d kept all all' store =
     store_left s ds (registry_with ds d) all all' (λ other. reaches ds other d.name) (λ x y r g. reaches_on ds all x y d.name r g) stays kept store
   where

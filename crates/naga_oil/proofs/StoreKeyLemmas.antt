@@ -1,4 +1,4 @@
--- Keys of builds, and what is kept by them.
+-- Keys of builds, and the builds kept under them.
 use Rattle.std.proofs.Common.{◌≡◌, ℕ, List, [], ◌∷◌, ◌++◌, Bool, true, false, ◌||◌, cond, filter, refl, sym, ap, ◌∙◌, Option, Some, None, unwrap_or, Decides, append_assoc, append-nil}
 use Rattle.std.proofs.lemmas.Bool.{and_parts, and_from, true≢false}
 use Rattle.std.proofs.lemmas.Bool.Decides.{Decides-eqb, Decides-int_eq}
@@ -15,10 +15,10 @@ use Rattle.std.specs.Option.{IsSomeAnd, option_or}
 use Rattle.std.specs.Ordering.{nat_cmp}
 use Rattle.std.specs.Str.{bytes_eq}
 use Rattle.indexmap.specs.IndexMap.{insert_entry}
-use Rattle.naga_oil_lines.specs.Text.{is_among}
+use Rattle.naga_oil_words.specs.Texts.{is_among}
 use Rattle.naga_oil_conditions.specs.declared.shader_def.ShaderDefValue.{ShaderDefValue}
 use Rattle.naga_oil_conditions.specs.declared.shader_def.ShaderDefValue.TheVariants as def
-use Rattle.naga_oil_registry.specs.Definition.{Definition, Defs}
+use Rattle.naga_oil_registry.specs.Registered.{Registered, Defs}
 use Rattle.naga_oil_registry.proofs.RegistryLemmas.{bytes_same}
 use Rattle.naga_oil_link.specs.BuiltModule.{BuiltModule, Builds}
 use Rattle.naga_oil.specs.Reach.{defined}
@@ -57,7 +57,7 @@ key-Decides k l = (λ h. from (and_parts (bytes_eq k.name l.name) (pointwise sam
 pub key_equiv : IsEquivalence same_key
 key_equiv = decided same_key key-Decides
 
--- ---- entries by a key
+-- ---- entries with a key
 
 module _ {K X : Type 0} (eq : K → K → Bool) where
   -- an entry that is there stays
@@ -69,7 +69,7 @@ module _ {K X : Type 0} (eq : K → K → Bool) where
       by true h known = refl
       by false h known = ap (λ xs. e ∷ xs) (known h)
 
-  -- another one comes last
+  -- another entry comes last
   entry_last : (es : List (K × X)) (k : K) (v : X) → list_any (λ e. eq k e.0) es ≡ false → insert_entry eq es k (unwrap_or (lookup (eq k) es) v) ≡ es ++ (k, v) ∷ []
   entry_last [] k v h = refl
   entry_last (e ∷ es) k v h = by (eq k e.0) h (entry_last es k v)
@@ -79,7 +79,7 @@ module _ {K X : Type 0} (eq : K → K → Bool) where
       by false h known = ap (λ xs. e ∷ xs) (known h)
 
 module _ {K X : Type 0} (test : K → Bool) where
-  -- what is found behind one entry more
+  -- what is found after one more entry
   pub lookup_last : (es : List (K × X)) (e : K × X) → lookup test (es ++ e ∷ []) ≡ option_or (lookup test es) (cond (test e.0) (Some e.1) None)
   lookup_last [] e = refl
   lookup_last (x ∷ es) e = by (test x.0) (lookup_last es e)
@@ -104,17 +104,17 @@ module _ {K X : Type 0} (test : K → Bool) where
       by true h known = absurd (true≢false h)
       by false h known = known h
 
--- ---- one build more
+-- ---- one more build
 
--- what is kept isn't kept again
+-- a kept build isn't kept again
 pub keep_there : (kept : Kept) (k : Key) (b : BuiltModule) → is_kept kept k ≡ true → keep_build kept k b ≡ kept
 keep_there kept k b h = entry_there same_key kept k b h
 
--- what isn't kept is kept last
+-- a build that isn't kept is kept last
 pub keep_last : (kept : Kept) (k : Key) (b : BuiltModule) → is_kept kept k ≡ false → keep_build kept k b ≡ kept ++ (k, b) ∷ []
 keep_last kept k b h = entry_last same_key kept k b h
 
--- nothing that is kept is lost
+-- no kept build is lost
 pub keep_all : (kept : Kept) (k : Key) (b : BuiltModule) → KeepsAll kept (keep_build kept k b)
 keep_all kept k b = by (is_kept kept k) refl
   where
@@ -131,7 +131,7 @@ keeps_then {old} {mid} {new} g h = record { more = g.more ++ h.more; is = h.is �
 pub kept_stays : {old new : Kept} → KeepsAll old new → (k : Key) → is_kept old k ≡ true → is_kept new k ≡ true
 kept_stays {old} {new} g k h = ap (λ xs. is_kept xs k) g.is ∙ list_any-append (λ e. same_key k e.0) old g.more ∙ ap (λ b. b || is_kept g.more k) h
 
--- what was kept just now is kept
+-- a build that was just kept is kept
 pub kept_now : (kept : Kept) (k : Key) (b : BuiltModule) → is_kept (keep_build kept k b) k ≡ true
 kept_now kept k b = by (is_kept kept k) refl
   where
@@ -153,15 +153,15 @@ keep_named_all : (o : Option Key) (b : BuiltModule) (kept : Kept) → KeepsAll k
 keep_named_all None b kept = keeps_none kept
 keep_named_all (Some k) b kept = keep_all kept k b
 
-module _ (ds : List Definition) (defs : Defs) where
-  -- nothing that is kept is lost
+module _ (ds : List Registered) (defs : Defs) where
+  -- no kept build is lost
   pub keep_builds_more : (kept : Kept) (builds : Builds) → KeepsAll kept (keep_builds ds defs kept builds)
   keep_builds_more kept [] = keeps_none kept
   keep_builds_more kept (e ∷ es) =
       let mid = keep_named (key_named ds defs e.0) e.1 kept in
       keeps_then (keep_named_all (key_named ds defs e.0) e.1 kept) (keep_builds_more mid es)
 
-  -- builds in two parts are kept one after the other
+  -- builds in two rows are kept one row after the other
   pub keep_builds-append : (kept : Kept) (some more : Builds) → keep_builds ds defs kept (some ++ more) ≡ keep_builds ds defs (keep_builds ds defs kept some) more
   keep_builds-append kept some more = fold-append (λ kept e. keep_named (key_named ds defs e.0) e.1 kept) kept some more
 
@@ -175,7 +175,7 @@ module _ (ds : List Definition) (defs : Defs) where
 
 -- ---- projections
 
-module _ (m : Definition) (name : List ℕ) (there : is_among m.effective name ≡ true) where
+module _ (m : Registered) (name : List ℕ) (there : is_among m.effective name ≡ true) where
   abbrev at : List ℕ → Bool
   at = is_at (slice_cmp nat_cmp name)
 
@@ -191,11 +191,11 @@ module _ (m : Definition) (name : List ℕ) (there : is_among m.effective name �
   projected_alike [] = refl
   projected_alike (e ∷ es) = kept_or_other e (project m es) es (is_among m.effective e.0) (at e.0) refl refl (projected_alike es)
 
--- definitions and their projection have one projection
-pub projection_one : (m : Definition) (defs : Defs) → HaveOneProjection m (project m defs) defs
+-- definitions and their projection have the same projection
+pub projection_one : (m : Registered) (defs : Defs) → HaveOneProjection m (project m defs) defs
 projection_one m defs name there = projected_alike m name there defs
 
-pub one_projection : (m : Definition) (d e : Defs) → project m d ≡ project m e → HaveOneProjection m d e
+pub one_projection : (m : Registered) (d e : Defs) → project m d ≡ project m e → HaveOneProjection m d e
 one_projection m d e same name there = sym (projected_alike m name there d) ∙ ap (λ (ds : Defs). defined ds name) same ∙ projected_alike m name there e
 
 filter_within : {X : Type 0} (p q : X → Bool) → ((x : X) → p x ≡ true → q x ≡ true) → (xs : List X) → filter p (filter q xs) ≡ filter p xs
@@ -207,9 +207,9 @@ filter_within p q h (x ∷ xs) = by (q x) (p x) refl (h x) (filter_within p q h 
     by false true e k known = absurd (true≢false (sym (k e)))
     by false false e k known = known
 
--- a projection on fewer names is that of a projection on more
-pub project_within : (o d : Definition) (defs : Defs) → ((n : List ℕ) → is_among o.effective n ≡ true → is_among d.effective n ≡ true) → project o (project d defs) ≡ project o defs
+-- a projection on fewer names is the projection of one on more names
+pub project_within : (o d : Registered) (defs : Defs) → ((n : List ℕ) → is_among o.effective n ≡ true → is_among d.effective n ≡ true) → project o (project d defs) ≡ project o defs
 project_within o d defs h = filter_within (λ e. is_among o.effective e.0) (λ e. is_among d.effective e.0) (λ e q. h e.0 q) defs
 
-pub project_twice : (d : Definition) (defs : Defs) → project d (project d defs) ≡ project d defs
+pub project_twice : (d : Registered) (defs : Defs) → project d (project d defs) ≡ project d defs
 project_twice d defs = project_within d d defs (λ n q. q)

@@ -1,4 +1,4 @@
--- That what is kept is what building it afresh gives.
+-- Law: each kept build is what building its module afresh gives.
 use Rattle.std.proofs.Common.{◌≡◌, ℕ, suc, List, [], ◌∷◌, ◌++◌, drop, Bool, true, false, ◌||◌, cond, refl, sym, ap, subst, ◌∙◌, Option, Some, None, option_map, slice_index_or, Ok}
 use Rattle.std.proofs.lemmas.Bool.{true≢false}
 use Rattle.std.proofs.lemmas.List.{map-append}
@@ -9,7 +9,7 @@ use Rattle.std.specs.Map.{keys_of}
 use Rattle.std.specs.Option.{IsSomeAnd, option_or}
 use Rattle.std.specs.Str.{bytes_eq}
 use Rattle.naga_oil_pre.specs.Preprocessed.{Output}
-use Rattle.naga_oil_registry.specs.Definition.{Definition, Defs}
+use Rattle.naga_oil_registry.specs.Registered.{Registered, Defs}
 use Rattle.naga_oil_registry.specs.Registry.{IsRegistry}
 use Rattle.naga_oil_registry.proofs.RegistryLemmas.{bytes_same, list_any_map}
 use Rattle.naga_oil_link.specs.BuiltModule.{BuiltModule, Builds}
@@ -29,13 +29,13 @@ use Rattle.naga_oil.proofs.ReachLemmas.{bind_ok, module_over}
 use Rattle.naga_oil.proofs.StoreKeyLemmas.{key-Decides, key_equiv, lookup_last, lookup_absent, keep_there, keep_last, keep_all, kept_stays, kept_now, projection_one, project_within, project_twice}
 use Rattle.naga_oil.proofs.StoreReachLemmas.{StandsAt, stands_at, place_of, imports_module, behind_it, uses_behind, IsBuiltFrom, built_from, imports_may, imports_reached}
 
--- ---- what is kept stays kept
+-- ---- kept builds stay kept
 
 under_more : (old new : Kept) → KeepsAll old new → (o : Option Key) → IsSomeAnd o (λ k. is_kept old k ≡ true) → IsSomeAnd o (λ k. is_kept new k ≡ true)
 under_more old new g None h = h
 under_more old new g (Some k) h = kept_stays g k h
 
-module _ (s : Settings) (ds : List Definition) where
+module _ (s : Settings) (ds : List Registered) where
   pub under_stays : (old new : Kept) → KeepsAll old new → (defs : Defs) (name : List ℕ) → IsKeptUnder s ds old defs name → IsKeptUnder s ds new defs name
   under_stays old new g defs name h = under_more old new g (key_named ds defs name) h
 
@@ -47,7 +47,7 @@ module _ (s : Settings) (ds : List Definition) where
   unfolding IsDistinct
   store_nothing = record { differ = tt; each = λ k b h. absurd cc }
 
-  -- what stands stays, where more is kept
+  -- a build still stands when more builds are kept
   pub stands_more : {defs : Defs} {builds : Builds} {old new : Kept} → Stands s ds defs builds old → IsStore s ds new → KeepsAll old new → Stands s ds defs builds new
   stands_more {defs} {builds} {old} {new} st store g = record { built = st.built; store = store; each = λ name h. under_stays old new g defs name (st.each name h) }
 
@@ -55,16 +55,16 @@ module _ (s : Settings) (ds : List Definition) where
   pub stands_nothing : (defs : Defs) (kept : Kept) → IsRegistry ds → IsStore s ds kept → Stands s ds defs [] kept
   stands_nothing defs kept all store = record { built = (afresh_law s ds defs all).nothing; store = store; each = λ name h. absurd (true≢false (sym h)) }
 
--- ---- a build over builds that stand as they are built afresh
+-- ---- a build over builds that are as built afresh
 
-module _ (s : Settings) (ds : List Definition) (defs : Defs) (all : IsRegistry ds) (d : Definition) (behind : List Definition) (at : StandsAt ds d behind) where
+module _ (s : Settings) (ds : List Registered) (defs : Defs) (all : IsRegistry ds) (d : Registered) (behind : List Registered) (at : StandsAt ds d behind) where
   abbrev pub key_here : Key
   key_here = key_under d defs
 
   abbrev reaching : Reaching
   reaching = behind_it s ds defs d behind at
 
-  -- under the projection it is built alike
+  -- the module is built alike under the projection
   same_afresh : afresh s ds (project d defs) d.name ≡ afresh s ds defs d.name
   same_afresh = projection s ds d.name d (project d defs) defs [] all at.named (projection_one d defs)
 
@@ -72,7 +72,7 @@ module _ (s : Settings) (ds : List Definition) (defs : Defs) (all : IsRegistry d
   pub kept_from : (kept : Kept) (b : BuiltModule) → IsKeptAfresh s ds kept key_here b → IsBuiltFrom s ds defs d behind at b
   kept_from kept b h = built_from s ds defs d behind at b (ap (λ o. o.result) (sym same_afresh) ∙ h.reached) (ap (λ o. build_named o.builds d.name) (sym same_afresh) ∙ h.built)
 
-  -- what is used is reached as it is in the whole registry
+  -- the uses are reached as in the whole registry
   pub reached_so : (out : Output) (bs : Builds) → AllStandAfresh s ds defs bs → AreReachedAfresh s ds defs (as_recorded d) out.uses bs (reach_each (as_recorded d) reaching out.uses bs)
   reached_so out bs st = subst (AreReachedAfresh s ds defs (as_recorded d) out.uses bs) (sym (uses_behind s ds defs d behind at out.uses bs)) ((afresh_law s ds defs all).each (as_recorded d) out.uses bs st)
 
@@ -95,11 +95,11 @@ module _ (s : Settings) (ds : List Definition) (defs : Defs) (all : IsRegistry d
     built_over : build s d k.out over.builds ≡ Ok b
     built_over = build_alike s d k.out over.builds k.mid (reached_so k.out bs st).stand.differ from_none.stand.differ alike ∙ k.built
 
-    -- the module is reached so
+    -- the module is reached by its kept build
     pub module_so : reach_module s defs d reaching bs ≡ record { builds = builds_with over.builds d.name b; result = Ok tt }
     module_so = module_over s defs d reaching bs k.out (ap (λ r. preprocess_module defs d r bs) k.read) over.builds over_is ∙ ap (λ r. enter_build d.name r over.builds) built_over
 
-    -- and so are its imports, and it is entered
+    -- its imports are reached, and the build is entered
     pub kept_so : reach_kept reaching d.name b bs ≡ record { builds = builds_with over.builds d.name b; result = Ok tt }
     kept_so = bind_ok (reach_imports reaching b.imports) (λ done. enter_build d.name (Ok b)) bs over.builds tt (imports_reached s ds defs d behind at b k bs ∙ over_is)
 
@@ -109,16 +109,16 @@ kept_law s ds defs place d b builds kept all at st found =
     let k = kept_from s ds defs all d (drop (suc place) ds) here kept b (st.store.each (key_under d defs) b found) in
     module_so s ds defs all d (drop (suc place) ds) here b k builds st.built ∙ sym (kept_so s ds defs all d (drop (suc place) ds) here b k builds st.built)
 
--- ---- one build more
+-- ---- one more build
 
-module _ (s : Settings) (ds : List Definition) (defs : Defs) (all : IsRegistry ds) (d : Definition) (behind : List Definition) (at : StandsAt ds d behind) where
-  -- the key of what it imports
+module _ (s : Settings) (ds : List Registered) (defs : Defs) (all : IsRegistry ds) (d : Registered) (behind : List Registered) (at : StandsAt ds d behind) where
+  -- the key of an import
   import_key : (x : List ℕ) → imports_name d x ≡ true → key_named ds (project d defs) x ≡ key_named ds defs x
   import_key x may =
       let o = imports_module ds d behind at x may in
       ap (option_map (λ e. key_under e (project d defs))) o.1 ∙ (λ i. Some (record { name = o.0.name; defs = project_within o.0 d defs o.2 i })) ∙ ap (option_map (λ e. key_under e defs)) (sym o.1)
 
-  -- its own
+  -- the key of the module
   own_key : key_named ds (project d defs) d.name ≡ Some (key_under d defs)
   own_key = ap (option_map (λ e. key_under e (project d defs))) at.named ∙ (λ i. Some (record { name = d.name; defs = project_twice d defs i }))
 
@@ -143,7 +143,7 @@ module _ (s : Settings) (ds : List Definition) (defs : Defs) (all : IsRegistry d
     kept_before : is_built mid d.name ≡ true → is_kept kept key ≡ true
     kept_before q = subst (λ o. IsSomeAnd o (λ k. is_kept kept k ≡ true)) key_is (st.each d.name q)
 
-    -- what is built now was built before, or is this module
+    -- a name that is built now was built before, or is the module's
     which : (n : List ℕ) → is_built (builds_with mid d.name b) n ≡ true → is_built mid n ≡ false → bytes_eq n d.name ≡ true
     which n h none = by (is_built mid d.name) refl
       where

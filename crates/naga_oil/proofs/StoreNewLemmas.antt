@@ -1,4 +1,4 @@
--- What a make newly keeps.
+-- The builds that a make newly keeps.
 use Rattle.std.proofs.Common.{◌≡◌, ℕ, List, [], ◌∷◌, ◌++◌, Bool, true, false, not, ◌||◌, cond, refl, sym, ap, subst, ◌∙◌, Option, Some, None, option_map, append_assoc, append-nil}
 use Rattle.std.proofs.lemmas.Bool.{true≢false, false_from_ne_true}
 use Rattle.std.proofs.lemmas.List.Folds.{list_any-append}
@@ -8,7 +8,7 @@ use Rattle.std.proofs.lemmas.Slice.Eq.{bytes_eq-Decides}
 use Rattle.std.specs.Map.{keys_of}
 use Rattle.std.specs.Option.{IsSomeAnd}
 use Rattle.std.specs.Str.{bytes_eq}
-use Rattle.naga_oil_registry.specs.Definition.{Definition, Defs}
+use Rattle.naga_oil_registry.specs.Registered.{Registered, Defs}
 use Rattle.naga_oil_link.specs.BuiltModule.{BuiltModule, Builds}
 use Rattle.naga_oil.specs.LocalLaw.{BuildsDiffer}
 use Rattle.naga_oil.specs.NewlyKeptLaw.{with_keys, not_in, NewlyKeptLaw}
@@ -18,7 +18,7 @@ use Rattle.naga_oil.proofs.ReachLawLemmas.{or_true}
 use Rattle.naga_oil.proofs.StoreKeyLemmas.{key-Decides, keep_there, keep_last, keep_named_kept}
 use Rattle.naga_oil.proofs.StoreReachLemmas.{key_name}
 
--- one build more is kept, and what isn't it is kept as before
+-- one build more is kept, and other builds are kept as before
 not_other : (kept : Kept) (k : Key) (b : BuiltModule) (more : Kept) → AllByRecursion (λ e. same_key e.0 k ≡ false) more → not_in (kept ++ (k, b) ∷ []) more ≡ not_in kept more
 not_other kept k b [] others = refl
 not_other kept k b (e ∷ es) others = λ i. cond (not (as_before i)) (e ∷ not_other kept k b es others.1 i) (not_other kept k b es others.1 i)
@@ -30,8 +30,8 @@ not_other kept k b (e ∷ es) others = λ i. cond (not (as_before i)) (e ∷ not
     as_before : is_kept (kept ++ (k, b) ∷ []) e.0 ≡ is_kept kept e.0
     as_before = list_any-append (λ (x : Key × BuiltModule). same_key e.0 x.0) kept ((k, b) ∷ []) ∙ or_none (is_kept kept e.0) (same_key e.0 k) others.0
 
-module _ (ds : List Definition) (defs : Defs) where
-  -- names that differ have keys that differ
+module _ (ds : List Registered) (defs : Defs) where
+  -- different names have different keys
   keys_apart : (k : Key) (builds : Builds) → AllByRecursion (λ n. bytes_eq k.name n ≡ false) (keys_of builds) → AllByRecursion (λ e. same_key e.0 k ≡ false) (with_keys ds defs builds)
   keys_apart k [] others = tt
   keys_apart k (e ∷ es) others = by (key_named ds defs e.0) refl (keys_apart k es others.1)
@@ -66,7 +66,7 @@ pub newly_kept_law : NewlyKeptLaw
 newly_kept_law ds defs kept builds differ = newly_kept ds defs kept builds differ
 
 -- builds that are all kept add nothing
-pub keep_builds_kept : (ds : List Definition) (defs : Defs) (kept : Kept) (builds : Builds) → ((name : List ℕ) → is_built builds name ≡ true → IsSomeAnd (key_named ds defs name) (λ k. is_kept kept k ≡ true)) → keep_builds ds defs kept builds ≡ kept
+pub keep_builds_kept : (ds : List Registered) (defs : Defs) (kept : Kept) (builds : Builds) → ((name : List ℕ) → is_built builds name ≡ true → IsSomeAnd (key_named ds defs name) (λ k. is_kept kept k ≡ true)) → keep_builds ds defs kept builds ≡ kept
 keep_builds_kept ds defs kept [] all = refl
 keep_builds_kept ds defs kept (e ∷ es) all =
     ap (λ now. keep_builds ds defs now es) (keep_named_kept ds defs kept e.0 e.1 (all e.0 (ap (λ b. b || is_built es e.0) ((bytes_eq-Decides e.0 e.0).1 refl))))

@@ -1,4 +1,4 @@
--- Where a module stands in a registry, and how it was built that was reached.
+-- The place of a module in a registry, and how a reached module was built.
 use Rattle.std.proofs.Common.{◌≡◌, ℕ, zero, suc, List, [], ◌∷◌, ◌++◌, map, drop, Bool, true, false, ◌||◌, cond, refl, sym, ap, subst, ◌∙◌, Option, Some, None, is_some, option_map, Result, Ok, Err}
 use Rattle.std.proofs.lemmas.Bool.{true≢false, false_from_ne_true}
 use Rattle.std.proofs.lemmas.List.Elements.{All-nil, All-cons, All-head, All-tail, All-map, All-same, All-weaker}
@@ -7,11 +7,11 @@ use Rattle.std.proofs.lemmas.Slice.Eq.{bytes_eq-Decides}
 use Rattle.std.specs.List.{All, list_any, position_or_len, slice_get}
 use Rattle.std.specs.Option.{option_or}
 use Rattle.std.specs.Str.{bytes_eq}
-use Rattle.naga_oil_lines.specs.Text.{is_among}
+use Rattle.naga_oil_words.specs.Texts.{is_among}
 use Rattle.naga_oil_imports.specs.Uses.{Import, Use}
 use Rattle.naga_oil_conditions.specs.Fault.{Fault}
 use Rattle.naga_oil_pre.specs.Preprocessed.{Output}
-use Rattle.naga_oil_registry.specs.Definition.{Definition, Defs}
+use Rattle.naga_oil_registry.specs.Registered.{Registered, Defs}
 use Rattle.naga_oil_registry.specs.Registry.{registered, module_named, reaches, MayFollow, IsRegistry}
 use Rattle.naga_oil_registry.proofs.AddedLemmas.{named-registered}
 use Rattle.naga_oil_registry.proofs.RegistryLemmas.{bytes_same}
@@ -31,10 +31,10 @@ use Rattle.naga_oil.proofs.ReachLawLemmas.{bind_alike, each_alike, built_alike, 
 use Rattle.naga_oil.proofs.ReachLemmas.{each_refused, each_ended, each_more, module_unread, module_ended, module_over}
 use Rattle.naga_oil.proofs.StoreKeyLemmas.{lookup_last, lookup_absent}
 
--- ---- where a module stands
+-- ---- the place of a module
 
--- a module of a registry, with what stands behind it
-pub record StandsAt (ds : List Definition) (d : Definition) (behind : List Definition) : Type 0 where
+-- a module of a registry, with the rest of the registry after it
+pub record StandsAt (ds : List Registered) (d : Registered) (behind : List Registered) : Type 0 where
   pub follows : MayFollow d behind
   pub rest : IsRegistry behind
   pub named : module_named d.name ds ≡ Some d
@@ -46,14 +46,14 @@ pub record StandsAt (ds : List Definition) (d : Definition) (behind : List Defin
 itself : (xs : List ℕ) → bytes_eq xs xs ≡ true
 itself xs = (bytes_eq-Decides xs xs).1 refl
 
--- a name that is registered behind a module is another one
-apart : (e : Definition) (es : List Definition) → registered e.name es ≡ false → (x : List ℕ) → registered x es ≡ true → bytes_eq e.name x ≡ false
+-- a name that is registered after a module in the list is another one
+apart : (e : Registered) (es : List Registered) → registered e.name es ≡ false → (x : List ℕ) → registered x es ≡ true → bytes_eq e.name x ≡ false
 apart e es fresh x r = false_from_ne_true (bytes_eq e.name x) (λ q. true≢false (sym r ∙ ap (λ n. registered n es) (sym (bytes_same e.name x q)) ∙ fresh))
 
-pub registered_named : (x : List ℕ) (ds : List Definition) (d : Definition) → module_named x ds ≡ Some d → registered x ds ≡ true
+pub registered_named : (x : List ℕ) (ds : List Registered) (d : Registered) → module_named x ds ≡ Some d → registered x ds ≡ true
 registered_named x ds d h = sym (named-registered x ds) ∙ ap is_some h
 
-here : (e : Definition) (es : List Definition) → MayFollow e es → IsRegistry es → StandsAt (e ∷ es) e es
+here : (e : Registered) (es : List Registered) → MayFollow e es → IsRegistry es → StandsAt (e ∷ es) e es
 here e es follows all = record {
   follows = follows;
   rest = all;
@@ -64,8 +64,8 @@ here e es follows all = record {
   reaches = λ x. reaches-first e es e.name x (itself e.name);
 }
 
--- one module more before it
-there : (e : Definition) (es : List Definition) (d : Definition) (behind : List Definition) → registered e.name es ≡ false → StandsAt es d behind → StandsAt (e ∷ es) d behind
+-- one more module before it
+there : (e : Registered) (es : List Registered) (d : Registered) (behind : List Registered) → registered e.name es ≡ false → StandsAt es d behind → StandsAt (e ∷ es) d behind
 there e es d behind fresh k = record {
   follows = k.follows;
   rest = k.rest;
@@ -82,54 +82,54 @@ there e es d behind fresh k = record {
     other : (x : List ℕ) → registered x behind ≡ true → bytes_eq e.name x ≡ false
     other x r = apart e es fresh x (sym (named-registered x es) ∙ ap is_some (k.found x r) ∙ named-registered x behind ∙ r)
 
-pub stands_at : (ds : List Definition) (place : ℕ) (d : Definition) → IsRegistry ds → slice_get ds place ≡ Some d → StandsAt ds d (drop (suc place) ds)
+pub stands_at : (ds : List Registered) (place : ℕ) (d : Registered) → IsRegistry ds → slice_get ds place ≡ Some d → StandsAt ds d (drop (suc place) ds)
 stands_at [] place d all at = absurd cc
-stands_at (e ∷ es) zero d all at = subst (λ (x : Definition). StandsAt (e ∷ es) x es) same (here e es all.0 all.1)
+stands_at (e ∷ es) zero d all at = subst (λ (x : Registered). StandsAt (e ∷ es) x es) same (here e es all.0 all.1)
   where
     same : e ≡ d
     same = cc
 stands_at (e ∷ es) (suc place) d all at = there e es d (drop (suc place) es) all.0.name (stands_at es place d all.1 at)
 
--- the module of a name has it
-pub name_found : (x : List ℕ) (ds : List Definition) (d : Definition) → module_named x ds ≡ Some d → d.name ≡ x
+-- the module with a name has that name
+pub name_found : (x : List ℕ) (ds : List Registered) (d : Registered) → module_named x ds ≡ Some d → d.name ≡ x
 name_found x [] d h = absurd cc
 name_found x (e ∷ es) d h = by (bytes_eq e.name x) refl h (name_found x es d)
   where
     by : (b : Bool) → bytes_eq e.name x ≡ b → cond b (Some e) (module_named x es) ≡ Some d → (module_named x es ≡ Some d → d.name ≡ x) → d.name ≡ x
-    by true q h known = let same : e ≡ d = cc in ap (λ (y : Definition). y.name) (sym same) ∙ bytes_same e.name x q
+    by true q h known = let same : e ≡ d = cc in ap (λ (y : Registered). y.name) (sym same) ∙ bytes_same e.name x q
     by false q h known = known h
 
 -- so has its key
-pub key_name : (ds : List Definition) (x : List ℕ) (defs : Defs) (k : Key) → key_named ds defs x ≡ Some k → k.name ≡ x
+pub key_name : (ds : List Registered) (x : List ℕ) (defs : Defs) (k : Key) → key_named ds defs x ≡ Some k → k.name ≡ x
 key_name ds x defs k h = by (module_named x ds) refl h
   where
-    by : (o : Option Definition) → module_named x ds ≡ o → option_map (λ d. key_under d defs) o ≡ Some k → k.name ≡ x
+    by : (o : Option Registered) → module_named x ds ≡ o → option_map (λ d. key_under d defs) o ≡ Some k → k.name ≡ x
     by None e h = absurd cc
     by (Some d) e h = let same : key_under d defs ≡ k = cc in ap (λ (l : Key). l.name) (sym same) ∙ name_found x ds d e
 
--- where the module of a name stands
-pub place_of : (ds : List Definition) (x : List ℕ) (d : Definition) → IsRegistry ds → module_named x ds ≡ Some d → (behind : List Definition) × StandsAt ds d behind
+-- the place of the module with a name
+pub place_of : (ds : List Registered) (x : List ℕ) (d : Registered) → IsRegistry ds → module_named x ds ≡ Some d → (behind : List Registered) × StandsAt ds d behind
 place_of ds x d all h =
     let place = position_or_len (λ e. bytes_eq e.name x) ds in
     (drop (suc place) ds, stands_at ds place d all (sym (find_at (λ e. bytes_eq e.name x) ds) ∙ h))
 
-module _ (ds : List Definition) (d : Definition) (behind : List Definition) (at : StandsAt ds d behind) (x : List ℕ) (may : imports_name d x ≡ true) where
+module _ (ds : List Registered) (d : Registered) (behind : List Registered) (at : StandsAt ds d behind) (x : List ℕ) (may : imports_name d x ≡ true) where
   registered_behind : registered x behind ≡ true
   registered_behind = imported_registered d behind at.follows x may
 
-  -- what it imports is registered, and its effective names are the module's too
-  pub imports_module : (o : Definition) × (module_named x ds ≡ Some o) × ((n : List ℕ) → is_among o.effective n ≡ true → is_among d.effective n ≡ true)
+  -- an imported module is registered, and its effective names are effective names of the importing module
+  pub imports_module : (o : Registered) × (module_named x ds ≡ Some o) × ((n : List ℕ) → is_among o.effective n ≡ true → is_among d.effective n ≡ true)
   imports_module =
       let o = named x behind registered_behind in
       (o.0, at.found x registered_behind ∙ o.1, imported_effective d behind at.follows x may o.0 o.1)
 
-  -- it reaches what it imports
+  -- a module reaches the modules that it imports
   pub reaches_import : reaches ds d.name x ≡ true
   reaches_import = at.reaches x ∙ ap (λ b. bytes_eq d.name x || b) (of_one (λ y. reaches behind y x) d.imports x may (reaches-itself behind x registered_behind)) ∙ or_true (bytes_eq d.name x)
 
--- ---- what was reached
+-- ---- reached modules
 
--- what was reached in turn was allowed
+-- modules that were reached one after the other were allowed
 pub all_allowed : (rule : Rule) (f : Reaching) (us : List Use) (bs : Builds) → (reach_each rule f us bs).result ≡ Ok tt → All (λ u. rule u ≡ None) us
 all_allowed rule f [] bs h = All-nil (λ (u : Use). rule u ≡ None)
 all_allowed rule f (u ∷ us) bs h = by (rule u) refl (f u.import.import bs).result refl (λ cs k. all_allowed rule f us cs k)
@@ -150,7 +150,7 @@ all_allowed rule f (u ∷ us) bs h = by (rule u) refl (f u.import.import bs).res
         let not : ◌≡◌ {A = Result (Unit {0}) Unreached} (Err w) (Ok tt) = ap (λ o. o.result) (sym ended) ∙ h in absurd cc
     by None e (Ok x) q known = go e q known
 
--- imports that are allowed are reached as the uses are
+-- allowed imports are reached as the uses are
 pub imports_as_uses : (rule : Rule) (f : Reaching) (us : List Use) → All (λ u. rule u ≡ None) us → (bs : Builds) → reach_imports f (map (λ u. u.import) us) bs ≡ reach_each rule f us bs
 unfolding reach_each reach_imports
 imports_as_uses rule f [] all bs = refl
@@ -159,12 +159,12 @@ imports_as_uses rule f (u ∷ us) all bs =
     (ap (λ o. unless_refused o (f u.import.import) bs) (sym (All-head (λ (v : Use). rule v ≡ None) u us all)))
     (λ done cs. imports_as_uses rule f us (All-tail (λ (v : Use). rule v ≡ None) u us all) cs)
 
-module _ (s : Settings) (ds : List Definition) (defs : Defs) (d : Definition) (behind : List Definition) (at : StandsAt ds d behind) where
-  -- how what stands behind it is reached
+module _ (s : Settings) (ds : List Registered) (defs : Defs) (d : Registered) (behind : List Registered) (at : StandsAt ds d behind) where
+  -- how the modules after it are reached
   abbrev pub behind_it : Reaching
   behind_it = unless_built (reach s defs behind)
 
-  -- what it may use is reached in the whole registry alike
+  -- a module that it may use is reached alike in the whole registry
   pub uses_behind : (us : List Use) (bs : Builds) → reach_each (as_recorded d) behind_it us bs ≡ reach_each (as_recorded d) (unless_built (reach s defs ds)) us bs
   uses_behind us bs = each_alike (as_recorded d) behind_it (unless_built (reach s defs ds)) alike us bs
     where
@@ -183,11 +183,11 @@ module _ (s : Settings) (ds : List Definition) (defs : Defs) (d : Definition) (b
   pub imports_are : (b : BuiltModule) (k : IsBuiltFrom b) → b.imports ≡ map (λ u. u.import) k.out.uses
   imports_are b k = build_imports s d k.out k.mid b k.built
 
-  -- it imports what the module may import
+  -- the build imports what the module may import
   pub imports_may : (b : BuiltModule) → IsBuiltFrom b → All (λ i. imports_name d i.import ≡ true) b.imports
   imports_may b k = All-same (λ (i : Import). imports_name d i.import ≡ true) b.imports (map (λ u. u.import) k.out.uses) (imports_are b k) (All-map (λ (i : Import). imports_name d i.import ≡ true) (λ (u : Use). u.import) k.out.uses (All-weaker (λ (u : Use). as_recorded d u ≡ None) (λ (u : Use). imports_name d u.import.import ≡ true) (λ u may. allowed d u may) k.out.uses k.may))
 
-  -- its imports are reached as what its text uses
+  -- the imports of a build are reached as the uses of its text
   pub imports_reached : (b : BuiltModule) (k : IsBuiltFrom b) (bs : Builds) → reach_imports behind_it b.imports bs ≡ reach_each (as_recorded d) behind_it k.out.uses bs
   imports_reached b k bs = ap (λ is. reach_imports behind_it is bs) (imports_are b k) ∙ imports_as_uses (as_recorded d) behind_it k.out.uses k.may bs
 
@@ -233,7 +233,7 @@ module _ (s : Settings) (ds : List Definition) (defs : Defs) (d : Definition) (b
       used_up (Err w) q = not_ended used_so.builds w (module_ended s defs d behind_it [] out begun used_so.builds w (outcome_is used_so (Err w) q))
       used_up (Ok x) q = entered q (build s d out used_so.builds) refl
 
-    -- a build that was reached from no builds was made so
+    -- a build reached from no builds was made in this way
     pub built_from : IsBuiltFrom b
     built_from = by (preprocessed_of (defined defs) d) refl
       where

@@ -1,4 +1,4 @@
--- What is told of a made module that isn't valid.
+-- What is reported of a made module that isn't valid.
 use Rattle.std.proofs.Common.{◌≡◌, List, ◌∷◌, map, find, Bool, true, false, Option, Some, None, MatchOption, Result, Ok, Err, IsErrAnd, refl, sym, subst, String, Global, string_bytes}
 use Rattle.std.specs.Arc.{arc_value}
 use Rattle.std.specs.declared.sync.Arc.{Arc}
@@ -23,7 +23,7 @@ find_later p x xs e = rw e refl
 
 -- ---- what a front end says
 
--- it has no memory
+-- the front end ran out of memory
 pub unvalidated : {Z W : Type 0} (view : Z → W) (place : Place) (valid : Result (Unit {0}) (BackendRefusal ValidFault)) (e : ComposerError) (result : Result Z ComposerError) (v : Result W Refused) → PlacesAs place (answered valid) (Err e) → IsErrAnd result (λ o. o ≡ e) → Answers view result v
 unvalidated view place valid e (Ok z) v h is = absurd is
 unvalidated view place (Ok x) e (Err o) v h is = absurd cc

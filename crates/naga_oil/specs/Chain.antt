@@ -1,12 +1,12 @@
--- Calls that are sent down the functions that override another, and the stages of a shader's entry points.
+-- Calls redirected along the functions that override one, and the stages of a shader's entry points.
 use Rattle.std.specs.Prelude.{ℕ, List, [], ◌∷◌, map, Result, Ok, Err}
 use Rattle.naga_oil_ir.specs.ModuleValue.{ModuleValue, EntryValue}
 use Rattle.naga_oil_redirect.specs.PutInOrder.{put_in_order}
 use Rattle.naga_oil_redirect.specs.Redirected.{matched, redirected}
 use Rattle.naga_oil_ir.specs.RedirectFault.{RedirectFault}
 use Rattle.naga_oil_conditions.specs.Fault.{Fault, redirection}
-use Rattle.naga_oil_lines.specs.Text.{is_among}
-use Rattle.naga_oil_registry.specs.Added.{◌>>=◌}
+use Rattle.naga_oil_words.specs.Texts.{is_among}
+use Rattle.naga_oil_words.specs.ResultSteps.{◌>>=◌}
 use Rattle.naga_oil_link.specs.BuiltModule.{Overriding}
 use Rattle.naga_oil_registry.specs.declared.descriptor.ShaderType.{ShaderType}
 use Rattle.naga_oil_registry.specs.declared.descriptor.ShaderType.TheVariants as shader
@@ -15,26 +15,26 @@ abbrev pub redirected_to : ModuleValue → (omitted : List (List ℕ)) → Resul
 redirected_to m omitted (Ok pair) = Ok (redirected m pair.0 pair.1 (is_among omitted))
 redirected_to m omitted (Err f) = Err (redirection f)
 
--- a module with the calls of a function sent to another, but for those in the other and in the omitted ones
+-- a module with the calls of original redirected to other, except those in other and in the omitted functions
 abbrev pub sent_to : ModuleValue → (original other : List ℕ) → (omitted : List (List ℕ)) → Result ModuleValue Fault
 sent_to m original other omitted = redirected_to m omitted (matched m.functions original other)
 
--- a module with the calls of a function sent to the first of others, those of the first to the second, and so on; calls in the omitted
--- ones and in the earlier ones stay
+-- a module with the calls of original redirected to the first of others, those of the first to the second, and so on; calls in the
+-- omitted functions and in earlier others stay
 unfoldable pub sent_down : ModuleValue → (original : List ℕ) → (others omitted : List (List ℕ)) → Result ModuleValue Fault
 sent_down m original [] omitted = Ok m
 sent_down m original (other ∷ more) omitted = sent_to m original other omitted >>= λ n. sent_down n other more (other ∷ omitted)
 
--- the same for each function that is overridden, in turn
+-- a module with the calls of each overridden function redirected along those that override it, one function after the other
 unfoldable pub all_sent_down : ModuleValue → Overriding → Result ModuleValue Fault
 all_sent_down m [] = Ok m
 all_sent_down m (o ∷ more) = sent_down m o.0 o.1 [] >>= λ n. all_sent_down n more
 
--- a module whose entry points are of this stage
+-- a module whose entry points have this stage
 abbrev pub staged : (stage : ℕ) → ModuleValue → ModuleValue
 staged stage m = record m { entry_points = map (λ (e : EntryValue). record e { stage = stage }) m.entry_points }
 
--- a module whose entry points are of the stage of the shader's type
+-- a module whose entry points have the stage of the shader's type
 abbrev pub with_stages : ShaderType → ModuleValue → ModuleValue
 with_stages shader.Wgsl m = m
 with_stages shader.GlslVertex m = staged 0 m
@@ -46,13 +46,13 @@ abbrev pub put_in_order_as : Result ModuleValue RedirectFault → Result ModuleV
 put_in_order_as (Ok m) = Ok m
 put_in_order_as (Err f) = Err (redirection f)
 
--- a module with its calls sent down what overrides functions, and its functions in order
+-- a module with the calls of overridden functions redirected, and its functions sorted
 unfoldable pub chain_all : Overriding → ModuleValue → Result ModuleValue Fault
 chain_all all m = do
   sent ← all_sent_down m all
   put_in_order_as (put_in_order sent)
 
--- the same where a function is overridden; else the module stays
+-- a module with calls redirected and functions sorted if any function is overridden; otherwise the module stays
 abbrev pub chain : Overriding → ModuleValue → Result ModuleValue Fault
 chain [] m = Ok m
 chain (o ∷ more) m = chain_all (o ∷ more) m

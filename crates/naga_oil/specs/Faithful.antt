@@ -1,4 +1,4 @@
--- What a made module is: functions, items and entry points of what front ends parsed.
+-- A made module is faithful: its functions, items and entry points are copies of those that the front end parsed.
 use mathlib.Core.Logic.{inl, inr}
 use Rattle.std.specs.Prelude.{ℕ, ◌≡◌, ◌*◌, ◌⊎◌, List, take, slice_get, Some, None, Ok}
 use Rattle.naga_oil_ir.specs.Backend.{FrontEnd}
@@ -12,18 +12,18 @@ use Rattle.naga_oil_derive.specs.Tree.{World}
 use Rattle.naga_oil_derive.specs.World.{world, shifted}
 use Rattle.naga_oil_pre.specs.Preprocessed.{Output}
 use Rattle.naga_oil_registry.specs.Added.{read_source}
-use Rattle.naga_oil_registry.specs.Definition.{Definition, Defs}
+use Rattle.naga_oil_registry.specs.Registered.{Registered, Defs}
 use Rattle.naga_oil_registry.specs.Descriptor.{ShaderSource}
-use Rattle.naga_oil_shape.specs.Shape.{HasModuleShape}
+use Rattle.naga_oil_form_laws.specs.Shape.{HasModuleShape}
 use Rattle.naga_oil_link.specs.BuiltModule.{BuiltModule, Builds}
 use Rattle.naga_oil_link.specs.Linked.{link_header}
 use Rattle.naga_oil_link.specs.Owned.{own_places, owned_module}
-use Rattle.naga_oil_faith.specs.Scope.{ReadAlike, scope_of}
-use Rattle.naga_oil_faith.specs.ByTree.{CopiesByTree}
-use Rattle.naga_oil_copies.specs.Headers.{HasNamed}
-use Rattle.naga_oil_copies.specs.HeldBuild.{DecoratesTypes}
-use Rattle.naga_oil_copies.specs.KeptAlike.{scope_alike}
-use Rattle.naga_oil_copies.specs.ReadIn.{HasKeysOf}
+use Rattle.naga_oil_copy_laws.specs.Scope.{ReadAlike, scope_of}
+use Rattle.naga_oil_copy_laws.specs.ByTree.{CopiesByTree}
+use Rattle.naga_oil_link_laws.specs.Headers.{HasNamed}
+use Rattle.naga_oil_link_laws.specs.HeldBuild.{DecoratesTypes}
+use Rattle.naga_oil_link_laws.specs.KeptAlike.{scope_alike}
+use Rattle.naga_oil_link_laws.specs.ReadIn.{HasKeysOf}
 use Rattle.naga_oil_build.specs.Built.{preprocessed_of}
 use Rattle.naga_oil_build.specs.Build.{WholeText, begin_build, write_whole, build}
 use Rattle.naga_oil_build.specs.Held.{Settings, parse_whole}
@@ -32,16 +32,17 @@ use Rattle.naga_oil.specs.CallsSent.{call_goes}
 use Rattle.naga_oil.specs.MakeDefs.{make_defs}
 use Rattle.naga_oil.specs.Reach.{defined}
 use Rattle.naga_oil.specs.Shader.{read_shader}
+use Rattle.naga_oil_ir.specs.Spans.{span_stride}
 
--- what a front end parses has the shape of modules
+-- each module that a front end parses has the shape of modules
 abbrev pub ParsesModules : FrontEnd → Type 0
 ParsesModules front = (in_language : ShaderLanguage) (text : List ℕ) (m : ModuleValue) →
     front.parse in_language text ≡ Ok m → HasModuleShape m
 
 -- ---- parses
 
--- b is what building a text under definitions over builds gives, and this is the parse of its whole text
-pub record IsBuiltOf (s : Settings) (defs : Defs) (d : Definition) (before : Builds) (b : BuiltModule) (parse : ModuleValue) : Type 0 where
+-- b is the build of a text under definitions over builds, and parse is the parse of its whole text
+pub record IsBuiltOf (s : Settings) (defs : Defs) (d : Registered) (before : Builds) (b : BuiltModule) (parse : ModuleValue) : Type 0 where
   pub output : Output
   pub preprocessed : preprocessed_of (defined defs) d ≡ Ok output
   pub built : build s d output before ≡ Ok b
@@ -49,29 +50,29 @@ pub record IsBuiltOf (s : Settings) (defs : Defs) (d : Definition) (before : Bui
   pub written : write_whole s d before output.text (begin_build before d output.uses) ≡ Ok whole
   pub parsed : parse_whole s.front d.language whole.text b.decoration ≡ Ok parse
 
--- one of some builds is that of a registered module, over those before it
-pub record IsBuiltModule (s : Settings) (ds : List Definition) (defs : Defs) (builds : Builds) (b : BuiltModule) (parse : ModuleValue) : Type 0 where
+-- b is one of these builds: that of a registered module, over the builds before it
+pub record IsBuiltModule (s : Settings) (ds : List Registered) (defs : Defs) (builds : Builds) (b : BuiltModule) (parse : ModuleValue) : Type 0 where
   pub place : ℕ
   pub registered : ℕ
-  pub definition : Definition
+  pub definition : Registered
   pub known : slice_get ds registered ≡ Some definition
   pub at : slice_get builds place ≡ Some (definition.name, b)
   pub is : IsBuiltOf s defs definition (take place builds) b parse
 
--- the parse of a build with what the build owns decorated, and entry points of a module as functions
+-- the parse of a build, with the items that the build owns decorated, and a module's entry points as functions
 abbrev pub owned_parse : BuiltModule → ModuleValue → ModuleValue
 owned_parse b parse = owned_module b.index b.decoration parse
 
 -- ---- copies
 
--- g, in made, copies f, over the handles of the parse of a build; own types may have their decorated names, special types read as
--- those of made of their keys, spans are those of all texts one behind another, and calls go to what stands for what they called
+-- g, in made, copies f, which is over the handles of the parse of a build. Own types may have their decorated names; special types read
+-- as those of made with the same keys; spans count over all texts, one after the other; and calls are mapped by sends.
 pub record CopiesParsed (b : BuiltModule) (parse : ModuleValue) (sends : Text → Text) (made : ModuleValue) (f g : FunctionValue) : Type 0 where
   pub reads : World
   pub decorated : DecoratesTypes (owned_parse b parse) (own_places parse) b.decoration reads
-  pub copies : CopiesByTree (shifted (b.index * 2097152)) sends (scope_alike reads (owned_parse b parse) made) f (scope_of made) g
+  pub copies : CopiesByTree (shifted (b.index * span_stride)) sends (scope_alike reads (owned_parse b parse) made) f (scope_of made) g
 
--- the function of y copies that of the entry point at i of a shader's parse, with its calls sent down
+-- the function of y copies that of the entry point at i of the shader's parse, with its calls redirected
 pub record EntryComes (shader : BuiltModule) (parse made : ModuleValue) (i : ℕ) (y : EntryValue) : Type 0 where
   pub entry : EntryValue
   pub at : slice_get (owned_parse shader parse).entry_points i ≡ Some entry
@@ -79,40 +80,40 @@ pub record EntryComes (shader : BuiltModule) (parse made : ModuleValue) (i : ℕ
 
 -- ---- the whole
 
-module _ (s : Settings) (ds : List Definition) (counter : ℕ) (m : ShaderSource) where
+module _ (s : Settings) (ds : List Registered) (counter : ℕ) (m : ShaderSource) where
   -- the builds of a make
   abbrev pub made_builds : Builds
   made_builds = (answer s ds counter m).builds
 
-  -- b is the build of its shader over these, with its parse
+  -- b is the build of the shader over these, and parse is its parse
   pub record IsBuiltShader (b : BuiltModule) (parse : ModuleValue) : Type 0 where
     pub read : List ℕ × ℕ
     pub source : read_source counter m.source ≡ Ok read
-    pub definition : Definition
+    pub definition : Registered
     pub described : read_shader m read.0 ≡ Ok definition
     pub is : IsBuiltOf s (make_defs ds counter m) definition made_builds b parse
 
-  -- b is the build of a module that was reached, or of the shader, with its parse
+  -- b is the build of a reached module or of the shader, and parse is its parse
   abbrev pub IsBuilt : BuiltModule → ModuleValue → Type 0
   IsBuilt b parse = IsBuiltModule s ds (make_defs ds counter m) made_builds b parse ⊎ IsBuiltShader b parse
 
-  -- the builds that stood before it
+  -- the builds before b
   abbrev pub builds_before : (b : BuiltModule) (parse : ModuleValue) → IsBuilt b parse → Builds
   builds_before b parse (inl reached) = take reached.place made_builds
   builds_before b parse (inr shader) = made_builds
 
-  -- the parse of a module that was reached, or of the shader
+  -- a parse of a reached module or of the shader
   pub record ParseOf : Type 0 where
     pub b : BuiltModule
     pub parse : ModuleValue
     pub is : IsBuilt b parse
 
-  -- the header that stood before the source in the text that was parsed: it declares what the source imports
+  -- the header before the source in the parsed text: it declares what the source imports
   abbrev pub header_of : ParseOf → ModuleValue
   header_of of = link_header (builds_before of.b of.parse of.is) of.b.imports
 
-  -- g copies a function of a parse, with its calls sent down: none of those that the header declares, whose bodies stand elsewhere;
-  -- each special type of the parse has one of its key in made
+  -- g copies a function of a parse, with its calls redirected. It is none that the header declares: the body of such a function is in
+  -- another parse. Each special type of the parse has one with its key in made.
   pub record FunctionComes (shader : BuiltModule) (made : ModuleValue) (g : FunctionValue) : Type 0 where
     pub of : ParseOf
     pub special : HasKeysOf (owned_parse of.b of.parse) made
@@ -122,7 +123,7 @@ module _ (s : Settings) (ds : List Definition) (counter : ℕ) (m : ShaderSource
     pub undeclared : HasNamed (header_of of) function.0.name → ⊥
     pub copies : CopiesParsed of.b of.parse (call_goes shader.overriding function.0.name) made function.0 g
 
-  -- the item at q reads as one of a parse
+  -- the item at q of made reads as an item of a parse
   pub record ItemComes (made : ModuleValue) (q : ItemPlace) : Type 0 where
     pub of : ParseOf
     pub reads : World
@@ -131,8 +132,8 @@ module _ (s : Settings) (ds : List Definition) (counter : ℕ) (m : ShaderSource
     pub stands : HasAt (owned_parse of.b of.parse) place
     pub alike : ReadAlike (scope_alike reads (owned_parse of.b of.parse) made) (scope_of made) place q
 
-  -- all that a made module says is of the parses of what was reached, or of the shader's, each special type of which has one of its
-  -- key there
+  -- Each function, item and entry point of a made module is a copy of one that was parsed of a reached module or of the shader, and each
+  -- special type of the shader's parse has one with its key in made.
   pub record IsFaithful (made : ModuleValue) : Type 0 where
     pub shader : BuiltModule
     pub parse : ModuleValue
@@ -142,7 +143,7 @@ module _ (s : Settings) (ds : List Definition) (counter : ℕ) (m : ShaderSource
     pub items : (q : ItemPlace) (r : Row) → world made q ≡ Some r → ItemComes made q
     pub entry_points : (i : ℕ) (y : EntryValue) → slice_get made.entry_points i ≡ Some y → EntryComes shader parse made i y
 
--- LAW: so is each module that a make answers
+-- LAW: each module that a make answers is faithful
 abbrev pub FaithfulLaw : Type 0
-FaithfulLaw = (s : Settings) (ds : List Definition) (counter : ℕ) (m : ShaderSource) (made : ModuleValue) → ParsesModules s.front →
+FaithfulLaw = (s : Settings) (ds : List Registered) (counter : ℕ) (m : ShaderSource) (made : ModuleValue) → ParsesModules s.front →
     (answer s ds counter m).result ≡ Ok made → IsFaithful s ds counter m made

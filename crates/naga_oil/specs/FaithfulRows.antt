@@ -1,4 +1,4 @@
--- Where calls go, computed.
+-- Where calls are redirected, computed.
 use Rattle.std.specs.Prelude.{◌≡◌, ℕ, List, [], ◌∷◌, Some, None, codes, refl}
 use Rattle.naga_oil_link.specs.BuiltModule.{Overriding}
 use Rattle.naga_oil.specs.CallsSent.{call_goes}
@@ -12,7 +12,7 @@ one = codes "fb"
 abbrev two : List ℕ
 two = codes "fc"
 
--- two functions override a third
+-- two functions override one
 abbrev chain : Overriding
 chain = (base, one ∷ two ∷ []) ∷ []
 
@@ -34,6 +34,6 @@ second_calls_the_first = refl
 others_stay : call_goes chain (Some (codes "g")) (Some (codes "h")) ≡ Some (codes "h")
 others_stay = refl
 
--- nothing is sent where nothing is overridden
+-- if nothing is overridden, nothing is redirected
 nothing_sent : call_goes [] None (Some base) ≡ Some base
 nothing_sent = refl

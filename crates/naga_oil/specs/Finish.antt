@@ -1,9 +1,9 @@
--- The module that is made of a shader that was read.
+-- The module made of a preprocessed shader.
 use Rattle.std.specs.Prelude.{ℕ, List, Result, Ok, Err}
 use Rattle.naga_oil_ir.specs.ModuleValue.{ModuleValue}
 use Rattle.naga_oil_pre.specs.Preprocessed.{Output}
-use Rattle.naga_oil_registry.specs.Added.{◌>>=◌}
-use Rattle.naga_oil_registry.specs.Definition.{Definition, Defs}
+use Rattle.naga_oil_words.specs.ResultSteps.{◌>>=◌}
+use Rattle.naga_oil_registry.specs.Registered.{Registered, Defs}
 use Rattle.naga_oil_registry.specs.declared.descriptor.ShaderType.{ShaderType}
 use Rattle.naga_oil_link.specs.BuiltModule.{BuiltModule, Builds}
 use Rattle.naga_oil_link.specs.Linked.{link_whole}
@@ -13,20 +13,20 @@ use Rattle.naga_oil.specs.Chain.{chain, with_stages}
 use Rattle.naga_oil.specs.Refused.{Refused, Place, in_text, placed}
 use Rattle.naga_oil.specs.Validate.{validate}
 
--- a build of a text, whose faults lie in the text
+-- the build of a text, with the text as the place of its faults
 abbrev pub built_in_text : (path text : List ℕ) → Result BuiltModule Unbuilt → Result BuiltModule Refused
 built_in_text path text (Ok b) = Ok b
 built_in_text path text (Err u) = Err (record { fault = u.fault; place = in_text path text u.offset })
 
--- a shader's build is linked whole behind what it imports, its entry points get their stage, its calls are sent down what overrides
--- functions, and it is validated
+-- a shader's build is linked whole after what it imports, its entry points get their stage, calls of overridden functions are
+-- redirected, and the module is validated
 unfoldable pub compose : Settings → Defs → Builds → BuiltModule → ShaderType → Place → Result ModuleValue Refused
 compose s defs builds b shader_type place = do
   made ← placed place (chain b.overriding (with_stages shader_type (link_whole builds b)))
   validate s builds defs place made
 
--- a shader that was preprocessed is built, and composed
-unfoldable pub finish : Settings → Defs → Builds → Definition → Output → ShaderType → Result ModuleValue Refused
+-- a preprocessed shader is built and composed
+unfoldable pub finish : Settings → Defs → Builds → Registered → Output → ShaderType → Result ModuleValue Refused
 finish s defs builds d out shader_type = do
   b ← built_in_text d.file_path out.text (build s d out builds)
   compose s defs builds b shader_type (in_text d.file_path out.text b.offset)

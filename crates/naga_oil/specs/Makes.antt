@@ -1,4 +1,4 @@
--- What a make answers, and what it changes.
+-- What a make answers and changes.
 use Rattle.std.specs.Prelude.{◌≡◌, Result, IfOk}
 use Rattle.naga_oil_ir.specs.Backend.{FrontEnd}
 use Rattle.naga_oil_ir.specs.ModuleValue.{module_value}
@@ -19,10 +19,10 @@ use Rattle.naga_oil.specs.declared.compose.error.ComposerError.{ComposerError}
 abbrev pub settings_of : {B : Type 0} → (front : B → FrontEnd) → State B → Settings
 settings_of front c = settings (front c.front) c.capabilities c.validate c.override_any
 
--- A make replies its answer, and changes the counter by the bindings that were read, and what is kept. No kept build is lost; unless
--- memory ran out, just the builds of its answer are kept that weren't; and those newly kept are counted. Where the front end parses
--- modules, what the module says is of what was parsed; no function overrides two; and however many override one, each call of it goes to its
--- destination, where none of them is itself overridden and it overrides none.
+-- A make replies its answer, and changes only the counter, by the automatic bindings that were read, and the kept builds. No kept build is
+-- lost. Unless memory ran out, exactly those builds of its answer are newly kept that weren't kept yet; and those newly kept are counted.
+-- If the front end parses modules of their shape, the made module is faithful; no function overrides two; and however many override one,
+-- each call of it becomes a call of its destination, if none of them is itself overridden and it overrides none.
 pub record Makes {B : Type 0} (front : B → FrontEnd) (old : State B) (m : ShaderSource) (result : Result Module ComposerError) (new : State B) : Type 0 where
   pub reply : Answers module_value result (answer (settings_of front old) old.registry old.counter m).result
   pub counter : Counts (λ e. fault_of e.inner) result m.source old.counter new.counter

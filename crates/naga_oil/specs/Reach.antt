@@ -1,4 +1,4 @@
--- How the modules that a text imports are built, each over the builds of what it imports itself.
+-- How the modules that a text imports are reached: each is built over the builds that it imports itself.
 use Rattle.std.specs.Prelude.{ℕ, Bool, List, [], ◌∷◌, Option, Some, None, Result, Ok, Err, bytes_eq, unwrap_or, if◌then◌else◌}
 use Rattle.std.specs.BTreeMap.{is_at}
 use Rattle.std.specs.Cmp.Lexicographic.{slice_cmp}
@@ -9,7 +9,7 @@ use Rattle.indexmap.specs.IndexMap.{insert_entry}
 use Rattle.naga_oil_imports.specs.Uses.{Use}
 use Rattle.naga_oil_conditions.specs.Fault.{Fault, Definitions}
 use Rattle.naga_oil_pre.specs.Preprocessed.{Output}
-use Rattle.naga_oil_registry.specs.Definition.{Definition, Defs}
+use Rattle.naga_oil_registry.specs.Registered.{Registered, Defs}
 use Rattle.naga_oil_link.specs.BuiltModule.{BuiltModule, Builds}
 use Rattle.naga_oil_build.specs.Build.{Unbuilt, build}
 use Rattle.naga_oil_build.specs.Built.{preprocessed_of}
@@ -20,7 +20,7 @@ use Rattle.naga_oil.specs.Outcome.{Doing, given, ◌>>=◌}
 abbrev pub defined : Defs → Definitions
 defined defs name = lookup (is_at (slice_cmp nat_cmp name)) defs
 
--- why a module isn't reached: it may not be imported where it is asked for, or it isn't built
+-- why a module can't be reached: it can't be imported at an offset of the importing text, or it can't be built
 pub data Unreached : Type 0 where
   missing : (name : List ℕ) (offset : ℕ) → Unreached
   unbuilt : (name : List ℕ) → Unbuilt → Unreached
@@ -31,7 +31,7 @@ pub data Unreached : Type 0 where
 abbrev pub is_built : Builds → List ℕ → Bool
 is_built builds name = list_any (λ b. bytes_eq name b.0) builds
 
--- a build under its name; one that is there stays
+-- builds with one more under a name, unless the name has a build
 abbrev pub builds_with : Builds → List ℕ → BuiltModule → Builds
 builds_with builds name b = insert_entry bytes_eq builds name (unwrap_or (lookup (bytes_eq name) builds) b)
 
@@ -46,11 +46,11 @@ enter_build name (Err u) builds = record { builds = builds; result = Err (unbuil
 abbrev pub Reaching : Type 0
 Reaching = List ℕ → Doing (Unit {0}) Unreached
 
--- what is built isn't built again
+-- a module that is built isn't reached again
 abbrev pub unless_built : Reaching → Reaching
 unless_built reaching name builds = if is_built builds name then given (Ok tt) builds else reaching name builds
 
--- why a use may not be reached, if it may not
+-- why a use isn't allowed, or none if it is
 abbrev pub Rule : Type 0
 Rule = Use → Option Unreached
 
@@ -58,28 +58,28 @@ abbrev pub unless_refused : Option Unreached → Doing (Unit {0}) Unreached → 
 unless_refused None doing = doing
 unless_refused (Some why) doing = given (Err why)
 
--- what is used is reached in order, as far as a rule allows
+-- the used modules are reached in order, if a rule allows them
 unfoldable pub reach_each : Rule → Reaching → List Use → Doing (Unit {0}) Unreached
 reach_each rule reaching [] = given (Ok tt)
 reach_each rule reaching (u ∷ us) = unless_refused (rule u) (reaching u.import.import) >>= λ done. reach_each rule reaching us
 
--- an import has to be recorded of the text of the module that uses it, or asked for besides
-abbrev pub as_recorded : Definition → Rule
+-- an import has to be recorded of the text of the importing module, or listed in addition to it
+abbrev pub as_recorded : Registered → Rule
 as_recorded d u = if list_any (λ i. bytes_eq i.import.import u.import.import) d.imports then None else Some (missing u.import.import 0)
 
--- what a module's text becomes under definitions
-abbrev pub preprocess_module : Defs → Definition → Result Output Fault → Doing Output Unreached
+-- a module is preprocessed under definitions
+abbrev pub preprocess_module : Defs → Registered → Result Output Fault → Doing Output Unreached
 preprocess_module defs d (Ok out) = given (Ok out)
 preprocess_module defs d (Err f) = given (Err (unbuilt d.name (record { fault = f; offset = 0 })))
 
--- a module is preprocessed, what it imports is reached, and it is built over that
-unfoldable pub reach_module : Settings → Defs → Definition → Reaching → Doing (Unit {0}) Unreached
+-- a module is preprocessed, the modules that it uses are reached, and it is built over them
+unfoldable pub reach_module : Settings → Defs → Registered → Reaching → Doing (Unit {0}) Unreached
 reach_module s defs d reaching = do
   out ← preprocess_module defs d (preprocessed_of (defined defs) d)
   done ← reach_each (as_recorded d) reaching out.uses
   λ builds. enter_build d.name (build s d out builds) builds
 
--- the first module of a name is reached over what stands before it in the registry
-unfoldable pub reach : Settings → Defs → List Definition → Reaching
+-- the newest module of a name is reached, over the modules that were registered before it
+unfoldable pub reach : Settings → Defs → List Registered → Reaching
 reach s defs [] name = given (Err (missing name 0))
 reach s defs (d ∷ earlier) name = if bytes_eq d.name name then reach_module s defs d (unless_built (reach s defs earlier)) else reach s defs earlier name

@@ -1,20 +1,20 @@
--- The builds that a composer keeps between makes, and what they are found by.
+-- The builds that a composer keeps between makes, and their keys.
 use Rattle.std.specs.Prelude.{◌≡◌, ℕ, Bool, false, not, ◌&&◌, ◌+◌, ◌-◌, List, ◌++◌, fold, filter, length, Option, Some, None, option_map, unwrap_or, bytes_eq, min}
 use Rattle.std.specs.Cmp.Lexicographic.{pointwise}
 use Rattle.std.specs.List.{list_any}
 use Rattle.std.specs.Map.{lookup}
 use Rattle.indexmap.specs.IndexMap.{insert_entry}
-use Rattle.naga_oil_lines.specs.Text.{is_among}
+use Rattle.naga_oil_words.specs.Texts.{is_among}
 use Rattle.naga_oil_conditions.specs.declared.shader_def.ShaderDefValue.{ShaderDefValue}
-use Rattle.naga_oil_registry.specs.Definition.{Definition, Defs}
+use Rattle.naga_oil_registry.specs.Registered.{Registered, Defs}
 use Rattle.naga_oil_registry.specs.Registry.{module_named}
 use Rattle.naga_oil_link.specs.BuiltModule.{BuiltModule, Builds}
 use Rattle.naga_oil.specs.Shader.{same_value}
 
--- ---- what a build is found by
+-- ---- the key of a build
 
--- definitions projected on a module: those of the names on which its build may depend, in order
-abbrev pub project : Definition → Defs → Defs
+-- definitions projected on a module: those of the names on which its build may depend, sorted by name
+abbrev pub project : Registered → Defs → Defs
 project d defs = filter (λ e. is_among d.effective e.0) defs
 
 pub record Key : Type 0 where
@@ -24,11 +24,11 @@ pub record Key : Type 0 where
   pub defs : Defs
 
 -- the key of a module's build under definitions
-abbrev pub key_under : Definition → Defs → Key
+abbrev pub key_under : Registered → Defs → Key
 key_under d defs = record { name = d.name; defs = project d defs }
 
--- the same of the module of a name, if it is registered
-abbrev pub key_named : List Definition → Defs → (name : List ℕ) → Option Key
+-- the key of the build of a name under definitions, if a module with the name is registered
+abbrev pub key_named : List Registered → Defs → (name : List ℕ) → Option Key
 key_named ds defs name = option_map (λ d. key_under d defs) (module_named name ds)
 
 abbrev pub same_def : List ℕ × ShaderDefValue → List ℕ × ShaderDefValue → Bool
@@ -50,7 +50,7 @@ abbrev pub is_kept : Kept → Key → Bool
 is_kept kept k = list_any (λ e. same_key k e.0) kept
 
 -- whether the build of a name is kept under definitions
-abbrev pub is_kept_named : List Definition → Kept → (name : List ℕ) → Defs → Bool
+abbrev pub is_kept_named : List Registered → Kept → (name : List ℕ) → Defs → Bool
 is_kept_named ds kept name defs = unwrap_or (option_map (is_kept kept) (key_named ds defs name)) false
 
 -- no kept build is lost
@@ -58,7 +58,7 @@ pub record KeepsAll (old new : Kept) : Type 0 where
   pub more : Kept
   pub is : new ≡ old ++ more
 
--- a build more, unless its key's is kept
+-- one build more, unless its key has one
 abbrev pub keep_build : Kept → Key → BuiltModule → Kept
 keep_build kept k b = insert_entry same_key kept k (unwrap_or (kept_under kept k) b)
 
@@ -66,14 +66,14 @@ abbrev pub keep_named : Option Key → BuiltModule → Kept → Kept
 keep_named None b kept = kept
 keep_named (Some k) b kept = keep_build kept k b
 
--- the builds that a make makes under definitions are kept in turn
-abbrev pub keep_builds : List Definition → Defs → Kept → Builds → Kept
+-- the builds that a make makes under definitions are kept, one after the other
+abbrev pub keep_builds : List Registered → Defs → Kept → Builds → Kept
 keep_builds ds defs kept builds = fold (λ kept e. keep_named (key_named ds defs e.0) e.1 kept) kept builds
 
--- the builds of the modules that go are forgotten
+-- the builds of removed modules are forgotten
 abbrev pub forget : (goes : List ℕ → Bool) → Kept → Kept
 forget goes kept = filter (λ e. not (goes e.0.name)) kept
 
--- how many were kept in all, as far as that is counted: the number of those newly kept is added
+-- the number of builds ever kept, to which the number of those newly kept is added, up to the largest number of 64 bits
 abbrev pub count_kept : (count : ℕ) → (old new : Kept) → ℕ
 count_kept count old new = min (count + (length new - length old)) 18446744073709551615

@@ -1,15 +1,15 @@
--- Worked rows: what builds are found by, how they are kept, forgotten and counted.
+-- Worked rows: the keys of builds, and how builds are kept, forgotten and counted.
 use Rattle.std.specs.Prelude.{◌≡◌, refl, pos, ℕ, true, false, List, [], ◌∷◌, map, codes, Some, None}
 use Rattle.naga_oil_ir.specs.declared.language.ShaderLanguage.TheVariants.{Wgsl}
 use Rattle.naga_oil_lines.specs.Directives.{no_directives}
 use Rattle.naga_oil_conditions.specs.declared.shader_def.ShaderDefValue.TheVariants.{Bool, Int, UInt}
-use Rattle.naga_oil_registry.specs.Definition.{Definition, Defs}
+use Rattle.naga_oil_registry.specs.Registered.{Registered, Defs}
 use Rattle.naga_oil_registry.specs.Registry.{reaches}
 use Rattle.naga_oil_link.specs.BuiltModule.{BuiltModule, nothing_built}
 use Rattle.naga_oil.specs.Store.{project, Key, key_under, key_named, same_key, Kept, kept_under, is_kept_named, keep_build, keep_builds, forget, count_kept}
 
 -- a module whose build may depend on these names, and that imports these
-abbrev row : (name : List ℕ) → (effective imports : List (List ℕ)) → Definition
+abbrev row : (name : List ℕ) → (effective imports : List (List ℕ)) → Registered
 row name effective imports = record {
   name = name;
   source = [];
@@ -24,16 +24,16 @@ row name effective imports = record {
 }
 
 -- b imports a, and c is on its own
-abbrev a : Definition
+abbrev a : Registered
 a = row (codes "a") (codes "FAST" ∷ []) []
 
-abbrev b : Definition
+abbrev b : Registered
 b = row (codes "b") (codes "FAST" ∷ codes "FOG" ∷ codes "OFFSET" ∷ []) (codes "a" ∷ [])
 
-abbrev c : Definition
+abbrev c : Registered
 c = row (codes "c") [] []
 
-abbrev modules : List Definition
+abbrev modules : List Registered
 modules = c ∷ b ∷ a ∷ []
 
 abbrev given : Defs
@@ -76,7 +76,7 @@ one_key = refl
 other_value : same_key (key_under b given) (key_under b slow) ≡ false
 other_value = refl
 
--- definitions of one name and number, of two kinds
+-- two definitions with one name and number, of different kinds
 other_kind : same_key (key (codes "a") ((codes "FAST", UInt 1) ∷ [])) (key (codes "a") ((codes "FAST", Int (pos 1)) ∷ [])) ≡ false
 other_kind = refl
 
@@ -110,18 +110,18 @@ kept_under_any = refl
 unregistered : is_kept_named modules kept (codes "x") given ≡ false
 unregistered = refl
 
--- what is kept stays as it is
+-- a kept build stays as it is
 kept_already : keep_build kept (key_under b brighter) (leaf 9) ≡ kept
 kept_already = refl
 
--- a make keeps in the order of building what wasn't kept
+-- a make keeps those builds that aren't kept yet, in the order of building
 of_a_make : keep_builds modules slow ((key_under a slow, leaf 3) ∷ []) ((codes "a", leaf 3) ∷ (codes "b", leaf 5) ∷ (codes "c", leaf 4) ∷ []) ≡
     (key_under a slow, leaf 3) ∷ (key_under b slow, leaf 5) ∷ (key_under c slow, leaf 4) ∷ []
 of_a_make = refl
 
 -- ---- forgetting
 
--- with a goes b, which imports it, under all definitions
+-- with a, b is removed too, which imports it, under all definitions
 without_a : forget (λ other. reaches modules other (codes "a")) kept ≡ (key_under c given, leaf 4) ∷ []
 unfolding reaches
 without_a = refl

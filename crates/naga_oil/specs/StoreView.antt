@@ -1,4 +1,4 @@
--- What the code of a composer keeps, by the words of its rules.
+-- The kept builds of the code, seen by the words of their definitions.
 use Rattle.std.specs.Prelude.{List, ℕ, map, String, string_bytes}
 use Rattle.std.specs.Arc.{arc_value}
 use Rattle.std.specs.declared.alloc.Global.{Global}
@@ -17,6 +17,6 @@ def_of d = (string_bytes d.0, d.1)
 abbrev pub key_of : CodeKey → Key
 key_of k = record { name = string_bytes k.name; defs = map def_of k.defs.items }
 
--- what is kept, in the order of keeping
+-- the kept builds, in the order of keeping
 abbrev pub kept_of : {S : Type 0} → IndexMap CodeKey (Arc ComposableModule Global) S → Kept
 kept_of store = map (λ e. (key_of e.0, built_of (arc_value e.1))) store.entries

@@ -1,13 +1,14 @@
-//! Modules are added to a composer under their names.
+//! A composer registers modules under their names, and makes shaders that import them.
 //!
-//! - `composer`: the composer, over what is registered (`naga_oil_registry`).
-//! - `make`: one shader out of a text and what it imports, step by step.
-//! - `shader`: what a make reads of a shader, and the definitions that it merges.
-//! - `reach`: how the modules that a text imports are built (`naga_oil_build`), each over what it imports itself.
-//! - `store`: the builds that are kept between makes.
-//! - `chain`: calls that are sent down the functions that override another.
-//! - `error`: why a call is refused, and where.
-//! - `command`: what is asked of a composer, one command after another.
+//! - `composer`: the composer with its public calls, over the registry (`naga_oil_registry`).
+//! - `make`: makes one shader out of a text and the modules that it imports, step by step; each
+//!   module is built (`naga_oil_build`) over the modules that it imports itself.
+//! - `reach`: why a module can't be reached, and which imports are allowed.
+//! - `shader`: reads a shader, and merges the definitions of what it imports.
+//! - `store`: the builds that are kept between makes, and their keys.
+//! - `chain`: redirects calls along the functions that override one.
+//! - `error`: what is wrong, and in which text.
+//! - `command`: runs commands on a composer, one after the other.
 mod chain;
 mod command;
 mod composer;
@@ -19,8 +20,7 @@ mod store;
 
 pub use command::{Command, Reply, run};
 pub use composer::Composer;
-use error::Told;
-pub use error::{ComposerError, ComposerErrorInner, EnsureImportsError, ErrSource};
+pub use error::{ComposerError, ComposerErrorInner, ComposerResult, EnsureImportsError, ErrSource};
 use indexmap::IndexMap;
 use naga_oil_build::{Builder, Unbuilt};
 pub use naga_oil_imports::{ImportDefWithOffset, ImportDefinition, parse_imports};
@@ -28,7 +28,7 @@ pub use naga_oil_ir::{
     Backend, BackendRefusal, Capabilities, ParseFault, ShaderLanguage, ValidFault, WriteFault,
     backend,
 };
-use naga_oil_ir::{EntryPoint, Module};
+use naga_oil_ir::{EntryPoint, Module, SPAN_SHIFT};
 pub use naga_oil_lines::decorate::{decode, decorated_name, undecorate};
 pub use naga_oil_lines::wgsl_directives::{
     DiagnosticDirective, EnableDirective, RequiresDirective, WgslDirectives,
@@ -45,7 +45,8 @@ pub use naga_oil_registry::{
     ComposableModuleDefinition, ComposableModuleDescriptor, NagaModuleDescriptor, OwnedShaderDefs,
     ShaderType, report,
 };
-use naga_oil_registry::{Checked, Definition, Defs, Names, Tried, Use};
+use naga_oil_registry::{Defs, InnerResult, Names, Registered, Use};
+use naga_oil_words::AllocResult;
 use std::alloc::{AllocError, AllocFailed, Global};
 use std::mem;
 use std::sync::Arc;

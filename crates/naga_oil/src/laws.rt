@@ -1,4 +1,5 @@
-//! What the builds of a make depend on.
+//! Laws of makes: what a build depends on, which builds are kept, and where the calls of
+//! overridden functions are redirected.
 ghost use Rattle.naga_oil.specs.AfreshLaw.{AfreshLaw, ReadingLaw};
 ghost use Rattle.naga_oil.specs.ChainsLaw.{CallsLaw, ChainsLaw, ComposedLaw, MadeOverridingLaw};
 ghost use Rattle.naga_oil.specs.LocalLaw.{BuildLaw, FinishLaw, ImportLaw, LinkLaw};
@@ -6,65 +7,72 @@ ghost use Rattle.naga_oil.specs.NewlyKeptLaw.{NewlyKeptLaw};
 ghost use Rattle.naga_oil.specs.ReachLaw.{ProjectionLaw, RegistryLaw};
 ghost use Rattle.naga_oil.specs.StoreLaw.{EnterLaw, ForgetLaw, KeptLaw};
 
-/// A build depends on the definitions through their values of the effective names of its module alone, and so does the fault
-/// that refuses it.
+/// A module's build, or the error in its place, depends on the shader definitions only through
+/// their values of the module's effective names.
 pub fn effective_names_decide()
     ensures { ProjectionLaw }
 {}
 
-/// A build depends on what is registered through its module and what that reaches by imports alone.
+/// A module's build, or the error in its place, depends on the registry only through the module
+/// and the modules that it reaches by imports.
 pub fn what_is_reached_decides()
     ensures { RegistryLaw }
 {}
 
-/// What imports link depends on the builds of their names, and on what those import, alone.
+/// What imports link depends only on the builds of the imported modules, and on the builds that
+/// these import.
 pub fn builds_imported_decide()
     ensures import { ImportLaw }
     ensures link { LinkLaw }
 {}
 
-/// A build, and the fault that refuses it, depend on the builds of what the module uses, and on what those import, alone;
-/// so does what is made of a shader, apart from the place of a fault of the made module.
+/// A module's build, or the error in its place, depends only on the builds of the modules that it
+/// uses, and on the builds that these import. So does the module made of a shader, apart from the
+/// place of a validation error.
 pub fn builds_used_decide()
     ensures build { BuildLaw }
     ensures finish { FinishLaw }
 {}
 
-/// What is reached over earlier builds is what building it afresh gives, and so is the first fault;
-/// so is the second reading of a shader, over what is built under its definitions.
+/// Reaching a module over earlier builds gives the same build and the same first error as building
+/// it afresh. So does the second reading of a shader, over what is built under its definitions.
 pub fn earlier_builds_change_nothing()
     ensures reached { AfreshLaw }
     ensures read { ReadingLaw }
 {}
 
-/// A module whose build is kept is reached without building it anew, and what is built is kept as it is built afresh.
+/// A module whose build is kept is reached without building it again, and each build is kept as it
+/// is built afresh.
 pub fn kept_builds_stand()
     ensures reached { KeptLaw }
     ensures kept { EnterLaw }
 {}
 
-/// When modules go, or one comes, what stays kept is what building it afresh gives then.
+/// After modules are removed, or one is added, each kept build is still what building its module
+/// afresh gives.
 pub fn kept_builds_stay()
     ensures { ForgetLaw }
 {}
 
-/// Of what a make builds, just what isn't kept is newly kept, each once, in the order of building.
+/// A make adds exactly those of its builds that aren't kept yet to the kept ones, each once, in the
+/// order of building.
 pub fn builds_are_kept_once()
     ensures { NewlyKeptLaw }
 {}
 
-/// Of the functions that override one, each calls the one before it, the first one the function itself, and all others, with
-/// the entry points, call the last, however many there are.
+/// Of the functions that override one, each calls the one before it, the first one calls the
+/// overridden function, and all other functions and the entry points call the last, however many
+/// override it.
 ///
-/// What a made shader's functions call is told of their sources by `call_goes`, which is that destination for a function
-/// that is overridden.
+/// `call_goes` maps each call in a source to the call in the made shader. For an overridden
+/// function that is the destination above.
 pub fn calls_go_down_chains()
     ensures chain { ChainsLaw }
     ensures compose { ComposedLaw }
     ensures call { CallsLaw }
 {}
 
-/// In the builds of a make each function that is overridden is there once, and no function overrides two.
+/// In the builds of a make each overridden function is listed once, and no function overrides two.
 pub fn builds_override_each_once()
     ensures { MadeOverridingLaw }
 {}

@@ -6,12 +6,12 @@ pub mod laws;
 
 pub use naga_oil_ir as ir;
 
-/// Copies of items and functions from one module into another.
+/// Copies items and functions from one module into another.
 pub mod derive {
     pub use naga_oil_derive::DerivedModule;
 }
 
-/// Calls sent to other functions.
+/// Redirects the calls of a function to another.
 pub mod redirect {
     pub use naga_oil_redirect::{RedirectError, Redirector};
 }

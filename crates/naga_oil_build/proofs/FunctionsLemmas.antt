@@ -1,4 +1,4 @@
--- What a text says of functions by keywords.
+-- What a text says of functions after keywords.
 use Rattle.std.proofs.Common.{◌≡◌, Bool, ℕ, List, Option, Some, None, option_map, MatchOption, Result, Ok, Err, refl, sym, ap, ◌∙◌}
 use Rattle.std.specs.Prelude.{codes}
 use Rattle.naga_oil_imports.specs.Uses.{Import}
@@ -20,7 +20,7 @@ fault_then e P Q so h = by (fault_of e) h
     by None h = tt
     by (Some f) h = so f h
 
--- what is told, or its fault
+-- the result, or its fault
 abbrev pub unless_fault_in : Overrides → Result Overrides Fault
 unless_fault_in o = unless_fault o.fault o
 

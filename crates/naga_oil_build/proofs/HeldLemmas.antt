@@ -1,4 +1,4 @@
--- What a build holds of the module that its whole text says.
+-- What a build holds of the module that its whole text is parsed to.
 use Rattle.std.proofs.Common.{◌≡◌, ℕ, ◌<◌, ◌≤◌, Bool, true, false, not, nat_lt, cond, List, length, Option, Some, None, Result, Ok, Err, refl, sym, ap, ◌∙◌}
 use Rattle.std.specs.Prelude.{◌&&◌}
 use Rattle.std.proofs.lemmas.Bool.{lt-ltb, le-ltb}
@@ -10,18 +10,19 @@ use Rattle.naga_oil_ir.specs.declared.language.ShaderLanguage.{ShaderLanguage}
 use Rattle.naga_oil_conditions.specs.Fault.{Fault, text_too_large, wrong_form}
 use Rattle.naga_oil_conditions.specs.View.{Fails, Gives}
 use Rattle.naga_oil_conditions.specs.declared.fault.ComposerErrorInner.{ComposerErrorInner}
-use Rattle.naga_oil_registry.specs.Added.{◌>>=◌}
+use Rattle.naga_oil_words.specs.ResultSteps.{◌>>=◌}
 use Rattle.naga_oil_registry.proofs.NewDefinitionLemmas.{fails-through}
 use Rattle.naga_oil_link.specs.BuiltModule.{BuiltModule}
 use Rattle.naga_oil_link.specs.CopiedBuild.{copy_build, copies_special}
-use Rattle.naga_oil_link.specs.Form.{is_formed}
-use Rattle.naga_oil_link.specs.FormView.{GivesFormed}
+use Rattle.naga_oil_form.specs.Form.{is_formed}
+use Rattle.naga_oil_form.specs.FormView.{GivesFormed}
 use Rattle.naga_oil_link.specs.OwnPlaces.{OwnPlaces}
 use Rattle.naga_oil_link.specs.Owned.{own_places, owned_module, owned_build}
 use Rattle.naga_oil_build.specs.Built.{parsed_text}
 use Rattle.naga_oil_build.specs.Held.{Settings, parse_whole, is_tested, if_tested, names_back, copy_tested, hold}
 use Rattle.naga_oil_build.specs.HeldView.{FormedAs}
 use Rattle.naga_oil_build.specs.Writeback.{came_back}
+use Rattle.naga_oil_ir.specs.Spans.{span_stride}
 
 -- the fault of a part is that of the whole
 pub fails_on : {Y Z : Type 0} (e : ComposerErrorInner) (v : Result Y Fault) (more : Y → Result Z Fault) → Fails e v → Fails e (v >>= more)
@@ -33,13 +34,13 @@ abbrev pub or_wrong_form : {X : Type 0} → Option X → Result X Fault
 or_wrong_form (Some x) = Ok x
 or_wrong_form None = Err wrong_form
 
--- an answer on a form, told as a fault
+-- a result of the test of form, as an error
 pub given_form : {X Y : Type 0} (view : X → Y) (answer : Result X FormFault) (r : Result X ComposerErrorInner) (o : Option Y) → FormedAs answer r → GivesFormed view answer o → Gives view r (or_wrong_form o)
 given_form view (Ok x) r o f g = rw (f, g) refl
 given_form view (Err WrongForm) r o f g = rw (f, g) refl
 given_form view (Err Memory) r o f g = rw f tt
 
--- what a test of the form tells
+-- what a test of the form says
 abbrev pub passed : Bool → Result (Unit {0}) Fault
 passed b = or_wrong_form (cond b (Some tt) None)
 
@@ -52,25 +53,25 @@ not_passed true m f e = absurd cc
 not_passed false m f e = cc
 
 module _ (front : FrontEnd) (language : ShaderLanguage) (text decoration : List ℕ) where
-  pub whole_too_large : 2097152 ≤ length text → parse_whole front language text decoration ≡ Err text_too_large
+  pub whole_too_large : span_stride ≤ length text → parse_whole front language text decoration ≡ Err text_too_large
   unfolding parse_whole
-  whole_too_large le = rw (le-ltb (length text) 2097152 le) refl
+  whole_too_large le = rw (le-ltb (length text) span_stride le) refl
 
-  pub whole_unparsed : length text < 2097152 → (e : ComposerErrorInner) → Fails e (parsed_text front language text) → Fails e (parse_whole front language text decoration)
+  pub whole_unparsed : length text < span_stride → (e : ComposerErrorInner) → Fails e (parsed_text front language text) → Fails e (parse_whole front language text decoration)
   unfolding parse_whole
-  whole_unparsed lt e h = fails-through e (parsed_text front language text) _ h (λ f p. rw (lt-ltb (length text) 2097152 lt, p) refl)
+  whole_unparsed lt e h = fails-through e (parsed_text front language text) _ h (λ f p. rw (lt-ltb (length text) span_stride lt, p) refl)
 
-  pub whole_misformed : length text < 2097152 → (m : ModuleValue) → parsed_text front language text ≡ Ok m → (e : ComposerErrorInner) → Fails e (passed (is_formed m decoration (length text))) → Fails e (parse_whole front language text decoration)
+  pub whole_misformed : length text < span_stride → (m : ModuleValue) → parsed_text front language text ≡ Ok m → (e : ComposerErrorInner) → Fails e (passed (is_formed m decoration (length text))) → Fails e (parse_whole front language text decoration)
   unfolding parse_whole
-  whole_misformed lt m q e h = fails-through e (passed (is_formed m decoration (length text))) _ h (λ f p. rw (lt-ltb (length text) 2097152 lt, q) (not_passed (is_formed m decoration (length text)) m f p))
+  whole_misformed lt m q e h = fails-through e (passed (is_formed m decoration (length text))) _ h (λ f p. rw (lt-ltb (length text) span_stride lt, q) (not_passed (is_formed m decoration (length text)) m f p))
 
-  pub whole_parsed : length text < 2097152 → (m : ModuleValue) → parsed_text front language text ≡ Ok m → passed (is_formed m decoration (length text)) ≡ Ok tt → parse_whole front language text decoration ≡ Ok m
+  pub whole_parsed : length text < span_stride → (m : ModuleValue) → parsed_text front language text ≡ Ok m → passed (is_formed m decoration (length text)) ≡ Ok tt → parse_whole front language text decoration ≡ Ok m
   unfolding parse_whole
-  whole_parsed lt m q p = rw (lt-ltb (length text) 2097152 lt, q) (is_passed (is_formed m decoration (length text)) m p)
+  whole_parsed lt m q p = rw (lt-ltb (length text) span_stride lt, q) (is_passed (is_formed m decoration (length text)) m p)
 
 -- ---- copies
 
--- whether names have to come back, as the code asks
+-- whether names must survive the round trip, as the code asks
 pub is_asked : (index : ℕ) (validate special : Bool) → ((nat_lt 0 index && validate) && not special) ≡ true → is_tested index validate special ≡ true
 is_asked index validate special e = by (nat_lt 0 index) validate (not special) e
   where
@@ -103,7 +104,7 @@ module _ (s : Settings) (m : ModuleValue) (own : OwnPlaces) (b : BuiltModule) (f
         by (Ok x) g = whole ∙ ap (λ (v : Result (Unit {0}) Fault). v >>= λ done. Ok c) g
         by (Err e) g = rw whole (fails_on e (came_back s.front s.capabilities m own c functions) (λ done. Ok c) g)
 
--- ---- all of it
+-- ---- everything
 module _ (s : Settings) (language : ShaderLanguage) (text : List ℕ) (b : BuiltModule) where
   pub hold_unparsed : (e : ComposerErrorInner) → Fails e (parse_whole s.front language text b.decoration) → Fails e (hold s language text b)
   unfolding hold

@@ -1,4 +1,4 @@
--- Functions that are overridden.
+-- Overridden functions.
 use Rattle.std.proofs.Common.{◌≡◌, ℕ, List, [], ◌∷◌, ◌++◌, map, Bool, true, false, cond, ◌||◌, Option, Some, None, option_map, MatchOption, IsSomeAnd, Bor, refl, sym, ap, ◌∙◌, String, Global, Vec, string_bytes}
 use Rattle.std.proofs.lemmas.Bool.Decides.{Decides-like, same_from_decides}
 use Rattle.std.proofs.lemmas.Slice.Eq.{bytes_eq-Decides}
@@ -13,7 +13,7 @@ use Rattle.indexmap.specs.IndexMap.{insert_entry}
 use Rattle.naga_oil_imports.specs.Uses.{Import, import_of}
 use Rattle.naga_oil_imports.specs.declared.import_definition.ImportDefinition.{ImportDefinition}
 use Rattle.naga_oil_conditions.specs.Fault.{not_virtual}
-use Rattle.naga_oil_lines.specs.Text.{is_among, texts}
+use Rattle.naga_oil_words.specs.Texts.{is_among, texts}
 use Rattle.naga_oil_link.specs.BuiltModule.{BuiltModule, Builds, Overriding, built_of}
 use Rattle.naga_oil_build.specs.Overriding.{with_new, overridden, build_named}
 use Rattle.naga_oil_build.specs.Virtuals.{imported_build, unless_virtual}
@@ -30,7 +30,7 @@ abbrev pub over : List (String Global × Vec (String Global) Global) → Overrid
 over es = map (λ e. (string_bytes e.0, texts e.1.items)) es
 
 module _ (base name : List ℕ) where
-  -- the names at a function are written
+  -- the names that override a function are replaced
   pub over_known : (es : List (String Global × Vec (String Global) Global)) (old new : Vec (String Global) Global) → lookup (λ k. bytes_eq base (string_bytes k)) es ≡ Some old → texts new.items ≡ with_new (texts old.items) name
       → over (set_value (λ k. bytes_eq base (string_bytes k)) es new) ≡ overridden (over es) base name
   over_known [] old new e f = absurd cc
@@ -41,7 +41,7 @@ module _ (base name : List ℕ) where
       by true e rest = let same : x.1 ≡ old = cc in ap (λ ns. (string_bytes x.0, ns) ∷ over es) (f ∙ ap (λ (v : Vec (String Global) Global). with_new (texts v.items) name) (sym same))
       by false e rest = ap (λ os. (string_bytes x.0, texts x.1.items) ∷ os) (rest e)
 
-  -- a function more
+  -- one more function
   pub over_new : (es : List (String Global × Vec (String Global) Global)) (key : String Global) (names : Vec (String Global) Global) → lookup (λ k. bytes_eq base (string_bytes k)) es ≡ None → string_bytes key ≡ base → texts names.items ≡ name ∷ []
       → over (insert_entry string_eq es key names) ≡ overridden (over es) base name
   over_new [] key names e k n = ap (λ b. (b, texts names.items) ∷ []) k ∙ ap (λ ns. (base, ns) ∷ []) n
@@ -73,7 +73,7 @@ found_build (e ∷ es) name = by (bytes_eq name (string_bytes e.0)) (found_build
     by true h = refl
     by false h = h
 
--- the same, as a reference to what is shared
+-- the build of a name, as a shared reference
 pub shared_build : (R : Bor (Arc ComposableModule Global) → Bor ComposableModule → Type 0) (o : Option (Bor (Arc ComposableModule Global))) (r : Option (Bor ComposableModule)) → MatchOption o (r ≡ None) (λ a. IsSomeAnd r (R a)) → ((a : Bor (Arc ComposableModule Global)) (b : Bor ComposableModule) → R a b → b.now ≡ arc_value a.now)
     → option_map (λ b. built_of b.now) r ≡ option_map (λ a. built_of (arc_value a)) (option_copied o)
 shared_build R None r h k = ap (option_map (λ b. built_of b.now)) h

@@ -10,7 +10,7 @@ use Rattle.std.specs.List.{starts_with, ends_with}
 use Rattle.std.specs.Option.{option_or}
 use Rattle.std.specs.Str.Pattern.{RFindsText, FindsTextSuffix, LacksTextAt, SplitsAroundMatch, StripsSuffix}
 use Rattle.naga_oil_lines.specs.Decorate.{decoded}
-use Rattle.naga_oil_marks.specs.Marks.{module_mark}
+use Rattle.naga_oil_words.specs.Marks.{module_mark}
 use Rattle.naga_oil_imports.specs.Uses.{Import}
 use Rattle.naga_oil_conditions.specs.Fault.{Fault}
 use Rattle.naga_oil_conditions.specs.View.{fault_of}
@@ -37,7 +37,7 @@ module _ (k : ℕ) (ks : List ℕ) where
       rw (no_last more (λ j le. none (suc j) (omega arith) (omega (arith, le))), here) (ap (λ l. Some ([], l)) behind)
   last_at (b ∷ more) (suc i) back none at = rw (last_at more i back (λ j lt le. none (suc j) (omega (arith, lt)) (omega (arith, le))) at) refl
 
--- what a cut at the last mark gives
+-- what a cut at the last mark returns
 pub cut_last : (k : ℕ) (ks text front back : List ℕ) → SplitsAroundMatch (RFindsText (k ∷ ks)) text front back → around_last (k ∷ ks) text ≡ Some (front, back)
 cut_last k ks text front back cut =
     let f = cut.2 in
@@ -122,7 +122,7 @@ cut_name name marked item code end i j e m n s f g =
     n ∙ ap (λ l. l ++ codes "X") (sym m ∙ sym (take-append-drop i marked) ∙ ap (λ l. take i marked ++ l) s ∙ ap (λ l. l ++ (module_mark ++ drop j marked)) (sym f) ∙ ap (λ l. item ++ (module_mark ++ l)) (sym g))
     ∙ append_assoc item (module_mark ++ code) (codes "X") ∙ ap (λ l. item ++ l) (append_assoc module_mark code (codes "X"))
 
--- how long an item is beside its decorated name
+-- the length of an item, compared with its decorated name
 pub item_within : (name item code : List ℕ) → AreItemAndCode name item code → length item + 17 ≤ length name
 item_within name item code h =
     let whole = ap length h.parts ∙ length-append item (module_mark ++ (code ++ codes "X")) ∙ ap (λ n. length item + n) (length-append module_mark (code ++ codes "X") ∙ ap (λ n. 16 + n) (length-append code (codes "X"))) in

@@ -6,8 +6,8 @@ use Rattle.naga_oil_conditions.specs.Fault.{Fault}
 use Rattle.naga_oil_pre.specs.Preprocessed.{Output}
 use Rattle.naga_oil_conditions.specs.View.{Fails, Gives, fault_of}
 use Rattle.naga_oil_conditions.specs.declared.fault.ComposerErrorInner.{ComposerErrorInner}
-use Rattle.naga_oil_registry.specs.Added.{◌>>=◌}
-use Rattle.naga_oil_registry.specs.Definition.{Definition}
+use Rattle.naga_oil_words.specs.ResultSteps.{◌>>=◌}
+use Rattle.naga_oil_registry.specs.Registered.{Registered}
 use Rattle.naga_oil_registry.proofs.NewDefinitionLemmas.{fails-through}
 use Rattle.naga_oil_link.specs.BuiltModule.{BuiltModule, Builds}
 use Rattle.naga_oil_build.specs.Build.{Unbuilt, WholeText, begin_build, write_heading, write_whole, from_offset, build}
@@ -18,11 +18,11 @@ use Rattle.naga_oil_build.specs.declared.builder.Unbuilt.{Unbuilt as CodeUnbuilt
 use Rattle.naga_oil_build.proofs.HeldLemmas.{fails_on}
 
 -- ---- the whole text
--- a build that has read functions, before which its heading stands
+-- a build that has read functions, after its heading
 abbrev pub with_functions : Functions → (offset : ℕ) → BuiltModule → BuiltModule
 with_functions functions offset b = record b { virtuals = functions.virtuals; overriding = functions.overriding; offset = offset }
 
-module _ (s : Settings) (d : Definition) (builds : Builds) (text : List ℕ) (b : BuiltModule) where
+module _ (s : Settings) (d : Registered) (builds : Builds) (text : List ℕ) (b : BuiltModule) where
   pub whole_unread : (e : ComposerErrorInner) → Fails e (functions_in s.override_any builds b.imports b.decoration b.overriding text) → Fails e (write_whole s d builds text b)
   unfolding write_whole
   whole_unread e h = fails_on e (functions_in s.override_any builds b.imports b.decoration b.overriding text) _ h
@@ -46,7 +46,7 @@ given_from view offset (Err e) r value f g = rw f (by (fault_of e) g)
     by None h = tt
     by (Some f) h = ap (from_offset offset) h
 
--- what a refused part makes the whole answer
+-- the whole result where a part is refused
 pub built-refused : {X Y : Type 0} (view : X → Y) (r : Result X CodeUnbuilt) (u : CodeUnbuilt) (v : Result Y Unbuilt) → IsErrAnd r (λ e. e ≡ u) → TellsUnbuilt u v → GivesBuilt view r v
 built-refused view r u v h tells =
     let p = err_from_is_err_and r h in
@@ -60,14 +60,14 @@ tells_on e v more h = by (fault_of e.inner) h
     by None h = tt
     by (Some f) h = ap (λ (r : Result _ Unbuilt). r >>= more) h
 
-module _ (s : Settings) (d : Definition) (out : Output) (builds : Builds) where
-  abbrev pub begun : Result WholeText Fault
-  begun = write_whole s d builds out.text (begin_build builds d out.uses)
+module _ (s : Settings) (d : Registered) (out : Output) (builds : Builds) where
+  abbrev pub prepared : Result WholeText Fault
+  prepared = write_whole s d builds out.text (begin_build builds d out.uses)
 
-  pub build_unbegun : (e : CodeUnbuilt) → TellsUnbuilt e (from_offset 0 begun) → TellsUnbuilt e (build s d out builds)
+  pub build_unprepared : (e : CodeUnbuilt) → TellsUnbuilt e (from_offset 0 prepared) → TellsUnbuilt e (build s d out builds)
   unfolding build
-  build_unbegun e h = tells_on e (from_offset 0 begun) _ h
+  build_unprepared e h = tells_on e (from_offset 0 prepared) _ h
 
-  pub build_is : (whole : WholeText) → from_offset 0 begun ≡ Ok whole → build s d out builds ≡ from_offset whole.built.offset (hold s d.language whole.text whole.built)
+  pub build_is : (whole : WholeText) → from_offset 0 prepared ≡ Ok whole → build s d out builds ≡ from_offset whole.built.offset (hold s d.language whole.text whole.built)
   unfolding build
   build_is whole p = rw p refl

@@ -1,4 +1,4 @@
--- What comes back, by names.
+-- The names that survive.
 use Rattle.std.proofs.Common.{◌≡◌, ◌&&◌, ◌||◌, ℕ, ◌+◌, ◌<◌, List, [], ◌∷◌, ◌++◌, map, filter, nat_eq, get_or, slice_get, arith, Bool, true, false, not, cond, Option, Some, None, option_map, unwrap_or, Result, Ok, Err, Bor, find, take, length, refl, sym, ap, ◌∙◌, string_bytes, String, Global}
 use Rattle.std.proofs.lemmas.Bool.{false≢true}
 use Rattle.std.proofs.lemmas.Slice.Eq.{bytes_eq-Decides}
@@ -27,7 +27,7 @@ use Rattle.naga_oil_ir.specs.Spans.{undefined}
 use Rattle.naga_oil_ir.specs.declared.types.StructMember.{StructMember}
 use Rattle.naga_oil_ir.specs.declared.types.Type.{«Type» as TypeOfShader}
 use Rattle.naga_oil_conditions.specs.Fault.{Fault}
-use Rattle.naga_oil_lines.specs.Text.{is_among}
+use Rattle.naga_oil_words.specs.Texts.{is_among}
 use Rattle.naga_oil_conditions.specs.View.{Fails, fault_of}
 use Rattle.naga_oil_conditions.specs.declared.fault.ComposerErrorInner.{ComposerErrorInner}
 use Rattle.naga_oil_build.specs.Built.{header_text, parsed_text}
@@ -90,7 +90,7 @@ pub owned_lost : (owned : List (List ℕ)) (name : List ℕ) (back : List ℕ �
     → option_map (λ name. (name, i.span)) o ≡ lost_by owned name back i
 owned_lost owned name back i o e f = rw (e, f) refl
 
--- ---- what a header comes back as
+-- ---- what a header is parsed to
 pub fails_then : {Y Z : Type 0} (e : ComposerErrorInner) (v : Result Y Fault) (w : Result Z Fault) → ((f : Fault) → v ≡ Err f → w ≡ Err f) → Fails e v → Fails e w
 fails_then e v w so h = by (fault_of e) h
   where
@@ -111,7 +111,7 @@ module _ (front : FrontEnd) (capabilities : Capabilities) (m : ModuleValue) (own
 abbrev pub seen : Option (Bor (List ℕ) × Span) → Option (List ℕ × Span)
 seen lost = option_map (λ l. (l.0.now, l.1)) lost
 
--- a value that looks so, by an equal one
+-- a value with the same view, by an equal one
 pub same_value : {X Y E : Type 0} (f : X → Y) (r : Result X E) (v w : Y) → v ≡ w → IfOk r (λ x. f x ≡ v) → IfOk r (λ x. f x ≡ w)
 same_value f (Ok x) v w e h = h ∙ e
 same_value f (Err x) v w e h = tt
@@ -119,7 +119,7 @@ same_value f (Err x) v w e h = tt
 pub same_among : (owned : List (List ℕ)) {d c : List ℕ} {theirs others ours mine : List NamedItem} → d ≡ c → theirs ≡ others → ours ≡ mine → lost_among owned d (last_named theirs) ours ≡ lost_among owned c (last_named others) mine
 same_among owned e f g = rw (e, f, g) refl
 
--- of two the first, and the second where the first is none
+-- the first of two, or the second if there is no first
 pub some_first : (r : Option (Bor (List ℕ) × Span)) (v w : Option (List ℕ × Span)) → seen r ≡ v → is_some r ≡ true → seen r ≡ option_or v w
 some_first None v w e s = absurd cc
 some_first (Some x) v w e s = ap (λ o. option_or o w) e
@@ -133,7 +133,7 @@ pub lost-is : (m : ModuleValue) (own : OwnPlaces) (back : ModuleValue) (b : Buil
 unfolding lost
 lost-is m own back b functions = refl
 
--- ---- the items that are asked for
+-- ---- requested items
 place_last : {X : Type 0} (n : ℕ) (xs : List X) (x : X) → enumerate_from n (xs ++ x ∷ []) ≡ enumerate_from n xs ++ (n + length xs, x) ∷ []
 place_last n [] x = ap (λ k. (k, x) ∷ []) (omega arith)
 place_last n (y ∷ xs) x = ap (λ es. (n, y) ∷ es) (place_last (n + 1) xs x ∙ ap (λ k. enumerate_from (n + 1) xs ++ (k, x) ∷ []) (omega arith))
@@ -162,7 +162,7 @@ type_there of i ty span there is = by (slice_get of i) (sym (slice_get-map (λ (
     by (Some (t, s)) e f = cc
 
 module _ {X : Type 0} (row : X → Row × Span) (at : Option (Bor (BTreeSet ℕ))) (xs : List X) (i : ℕ) (x : X) (there : slice_get xs i ≡ Some x) where
-  -- the names of what is asked for of the first so many
+  -- the names of the requested items among the first few
   abbrev pub names_before : ℕ → List NamedItem
   names_before n = named_items (items_asked at (map row (take n xs)))
 
@@ -178,26 +178,26 @@ module _ {X : Type 0} (row : X → Row × Span) (at : Option (Bor (BTreeSet ℕ)
   abbrev here : List NamedItem
   here = named_item (row x).0.label.name (struct_members (row x).0) (row x).1
 
-  -- an item that is asked for comes last
+  -- a requested item comes last
   pub item_named : (items more : List NamedItem) → is_asked at i ≡ true → items ≡ names_before i → more ≡ items ++ here → more ≡ names_before (i + 1)
   item_named items more asked before pushed =
       pushed ∙ ap (λ ys. ys ++ here) before
       ∙ ap (λ ys. names_before i ++ ys) (sym (append-nil here))
       ∙ ap (λ b. names_before i ++ named_items (cond b (row x ∷ []) [])) (sym asked) ∙ sym row_more
 
-  -- another one doesn't
+  -- an item that isn't requested is left out
   pub item_unnamed : (items : List NamedItem) → is_asked at i ≡ false → items ≡ names_before i → items ≡ names_before (i + 1)
   item_unnamed items unasked before = before ∙ sym (append-nil (names_before i)) ∙ ap (λ b. names_before i ++ named_items (cond b (row x ∷ []) [])) (sym unasked) ∙ sym row_more
 
 -- ---- functions that aren't owned
 
--- nothing is lost of them
+-- nothing is lost of a function that isn't owned
 pub unowned_function : (owned : List (List ℕ)) (back : List ℕ → Option NamedItem) (name : Text) (span : Span) → has_name_among owned name ≡ false → lost_among owned [] back (named_item name None span) ≡ None
 unowned_function owned back None span e = refl
 unowned_function owned back (Some n) span e =
     ap (λ o. option_or o None) (not_owned owned (n ++ []) back (record { name = n; members = None; span = span }) (ap (is_among owned) (append-nil n) ∙ e))
 
--- ---- names that all come back
+-- ---- names that all survive
 
 and_both : (a b : Bool) → (a && b) ≡ true → (a ≡ true) × (b ≡ true)
 and_both true b e = (refl, e)
@@ -236,7 +236,7 @@ first_kept owned back (i ∷ one) more e f = by (lost_by owned (i.name ++ []) ba
     by None h g = g h
     by (Some l) h g = absurd cc
 
--- then no function is lost
+-- no function is lost
 pub functions_kept : (owned : List (List ℕ)) (back : List ℕ → Option NamedItem) (fs : List (FunctionValue × Span)) → have_come_back back owned ≡ true → lost_among owned [] back (named_functions fs) ≡ None
 functions_kept owned back [] all = refl
 functions_kept owned back (f ∷ fs) all = first_kept owned back (named_item f.0.name None f.1) (named_functions fs) (kept_function owned back f.0.name f.1 all) (functions_kept owned back fs all)

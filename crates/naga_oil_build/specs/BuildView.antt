@@ -1,4 +1,4 @@
--- What a builder is set to, and what a call gives that builds.
+-- The settings of a builder, and the results of a build.
 use Rattle.std.specs.Prelude.{◌≡◌, ℕ, Result, Ok, Err, MatchOption, String, string_bytes}
 use Rattle.std.specs.declared.alloc.Global.{Global}
 use Rattle.naga_oil_ir.specs.Backend.{FrontEnd}
@@ -19,16 +19,16 @@ settings_in front b = settings (front b.front.now) b.capabilities b.validate b.o
 abbrev pub whole_with : ComposableModule → String Global → WholeText
 whole_with built text = record { text = string_bytes text; built = built_of built }
 
--- an error is what the value is refused for, or want of memory
+-- an error is the fault of the value, or out of memory
 abbrev pub TellsUnbuilt : {Y : Type 0} → CodeUnbuilt → Result Y Unbuilt → Type 0
 TellsUnbuilt e value = MatchOption (fault_of e.inner) (Unit {0}) (λ f. value ≡ Err (record { fault = f; offset = e.offset }))
 
--- a result, seen by view, is the value, or want of memory
+-- a result, seen by view, is the value, or out of memory
 abbrev pub GivesBuilt : {X Y : Type 0} → (X → Y) → Result X CodeUnbuilt → Result Y Unbuilt → Type 0
 GivesBuilt view (Ok x) value = value ≡ Ok (view x)
 GivesBuilt view (Err e) value = TellsUnbuilt e value
 
--- the same answer, whose fault counts from an offset
+-- the same result, where a fault's places count from an offset
 abbrev pub IsFromOffset : {X : Type 0} → ℕ → Result X ComposerErrorInner → Result X CodeUnbuilt → Type 0
 IsFromOffset offset (Ok x) r = r ≡ Ok x
 IsFromOffset offset (Err inner) r = r ≡ Err (record { inner = inner; offset = offset })

@@ -1,4 +1,4 @@
--- Worked rows: when names have to come back.
+-- Worked rows: when names must survive the round trip.
 use Rattle.std.specs.Prelude.{◌≡◌, refl, true, false}
 use Rattle.naga_oil_build.specs.Held.{is_tested}
 

@@ -6,6 +6,8 @@ pub mod Held
 pub mod HeldRows
 pub mod HeldView
 pub mod Overriding
+pub mod OverridingForm
+mod OverridingRows
 pub mod Virtuals
 pub mod VirtualsView
 pub mod Writeback

@@ -1,4 +1,4 @@
--- What the code knows of functions by keywords.
+-- What the code knows of functions after keywords.
 use Rattle.std.specs.Prelude.{◌≡◌, ℕ, List, map, Option, Some, option_map, Result, String, Vec, string_bytes}
 use Rattle.std.specs.BTreeMap.{BTreeMap, get}
 use Rattle.std.specs.BTreeSet.{BTreeSet}
@@ -6,7 +6,7 @@ use Rattle.std.specs.Option.{option_or}
 use Rattle.std.specs.Ordering.{nat_cmp}
 use Rattle.std.specs.declared.alloc.Global.{Global}
 use Rattle.indexmap.specs.IndexMap.{IndexMap}
-use Rattle.naga_oil_lines.specs.Text.{texts}
+use Rattle.naga_oil_words.specs.Texts.{texts}
 use Rattle.naga_oil_imports.specs.Uses.{import_of}
 use Rattle.naga_oil_conditions.specs.Fault.{Fault}
 use Rattle.naga_oil_conditions.specs.View.{fault_of}
@@ -16,11 +16,11 @@ use Rattle.naga_oil_link.specs.BuiltModule.{Overriding, overriding_of, builds_of
 use Rattle.naga_oil_build.specs.Virtuals.{Overrides, Functions, override_fault, with_override, with_overrides, functions_in}
 use Rattle.naga_oil_build.specs.declared.virtuals.Over.{Over}
 
--- functions that are overridden, as the code has them
+-- overridden functions, as the code has them
 abbrev pub CodeOverriding : Type 0 → Type 0
 CodeOverriding S = IndexMap (String Global) (Vec (String Global) Global) S
 
--- edits and what is overridden, with a fault
+-- edits and overridden functions, with a fault
 abbrev pub told_so : {S : Type 0} → BTreeMap ℕ ℕ → CodeOverriding S → Option Fault → Overrides
 told_so edits overriding fault = record { edits = get nat_cmp edits; overriding = overriding_of overriding; fault = fault }
 
@@ -28,11 +28,11 @@ told_so edits overriding fault = record { edits = get nat_cmp edits; overriding 
 abbrev pub fault_over : Over → (module_name item : List ℕ) → (place : ℕ) → Option Fault
 fault_over o module_name item place = override_fault o.override_any (builds_of o.builds.now) (map import_of o.imports.now) module_name item place
 
--- one function more, over what is imported
+-- one more function, over what is imported
 abbrev pub override_over : Over → Overrides → MarkedFunction → Overrides
 override_over o told f = with_override o.override_any (builds_of o.builds.now) (map import_of o.imports.now) o.decoration.now told f
 
--- several functions more, over what is imported
+-- more functions, over what is imported
 abbrev pub overrides_over : Over → Overrides → List MarkedFunction → Overrides
 overrides_over o told fs = with_overrides o.override_any (builds_of o.builds.now) (map import_of o.imports.now) o.decoration.now told fs
 
@@ -44,6 +44,6 @@ functions_over o overriding text = functions_in o.override_any (builds_of o.buil
 abbrev pub functions_with : {S : Type 0} → CodeOverriding S → BTreeSet (String Global) × String Global → Functions
 functions_with overriding read = record { virtuals = texts read.0.keys; overriding = overriding_of overriding; text = string_bytes read.1 }
 
--- a fault is told, if there is one, before those told before
+-- a fault, if there is one, replaces the one before
 abbrev pub TellsNext : (new next : Option Fault → Overrides) → Option ComposerErrorInner → Type 0
 TellsNext new next fault = (told : Option Fault) × (option_map fault_of fault ≡ option_map Some told) × ((before : Option Fault) → new (option_or told before) ≡ next before)

@@ -1,4 +1,4 @@
--- The items of names, as the code has them.
+-- Items with names, as the code has them.
 use Rattle.std.specs.Prelude.{ℕ, Bool, true, nat_eq, List, map, Option, Some, None, option_map}
 use denote.Ref.{Bor}
 use Rattle.std.specs.BTreeMap.{BTreeMap, get_by}
@@ -26,12 +26,12 @@ held back name = option_map named_of (get_by (λ k. slice_cmp nat_cmp name k.now
 abbrev pub seen_lost : Option (Bor (List ℕ) × Span) → Option (List ℕ × Span)
 seen_lost lost = option_map (λ l. (l.0.now, l.1)) lost
 
--- whether a place is among those that are asked for; by none all are
+-- whether a place is requested; None requests all
 abbrev pub is_asked : Option (Bor (BTreeSet ℕ)) → ℕ → Bool
 is_asked None place = true
 is_asked (Some places) place = list_any (nat_eq place) places.now.keys
 
--- the items that are asked for
+-- the requested items
 abbrev pub items_asked : {X : Type 0} → Option (Bor (BTreeSet ℕ)) → List X → List X
 items_asked None xs = xs
 items_asked (Some places) xs = items_at places.now.keys xs

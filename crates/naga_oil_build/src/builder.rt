@@ -1,43 +1,44 @@
-//! Builds of texts: the module that each says beside what it imports.
+//! Builds of texts: the module that each text says, over the builds of what it imports.
 ghost use Rattle.std.specs.Prelude.{◌≡◌, ◌≤◌, [], map, string_bytes, IfOk, OnOk};
 ghost use Rattle.std.specs.BTreeMap.{get_by_text};
 ghost use Rattle.naga_oil_ir.specs.ModuleValue.{module_value};
-ghost use Rattle.naga_oil_lines.specs.Text.{texts};
+ghost use Rattle.naga_oil_words.specs.Texts.{texts};
 ghost use Rattle.naga_oil_imports.specs.Uses.{import_of, use_of};
 ghost use Rattle.naga_oil_pre.specs.KnownView.{output_of};
 ghost use Rattle.naga_oil_conditions.specs.View.{Gives};
-ghost use Rattle.naga_oil_registry.specs.Definition.{definition_of};
+ghost use Rattle.naga_oil_registry.specs.Registered.{definition_of};
 ghost use Rattle.naga_oil_link.specs.BuiltModule.{overriding_of, built_of, builds_of};
 ghost use Rattle.naga_oil_build.specs.Build.{decoration_of, first_lines, begin_build, write_header, write_heading, write_whole, from_offset, build};
 ghost use Rattle.naga_oil_build.specs.BuildView.{settings_in, whole_with, GivesBuilt, IsFromOffset};
 ghost use Rattle.naga_oil_build.specs.Built.{answered, preprocessed_of, header_text, parsed_text};
 ghost use Rattle.naga_oil_build.specs.Overriding.{overridden_by, with_overriding, build_named, with_build, imported_overriding};
+ghost use Rattle.naga_oil_ir.specs.Spans.{max_modules};
 
 use super::virtuals::{Over, add_override, read_functions};
 use super::*;
 use naga_oil_registry::merge::{imports_of, push_additional};
 
-/// A front end with its settings, and what was built over it.
+/// A front end with its settings, and the builds over it.
 #[derive(Drop)]
 pub struct Builder<'c, B: Backend> {
     pub alloc: Global,
     pub front: &'c B,
     pub validate: bool,
     pub capabilities: Capabilities,
-    // Whether any function of what is imported may be overridden, and not only one that is virtual.
+    // Whether any imported function may be overridden, and not only one that is virtual.
     pub override_any: bool,
     pub builds: Builds,
 }
 
-/// Why a text isn't built: what is wrong, with places that count from an offset, in bytes.
+/// Why a text isn't built: an error, whose places count from an offset, in bytes.
 #[derive(Debug, Drop)]
 pub struct Unbuilt {
     pub inner: Inner,
     pub offset: usize,
 }
 
-/// What a front end answers, a value or a fault, unless there is no memory.
-pub fn answered<T, F>(answer: Result<T, BackendRefusal<F>>) -> Checked<Result<T, F>>
+/// What a front end returns, a value or a fault, unless out of memory.
+pub fn answered<T, F>(answer: Result<T, BackendRefusal<F>>) -> InnerResult<Result<T, F>>
     ensures { result ≡ answered answer }
 {
     match answer {
@@ -47,8 +48,8 @@ pub fn answered<T, F>(answer: Result<T, BackendRefusal<F>>) -> Checked<Result<T,
     }
 }
 
-// An answer, or a fault from an offset on.
-fn from_offset<T>(offset: usize, answer: Checked<T>) -> Result<T, Unbuilt>
+// An answer, or a fault whose places count from an offset.
+fn from_offset<T>(offset: usize, answer: InnerResult<T>) -> Result<T, Unbuilt>
     ensures { IsFromOffset offset answer result }
 {
     match answer {
@@ -57,8 +58,8 @@ fn from_offset<T>(offset: usize, answer: Checked<T>) -> Result<T, Unbuilt>
     }
 }
 
-// Adds the functions that override one.
-fn add_overriding(alloc: Global, all: &mut Overrides, base: &str, names: &[String]) -> Tried
+// Adds functions that override a function.
+fn add_overriding(alloc: Global, all: &mut Overrides, base: &str, names: &[String]) -> AllocResult
     ensures { let more = overridden_by (overriding_of all.old) base.now (texts names.now) in
         OnOk result (overriding_of all.new ≡ more) }
 {
@@ -68,8 +69,8 @@ fn add_overriding(alloc: Global, all: &mut Overrides, base: &str, names: &[Strin
     Ok(())
 }
 
-// Adds functions that are overridden, each with those that override it.
-fn add_overrides(alloc: Global, all: &mut Overrides, others: &Overrides) -> Tried
+// Adds overridden functions, each with those that override it.
+fn add_overrides(alloc: Global, all: &mut Overrides, others: &Overrides) -> AllocResult
     ensures { let more = with_overriding (overriding_of all.old) (overriding_of others.now) in
         OnOk result (overriding_of all.new ≡ more) }
 {
@@ -79,8 +80,8 @@ fn add_overrides(alloc: Global, all: &mut Overrides, others: &Overrides) -> Trie
     Ok(())
 }
 
-// What stands first: a module's directives, or the version line of GLSL.
-fn first_lines(alloc: Global, of: &Definition) -> Tried<String>
+// The first lines of a text: a module's directives, or the version line of GLSL.
+fn first_lines(alloc: Global, of: &Registered) -> AllocResult<String>
     ensures { let d = definition_of of.now in
         IfOk result (λ text. string_bytes text ≡ first_lines d.language d.directives) }
 {
@@ -90,8 +91,8 @@ fn first_lines(alloc: Global, of: &Definition) -> Tried<String>
     }
 }
 
-// Adds the functions that are overridden in the build of a name, if there is one.
-fn add_imported(alloc: Global, all: &mut Overrides, builds: &Builds, name: &str) -> Tried
+// Adds the functions that are overridden in the build with a name, if there is one.
+fn add_imported(alloc: Global, all: &mut Overrides, builds: &Builds, name: &str) -> AllocResult
     ensures { let build = build_named (builds_of builds.now) name.now in
         OnOk result (overriding_of all.new ≡ with_build (overriding_of all.old) build) }
 {
@@ -101,8 +102,8 @@ fn add_imported(alloc: Global, all: &mut Overrides, builds: &Builds, name: &str)
     }
 }
 
-// What stands behind the names of a module's items; nothing behind those of the shader.
-fn decoration_of(alloc: Global, of: &Definition) -> Tried<String>
+// The decoration of the names of a module's items; nothing for the shader.
+fn decoration_of(alloc: Global, of: &Registered) -> AllocResult<String>
     ensures { IfOk result (λ t. string_bytes t ≡ decoration_of (definition_of of.now)) }
 {
     match of.module_index {
@@ -112,8 +113,9 @@ fn decoration_of(alloc: Global, of: &Definition) -> Tried<String>
 }
 
 impl<B: Backend> Builder<'_, B> {
-    /// What a text becomes, with what it imports: what it uses, then what it imports besides.
-    pub fn preprocessed(&self, of: &Definition, defs: &Defs) -> Checked<PreprocessOutput>
+    /// The preprocessed text of a module under definitions, with its imports: those that the text
+    /// uses, then the additional ones.
+    pub fn preprocessed(&self, of: &Registered, defs: &Defs) -> InnerResult<PreprocessOutput>
         ensures { let told = preprocessed_of (get_by_text defs.now) (definition_of of.now) in
             Gives output_of result told }
     {
@@ -123,8 +125,8 @@ impl<B: Backend> Builder<'_, B> {
         Ok(output)
     }
 
-    /// What the front end writes for a header, if it is valid.
-    pub fn written(&self, header: &Module, language: ShaderLanguage) -> Checked<String>
+    /// The text that the front end writes for a header, if the header is valid.
+    pub fn written(&self, header: &Module, language: ShaderLanguage) -> InnerResult<String>
         ensures { let front = B.front self.now.front.now in
             let m = module_value header.now in
             Gives string_bytes result (header_text front self.now.capabilities language m) }
@@ -143,8 +145,8 @@ impl<B: Backend> Builder<'_, B> {
         }
     }
 
-    /// The module that a text says.
-    pub fn parsed(&self, text: &str, language: ShaderLanguage) -> Checked<Module>
+    /// The module that a text is parsed to.
+    pub fn parsed(&self, text: &str, language: ShaderLanguage) -> InnerResult<Module>
         ensures { let front = B.front self.now.front.now in
             Gives module_value result (parsed_text front language text.now) }
     {
@@ -156,8 +158,8 @@ impl<B: Backend> Builder<'_, B> {
         }
     }
 
-    // The functions that are overridden in what is imported.
-    fn imported_overrides(&self, imports: &[Import]) -> Tried<Overrides>
+    // The functions that are overridden in the builds of imports.
+    fn imported_overrides(&self, imports: &[Import]) -> AllocResult<Overrides>
         ensures { let imported = imported_overriding (builds_of self.now.builds) [] in
             IfOk result (λ all. overriding_of all ≡ imported (map import_of imports.now)) }
     {
@@ -168,8 +170,8 @@ impl<B: Backend> Builder<'_, B> {
         Ok(all)
     }
 
-    // The header of what is imported, as the front end writes it.
-    fn header(&self, imports: &[Import], language: ShaderLanguage) -> Checked<String>
+    // The header of imports, as the front end writes it.
+    fn header(&self, imports: &[Import], language: ShaderLanguage) -> InnerResult<String>
         ensures { let s = settings_in B.front self.now in
             let builds = builds_of self.now.builds in
             Gives string_bytes result (write_header s language builds (map import_of imports.now)) }
@@ -178,8 +180,8 @@ impl<B: Backend> Builder<'_, B> {
         self.written(&header, language)
     }
 
-    // What stands before a text: its first lines, and the header of what is imported.
-    fn heading(&self, of: &Definition, imports: &[Import]) -> Checked<String>
+    // What precedes a text: its first lines, and the header of what is imported.
+    fn heading(&self, of: &Registered, imports: &[Import]) -> InnerResult<String>
         ensures { let s = settings_in B.front self.now in
             let d = definition_of of.now in
             let builds = builds_of self.now.builds in
@@ -193,11 +195,12 @@ impl<B: Backend> Builder<'_, B> {
         Ok(heading)
     }
 
-    // A build of nothing: its decoration, what it imports, and what is overridden there.
-    fn begin(&self, of: &Definition, output: &PreprocessOutput) -> Tried<Build>
-        requires { of.now.module_index ≤ 2047 }
-        ensures { let begun = begin_build (builds_of self.now.builds) (definition_of of.now) in
-            IfOk result (λ built. built_of built ≡ begun (map use_of output.now.imports.items)) }
+    // A build with nothing held yet: its decoration, its imports, and the functions that are
+    // overridden in their builds.
+    fn new_build(&self, of: &Registered, output: &PreprocessOutput) -> AllocResult<Build>
+        requires { of.now.module_index ≤ max_modules }
+        ensures { let empty = begin_build (builds_of self.now.builds) (definition_of of.now) in
+            IfOk result (λ built. built_of built ≡ empty (map use_of output.now.imports.items)) }
     {
         let decoration = decoration_of(self.alloc, of)?;
         let imports = imports_of(self.alloc, &output.imports)?;
@@ -208,8 +211,8 @@ impl<B: Backend> Builder<'_, B> {
         Ok(built)
     }
 
-    // The whole text of a build: what stands before it, and the text, of which the functions are read.
-    fn whole_text(&self, of: &Definition, text: &str, built: &mut Build) -> Checked<String>
+    // The whole text of a build: its heading, then the text, whose functions are read.
+    fn whole_text(&self, of: &Registered, text: &str, built: &mut Build) -> InnerResult<String>
         ensures { let s = settings_in B.front self.now in
             let whole = write_whole s (definition_of of.now) (builds_of self.now.builds) in
             Gives (whole_with built.new) result (whole text.now (built_of built.old)) }
@@ -229,17 +232,17 @@ impl<B: Backend> Builder<'_, B> {
         Ok(whole)
     }
 
-    // A build with its whole text.
-    fn begun(&self, of: &Definition, output: &PreprocessOutput) -> Checked<(Build, String)>
-        requires { of.now.module_index ≤ 2047 }
+    // A build with its whole text, and nothing held yet.
+    fn prepare(&self, of: &Registered, output: &PreprocessOutput) -> InnerResult<(Build, String)>
+        requires { of.now.module_index ≤ max_modules }
         ensures { let s = settings_in B.front self.now in
             let d = definition_of of.now in
             let out = output_of output.now in
             let builds = builds_of self.now.builds in
-            let begun = begin_build builds d out.uses in
-            Gives (λ r. whole_with r.0 r.1) result (write_whole s d builds out.text begun) }
+            let empty = begin_build builds d out.uses in
+            Gives (λ r. whole_with r.0 r.1) result (write_whole s d builds out.text empty) }
     {
-        let mut built = self.begin(of, output)?;
+        let mut built = self.new_build(of, output)?;
         let text = output.preprocessed_source.as_str();
         let whole = self.whole_text(of, text, &mut built)?;
         Ok((built, whole))
@@ -248,17 +251,19 @@ impl<B: Backend> Builder<'_, B> {
     /// Builds a text over the builds of what it imports.
     ///
     /// # Errors
-    /// The first fault, in this order: a function that overrides what isn't imported or may not be overridden there, a header that isn't
-    /// valid or can't be written, a text that is too large, what the front end says of it, a wrong form, a name that doesn't come
-    /// back; or want of memory. From the size of the text on, places count from where the text begins behind its heading.
-    pub fn build(&self, of: &Definition, output: &PreprocessOutput) -> Result<Build, Unbuilt>
-        requires { of.now.module_index ≤ 2047 }
+    /// The first fault, in this order: a function that overrides what isn't imported or may not be
+    /// overridden, a header that isn't valid or can't be written, a text that is too large, a fault
+    /// of the front end, a wrong form, a name that doesn't survive the round trip. Or out of
+    /// memory. From the size of the text on, places count from where the text begins after its
+    /// heading.
+    pub fn build(&self, of: &Registered, output: &PreprocessOutput) -> Result<Build, Unbuilt>
+        requires { of.now.module_index ≤ max_modules }
         ensures { let s = settings_in B.front self.now in
             let d = definition_of of.now in
             let out = output_of output.now in
             GivesBuilt built_of result (build s d out (builds_of self.now.builds)) }
     {
-        let (mut built, whole) = from_offset(0, self.begun(of, output))?;
+        let (mut built, whole) = from_offset(0, self.prepare(of, output))?;
         let offset = offset_of(&built);
         from_offset(offset, self.hold(of.language, &whole, &mut built))?;
         Ok(built)

@@ -1,31 +1,33 @@
 //! Builds of shader modules, each over the builds of what it imports.
 //!
-//! - `builder`: a build from a text to the module that it holds, step by step.
+//! - `builder`: a build, step by step, from a text to the module that the build holds.
 //! - `virtuals`: functions that may be overridden, and those that override them.
-//! - `hold`: what a build holds of the module that its whole text says.
-//! - `writeback`: whether the names of a header come back when it is written and read again.
+//! - `hold`: what a build holds of the module that its whole text is parsed to.
+//! - `writeback`: whether names survive when a header is written and parsed again.
+//! - `laws`: what the names of overriding functions say, and that no function overrides two.
 #![tactic(auto)]
 
 pub mod builder;
 mod hold;
+pub mod laws;
 mod virtuals;
 mod writeback;
 
 pub use builder::{Builder, Unbuilt};
 use indexmap::IndexMap;
-use naga_oil_form::FormFault;
+use naga_oil_form::{FormFault, FormResult};
 use naga_oil_ir::{
     Arena, Backend, BackendRefusal, Capabilities, Constant, Function, GlobalVariable, Module,
-    ShaderLanguage, Span, StructMember, Type, TypeInner, UniqueArena,
+    SPAN_SHIFT, ShaderLanguage, Span, StructMember, Type, TypeInner, UniqueArena,
 };
 use naga_oil_lines::decorate::{decode, decorated_name};
 use naga_oil_link::link::link_header;
 use naga_oil_link::reads::{
     empty_build, header_of, index_of, note_functions, offset_of, set_offset,
 };
-use naga_oil_link::{Build, Builds, Formed, Overrides, OwnItems, Places};
-use naga_oil_marks::{DECORATION_OVERRIDE_PRE, DECORATION_POST, DECORATION_PRE};
+use naga_oil_link::{Build, Builds, Overrides, OwnItems, Places};
 use naga_oil_pre::{ComposerErrorInner as Inner, PreprocessOutput, Preprocessor};
-use naga_oil_registry::{Checked, Definition, Defs, Import, Marked, Names, Tried};
+use naga_oil_registry::{Defs, Import, InnerResult, Marked, Names, Registered};
+use naga_oil_words::{AllocResult, DECORATION_OVERRIDE_PRE, DECORATION_POST, DECORATION_PRE};
 use std::alloc::Global;
 use std::collections::BTreeMap;

@@ -1,4 +1,5 @@
-//! Functions that may be overridden, and those that override them, as a text says by keywords that no front end knows.
+//! Functions that may be overridden, and those that override them: a text marks both with keywords
+//! that no front end knows.
 ghost use Rattle.std.specs.Prelude.{◌≡◌, ◌||◌, ◌+◌, ◌<◌, ◌≤◌, ◌^◌, length, map, Option, option_map, string_bytes, IfSome, IfOk, OnOk};
 ghost use Rattle.std.specs.BTreeMap.{get};
 ghost use Rattle.std.specs.List.{list_all};
@@ -10,7 +11,7 @@ ghost use Rattle.naga_oil_conditions.specs.Fault.{Fault};
 ghost use Rattle.naga_oil_conditions.specs.View.{fault_of, Gives};
 ghost use Rattle.std.specs.Option.{option_or};
 ghost use Rattle.naga_oil_link.specs.BuiltModule.{built_of, builds_of};
-ghost use Rattle.naga_oil_lines.specs.Text.{is_among, texts};
+ghost use Rattle.naga_oil_words.specs.Texts.{is_among, texts};
 ghost use Rattle.naga_oil_registry.specs.KeywordsView.{marked_of};
 ghost use Rattle.naga_oil_build.specs.Virtuals.{AreItemAndCode, names_of, blanked, override_name, marked_override, imported_build, override_fault, are_parts, item_and_code, with_override, with_overrides, unless_fault, functions_in};
 ghost use Rattle.naga_oil_build.specs.VirtualsView.{told_so, fault_over, override_over, overrides_over, functions_over, functions_with, TellsNext};
@@ -20,8 +21,8 @@ use super::*;
 use naga_oil_registry::keywords::{Edits, covered, edit, marked_in, with_edits};
 use ucd_perl::is_word_code;
 
-/// What a build's functions are read over: the builds of the make, what is imported, what stands behind the names of the
-/// build's own items, and whether any function of what is imported may be overridden.
+/// What the functions of a build are read over: the earlier builds, the imports, the decoration of
+/// the build's own items, and whether any imported function may be overridden.
 #[derive(Clone, Copy)]
 pub(crate) struct Over<'a> {
     pub(crate) builds: &'a Builds,
@@ -31,7 +32,7 @@ pub(crate) struct Over<'a> {
 }
 
 // Adds a name, unless it is there.
-fn add_name(alloc: Global, names: &mut Vec<String>, name: &str) -> Tried
+fn add_name(alloc: Global, names: &mut Vec<String>, name: &str) -> AllocResult
     ensures { OnOk result (texts names.new.items ≡ with_new (texts names.old.items) name.now) }
 {
     if !names.iter().any(|other| other.as_str() == name) {
@@ -41,7 +42,12 @@ fn add_name(alloc: Global, names: &mut Vec<String>, name: &str) -> Tried
 }
 
 /// Adds a function that overrides another, unless it is known.
-pub(crate) fn add_override(alloc: Global, all: &mut Overrides, base: &str, name: &str) -> Tried
+pub(crate) fn add_override(
+    alloc: Global,
+    all: &mut Overrides,
+    base: &str,
+    name: &str,
+) -> AllocResult
     ensures { let more = overridden (overriding_of all.old) base.now name.now in
         OnOk result (overriding_of all.new ≡ more) }
 {
@@ -54,7 +60,7 @@ pub(crate) fn add_override(alloc: Global, all: &mut Overrides, base: &str, name:
 }
 
 // The names of functions.
-fn names_of(alloc: Global, functions: &[Marked<'_>]) -> Tried<Names>
+fn names_of(alloc: Global, functions: &[Marked<'_>]) -> AllocResult<Names>
     ensures { IfOk result (λ names. texts names.keys ≡ names_of (map marked_of functions.now)) }
 {
     let mut names = Names::new(alloc);
@@ -64,8 +70,8 @@ fn names_of(alloc: Global, functions: &[Marked<'_>]) -> Tried<Names>
     Ok(names)
 }
 
-// Puts other characters in the place of each keyword.
-fn blank(edits: &mut Edits, functions: &[Marked<'_>], blank: &str) -> Tried
+// Replaces each keyword by other characters.
+fn blank(edits: &mut Edits, functions: &[Marked<'_>], blank: &str) -> AllocResult
     requires { length blank.now ≤ 16 }
     ensures { let more = blanked blank.now (get nat_cmp edits.old) (map marked_of functions.now) in
         OnOk result (get nat_cmp edits.new ≡ more) }
@@ -76,14 +82,15 @@ fn blank(edits: &mut Edits, functions: &[Marked<'_>], blank: &str) -> Tried
     Ok(())
 }
 
-// Whether a text is of word characters.
+// Whether a text consists of word characters.
 fn is_word(text: &str) -> bool
     ensures { result ≡ list_all is_word_char (chars text.now) }
 {
     text.chars().all(|c| is_word_code(c as u32))
 }
 
-// Whether these may be an item and a code: neither is empty, and a code is of word characters.
+// Whether these may be an item and a code: neither is empty, and the code consists of word
+// characters.
 fn are_parts(item: &str, code: &str) -> bool
     ensures { result ≡ are_parts item.now code.now }
 {
@@ -103,7 +110,7 @@ fn split_name(name: &str) -> Option<(&str, &str)>
     Some((item, code))
 }
 
-// The build of a module that is imported.
+// The build of an imported module.
 fn imported_build<'b>(builds: &'b Builds, imports: &[Import], name: &str) -> Option<&'b Build>
     ensures { let imported = imported_build (builds_of builds.now) (map import_of imports.now) in
         option_map (λ b. built_of b.now) result ≡ imported name.now }
@@ -122,15 +129,15 @@ fn may_override(base: &Build, item: &str, any: bool) -> bool
     any || base.virtual_functions.contains(item)
 }
 
-// Why an item can't be overridden by a function whose name is at a place: its module isn't imported, or it isn't virtual there,
-// and not any function may be overridden.
+// Why an item can't be overridden by the function whose name is at a place: its module isn't
+// imported, or the item isn't virtual there and `override_any` is off.
 fn override_fault(
     alloc: Global,
     over: Over<'_>,
     module_name: String,
     item: &str,
     place: usize,
-) -> Tried<Option<Inner>>
+) -> AllocResult<Option<Inner>>
     requires { place + length item.now + 16 < 2 ^ 64 }
     ensures { let told = fault_over over.entry (string_bytes module_name) item.now place in
         IfOk result (λ fault. option_map fault_of fault ≡ option_map Some told) }
@@ -148,8 +155,8 @@ fn override_fault(
     }
 }
 
-// Notes that a build overrides an item of a module by a function. Its keyword becomes spaces, and the mark of the module one of an
-// override.
+// Notes that a build overrides an item of a module by a function. The keyword becomes spaces, and
+// the mark of the module becomes that of an override.
 #[tactic(auto, using(crate::proofs::SplitLemmas::item_within))]
 fn note_override(
     alloc: Global,
@@ -159,7 +166,7 @@ fn note_override(
     decoration: &str,
     overriding: &mut Overrides,
     edits: &mut Edits,
-) -> Tried
+) -> AllocResult
     requires { AreItemAndCode of.now.name.now item.now code.now }
     ensures edits { let before = get nat_cmp edits.old in
         let more = marked_override before (marked_of of.now) item.now in
@@ -176,7 +183,8 @@ fn note_override(
     add_override(alloc, overriding, of.name, &own)
 }
 
-// Reads a function by which a build overrides another, or its fault; any other stays.
+// Reads a function by which a build overrides another. Returns its fault, if there is one; other
+// functions are left as they are.
 #[tactic(auto, using(crate::proofs::SplitLemmas::item_within))]
 fn read_override(
     alloc: Global,
@@ -184,7 +192,7 @@ fn read_override(
     over: Over<'_>,
     overriding: &mut Overrides,
     edits: &mut Edits,
-) -> Tried<Option<Inner>>
+) -> AllocResult<Option<Inner>>
     ensures { let old = told_so edits.old overriding.old in
         let new = told_so edits.new overriding.new in
         let next = λ (before : Option Fault).
@@ -201,14 +209,14 @@ fn read_override(
     override_fault(alloc, over, module_name, item, of.place)
 }
 
-// Reads functions by which a build overrides others, or the last of their faults.
+// Reads the functions by which a build overrides others. Returns the last of their faults.
 fn read_overrides(
     alloc: Global,
     functions: &[Marked<'_>],
     over: Over<'_>,
     overriding: &mut Overrides,
     edits: &mut Edits,
-) -> Checked
+) -> InnerResult
     ensures { let old = told_so edits.old overriding.old None in
         let told = overrides_over over.entry old (map marked_of functions.now) in
         let new = told_so edits.new overriding.new None in
@@ -224,14 +232,14 @@ fn read_overrides(
     }
 }
 
-/// Reads the functions of a build that may be overridden and those that override what it imports, outside comments. Gives the names
-/// of the first, and the text without the keywords.
+/// Reads the functions of a build that may be overridden, and those that override imported ones,
+/// outside comments. Returns the names of the former, and the text without the keywords.
 pub(crate) fn read_functions(
     alloc: Global,
     text: &str,
     over: Over<'_>,
     overriding: &mut Overrides,
-) -> Checked<(Names, String)>
+) -> InnerResult<(Names, String)>
     ensures { let told = functions_over over.entry (overriding_of overriding.old) text.now in
         Gives (functions_with overriding.new) result told }
 {

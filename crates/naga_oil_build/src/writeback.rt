@@ -1,4 +1,4 @@
-//! Whether the names of what a module owns come back when its header is written and read again.
+//! Whether the names of what a module owns survive when its header is written and parsed again.
 ghost use Rattle.std.specs.Prelude.{◌≡◌, ◌++◌, [], map, take, option_map, string_bytes, IfOk, OnOk};
 ghost use Rattle.naga_oil_ir.specs.ModuleValue.{module_value, function_value};
 ghost use Rattle.naga_oil_ir.specs.Rows.{type_row, constant_row, global_row, member_label};
@@ -6,7 +6,7 @@ ghost use Rattle.naga_oil_conditions.specs.View.{Gives};
 ghost use Rattle.naga_oil_link.specs.BuiltModule.{built_of};
 ghost use Rattle.naga_oil_link.specs.CopiedBuild.{EndWith};
 ghost use Rattle.naga_oil_link.specs.OwnPlaces.{own_of};
-ghost use Rattle.naga_oil_lines.specs.Text.{texts};
+ghost use Rattle.naga_oil_words.specs.Texts.{texts};
 ghost use Rattle.naga_oil_build.specs.Writeback.{named_item, named_items, named_functions, struct_members, last_named, lost_member, lost_of, lost_by, lost_at, lost_among, have_come_back, lost, unless_lost, came_back};
 ghost use Rattle.naga_oil_build.specs.WritebackView.{labels_of, named_of, held, seen_lost, is_asked, items_asked};
 
@@ -15,7 +15,7 @@ use naga_oil_ir::Index;
 use naga_oil_link::copied::{ending_of, has_name_ending};
 use naga_oil_link::items::named;
 
-// An item of a name, with its span; of a struct its members.
+// An item with a name, with its span and, for a struct, its members.
 #[derive(Clone, Copy)]
 struct NamedItem<'m> {
     name: &'m str,
@@ -23,10 +23,10 @@ struct NamedItem<'m> {
     span: Span,
 }
 
-// The name of what doesn't come back, and the span of its item.
+// The name of what is lost, and the span of its item.
 type Lost<'m> = Option<(&'m str, Span)>;
 
-// What came back, by names.
+// The items of the parsed header, by their names.
 type Back<'b> = BTreeMap<&'b str, NamedItem<'b>>;
 
 // The members of a struct.
@@ -39,13 +39,13 @@ fn members(of: &Type) -> Option<&[StructMember]>
     }
 }
 
-// One item more, if it has a name.
+// Adds an item, if it has a name.
 fn push_named<'m>(
     items: &mut Vec<NamedItem<'m>>,
     name: &'m Option<String>,
     members: Option<&'m [StructMember]>,
     span: Span,
-) -> Tried
+) -> AllocResult
     ensures { let labels = labels_of members.entry in
         let more = named_item (option_map string_bytes name.now) labels span in
         OnOk result (map named_of items.new.items ≡ map named_of items.old.items ++ more) }
@@ -60,7 +60,7 @@ fn push_named<'m>(
     Ok(())
 }
 
-// Whether a place is asked for: it is among some places, or all are.
+// Whether a place is requested: it is among some places, or all are.
 fn is_asked(at: Option<&Places>, place: usize) -> bool
     ensures { result ≡ is_asked at.entry place }
 {
@@ -72,7 +72,7 @@ fn named_types<'m>(
     alloc: Global,
     of: &'m UniqueArena<Type>,
     at: Option<&Places>,
-) -> Tried<Vec<NamedItem<'m>>>
+) -> AllocResult<Vec<NamedItem<'m>>>
     ensures { let rows = map (λ e. (type_row e.0, e.1)) of.now in
         let told = named_items (items_asked at.entry rows) in
         IfOk result (λ items. map named_of items.items ≡ told) }
@@ -92,7 +92,7 @@ fn named_constants<'m>(
     alloc: Global,
     of: &'m Arena<Constant>,
     at: Option<&Places>,
-) -> Tried<Vec<NamedItem<'m>>>
+) -> AllocResult<Vec<NamedItem<'m>>>
     ensures { let rows = map (λ e. (constant_row e.0, e.1)) of.now in
         let told = named_items (items_asked at.entry rows) in
         IfOk result (λ items. map named_of items.items ≡ told) }
@@ -111,7 +111,7 @@ fn named_globals<'m>(
     alloc: Global,
     of: &'m Arena<GlobalVariable>,
     at: Option<&Places>,
-) -> Tried<Vec<NamedItem<'m>>>
+) -> AllocResult<Vec<NamedItem<'m>>>
     ensures { let rows = map (λ e. (global_row e.0, e.1)) of.now in
         let told = named_items (items_asked at.entry rows) in
         IfOk result (λ items. map named_of items.items ≡ told) }
@@ -126,7 +126,7 @@ fn named_globals<'m>(
 }
 
 // The functions that have names.
-fn named_functions<'m>(alloc: Global, of: &'m Arena<Function>) -> Tried<Vec<NamedItem<'m>>>
+fn named_functions<'m>(alloc: Global, of: &'m Arena<Function>) -> AllocResult<Vec<NamedItem<'m>>>
     ensures { let functions = map (λ e. (function_value e.0, e.1)) of.now in
         let told = named_functions functions in
         IfOk result (λ items. map named_of items.items ≡ told) }
@@ -138,7 +138,7 @@ fn named_functions<'m>(alloc: Global, of: &'m Arena<Function>) -> Tried<Vec<Name
     Ok(items)
 }
 
-// The first so many functions.
+// The first `count` functions.
 fn first_functions(of: &Arena<Function>, count: usize) -> &[(Function, Span)]
     ensures { result.now ≡ take count of.now }
 {
@@ -146,8 +146,8 @@ fn first_functions(of: &Arena<Function>, count: usize) -> &[(Function, Span)]
     &functions[..count.min(functions.len())]
 }
 
-// Items by their names, of one name the last.
-fn by_name<'b>(alloc: Global, items: &[NamedItem<'b>]) -> Tried<Back<'b>>
+// Items by their names; the last with a name wins.
+fn by_name<'b>(alloc: Global, items: &[NamedItem<'b>]) -> AllocResult<Back<'b>>
     ensures { IfOk result (λ back. held back ≡ last_named (map named_of items.now)) }
 {
     let mut back = BTreeMap::new(alloc);
@@ -157,7 +157,8 @@ fn by_name<'b>(alloc: Global, items: &[NamedItem<'b>]) -> Tried<Back<'b>>
     Ok(back)
 }
 
-// The name of the first member that has another name there; without one it is empty.
+// The name of the first member whose name differs on the other side; it is empty if the member has
+// none.
 fn lost_member<'m>(ours: &'m [StructMember], theirs: &[StructMember]) -> Option<&'m str>
     ensures { let first = lost_member (map member_label ours.now) (map member_label theirs.now) in
         option_map (λ r. r.now) result ≡ first }
@@ -167,7 +168,8 @@ fn lost_member<'m>(ours: &'m [StructMember], theirs: &[StructMember]) -> Option<
     Some(named(&our.name).unwrap_or(""))
 }
 
-// What is lost of an item: its name unless it comes back, of a struct as one, and else a member.
+// What is lost of an item: its name, unless an item has that name, as a struct if this is one; or
+// else a member.
 fn lost_of<'m>(ours: &NamedItem<'m>, theirs: Option<&NamedItem<'_>>) -> Option<&'m str>
     ensures { let back = option_map (λ i. named_of i.now) theirs.entry in
         option_map (λ r. r.now) result ≡ lost_of (named_of ours.now) back }
@@ -182,7 +184,7 @@ fn lost_of<'m>(ours: &NamedItem<'m>, theirs: Option<&NamedItem<'_>>) -> Option<&
     }
 }
 
-// The same with the item's span, if the name that it comes back by is among the owned ones.
+// What is lost of an item, with its span, if the name to look for is owned.
 fn lost_by<'m>(item: &NamedItem<'m>, by: &str, back: &Back<'_>, owned: &Names) -> Lost<'m>
     ensures { let told = lost_by (texts owned.now.keys) by.now (held back.now) in
         seen_lost result ≡ told (named_of item.now) }
@@ -196,14 +198,14 @@ fn lost_by<'m>(item: &NamedItem<'m>, by: &str, back: &Back<'_>, owned: &Names) -
     }
 }
 
-// The same of an item that comes back by its decorated name.
+// What is lost of an item that survives under its decorated name.
 fn lost_at<'m>(
     alloc: Global,
     item: &NamedItem<'m>,
     back: &Back<'_>,
     owned: &Names,
     decoration: &str,
-) -> Tried<Lost<'m>>
+) -> AllocResult<Lost<'m>>
     ensures { let names = texts owned.now.keys in
         let told = lost_at names decoration.now (held back.now) (named_of item.now) in
         IfOk result (λ lost. seen_lost lost ≡ told) }
@@ -223,7 +225,7 @@ fn lost_among<'m>(
     back: &[NamedItem<'_>],
     owned: &Names,
     decoration: &str,
-) -> Tried<Lost<'m>>
+) -> AllocResult<Lost<'m>>
     ensures { let names = texts owned.now.keys in
         let back = last_named (map named_of back.now) in
         let told = lost_among names decoration.now back (map named_of items.now) in
@@ -239,7 +241,7 @@ fn lost_among<'m>(
     Ok(None)
 }
 
-// What is lost of a function, if it has one of the owned names, all of which end so.
+// What is lost of a function, if it has one of the owned names, all of which end with `ending`.
 fn lost_function<'m>(
     function: &'m Function,
     span: Span,
@@ -276,14 +278,15 @@ fn have_come_back(names: &Names, back: &Back<'_>) -> bool
     true
 }
 
-// The first of these functions that is lost: none where all owned names come back. These likely end with a decoration.
+// The first of these functions that is lost: none if all owned names survive. Most of these end
+// with a decoration.
 fn lost_among_functions<'m>(
     alloc: Global,
     functions: &'m [(Function, Span)],
     back: &[NamedItem<'_>],
     owned: &Names,
     decoration: &str,
-) -> Tried<Lost<'m>>
+) -> AllocResult<Lost<'m>>
     ensures { let ours = named_functions (map (λ e. (function_value e.0, e.1)) functions.now) in
         let back = last_named (map named_of back.now) in
         let told = lost_among (texts owned.now.keys) [] back ours in
@@ -303,8 +306,8 @@ fn lost_among_functions<'m>(
     Ok(None)
 }
 
-// The first of what a module owns that is lost: types, which get the decoration as they are copied, then constants, globals,
-// and so many functions.
+// The first lost item of what a module owns: types, which get the decoration as they are copied,
+// then constants, globals, and the first `functions` functions.
 fn lost<'m>(
     alloc: Global,
     source: &'m Module,
@@ -312,7 +315,7 @@ fn lost<'m>(
     back: &Module,
     built: &Build,
     functions: usize,
-) -> Tried<Lost<'m>>
+) -> AllocResult<Lost<'m>>
     ensures { let ours = module_value source.now in
         let theirs = module_value back.now in
         let told = lost ours (own_of own.now) theirs (built_of built.now) functions in
@@ -342,7 +345,7 @@ fn lost<'m>(
     lost_among_functions(alloc, ours, &theirs, &built.owned_functions, decoration)
 }
 
-// Refuses the first that is lost.
+// Fails with the first item that is lost.
 fn check_back(
     alloc: Global,
     source: &Module,
@@ -350,7 +353,7 @@ fn check_back(
     back: &Module,
     built: &Build,
     functions: usize,
-) -> Checked
+) -> InnerResult
     ensures { let ours = module_value source.now in
         let theirs = module_value back.now in
         let told = lost ours (own_of own.now) theirs (built_of built.now) functions in
@@ -364,9 +367,9 @@ fn check_back(
 }
 
 impl<B: Backend> Builder<'_, B> {
-    /// Whether what a module owns comes back by name when its header is written in WGSL and read again: its types, of structs the
-    /// names of the members too, its constants and globals, then its functions, of which the first so many are compared. The header
-    /// has to be written in GLSL as well.
+    /// Checks that what a module owns keeps its names when its header is written in WGSL and parsed
+    /// again: types, with the members of structs, constants and globals, then the first `functions`
+    /// functions. The header must be writable in GLSL as well.
     #[tactic(auto, unfolding(crate::specs::Writeback::came_back))]
     pub(crate) fn came_back(
         &self,
@@ -374,7 +377,7 @@ impl<B: Backend> Builder<'_, B> {
         own: &OwnItems,
         built: &Build,
         functions: usize,
-    ) -> Checked
+    ) -> InnerResult
         ensures { let front = B.front self.now.front.now in
             let ours = module_value source.now in
             let told = came_back front self.now.capabilities ours (own_of own.now) in

@@ -1,20 +1,20 @@
--- The kind that the readers give a line is the one that the grammar gives it.
+-- The kind that the readers return is the kind that the grammar gives.
 use Rattle.std.proofs.Common.{◌≡◌, inl, inr, ℕ, Bool, true, false, cond, Option, Some, None, List, codes, refl, sym, ap, ◌∙◌, subst}
 use Rattle.std.specs.Prelude.{◌↔◌}
 use Rattle.std.specs.Str.{chars}
-use Rattle.naga_oil_lines.specs.Text.{◌>>=◌}
+use Rattle.naga_oil_words.specs.OptionSteps.{◌>>=◌}
 use Rattle.naga_oil_conditions.specs.LineKinds as grammar
 use Rattle.naga_oil_conditions.specs.Kind.{LineKind, version, condition, import_path, define, other, defined, undefined, compares, ◌or_else◌, read_as, kind_behind_hash, unversioned_kind_of, kind_of}
 use Rattle.naga_oil_conditions.specs.KindGrammar.{◌above◌, IfdefRow, IfndefRow, IfRow, ImportPathRow, DefineRow, OtherRow, IsKindBehindHash, HashRow, VersionRow, IsUnversionedKind, IsKind}
 use Rattle.naga_oil_conditions.proofs.RunLemmas.{some_is, bind_some}
 use Rattle.naga_oil_conditions.proofs.LineGrammarLemmas.{hash-reads, hash-is, version-reads, version-is, ifdef-reads, ifdef-is, ifndef-reads, ifndef-is, if-reads, if-is, begins-reads, begins-is, import-reads, import-is, import_path-reads, import_path-is, define-reads, define-is}
 
--- what a reader makes is what the row makes
+-- the reader's kind is the kind of the row
 record ReadsRow (o : Option LineKind) (row : LineKind → Type 0) : Type 0 where
   reads : (k : LineKind) → row k → o ≡ Some k
   is : (k : LineKind) → o ≡ Some k → row k
 
--- the kind is the rows' one and no other
+-- the kind is that of the rows, and no other
 record GivesKind (kind : LineKind) (rows : LineKind → Type 0) : Type 0 where
   here : rows kind
   only : (k : LineKind) → rows k → k ≡ kind

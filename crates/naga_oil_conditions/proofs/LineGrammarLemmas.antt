@@ -1,4 +1,4 @@
--- The readers of the kinds of lines read what the grammar says, and nothing else.
+-- The readers of the kinds of lines read exactly what the grammar says.
 use Rattle.std.proofs.Common.{◌≡◌, ◌≢◌, ◌⊎◌, inl, inr, is_some, cond, ℕ, ◌||◌, Bool, true, false, Option, Some, None, List, [], ◌∷◌, ◌++◌, ◌+◌, ◌-◌, ◌<◌, length, take, drop, codes, refl, sym, ap, ◌∙◌, subst, arith, length-append, length-take, length-drop}
 use Rattle.std.specs.Option.{option_map}
 use Rattle.std.proofs.lemmas.List.{take-append-drop}
@@ -8,7 +8,8 @@ use Rattle.std.proofs.Math.Seq.{take-append_seam, drop-append_seam}
 use Rattle.std.specs.Str.{encode_utf8_all}
 use Rattle.std.specs.Prelude.{bytes_eq}
 use Rattle.std.specs.Char.{is_not_whitespace, is_ascii_digit}
-use Rattle.naga_oil_lines.specs.Text.{◌>>=◌, past_word}
+use Rattle.naga_oil_words.specs.OptionSteps.{◌>>=◌}
+use Rattle.naga_oil_lines.specs.Text.{past_word}
 use Rattle.naga_oil_lines.proofs.TextLemmas.{past_word-append, past_word-some}
 use Rattle.naga_oil_conditions.specs.LineKinds.{run, behind_run, is_operator_char, operation_at, cut, comparison_at, if_condition, has_import, import_path, define, after_white, past_white, past_hash, past_else, past_directive, has_keyword, text_at, name_text, is_name_char, is_value_char, version, arm, named_arm, ifdef, ifndef}
 use Rattle.naga_oil_conditions.specs.LineGrammar.{IsRun, IsWord, IsBehindWhite, IsBehindGap, IsBehindHash, IsBehindKeyword, IsBehindDirective, IsBehindElse, IsBehindArm, IsNamedArm, IsVersion, IsIfdef, IsIfndef, IsOperation, IsCompared, IsCut, IsIf, IsImport, IsImportPath, IsDefineValue, IsDefine}
@@ -23,7 +24,7 @@ pub hash-is : (line rest : List ℕ) → past_hash line ≡ Some rest → IsBehi
 unfolding past_hash
 hash-is line rest e = subst (IsBehindWhite line) (past_word-some (codes "#") (after_white line) rest e) (white-is line)
 
--- ---- a word behind white space
+-- ---- a word after white space
 pub keyword-reads : (word cs rest : List ℕ) → IsBehindKeyword word cs rest → past_word word (after_white cs) ≡ Some rest
 keyword-reads word cs rest h = ap (past_word word) (sym (white-only cs (word ++ rest) h)) ∙ past_word-append word rest
 
@@ -53,7 +54,7 @@ else-is cs =
       | None ↦ λ w. refl
     ] refl
 
--- a word that does not begin as `else` does
+-- a word that does not begin with `else`
 abbrev pub IsNoElse : List ℕ → Type 0
 IsNoElse word = (behind : List ℕ) → past_else (word ++ behind) ≡ (false, word ++ behind)
 
@@ -204,7 +205,7 @@ cut_by name front end e some one =
     let end_is : drop (length name - 1) name ≡ end = ap (λ k. drop k name) count ∙ ap (drop (length front)) e ∙ drop-append_seam front end in
     rw (more, front_is, end_is) refl
 
--- a name's last character behind one or more
+-- a name's last character after one or more
 record CutAt (name front end : List ℕ) : Type 0 where
   first : ℕ
   more : List ℕ
@@ -317,7 +318,7 @@ if-is e name operator value cs h =
       parts = comparison-is name operator value b.0.1 (d.1 ∙ (λ i. Some ((both i).1, (both i).2, (both i).3)));
     }
 
--- ---- words and what follows
+-- ---- words and the text after them
 some_there : {A : Type 0} (o : Option A) (x : A) → o ≡ Some x → is_some o ≡ true
 some_there o x e = ap is_some e
 

@@ -1,4 +1,4 @@
--- Parts of a line by its characters.
+-- Parts of a line by their characters.
 use Rattle.std.proofs.Common.{◌≡◌, ◌≢◌, ℕ, suc, ◌+◌, ◌-◌, ◌&&◌, ◌==◌, not, option_and_then, Bool, true, false, cond, Option, Some, None, List, [], ◌∷◌, ◌++◌, length, take, drop, refl, sym, ap, ◌∙◌, subst, append-nil, length-append, arith, eq-eqb}
 use Rattle.std.proofs.Math.Seq.{take-append_seam, drop-append_seam}
 use Rattle.std.specs.Prelude.{nat_lt}
@@ -17,7 +17,7 @@ use Rattle.naga_oil_conditions.specs.LineKinds.{run, behind_run, text_at, after_
 pub chars-none : (bs : List ℕ) → IsUtf8 bs → chars bs ≡ [] → length bs ≡ 0
 chars-none bs u e = ap length (sym (encodes-chars bs u) ∙ ap encode_utf8_all e)
 
--- the text of a run's characters
+-- the text of the characters of a run
 pub text_of : (bs cs : List ℕ) → IsUtf8 bs → chars bs ≡ cs → bs ≡ encode_utf8_all cs
 text_of bs cs u e = sym (encodes-chars bs u) ∙ ap encode_utf8_all e
 

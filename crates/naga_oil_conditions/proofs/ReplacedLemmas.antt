@@ -24,7 +24,7 @@ use Rattle.std.specs.Fmt.{decimal, digits, digits_onto, digit_glyph}
 use Rattle.std.proofs.lemmas.List.Sums.{sum_by-append, sum_by-cons}
 use Rattle.naga_oil_conditions.specs.declared.shader_def.ShaderDefValue.TheVariants as def
 
--- ---- what is left of a text
+-- ---- the rest of a text
 pub behind_behind : (i j : ℕ) (text middle rest : List ℕ) → IsBehind i text middle → IsBehind j middle rest → IsBehind (i + j) text rest
 behind_behind i j text middle rest f s = record {
   left = s.left ∙ ap (drop j) f.left ∙ drop-drop j i (chars text);
@@ -126,7 +126,7 @@ none_to_replace defs [] ds none = refl
 none_to_replace defs (c ∷ cs) ds none =
     plain_step defs c (cs ++ ds) none.0 ∙ ap (λ l. encode_utf8 c ++ l) (none_to_replace defs cs ds none.1) ∙ sym (append_assoc (encode_utf8 c) (encode_utf8_all cs) (replaced_from defs ds))
 
--- a front without `#` stands as it is
+-- a front without `#` is unchanged
 pub replaced_front : (defs : Definitions) (front cs : List ℕ) → IsUtf8 front → NoCharPasses (λ c. eqb c 35) front → replaced_from defs (chars front ++ cs) ≡ front ++ replaced_from defs cs
 replaced_front defs front cs u none =
     let spelled : chars front ≡ none.0 = sym (chars_from_encodes none.0 front u none.1) in
@@ -169,7 +169,7 @@ module _ (text start inner : List ℕ) (white : IsBehind (prefix_len is_whitespa
       behind = behind_behind _ _ _ _ _ (behind_behind _ _ _ _ _ (behind_behind _ _ _ _ _ white (behind_char _ _ _ brace)) split.behind) (behind_char _ _ _ close);
     }
 
--- ---- what the code writes for a `#` name
+-- ---- the text that the code writes for a `#` name
 pub bare_written : (defs : Definitions) (text before after : List ℕ) → hash_name (chars text) ≡ None → after ≡ before ++ 35 ∷ [] → after ++ replaced_from defs (chars text) ≡ before ++ replaced_from defs (35 ∷ chars text)
 bare_written defs text before after none e =
     ap (λ l. l ++ replaced_from defs (chars text)) e
@@ -193,7 +193,7 @@ module _ (defs : Definitions) (text name rest before after : List ℕ) (s : Spli
   pub value_written : (value : ShaderDefValue) → defs name ≡ Some value → after ≡ before ++ value_text value → after ++ replaced_from defs (chars rest) ≡ before ++ replaced_from defs (35 ∷ chars text)
   value_written value same e = written (Some value) same e
 
-  -- a name that has no value stands as it is
+  -- a name that has no value is unchanged
   pub name_written : (spelling : List ℕ) → defs name ≡ None → text ≡ spelling ++ rest → IsUtf8 spelling → after ≡ (before ++ 35 ∷ []) ++ spelling
       → after ++ replaced_from defs (chars rest) ≡ before ++ replaced_from defs (35 ∷ chars text)
   unfolding own encode
@@ -215,7 +215,7 @@ to_next_hash defs text front rest before after s e =
     let whole : replaced_from defs (chars text) ≡ front ++ replaced_from defs (35 ∷ chars rest) = ap (replaced_from defs) spelled ∙ replaced_front defs front (35 ∷ chars rest) s.front_utf8 s.plain in
     ap (λ l. l ++ replaced_from defs (35 ∷ chars rest)) e ∙ append_assoc before front (replaced_from defs (35 ∷ chars rest)) ∙ ap (λ l. before ++ l) (sym whole)
 
--- a text without `#` stands as it is
+-- a text without `#` is unchanged
 pub replaced_plain : (defs : Definitions) (text : List ℕ) → IsUtf8 text → NoCharPasses (λ c. eqb c 35) text → replaced_from defs (chars text) ≡ text
 unfolding replaced_from pieces
 replaced_plain defs text u none = ap (replaced_from defs) (sym (append-nil (chars text))) ∙ replaced_front defs text [] u none ∙ append-nil text

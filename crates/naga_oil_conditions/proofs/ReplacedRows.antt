@@ -1,4 +1,4 @@
--- Lines and what they become, computed.
+-- Rows of lines with their `#` names replaced, computed.
 use Rattle.std.proofs.Common.{◌≡◌, true, [], ◌∷◌, refl, cond, Some, None}
 use lib.Utf8.{encode}
 use Rattle.std.specs.Prelude.{codes, bytes_eq}

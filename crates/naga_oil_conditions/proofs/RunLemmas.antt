@@ -1,4 +1,4 @@
--- Runs, words and white space at the front, as the readers find them and as the grammar has them.
+-- Runs, words and white space at the front, by the readers and by the grammar.
 use Rattle.std.proofs.Common.{◌≡◌, ◌≢◌, ℕ, suc, ◌+◌, ◌==◌, Bool, true, false, cond, Option, Some, None, List, [], ◌∷◌, ◌++◌, length, take, drop, refl, sym, ap, ◌∙◌, subst, arith, option_and_then}
 use borrow.Author.Tests.{ne_eqb}
 use Rattle.std.specs.List.{prefix_len, list_all}

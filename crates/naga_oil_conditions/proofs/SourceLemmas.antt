@@ -1,4 +1,4 @@
--- Lines and covered lines side by side.
+-- Lines paired with their covered lines.
 use Rattle.std.proofs.Common.{◌-◌, Bool, true, false, cond, eqb, get_or, ◌≡◌, ℕ, ◌+◌, ◌<◌, ◌≤◌, ◌^◌, List, [], ◌∷◌, length, take, refl, sym, ap, subst, ◌∙◌, arith, length-take}
 use Rattle.std.specs.Prelude.{All}
 use Rattle.std.specs.List.{slice_split, onto_first}
@@ -26,7 +26,7 @@ source_even text = placed_even Code 0 (lines text)
 pub placed_none : (at : ℕ) (texts covers : List (List ℕ)) → texts ≡ [] → placed at texts covers ≡ []
 placed_none at texts covers e = ap (λ v. placed at v covers) e
 
--- the first of them
+-- the first line
 pub placed_first : (at : ℕ) (texts covers more rest : List (List ℕ)) (x c : List ℕ) → texts ≡ x ∷ more → covers ≡ c ∷ rest
     → placed at texts covers ≡ record { at = at; text = x; covered = c } ∷ placed (next_place at x) more rest
 placed_first at texts covers more rest x c e f = ap (λ v. placed at v covers) e ∙ ap (placed at (x ∷ more)) f
@@ -44,11 +44,11 @@ even_on at texts covers more rest x c e f h = All-tail IsEven _ _ (even_here at 
 pub even_none : (at : ℕ) (texts covers : List (List ℕ)) → texts ≡ [] → All IsEven (placed at texts covers)
 even_none at texts covers e = subst (λ v. All IsEven (placed at v covers)) (sym e) (All-nil IsEven)
 
--- what is made of a text's lines
+-- the remaining lines of a text at its start
 pub source_begins : (made : Left) (rest text : List ℕ) → made ≡ record { place = 0; left = source_lines rest } → rest ≡ text → made ≡ record { place = 0; left = source_lines text }
 source_begins made rest text e same = subst (λ t. made ≡ record { place = 0; left = source_lines t }) same e
 
--- ---- the place behind them
+-- ---- the place after the lines
 -- the lengths of texts, each with one byte more for its end
 abbrev span : List (List ℕ) → ℕ
 span [] = 0
@@ -84,7 +84,7 @@ end_of_placed : (s : CommentState) (at : ℕ) (texts : List (List ℕ)) → end_
 end_of_placed s at [] = omega arith
 end_of_placed s at (x ∷ texts) = end_of_placed (cover s x).1 (next_place at x) texts ∙ omega arith
 
--- the lines of a text end in its room
+-- the place after the lines of a text fits
 pub source_fits : (text : List ℕ) → length text < 2 ^ 63 → end_place 0 (source_lines text) ≤ 2 ^ 63
 source_fits text fits =
     let parts = slice_split (λ b. eqb b 10) text in

@@ -1,4 +1,4 @@
--- What `parse` gives is the value that is read.
+-- The results of `parse` are the values that are read.
 use Rattle.std.proofs.Common.{◌≡◌, ℕ, ◌^◌, Bool, true, false, ◌&&◌, cond, ltb, List, length, ℤ, Option, Some, None, Result, Ok, Err, Decides, refl, ap, sym}
 use Rattle.std.specs.Prelude.{OkIff, bytes_eq}
 use Rattle.std.specs.Result.{result_ok}

@@ -1,4 +1,4 @@
--- What rows compute with.
+-- Definitions that rows unfold.
 use lib.Utf8.{encode}
 use Rattle.std.specs.Str.{chars}
 use Rattle.ucd_perl.proofs.Computing.{ucd_perl}

@@ -1,11 +1,11 @@
--- The value that a text defines.
+-- The value of a definition, by its text.
 use Rattle.std.specs.Prelude.{true, List, ℕ, Option, Some, None}
 use Rattle.std.specs.Option.{option_map}
 use Rattle.naga_oil_conditions.specs.declared.shader_def.ShaderDefValue.{ShaderDefValue}
 use Rattle.naga_oil_conditions.specs.declared.shader_def.ShaderDefValue.TheVariants as def
 use Rattle.naga_oil_conditions.specs.Values.{read_u32, read_i32, read_bool}
 
--- the first that is there
+-- the first value that is there
 infixr 20 ◌or◌
 abbrev pub ◌or◌ : Option ShaderDefValue → Option ShaderDefValue → Option ShaderDefValue
 (Some value) or next = Some value

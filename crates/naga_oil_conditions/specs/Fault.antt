@@ -1,4 +1,4 @@
--- The faults of a text, and which conditions hold.
+-- The faults of a text, and the conditions that hold.
 use Rattle.std.specs.Prelude.{ℕ, Bool, true, false, not, is_some, List, codes, Option, Some, None, option_map, Result, Ok, Err}
 use Rattle.naga_oil_conditions.specs.declared.shader_def.ShaderDefValue.{ShaderDefValue}
 use Rattle.naga_oil_conditions.specs.declared.shader_def.ShaderDefValue.TheVariants as def
@@ -11,7 +11,7 @@ use Rattle.naga_oil_conditions.specs.Values.{read_bool, read_i32, read_u32, oper
 use Rattle.naga_oil_conditions.specs.Line.{Line}
 use Rattle.naga_oil_conditions.specs.Kind.{LineKind, condition, kind_of, Condition, defined, undefined, compares, otherwise}
 
--- what is wrong with a text or with what is made of it, and the place of its line
+-- a fault of a text or of a module made of it, with the place of its line
 pub data Fault : Type 0 where
   import_not_found : (name : List ℕ) (at : ℕ) → Fault
   wgsl_parse : FaultValue → Fault
@@ -24,7 +24,7 @@ pub data Fault : Type 0 where
   no_module_name : Fault
   decoration_in_source : (start end : ℕ) → Fault
   redirection : RedirectFault → Fault
-  -- want of memory told as a redirection's fault; no call tells it so
+  -- out of memory, as a redirection's fault; no call returns it
   redirection_memory : Fault
   not_virtual : (name : List ℕ) (at : ℕ) → Fault
   invalid_identifier : (original : List ℕ) (at : Span) → Fault
@@ -41,25 +41,25 @@ pub data Fault : Type 0 where
   invalid_version : (at : ℕ) → Fault
   invalid_definition : (at : ℕ) (name value : List ℕ) → Fault
   invalid_import : (text : List ℕ) (at : ℕ) → Fault
-  -- the line without the white space round it, and its index from 0
+  -- the line without surrounding white space, and its index from 0
   invalid_directive : (text : List ℕ) (index : ℕ) (reason : List ℕ) → Fault
   define_in_module : (at : ℕ) → Fault
 
--- what each name is defined as
+-- the value of each defined name
 abbrev pub Definitions : Type 0
 Definitions = List ℕ → Option ShaderDefValue
 
--- whether the operator holds, or its fault at the place
+-- whether the operator holds, or the fault of an unknown operator at the place
 abbrev pub ordered : ℕ → List ℕ → Option Bool → Result Bool Fault
 ordered at operator (Some b) = Ok b
 ordered at operator None = Err (unknown_operator at operator)
 
--- the same of two values that compare so, where the second could be read
+-- whether the operator holds for two values with this ordering, where the second could be read
 abbrev pub compare : ℕ → (name operator value expected : List ℕ) → Option Ordering → Result Bool Fault
 compare at name operator value expected (Some o) = ordered at operator (operator_holds operator o)
 compare at name operator value expected None = Err (invalid_value at name value expected)
 
--- how a definition compares to a value, if the value can be read
+-- the ordering of a definition and a value, if the value can be read
 abbrev pub order_of : ShaderDefValue → List ℕ → Option Ordering
 order_of (def.Bool b) value = option_map (bool_cmp b) (read_bool value)
 order_of (def.Int n) value = option_map (int_cmp n) (read_i32 value)
@@ -70,19 +70,20 @@ expected_by (def.Bool b) = codes "bool"
 expected_by (def.Int n) = codes "int"
 expected_by (def.UInt n) = codes "uint"
 
--- whether a comparison holds of a name that is defined so, or its fault at the place; the definition stands left
+-- whether a comparison holds for a name with this definition, or the fault at the place; the
+-- definition is the left side
 unfoldable pub comparison : ℕ → (name operator value : List ℕ) → Option ShaderDefValue → Result Bool Fault
 comparison at name operator value None = Err (unknown_def at name)
 comparison at name operator value (Some d) = compare at name operator value (expected_by d) (order_of d value)
 
--- whether a condition that stands at the place holds, or its fault
+-- whether a condition at the place holds, or its fault
 abbrev pub evaluated : Definitions → ℕ → Condition → Result Bool Fault
 evaluated defs at (defined name) = Ok (is_some (defs name))
 evaluated defs at (undefined name) = Ok (not (is_some (defs name)))
 evaluated defs at (compares name operator value) = comparison at name operator value (defs name)
 evaluated defs at otherwise = Ok true
 
--- the same of the condition that the line is
+-- whether the condition of the line holds, or its fault
 abbrev pub outcome : Definitions → Line → LineKind → Result Bool Fault
 outcome defs l (condition is_else c) = evaluated defs l.at c
 outcome defs l _ = Ok false
@@ -91,6 +92,6 @@ abbrev pub is_met : Result Bool Fault → Bool
 is_met (Ok holds) = holds
 is_met (Err own) = false
 
--- whether the condition of an arm holds; one that can't be evaluated doesn't
+-- whether the condition of an arm holds; a condition that can't be evaluated doesn't
 abbrev pub holds : Definitions → Line → Bool
 holds defs l = is_met (outcome defs l (kind_of l.covered))

@@ -1,29 +1,29 @@
--- What a line is, by its text alone.
+-- The kind of a line, by its text alone.
 use Rattle.std.specs.Prelude.{ℕ, Bool, true, if◌then◌else◌, List, codes, Option, Some, None}
 use Rattle.std.specs.Str.{chars}
-use Rattle.naga_oil_lines.specs.Text.{◌>>=◌}
+use Rattle.naga_oil_words.specs.OptionSteps.{◌>>=◌}
 use Rattle.naga_oil_conditions.specs.LineKinds as grammar
 
 pub data Condition : Type 0 where
-  -- the name is defined, and is not
+  -- the name is defined, or it is not
   defined : List ℕ → Condition
   undefined : List ℕ → Condition
-  -- the name's value stands to the value as the operator says
+  -- the comparison of the name's value with the value holds
   compares : (name operator value : List ℕ) → Condition
   -- a plain else
   otherwise : Condition
 
 pub data LineKind : Type 0 where
-  -- `#version`, which may be one that is not known
+  -- `#version`, known or not
   version : (known : Bool) → LineKind
   -- the condition of an arm, the first of its chain or, with `else`, a further one
   condition : (is_else : Bool) → Condition → LineKind
   endif : LineKind
-  -- an import, which in an active block takes the lines up to its last brace
+  -- an import; in an active block it takes the lines up to its last brace
   imports : LineKind
   -- the module's import path
   import_path : (name : List ℕ) → LineKind
-  -- a define, whose value may be missing
+  -- a define, with or without a value
   define : (name : List ℕ) (value : Option (List ℕ)) → LineKind
   other : LineKind
 
@@ -32,12 +32,12 @@ abbrev pub ◌or_else◌ : Option LineKind → LineKind → LineKind
 (Some k) or_else next = k
 None or_else next = next
 
--- a kind made of what was read, if it was
+-- the kind made of what was read, if anything was
 abbrev pub read_as : {A : Type 0} → (A → LineKind) → Option A → Option LineKind
 read_as f None = None
 read_as f (Some groups) = Some (f groups)
 
--- the kind by what follows the `#`: the first that fits
+-- the kind by the text after the `#`: the first that fits
 unfoldable pub kind_behind_hash : List ℕ → LineKind
 kind_behind_hash cs =
     read_as (λ r. condition r.0 (defined r.1)) (grammar.ifdef cs)

@@ -1,4 +1,4 @@
--- The kind of a line by the grammar: the first kind of the table that fits.
+-- The kind of a line by grammar: the first kind of the table that fits.
 use Rattle.std.specs.Prelude.{◌≡◌, ◌⊎◌, ℕ, Bool, true, List, Option}
 use Rattle.std.specs.Str.{chars}
 use Rattle.naga_oil_conditions.specs.Kind.{LineKind, version, condition, endif, imports, import_path, define, other, defined, undefined, compares, otherwise}
@@ -9,7 +9,7 @@ infixr 20 ◌above◌
 abbrev pub ◌above◌ : (row rows : LineKind → Type 0) → LineKind → Type 0
 row above rows = λ k. row k ⊎ (((j : LineKind) → row j → ⊥) × rows k)
 
--- the rows of the table, each with the kind that it makes of the characters behind a `#`
+-- the rows of the table, each with the kind that it makes of the characters after a `#`
 abbrev pub IfdefRow : List ℕ → LineKind → Type 0
 IfdefRow cs k = (is_else : Bool) × (name : List ℕ) × (k ≡ condition is_else (defined name)) × IsIfdef is_else name cs
 
@@ -34,11 +34,11 @@ ImportPathRow cs k = (path : List ℕ) × (k ≡ import_path path) × IsImportPa
 abbrev pub DefineRow : List ℕ → LineKind → Type 0
 DefineRow cs k = (name : List ℕ) × (value : Option (List ℕ)) × (k ≡ define name value) × IsDefine name value cs
 
--- what fits no row is of no kind
+-- a line that fits no row is of no kind
 abbrev pub OtherRow : LineKind → Type 0
 OtherRow k = k ≡ other
 
--- the kind that the characters behind a `#` make
+-- the kind of the characters after a `#`
 abbrev pub IsKindBehindHash : List ℕ → LineKind → Type 0
 IsKindBehindHash cs = IfdefRow cs above (IfndefRow cs above (IfRow cs above (ElseRow cs above (EndifRow cs above (ImportRow cs above (ImportPathRow cs above (DefineRow cs above OtherRow)))))))
 

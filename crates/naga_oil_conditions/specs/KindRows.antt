@@ -87,7 +87,7 @@ no_operator_row : kind_of (codes "#if A B") ≡ condition false (compares (codes
 unfolding line_kinds
 no_operator_row = refl
 
--- metadata reads no versions
+-- metadata doesn't read versions
 unversioned_row : unversioned_kind_of (codes "#version 450") ≡ other
 unfolding line_kinds
 unversioned_row = refl
@@ -97,12 +97,12 @@ letter_row : kind_of (codes "#ifdef " ++ 195 ∷ 169 ∷ 65 ∷ 32 ∷ []) ≡ c
 unfolding line_kinds
 letter_row = refl
 
--- U+2014, a dash, is in no name
+-- U+2014, a dash, is part of no name
 dash_row : kind_of (codes "#ifdef " ++ 226 ∷ 128 ∷ 148 ∷ []) ≡ other
 unfolding line_kinds
 dash_row = refl
 
--- white are U+00A0, U+3000 and U+0085
+-- U+00A0, U+3000 and U+0085 are white space
 white_row : kind_of (194 ∷ 160 ∷ 35 ∷ 227 ∷ 128 ∷ 128 ∷ codes "import" ++ 194 ∷ 133 ∷ []) ≡ imports
 unfolding line_kinds
 white_row = refl

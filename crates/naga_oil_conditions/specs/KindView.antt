@@ -1,4 +1,4 @@
--- The kind of a line as the code has it.
+-- The code's conditions and kinds of lines, seen as those of `Kind`.
 use Rattle.std.specs.Prelude.{ℕ, Bool, option_copied}
 use Rattle.std.specs.Char.{is_not_whitespace, is_ascii_digit}
 use Rattle.naga_oil_conditions.specs.LineKinds.{is_name_char, is_value_char, is_operator_char}
@@ -10,7 +10,7 @@ use Rattle.naga_oil_conditions.specs.declared.line_kind.LineKind as kinds
 use Rattle.naga_oil_conditions.specs.declared.line_kind.LineKind.TheVariants as k
 use Rattle.naga_oil_conditions.specs.Kind.{LineKind, version, condition, endif, imports, import_path, define, other, Condition, defined, undefined, compares, otherwise}
 
--- what is in a class of characters
+-- the characters of a class
 abbrev pub class_of : CharClass → ℕ → Bool
 class_of class.Digit = is_ascii_digit
 class_of class.Visible = is_not_whitespace

@@ -1,5 +1,5 @@
--- The kinds of lines as a grammar: the pieces that a line is made of, one behind the other. Each run is as long as it
--- can be, each kind is read behind the line's `#`, and what follows its last piece is ignored.
+-- The kinds of lines as a grammar: the pieces of a line, one after another. Each run is as long as
+-- possible, each kind is read after the line's `#`, and the text after its last piece is ignored.
 use Rattle.std.specs.Prelude.{◌≡◌, ℕ, Bool, true, false, List, [], ◌∷◌, ◌++◌, Option, Some, None, codes, encode_utf8_all, bytes_eq, ◌||◌, ◌⊎◌, ◌↔◌}
 use Rattle.std.specs.List.{list_all}
 use Rattle.std.specs.Char.{is_whitespace, is_not_whitespace, is_ascii_digit}
@@ -10,13 +10,13 @@ abbrev pub starts_in : (class : ℕ → Bool) → List ℕ → Bool
 starts_in class [] = false
 starts_in class (c ∷ cs) = class c
 
--- characters of the class, as many as there are and perhaps none, and the rest
+-- all characters of the class at the front, perhaps none, and the rest
 pub record IsRun (class : ℕ → Bool) (cs run rest : List ℕ) : Type 0 where
   pub whole : cs ≡ run ++ rest
   pub inside : list_all class run ≡ true
   pub stops : starts_in class rest ≡ false
 
--- the text of such a run of at least one character, and the rest
+-- the text of such a run, with at least one character, and the rest
 pub record IsWord (class : ℕ → Bool) (cs text rest : List ℕ) : Type 0 where
   pub first : ℕ
   pub more : List ℕ
@@ -39,11 +39,11 @@ IsBehindHash line rest = IsBehindWhite line (codes "#" ++ rest)
 abbrev pub IsBehindKeyword : (word cs rest : List ℕ) → Type 0
 IsBehindKeyword word cs rest = IsBehindWhite cs (word ++ rest)
 
--- the same with white space behind the word
+-- perhaps white space, the word, white space, and the rest
 abbrev pub IsBehindDirective : (word cs rest : List ℕ) → Type 0
 IsBehindDirective word cs rest = (behind : List ℕ) × IsBehindKeyword word cs behind × IsBehindGap behind rest
 
--- `else` and white space where the arm is a further one of its chain, and the rest
+-- `else` and white space if the arm is a further one of its chain, and the rest
 abbrev pub IsBehindElse : (is_else : Bool) → (cs rest : List ℕ) → Type 0
 IsBehindElse true cs rest = (behind : List ℕ) × (cs ≡ codes "else" ++ behind) × IsBehindGap behind rest
 IsBehindElse false cs rest = cs ≡ rest
@@ -93,13 +93,14 @@ pub record IsOperation (operator value cs : List ℕ) : Type 0 where
   pub white : IsBehindWhite behind rest
   pub operand : IsWord is_value_char rest value more
 
--- a name, and behind it an operator and a value
+-- a name, then an operator and a value
 pub record IsCompared (name operator value cs : List ℕ) : Type 0 where
   pub rest : List ℕ
   pub spelling : IsWord is_name_char cs name rest
   pub operation : IsOperation operator value rest
 
--- a name of two characters or more that no value follows: its last character is the value, and the operator is empty
+-- a name of two characters or more with no value after it: its last character is the value, and the
+-- operator is empty
 pub record IsCut (name operator value cs : List ℕ) : Type 0 where
   pub first : ℕ
   pub more : List ℕ
@@ -117,11 +118,11 @@ pub record IsIf (is_else : Bool) (name operator value cs : List ℕ) : Type 0 wh
   pub arm : IsBehindArm (codes "if") is_else cs rest
   pub parts : IsCompared name operator value rest ⊎ IsCut name operator value rest
 
--- `else`, and anything behind it
+-- `else`, then anything
 abbrev pub IsElse : List ℕ → Type 0
 IsElse cs = (rest : List ℕ) × IsBehindKeyword (codes "else") cs rest
 
--- `endif`, and anything behind it
+-- `endif`, then anything
 abbrev pub IsEndif : List ℕ → Type 0
 IsEndif cs = (rest : List ℕ) × IsBehindKeyword (codes "endif") cs rest
 
@@ -129,14 +130,14 @@ IsEndif cs = (rest : List ℕ) × IsBehindKeyword (codes "endif") cs rest
 abbrev pub IsImport : List ℕ → Type 0
 IsImport cs = (rest : List ℕ) × IsBehindDirective (codes "import") cs rest
 
--- `define_import_path` and a path, of characters that are not white
+-- `define_import_path` and a path, of characters that are no white space
 pub record IsImportPath (path cs : List ℕ) : Type 0 where
   pub rest : List ℕ
   pub more : List ℕ
   pub word : IsBehindDirective (codes "define_import_path") cs rest
   pub spelling : IsWord is_not_whitespace rest path more
 
--- the value behind a define's name, if there is one
+-- the value after a define's name, if there is one
 abbrev pub IsDefineValue : Option (List ℕ) → List ℕ → Type 0
 IsDefineValue (Some value) cs = (more : List ℕ) × IsWord is_value_char cs value more
 IsDefineValue None cs = starts_in is_value_char cs ≡ false
@@ -151,10 +152,10 @@ pub record IsDefine (name : List ℕ) (value : Option (List ℕ)) (cs : List ℕ
   pub white : IsBehindWhite behind start
   pub definition : IsDefineValue value start
 
--- a reader gives groups exactly if the characters are written as the form of these groups says
+-- a reader returns groups exactly if the characters have the form with these groups
 abbrev pub Reads : {A : Type 0} → (reader : List ℕ → Option A) → (form : A → List ℕ → Type 0) → Type 0
 Reads {A = A} reader form = (cs : List ℕ) (groups : A) → (reader cs ≡ Some groups) ↔ form groups cs
 
--- a test holds exactly of the characters that are written as the form says
+-- a test holds exactly if the characters have the form
 abbrev pub Tests : (test : List ℕ → Bool) → (form : List ℕ → Type 0) → Type 0
 Tests test form = (cs : List ℕ) → (test cs ≡ true) ↔ form cs

@@ -1,9 +1,10 @@
--- The levels of the chains that are open, the innermost first.
+-- The levels of the open chains, the innermost first.
 use Rattle.std.specs.Prelude.{Bool, true, false, if◌then◌else◌, List, [], ◌∷◌}
 use Rattle.naga_oil_conditions.specs.declared.scope.ScopeLevel.{ScopeLevel}
 use Rattle.naga_oil_conditions.specs.declared.scope.ScopeLevel.TheVariants.{Active, PreviouslyActive, NotActive}
 
--- the level of an arm of a block that is active or not, after an arm that held or none
+-- the level of an arm, by whether the block around its chain is active, whether an earlier arm held
+-- and whether this one holds
 abbrev pub level : (active met holds : Bool) → ScopeLevel
 level active met holds = if active then (if met then PreviouslyActive else (if holds then Active else NotActive)) else NotActive
 
@@ -18,7 +19,7 @@ has_met Active = true
 has_met PreviouslyActive = true
 has_met NotActive = false
 
--- whether a line here is active
+-- whether a line at these levels is active
 abbrev pub is_active : List ScopeLevel → Bool
 is_active [] = true
 is_active (l ∷ outer) = is_active_level l
@@ -27,7 +28,7 @@ abbrev pub is_open : List ScopeLevel → Bool
 is_open [] = false
 is_open (l ∷ outer) = true
 
--- the levels in the next arm of the innermost chain, and behind that chain
+-- the levels in the next arm of the innermost chain, and after that chain
 abbrev pub next_arm : List ScopeLevel → Bool → List ScopeLevel
 next_arm [] holds = []
 next_arm (previous ∷ outer) holds = level (is_active outer) (has_met previous) holds ∷ outer

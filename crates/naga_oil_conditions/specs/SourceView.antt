@@ -1,4 +1,4 @@
--- The lines of a text as the code has them.
+-- The code's lines of a text, seen as `Line`s.
 use Rattle.std.specs.Prelude.{ℕ, List}
 use Rattle.std.specs.Cow.{cow_str_bytes}
 use Rattle.naga_oil_conditions.specs.declared.source_lines.SourceLine.{SourceLine}
@@ -7,7 +7,7 @@ use Rattle.naga_oil_conditions.specs.Line.{Line}
 abbrev pub line_of : SourceLine → Line
 line_of l = record { at = l.offset; text = l.text.now; covered = cow_str_bytes l.covered }
 
--- the lines that are left, and where the first of them begins or would begin
+-- the remaining lines, and the place where the first of them begins or would begin
 pub record Left : Type 0 where
   pub place : ℕ
   pub left : List Line

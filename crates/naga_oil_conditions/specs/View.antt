@@ -1,4 +1,4 @@
--- What a call that may run out of memory gives.
+-- The code's errors, seen as faults.
 use Rattle.std.specs.Prelude.{◌≡◌, Option, Some, None, Result, Ok, Err, MatchOption, string_bytes}
 use Rattle.naga_oil_conditions.specs.declared.fault.ComposerErrorInner.{ComposerErrorInner}
 use Rattle.naga_oil_conditions.specs.declared.fault.ComposerErrorInner.TheVariants as code
@@ -8,7 +8,7 @@ use Rattle.naga_oil_ir.specs.declared.redirect_error.RedirectError.TheVariants a
 use Rattle.naga_oil_ir.specs.RedirectFault.{RedirectFault, redirect_fault}
 use Rattle.naga_oil_conditions.specs.Fault.{Fault, import_not_found, wgsl_parse, glsl_parse, wgsl_back, glsl_back, header_validation, shader_validation, inconsistent_def, no_module_name, decoration_in_source, redirection, redirection_memory, not_virtual, invalid_identifier, too_many_modules, bindings_exhausted, text_too_large, wrong_form, unknown_def, invalid_value, unknown_operator, else_without_condition, too_many_end_ifs, not_enough_end_ifs, invalid_version, invalid_definition, invalid_import, invalid_directive, define_in_module}
 
--- what a redirection's error is told as
+-- the error that a redirection's error becomes
 abbrev pub redirect_error : RedirectError → ComposerErrorInner
 redirect_error redirect.Memory = code.Memory
 redirect_error e = code.RedirectError e
@@ -17,7 +17,7 @@ abbrev pub redirection_of : Option RedirectFault → Fault
 redirection_of (Some f) = redirection f
 redirection_of None = redirection_memory
 
--- a fault without where its texts lie in memory; want of memory is none
+-- a fault without the addresses of its texts; out of memory is none
 abbrev pub fault_of : ComposerErrorInner → Option Fault
 fault_of (code.ImportNotFound name at) = Some (import_not_found (string_bytes name) at)
 fault_of (code.WgslParseError fault) = Some (wgsl_parse (parse_fault fault))
@@ -49,11 +49,11 @@ fault_of (code.InvalidWgslDirective text index reason) = Some (invalid_directive
 fault_of (code.DefineInModule at) = Some (define_in_module at)
 fault_of code.Memory = None
 
--- an error is the fault of the value, or want of memory
+-- an error is the fault of the value, or out of memory
 abbrev pub Fails : {Y : Type 0} → ComposerErrorInner → Result Y Fault → Type 0
 Fails e value = MatchOption (fault_of e) (Unit {0}) (λ f. value ≡ Err f)
 
--- a result, seen by view, is the value, or want of memory
+-- a result, seen by view, is the value, or out of memory
 abbrev pub Gives : {X Y : Type 0} → (X → Y) → Result X ComposerErrorInner → Result Y Fault → Type 0
 Gives view (Ok x) value = value ≡ Ok (view x)
 Gives view (Err e) value = Fails e value

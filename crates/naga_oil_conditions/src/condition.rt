@@ -1,4 +1,4 @@
-// Which conditions hold.
+// Evaluates conditions.
 ghost use Rattle.std.specs.Prelude.{◌≡◌, IfOk, Some};
 ghost use Rattle.std.specs.BTreeMap.{get_by_text};
 ghost use Rattle.naga_oil_conditions.specs.Fault.{Definitions, comparison, evaluated, invalid_value, order_of, expected_by};
@@ -9,7 +9,7 @@ ghost use Rattle.naga_oil_conditions.specs.View.{Gives, fault_of};
 use super::*;
 use std::cmp::Ordering;
 
-// Whether the operator holds of two values that compare so.
+// Whether the operator holds for two values with this ordering.
 fn is_ordered(operator: &str, ordering: Ordering) -> Option<bool>
     ensures { result ≡ operator_holds operator.now ordering }
 {
@@ -30,7 +30,7 @@ fn is_ordered(operator: &str, ordering: Ordering) -> Option<bool>
     }
 }
 
-// How a definition compares to a value, if the value can be read.
+// The ordering of a definition and a value, if the value can be read.
 #[tactic(auto, using(crate::proofs::ValueLemmas::parses_bool, crate::proofs::ValueLemmas::parses_i32, crate::proofs::ValueLemmas::parses_u32))]
 fn order_of(definition: ShaderDefValue, value: &str) -> Option<Ordering>
     ensures { result ≡ order_of definition value.now }
@@ -88,7 +88,7 @@ fn compare(
     Ok(holds)
 }
 
-// Whether a condition that stands at the offset holds.
+// Whether a condition at the offset holds.
 pub fn evaluate(
     alloc: Global,
     condition: Condition<'_>,

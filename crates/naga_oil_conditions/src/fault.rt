@@ -1,18 +1,20 @@
-// What can be wrong with a text.
+// The errors of a text.
 use naga_oil_ir::{ParseFault, RedirectError, Span, ValidFault, WriteFault};
 use std::alloc::{AllocError, AllocFailed};
 use std::ops::Range;
 use thiserror::Error;
 
-/// What is wrong with a text, with what imports it or with what a front end made of it. Places are bytes from 0; where nothing
-/// else is said, those of the first byte of a line.
+/// An error in a text, in what imports the text, or in the module that a front end made of it.
+/// Places are bytes from 0; unless stated otherwise, the place of a line's first byte.
 #[derive(Debug, Drop, Error)]
 #[rattlefmt::skip]
 pub enum ComposerErrorInner {
-    /// What is wrong with an import line, or with an identifier that stands for several paths, and the place of it.
+    /// An import line that can't be read, or an identifier that stands for several paths, with its
+    /// place.
     #[error("{0}")]
     ImportParseError(String, usize),
-    /// An import of no module that may be imported there, and where it is used.
+    /// An import of a module that is unknown or may not be imported there, with the place of its
+    /// use.
     #[error("required import '{0}' not found")]
     ImportNotFound(String, usize),
     #[error("{}", .0.message)]
@@ -38,47 +40,48 @@ pub enum ComposerErrorInner {
     UnknownShaderDefOperator { pos: usize, operator: String },
     #[error("Unknown shader def: '{shader_def_name}'")]
     UnknownShaderDef { pos: usize, shader_def_name: String },
-    /// A value that can't be read as the kind of the definition that it is compared to.
+    /// A value that can't be read as the type of the definition that it is compared to.
     #[error("Invalid shader def comparison for '{shader_def_name}': expected {expected}, got {value}")]
     InvalidShaderDefComparisonValue { pos: usize, shader_def_name: String, expected: String, value: String },
-    /// A name that imports define as several values.
+    /// A name that imports define with several values.
     #[error("multiple inconsistent shader def values: '{def}'")]
     InconsistentShaderDefValue { def: String },
     #[error("Attempted to add a module with no #define_import_path")]
     NoModuleName,
-    /// The bytes of a mark that only names in the one shader may have.
+    /// The byte range of a mark that only names in the composed shader may have.
     #[error("source contains internal decoration string, results probably won't be what you expect. if you have a legitimate reason to do this please file a report")]
     DecorationInSource(Range<usize>),
     #[error("naga oil only supports glsl 440 and 450")]
     GlslInvalidVersion(usize),
-    /// Calls can't be sent to the functions that override others. Want of memory is `Memory`.
+    /// Calls can't be redirected to the functions that override others. Out of memory is `Memory`.
     #[error("invalid override :{0}")]
     RedirectError(RedirectError),
     /// The item's name and its place.
     #[error("override is invalid as `{name}` is not virtual (this error can be disabled with feature 'override_any')")]
     OverrideNotVirtual { name: String, pos: usize },
-    /// A name that a front end writes and reads back as another, and where its item is.
+    /// A name that a front end writes and reads back as another, and the place of its item.
     #[error("Composable module identifiers must not require substitution according to naga writeback rules: `{original}`")]
     InvalidIdentifier { original: String, at: Span },
-    /// A define's value that is no number and neither `true` nor `false`.
+    /// The value of a define is neither a number nor `true` nor `false`.
     #[error("Invalid value for `#define`d shader def {name}: {value}")]
     InvalidShaderDefDefinitionValue { name: String, value: String, pos: usize },
-    /// A define in a text that may have none.
+    /// A define in a text that may not have any.
     #[error("#define statements are only allowed at the start of the top-level shaders")]
     DefineInModule(usize),
-    /// A directive that names no extensions or no known severity: the line without the white space round it, and its index from 0.
+    /// A directive that names no extensions or an unknown severity: the line without surrounding
+    /// white space, and its index from 0.
     #[error("Invalid WGSL directive '{directive}' at line {position}: {reason}")]
     InvalidWgslDirective { directive: String, position: usize, reason: String },
-    /// A growth of memory was refused.
+    /// An allocation failed.
     #[error("out of memory")]
     Memory,
     /// No index is left for a module.
     #[error("too many modules")]
     TooManyModules,
-    /// No number is left for a binding that asks for one.
+    /// No number is left for a binding that requires one.
     #[error("no binding left")]
     BindingsExhausted,
-    /// A text for a front end, whose places would not fit.
+    /// A text for a front end that is too large for its places to fit.
     #[error("shader text too large")]
     TextTooLarge,
     #[error("front end gave a module of wrong form")]
@@ -89,7 +92,7 @@ impl ComposerErrorInner {
     ghost use Rattle.std.specs.Prelude.{◌≡◌, is_none};
     ghost use Rattle.naga_oil_conditions.specs.View.{fault_of};
 
-    /// Whether a growth of memory was refused.
+    /// Returns whether the error is out of memory.
     pub fn is_memory(&self) -> bool
         ensures { result ≡ is_none (fault_of self.now) }
     {

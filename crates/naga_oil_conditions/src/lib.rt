@@ -1,13 +1,13 @@
-//! What a shader's lines say, one at a time: their kinds, the conditions that hold, the arms that are open,
-//! and the values of `#` names. And what can be wrong with a text.
+//! The lines of a shader, one at a time: their kinds, the conditions that hold, the open arms, and
+//! the values of `#` names. Also the errors of a text.
 //!
 //! - `source_lines`: the lines of a text with their covered lines.
 //! - `line_kind`: what a covered line is.
-//! - `condition`: whether a condition holds.
-//! - `scope`: the chains of conditions that are open.
-//! - `replace`: values for the names of a line.
-//! - `shader_def`: what a name is defined as.
-//! - `fault`: what can be wrong with a text.
+//! - `condition`: evaluates conditions.
+//! - `scope`: the open chains of conditions.
+//! - `replace`: replaces the `#` names of a line by their values.
+//! - `shader_def`: the values of definitions.
+//! - `fault`: the errors of a text.
 #![tactic(auto)]
 
 pub mod condition;

@@ -1,4 +1,4 @@
-//! What a line is, by its text alone.
+//! The kind of a line, by its text alone.
 ghost use Rattle.std.specs.Prelude.{◌≡◌, ℕ, ◌++◌, List, length, option_copied, is_some};
 ghost use Rattle.std.specs.Option.{option_map, MatchOption};
 ghost use Rattle.std.specs.Str.{chars};
@@ -40,7 +40,7 @@ pub enum LineKind<'a> {
     Other,
 }
 
-// A class of characters that lines have runs of.
+// A class of characters; lines have runs of them.
 #[derive(Clone, Copy)]
 pub(crate) enum CharClass {
     Digit,
@@ -67,21 +67,21 @@ impl CharClass {
     }
 }
 
-/// Whether the character may stand in a name: a word character or `|`.
+/// Returns whether the character may occur in a name: a word character or `|`.
 pub fn is_name_char(c: char) -> bool
     ensures { result ≡ grammar.is_name_char c }
 {
     is_word_code(c as u32) || c == '|'
 }
 
-/// Whether the text is a name and nothing else.
+/// Returns whether the whole text is a name.
 pub fn is_name(text: &str) -> bool
     ensures { result ≡ grammar.is_name text.now }
 {
     !text.is_empty() && behind_run(text, CharClass::Name).is_empty()
 }
 
-// What follows the characters of the class that the text begins with.
+// The text after the characters of the class at its front.
 pub(crate) fn behind_run(text: &str, class: CharClass) -> &str
     ensures chars { chars result.now ≡ grammar.behind_run (class_of class) (chars text.now) }
     ensures suffix { (front : List ℕ) × (text.now ≡ front ++ result.now) }
@@ -96,14 +96,14 @@ pub(crate) fn behind_run(text: &str, class: CharClass) -> &str
     rest
 }
 
-// The characters of the class that the text begins with.
+// The characters of the class at the front of the text.
 fn run(text: &str, class: CharClass) -> &str
     ensures { chars result.now ≡ grammar.run (class_of class) (chars text.now) }
 {
     text_before(text, behind_run(text, class))
 }
 
-// The same characters, if there are any.
+// The characters of the class at the front of the text, if there are any.
 fn text_at(text: &str, class: CharClass) -> Option<&str>
     ensures { option_copied result ≡ grammar.text_at (class_of class) (chars text.now) }
 {
@@ -111,7 +111,7 @@ fn text_at(text: &str, class: CharClass) -> Option<&str>
     if found.is_empty() { None } else { Some(found) }
 }
 
-// What follows the white space at the front, of which there is some.
+// The text after the white space at its front; without white space, none.
 fn past_white(text: &str) -> Option<&str>
     ensures { option_map (λ r. chars r.now) result ≡ grammar.past_white (chars text.now) }
 {
@@ -123,14 +123,14 @@ fn past_white(text: &str) -> Option<&str>
     }
 }
 
-// What follows the `#` that the line begins with, white space apart.
+// The text after the line's `#`, which only white space may precede.
 fn past_hash(line: &str) -> Option<&str>
     ensures { option_map (λ r. chars r.now) result ≡ grammar.past_hash (chars line.now) }
 {
     past_word(after_whitespace(line), "#")
 }
 
-// What follows an `else` and white space, if they are there, and whether they are.
+// Whether `else` and white space come first, and the text after them.
 fn past_else(text: &str) -> (bool, &str)
     ensures { (result.0, chars result.1.now) ≡ grammar.past_else (chars text.now) }
 {
@@ -143,7 +143,7 @@ fn past_else(text: &str) -> (bool, &str)
     }
 }
 
-// Whether a version's number is one of the known ones.
+// Whether the number of a `version` is a known one.
 fn version(text: &str) -> Option<bool>
     ensures { result ≡ grammar.version (chars text.now) }
 {
@@ -152,7 +152,7 @@ fn version(text: &str) -> Option<bool>
     Some(number == "440" || number == "450")
 }
 
-// What follows a word that begins an arm, and whether an `else` is before it.
+// The text after a word that begins an arm, and whether `else` comes before the word.
 fn arm<'a>(text: &'a str, word: &str) -> Option<(bool, &'a str)>
     ensures { let read = grammar.arm (chars word.now) (chars text.now) in
         option_map (λ r. (r.0, chars r.1.now)) result ≡ read }
@@ -162,7 +162,7 @@ fn arm<'a>(text: &'a str, word: &str) -> Option<(bool, &'a str)>
     Some((is_else, rest))
 }
 
-// The name behind such a word.
+// The name after a word that begins an arm, and whether `else` comes before the word.
 fn named_arm<'a>(text: &'a str, word: &str) -> Option<(bool, &'a str)>
     ensures { let read = grammar.named_arm (chars word.now) (chars text.now) in
         option_map (λ r. (r.0, r.1.now)) result ≡ read }
@@ -220,14 +220,14 @@ fn if_condition(text: &str) -> Option<(bool, &str, &str, &str)>
     Some((is_else, name, operator, value))
 }
 
-// Whether the text begins with the word, white space apart.
+// Whether the text begins with the word, after optional white space.
 fn has_keyword(text: &str, word: &str) -> bool
     ensures { result ≡ grammar.has_keyword (chars word.now) (chars text.now) }
 {
     past_word(after_whitespace(text), word).is_some()
 }
 
-// What follows a word and white space.
+// The text after a word and white space.
 fn past_directive<'a>(text: &'a str, word: &str) -> Option<&'a str>
     ensures { let read = grammar.past_directive (chars word.now) (chars text.now) in
         option_map (λ r. chars r.now) result ≡ read }
@@ -254,7 +254,7 @@ fn define(text: &str) -> Option<(&str, Option<&str>)>
     Some((name, text_at(behind, CharClass::Value)))
 }
 
-// The kind of a line whose `#` the text follows.
+// The kind of a line, by the text after its `#`.
 fn kind_behind_hash(text: &str) -> LineKind<'_>
     ensures { line_kind_of result ≡ kind_behind_hash (chars text.now) }
 {
@@ -295,7 +295,7 @@ fn kind_behind_hash(text: &str) -> LineKind<'_>
     }
 }
 
-/// What a line is, by its text with comments covered: the first kind that fits.
+/// Returns the kind of a line, by its covered text: the first kind that fits.
 pub fn line_kind(line: &str) -> LineKind<'_>
     ensures { line_kind_of result ≡ kind_of line.now }
 {
@@ -308,7 +308,7 @@ pub fn line_kind(line: &str) -> LineKind<'_>
     }
 }
 
-/// The same where versions are not read: such a line is of no kind.
+/// Returns the kind of a line where versions are not read: a version line is `Other`.
 pub fn unversioned_line_kind(line: &str) -> LineKind<'_>
     ensures { line_kind_of result ≡ unversioned_kind_of line.now }
 {

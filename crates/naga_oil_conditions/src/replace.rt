@@ -1,9 +1,10 @@
-// Puts values in the place of the `#` names of a line.
+// Replaces the `#` names of a line by their values.
 ghost use Rattle.std.specs.Prelude.{◌≡◌, ◌++◌, ◌∷◌, ◌≤◌, ◌==◌, length, string_bytes, OnOk, IfOk, IsOkAnd, MatchOption, None, false};
 ghost use Rattle.std.specs.BTreeMap.{get_by_text};
 ghost use Rattle.std.specs.Cow.{cow_str_bytes, IsBorrowedStr};
 ghost use Rattle.std.specs.List.{prefix_len};
 ghost use Rattle.std.specs.Str.{chars, IsUtf8, NoCharPasses};
+ghost use Rattle.naga_oil_words.specs.Bytes.{hash};
 ghost use Rattle.naga_oil_lines.specs.Text.{BeginsWithChar};
 ghost use Rattle.naga_oil_conditions.specs.LineKinds.{is_name_char};
 ghost use Rattle.naga_oil_conditions.specs.Replaced as spec;
@@ -12,7 +13,7 @@ ghost use Rattle.naga_oil_conditions.specs.Splits.{SplitsName, SplitsHashName, S
 use super::line_kind::{CharClass, behind_run};
 use super::*;
 
-// What follows this character, if the text begins with it.
+// The text after this character, if the text begins with it.
 fn past_char(text: &str, wanted: char) -> Option<&str>
     ensures { let begins = spec.begins_with wanted (chars text.now) in
         MatchOption result (begins ≡ false) (λ rest. BeginsWithChar text.now wanted rest.now) }
@@ -21,7 +22,7 @@ fn past_char(text: &str, wanted: char) -> Option<&str>
     if first == wanted { Some(rest) } else { None }
 }
 
-// The name that the text begins with, and what follows it.
+// The name that the text begins with, and the rest.
 fn split_name(text: &str) -> Option<(&str, &str)>
     ensures { let count = prefix_len is_name_char (chars text.now) in
         MatchOption result (count ≡ 0) (λ r. SplitsName text.now r.0.now r.1.now) }
@@ -34,7 +35,7 @@ fn split_name(text: &str) -> Option<(&str, &str)>
     Some((name, rest))
 }
 
-/// The name behind a `#`, and what follows it.
+/// Returns the name after a `#`, and the rest.
 pub fn split_hash_name(text: &str) -> Option<(&str, &str)>
     ensures { let named = spec.hash_name (chars text.now) in
         MatchOption result (named ≡ None) (λ r. SplitsHashName text.now r.0.now r.1.now) }
@@ -48,7 +49,8 @@ pub fn split_hash_name(text: &str) -> Option<(&str, &str)>
     Some((name, rest))
 }
 
-fn push_value(out: &mut String, value: ShaderDefValue) -> Result<(), AllocError>
+/// Pushes the text of a value.
+pub fn push_value(out: &mut String, value: ShaderDefValue) -> Result<(), AllocError>
     ensures { OnOk result (string_bytes out.new ≡ string_bytes out.old ++ spec.value_text value) }
 {
     match value {
@@ -58,22 +60,22 @@ fn push_value(out: &mut String, value: ShaderDefValue) -> Result<(), AllocError>
     }
 }
 
-/// The front of the text up to its first `#`, and what follows that.
+/// Returns the text before its first `#`, and the text after it.
 pub fn split_at_hash(text: &str) -> Option<(&str, &str)>
-    ensures { MatchOption result (NoCharPasses (λ c. c == 35) text.now)
+    ensures { MatchOption result (NoCharPasses (λ c. c == hash) text.now)
         (λ r. SplitsAtHash text.now r.0.now r.1.now) }
 {
     text.split_once('#')
 }
 
-// Writes what stands for a `#` and the name behind it, if there is one, and answers what is left.
+// Writes a `#` and the name after it, if there is one, or the name's value. Returns the rest.
 fn push_hash<'a>(
     out: &mut String,
     behind: &'a str,
     definitions: &BTreeMap<String, ShaderDefValue>,
 ) -> Result<&'a str, AllocError>
     ensures value { let from = spec.replaced_from (get_by_text definitions.now) in
-        let whole = string_bytes out.old ++ from (35 ∷ chars behind.now) in
+        let whole = string_bytes out.old ++ from (hash ∷ chars behind.now) in
         IfOk result (λ rest. string_bytes out.new ++ from (chars rest.now) ≡ whole) }
     ensures utf8 { IfOk result (λ rest. IsUtf8 rest.now) }
     ensures bound { IfOk result (λ rest. length rest.now ≤ length behind.now) }
@@ -97,8 +99,8 @@ pub fn push_replaced(
     line: &str,
     definitions: &BTreeMap<String, ShaderDefValue>,
 ) -> Result<(), AllocError>
-    ensures { let told = spec.replaced (get_by_text definitions.now) line.now in
-        OnOk result (string_bytes out.new ≡ string_bytes out.old ++ told) }
+    ensures { let expected = spec.replaced (get_by_text definitions.now) line.now in
+        OnOk result (string_bytes out.new ≡ string_bytes out.old ++ expected) }
 {
     let mut rest = line;
     while let Some((front, behind)) = split_at_hash(rest) {
@@ -108,15 +110,15 @@ pub fn push_replaced(
     out.push_str(rest)
 }
 
-/// The line with its `#` names replaced. A line without `#` is borrowed.
+/// Returns the line with its `#` names replaced. A line without `#` is borrowed.
 pub fn replaced_text<'a>(
     alloc: Global,
     line: &'a str,
     definitions: &BTreeMap<String, ShaderDefValue>,
 ) -> Result<CowStr<'a>, AllocError>
-    ensures value { let told = spec.replaced (get_by_text definitions.now) line.now in
-        IfOk result (λ text. cow_str_bytes text ≡ told) }
-    ensures borrows { NoCharPasses (λ c. c == 35) line.now →
+    ensures value { let expected = spec.replaced (get_by_text definitions.now) line.now in
+        IfOk result (λ text. cow_str_bytes text ≡ expected) }
+    ensures borrows { NoCharPasses (λ c. c == hash) line.now →
         IsOkAnd result (λ text. IsBorrowedStr text) }
 {
     if !line.contains('#') {

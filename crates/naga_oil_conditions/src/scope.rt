@@ -1,10 +1,10 @@
-// The chains that are open.
+// The open chains of conditions.
 ghost use Rattle.std.specs.Prelude.{◌≡◌, ◌∷◌, OnOk, IfOk, [], false};
 
 use std::alloc::{AllocError, Global};
 use std::marker::Model;
 
-/// How far the chain of an arm has come.
+/// The state of the chain at an arm.
 #[derive(Clone, Copy, Debug, PartialEq, Eq)]
 pub enum ScopeLevel {
     Active,
@@ -15,7 +15,8 @@ pub enum ScopeLevel {
 impl ScopeLevel {
     ghost use Rattle.naga_oil_conditions.specs.Scope.{level, has_met};
 
-    // The level of an arm of a block that is active or not, after an arm that held or none.
+    // The level of an arm, by whether the block around its chain is active, whether an earlier arm
+    // held and whether this one holds.
     fn of_arm(is_active: bool, has_met: bool, holds: bool) -> ScopeLevel
         ensures { result ≡ level is_active has_met holds }
     {
@@ -37,7 +38,7 @@ impl ScopeLevel {
     }
 }
 
-/// The levels of the chains that are open. A clause sees the innermost first.
+/// The levels of the open chains. Clauses see the innermost first.
 #[derive(Debug, Drop)]
 pub struct Scope {
     levels: Vec<ScopeLevel>,
@@ -86,7 +87,7 @@ impl Scope {
         Ok(())
     }
 
-    /// Goes on to the next arm of the innermost chain. Says whether there is one.
+    /// Moves on to the next arm of the innermost chain. Returns whether a chain is open.
     pub fn next_arm(&mut self, holds: bool) -> Result<bool, AllocError>
         ensures { let next = next_arm self.old holds in
             IfOk result (λ found. (found ≡ is_open self.old) × (self.new ≡ next)) }
@@ -99,7 +100,7 @@ impl Scope {
         Ok(true)
     }
 
-    /// Ends the innermost chain. Says whether there is one.
+    /// Ends the innermost chain. Returns whether a chain was open.
     pub fn close(&mut self) -> bool
         ensures found { result ≡ is_open self.old }
         ensures after { self.new ≡ outer_levels self.old }

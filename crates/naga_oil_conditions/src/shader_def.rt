@@ -1,8 +1,8 @@
-//! What a name is defined as.
+//! The values of definitions.
 ghost use Rattle.std.specs.Prelude.{◌≡◌, option_copied};
 ghost use Rattle.naga_oil_conditions.specs.DefineValue.{defined_value};
 
-/// The value of a definition. A definition without one is `Bool(true)`, the default.
+/// The value of a definition. The default, of a definition without a value, is `Bool(true)`.
 #[derive(Clone, Copy, Debug, PartialEq, Eq, Hash)]
 pub enum ShaderDefValue {
     Bool(bool),
@@ -21,8 +21,8 @@ impl Default for ShaderDefValue {
     }
 }
 
-/// The value that a `#define` gives: `Bool(true)` without a text; else the text as a `u32`, else as an `i32`,
-/// else as a `bool`. Any other text is of no value.
+/// Returns the value that a `#define` gives: `Bool(true)` without a text; else the text as a `u32`,
+/// else as an `i32`, else as a `bool`. Any other text has no value.
 #[tactic(auto, unfolding(crate::specs::DefineValue::defined_value), using(crate::proofs::ValueLemmas::parses_bool, crate::proofs::ValueLemmas::parses_i32, crate::proofs::ValueLemmas::parses_u32))]
 pub fn defined_value(value: Option<&str>) -> Option<ShaderDefValue>
     ensures { result ≡ defined_value (option_copied value.entry) }

@@ -9,7 +9,7 @@ use super::*;
 use naga_oil_lines::comment_strip_iter::CommentReplaceIter;
 use std::marker::Model;
 
-/// A line without its end, the same with its comments covered, and the place of its first byte.
+/// A line without its end, its covered line, and the place of its first byte.
 #[derive(Drop)]
 pub struct SourceLine<'a> {
     pub offset: usize,
@@ -17,7 +17,8 @@ pub struct SourceLine<'a> {
     pub covered: CowStr<'a>,
 }
 
-/// The lines of a text that are left. A clause sees the lines, and where the first of them begins.
+/// The remaining lines of a text. Clauses see the lines, and the place where the first of them
+/// begins.
 #[derive(Drop)]
 pub struct SourceLines<'b, 'a> {
     lines: CommentReplaceIter<'b, 'a>,
@@ -41,7 +42,7 @@ impl<'b, 'a> Model for SourceLines<'b, 'a> {
     } };
 }
 
-// Where the line behind one begins, or would begin.
+// The place where the next line begins, or would begin.
 fn next_place(offset: usize, text: &str) -> usize
     requires { offset + (length text.now + 1) < 2 ^ 64 }
     ensures { result ≡ next_place offset text.now }
@@ -59,7 +60,7 @@ impl<'b, 'a> SourceLines<'b, 'a> {
         }
     }
 
-    /// Where the next line begins, or would begin.
+    /// The place where the next line begins, or would begin.
     pub fn offset(&self) -> usize
         ensures { result ≡ self.now.place }
     {

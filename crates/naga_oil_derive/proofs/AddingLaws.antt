@@ -1,4 +1,4 @@
--- What holds of a derived module while items and functions are added to it, also where that was refused.
+-- What holds of a derived module while items and functions are added to it, also if memory ran out.
 use Rattle.std.proofs.Common.{◌≡◌, [], Option, Some, refl, ap, sym, subst}
 use Rattle.naga_oil_ir.specs.ModuleValue.{ModuleValue}
 use Rattle.naga_oil_derive.specs.Tree.{Kept}

@@ -21,7 +21,7 @@ use Rattle.naga_oil_derive.proofs.PuttingLemmas.{IsLater, putting_later, midway_
 use Rattle.naga_oil_derive.proofs.FunctionValues.{known_same}
 use Rattle.naga_oil_derive.proofs.MeaningLemmas.{meaning_more}
 
--- what came before stays, functions come behind those that are there, and each known name is known
+-- what came before stays, functions come after those that are there, and each known name stays known
 pub record Added (m : ModuleValue) (kept : Kept) (s u : ImportState) : Type 0 where
   pub items : IsLater m kept s.copying u.copying
   pub functions : Begins s.functions u.functions
@@ -49,7 +49,7 @@ Adding-append (CopyAdded v span a) b = CopyAdded v span (Adding-append a b)
 pub items_added : {m : ModuleValue} {shift : ℕ} {s : ImportState} {c : CopyState} → Putting m shift s.copying c → Adding m shift s (record s { copying = c })
 items_added p = ItemsAdded p NothingAdded
 
--- ---- as the code holds it
+-- ---- functions of the code
 
 pub copying_added : (source t u : Module) (m n : Maps) (f g : Functions) (shift : ℕ) → IsCopying source t m → Adding (value_of source) shift (import_state m t f) (import_state n u g) → IsCopying source u n
 copying_added source t u m n f g shift i a =

@@ -73,7 +73,7 @@ within_beside (suc n) m shift fs c p =
 
 -- ---- a state of import, as a derived module
 
--- s tells the value of the source, and how far its spans are shifted
+-- s has the value of the source, and the offset of its spans
 abbrev seen : Source → ImportState → Derived
 seen s i = after_importing s i
 

@@ -60,7 +60,7 @@ unfolding reached
 known_reached w v kept m a zero p q g = tt
 known_reached w v kept m a (suc n) p q g = known_at w v kept m a n (known_reached w v kept m a n) p q g (kept p) refl
 
--- so copying it again adds nothing
+-- copying an item again adds nothing
 pub Collects-copied : (w : World) (v : ModuleValue) (kept m : Goes) (spans : ItemPlace → Option Span) → AreCopied w (world v) kept m → (n : ℕ) (p q : ItemPlace) → m p ≡ Some q → Collects w kept spans v (reached n w kept p) v
 Collects-copied w v kept m spans a n p q g = Collects-known w kept spans v (reached n w kept p) (known_reached w (world v) kept m a n p q g)
 

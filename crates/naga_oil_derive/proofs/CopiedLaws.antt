@@ -1,4 +1,4 @@
--- What copying an item with what it names does, over values alone.
+-- What copying an item after what it names does, over values alone.
 use Rattle.std.proofs.Common.{◌≡◌, ◌⊎◌, inl, inr, ⊎_elim, ℕ, zero, suc, ◌<◌, ◌+◌, ◌*◌, List, [], ◌∷◌, ◌++◌, length, Option, Some, None, option_map, is_some, if◌then◌else◌, refl, ap, sym, ◌∙◌, subst, arith, All, IfSome, Contains}
 use Rattle.std.proofs.lemmas.List.Elements.{All-head, All-tail, All-weaker, All-cons, All-nil, Contains-append_left, Contains-append_right, Contains-push, Contains-push_cases, Contains-append_cases}
 use Rattle.naga_oil_ir.specs.Rows.{Row, Text}
@@ -19,9 +19,9 @@ use Rattle.naga_oil_derive.proofs.CopyLemmas.{world_here, world_there, free, non
 use Rattle.naga_oil_derive.proofs.CollectLemmas.{Collects-append, Collects-copied, Lowers, EachPlace, new_first, others_of, step_at, same_trails, below_names, reached_below, Collects-agrees, reading_agrees, reached_agrees, renamed_here, renamed_there}
 use Rattle.naga_oil_derive.proofs.PutLaws.{put_named, put_item}
 
--- ---- one copy: how the source reads after it
+-- ---- how the source reads after one copy
 
--- where the item goes, its row is read
+-- the row is read at what the item maps to
 here : (m : ModuleValue) (s u : CopyState) (p : ItemPlace) (o : Option Text) (r row : Row) (span : Option Span) → PutsOne m s u p row span → world m p ≡ Some r → row ≡ under_name o r → reads_now m u p ≡ Some row
 here m s u p o r row span c is e = world_here (world m) (world u.target) (goes u.places) p c.place o r row c.copy c.puts.at c.fetches.at is e c.copies.label
 
@@ -35,7 +35,7 @@ reads_step m kept s u p r span i fresh c is =
     let same : (x : ItemPlace) → reads_now m u x ≡ reads_now m s x = λ x. ⊎_elim (λ e. subst (λ y. reads_now m u y ≡ reads_now m s y) (sym e) (here m s u p None r r span c is refl ∙ sym is ∙ sym (named_none (world m) (world s.target) (goes s.places) p fresh))) (λ d. there m kept s u p r span i c x d) (same_or_not x p) in
     λ i x. same x i
 
--- one under a name leaves it so but there
+-- a copy under a name changes how the source reads only at that type
 renamed_step : (m : ModuleValue) (kept : Kept) (s u : CopyState) (k : ℕ) (o : Option Text) (r : Row) (span : Option Span) → IsMidway m kept s → goes s.places (TypeItem k) ≡ None → PutsOne m s u (TypeItem k) (under_name o r) span → world m (TypeItem k) ≡ Some r → reads_now m u ≡ renamed_at (reads_now m s) k o
 renamed_step m kept s u k o r span i fresh c is =
     let p = TypeItem k in
@@ -44,7 +44,7 @@ renamed_step m kept s u k o r span i fresh c is =
     let same : (x : ItemPlace) → reads_now m u x ≡ renamed_at w k o x = λ x. ⊎_elim (λ e. subst (λ y. reads_now m u y ≡ renamed_at w k o y) (sym e) at) (λ d. there m kept s u p (under_name o r) span i c x d ∙ sym (renamed_there w k o x d)) (same_or_not x p) in
     λ i x. same x i
 
--- ---- the state after it
+-- ---- the state after one copy
 
 under_kind : (o : Option Text) (r : Row) → kind_number (under_name o r).label.kind ≡ kind_number r.label.kind
 under_kind None r = refl
@@ -93,7 +93,7 @@ grows_trans m shift kept w s t u xs ys a b = record {
 copied_as : (m : ModuleValue) (kept : Kept) (w : World) (s : CopyState) → IsMidway m kept s → reads_now m s ≡ w → AreCopied w (world s.target) kept (goes s.places)
 copied_as m kept w s i e = subst (λ v. AreCopied v (world s.target) kept (goes s.places)) e i.copied
 
--- what went somewhere adds nothing
+-- a mapped item adds nothing
 grows_known : (m : ModuleValue) (shift : ℕ) (kept : Kept) (w : World) (s : CopyState) (p q : ItemPlace) → IsMidway m kept s → reads_now m s ≡ w → goes s.places p ≡ Some q → GrowsBy m shift kept w s s (trail_in m kept w p)
 grows_known m shift kept w s p q i e g = record {
   midway = i;
@@ -155,9 +155,9 @@ names_grow m shift kept w f P h (Some p ∷ ps) a s i e =
     let t = names_grow m shift kept w f P h ps (All-tail (λ o. IfSome o P) (Some p) ps a) (f s p) one.0.midway one.0.reads in
     (grows_trans m shift kept w s (f s p) (copy_each f (f s p) ps) (trail_in m kept w p) (names_trail (trail_in m kept w) ps) one.0 t.0, All-cons (WentSomewhere (goes (copy_each f (f s p) ps).places)) (Some p) ps (one.1.0, t.0.went p one.1.0 one.1.1) t.1)
 
--- ---- an item with what it names
+-- ---- an item after what it names
 
--- a place that went nowhere, and isn't among what was asked for, goes nowhere
+-- a place that wasn't mapped, and isn't among those requested, isn't mapped
 pub still_nowhere : (m : ModuleValue) (shift : ℕ) (kept : Kept) (w : World) (s t : CopyState) (xs : List ItemPlace) (p : ItemPlace) → GrowsBy m shift kept w s t xs → (Contains xs p → ⊥) → goes s.places p ≡ None → goes t.places p ≡ None
 still_nowhere m shift kept w s t xs p g n e = ⊎_elim (λ h. h ∙ e) (λ h. absurd (n h.0)) (g.places p)
 
@@ -167,7 +167,7 @@ not_among m kept w rank p ps l a h =
     let self = of_each (λ y. rank y < rank p) p (names_trail (trail_in m kept w) ps) below h in
     omega (arith, self)
 
--- an item is put behind what it names
+-- an item is copied after what it names
 behind_names : (m : ModuleValue) (shift : ℕ) (kept : Kept) (rank : ItemPlace → ℕ) (w : World) (s t : CopyState) (p : ItemPlace) (r : Row) → IsKinded m → IsRankedBy m rank → world m p ≡ Some r → IsMidway m kept s → reads_now m s ≡ w → goes s.places p ≡ None → GrowsBy m shift kept w s t (names_trail (trail_in m kept w) r.names) → All (WentSomewhere (goes t.places)) r.names → GrowsBy m shift kept w s (put m shift t p) (trail_in m kept w p) × WentSomewhere (goes (put m shift t p).places) (Some p)
 behind_names m shift kept rank w s t p r k a is i e fresh g went =
     let u = put m shift t p in
@@ -183,7 +183,7 @@ behind_names m shift kept rank w s t p r k a is i e fresh g went =
     let trail = step_at w kept rank l (depth m) _ (one_less m) p r (a.within p r is) at nk in
     (subst (λ xs. GrowsBy m shift kept w s u xs) trail (grows_trans m shift kept w s t u (names_trail (trail_in m kept w) r.names) (p ∷ []) g one), (c.place, c.puts.at))
 
--- what went somewhere stays as it is, else something is made
+-- a mapped item stays as it is; any other is copied
 if_gone : (P : CopyState → Type 0) (o : Option ItemPlace) (s u : CopyState) → ((q : ItemPlace) → o ≡ Some q → P s) → (o ≡ None → P u) → P (if is_some o then s else u)
 if_gone P None s u a b = b refl
 if_gone P (Some q) s u a b = a q refl

@@ -68,7 +68,7 @@ derived_nothing m t e =
 
 -- ---- items that are put
 
--- items were put, also where memory ran out
+-- items were copied, also if memory ran out
 pub record HasPut (o : Shader) (n : Maps) (u : Module) (ns : FunctionNames) (d : Derived) : Type 0 where
   pub derived : IsDerived o n u
   pub keeps : Keeps d (derived_of o n u ns)

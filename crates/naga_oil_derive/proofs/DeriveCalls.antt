@@ -57,7 +57,7 @@ keeps_source (Some s) t u m n g = later_source s.now t u m n g
 pub keeps_one : (o : Shader) (t u : Module) (m n : Maps) (ns : FunctionNames) (d : Derived) → derived_of o m t ns ≡ d → Grows m n t u → Keeps d (derived_of o n u ns)
 keeps_one o t u m n ns d v g = subst (λ (x : Derived). Keeps x (derived_of o n u ns)) v (record { items = g.extends; names = refl; source = keeps_source o t u m n g })
 
--- ---- where they went
+-- ---- what items map to
 
 -- ---- a source that is set
 

@@ -113,7 +113,7 @@ entries_there P s a =
     let nested = subst (All P) (types_nested s.ray_desc s.ray_intersection s.ray_vertex_return ds) a in
     subst (All (λ (e : Entry). P e.1)) (sym (entries_nested (special_value s))) (entry_there P RayDesc s.ray_desc (option_to_list s.ray_intersection ++ third) (special_entry RayIntersection s.ray_intersection ++ last) (entry_there P RayIntersection s.ray_intersection third last (entry_there P RayVertexReturn s.ray_vertex_return ds cs (coded_there P s.predeclared_types.entries))) nested)
 
--- ---- a source that is set: what is kept stands, and nothing else went
+-- ---- a source that is set: kept types are mapped, and nothing else is
 
 pub or_nothing : (a b : Option ℕ) → b ≡ None → or_option a b ≡ a
 or_nothing None b e = e

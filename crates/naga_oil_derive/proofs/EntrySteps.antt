@@ -145,7 +145,7 @@ entry_later d e v k h = record {
   task_payload = named_later d e (option_map GlobalItem v.task_payload) k.source h.task_payload;
 }
 
--- ---- as a caller of a derived module sees it
+-- ---- entry points as a caller of a derived module sees them
 
 values_of_entries : (m : Module) → (value_of m).entry_points ≡ map entry_value m.entry_points.items
 unfolding value_of

@@ -31,7 +31,7 @@ use Rattle.naga_oil_derive.specs.DerivedFunctions.{Meanings, MayAsk, MayCopy, Ma
 use Rattle.naga_oil_derive.proofs.FunctionValues.{seen, requests_same, stands_value, functions_length, functions_at}
 use Rattle.naga_oil_derive.proofs.RankLemmas.{place_there}
 
--- a part of a body calls a function that is there and passes a test, if it calls one
+-- a function that a part of a body calls is there and passes a test
 abbrev pub CallsIn : Module → (ℕ → Type 0) → Token → Type 0
 CallsIn m P (Callee f) = (f < length m.functions) × P f
 CallsIn m P _ = Unit {0}
@@ -126,7 +126,7 @@ function_there m P c n f h calls =
     let body = flat_all A (token_names ks ns ls) (block_tokens f.body) (All-weaker (CallsIn m P) (λ t. All A (token_names ks ns ls t)) (token_there m P f ks ns ls h.expressions) (block_tokens f.body) calls) in
     All-append A (signature_names f ++ flat_map (local_names ns ls) f.local_variables) (flat_map (token_names ks ns ls) (block_tokens f.body)) (All-append A (signature_names f) (flat_map (local_names ns ls) f.local_variables) (signature_there m P f h.arguments h.result) locals) body
 
--- ---- and so it can be copied
+-- ---- functions that can be copied
 
 asked_value : (m : Module) (P : ℕ → Type 0) (r : Request) → Asks m P r → MayAsk (value_of m) P r
 asked_value m P (Item p) i = i
@@ -177,7 +177,7 @@ form_body m d n ns c f l h own =
     let P = MayCall (value_of m) ns (length (value_of m).functions) in
     form_copy m P c n f own (calls_before m P c n (block_tokens f.body) l (λ g i. form_reach m d n ns h g (omega (arith, i, l))) own.statements)
 
--- ---- as a caller of a derived module sees it
+-- ---- functions as a caller of a derived module sees them
 
 entry_there : (fs : List (Function × Span)) (k : ℕ) (f : Function) (o : Option (Function × Span)) → slice_get fs k ≡ o → Some f ≡ option_map (λ (x : Function × Span). x.0) o → (e : Function × Span) × (slice_get fs k ≡ Some e) × (e.0 ≡ f)
 entry_there fs k f None h e = absurd (none-some f (sym e))

@@ -56,7 +56,7 @@ call_in o s m t fs ns d n k e v f l h =
 
 -- ---- a call
 
--- functions are taken out of a module that copying goes into, and put back
+-- functions are taken out of the target of copying, and put back
 pub record IsCall (o : Shader) (s : Bor Module) (t x y u : Module) (m n : Maps) (f g : Functions) (ns qs : FunctionNames) (d : Derived) : Type 0 where
   pub is : o ≡ Some s
   pub view : derived_of o m t ns ≡ d
@@ -76,24 +76,24 @@ adds o s t x y u m n f g ns qs d c =
     let start = subst (λ (k : ImportState). Adding (value_of s.now) m.offset k i) (before s t x m f ns c.left c.taken c.names) c.adding in
     subst (AddsOnly (kept_by e) e) (sym (after s y u m n g qs c.offset c.put c.seen)) (adding_law (kept_by e) e (source_of m s) i (view_derived (Some s) m t ns (subst (λ (q : Shader). IsDerived q m t) c.is c.holds)) refl start)
 
--- what holds of a derived module holds after it, also where it was refused
+-- what holds of a derived module holds after the call, also if memory ran out
 pub call_holds : (o : Shader) (s : Bor Module) (t x y u : Module) (m n : Maps) (f g : Functions) (ns qs : FunctionNames) (d : Derived) → IsCall o s t x y u m n f g ns qs d → IsDerived o n u
 call_holds o s t x y u m n f g ns qs d c =
     subst (λ (q : Shader). IsDerived q n u) (sym c.is) (derived_by (kept_by (derived_of (Some s) m t ns)) s n u qs (source_in o s m t c.is c.holds).1 (adds o s t x y u m n f g ns qs d c).derivation)
 
--- and it keeps what is there
+-- the call keeps what is there
 pub call_keeps : (o : Shader) (s : Bor Module) (t x y u : Module) (m n : Maps) (f g : Functions) (ns qs : FunctionNames) (d : Derived) → IsCall o s t x y u m n f g ns qs d → KeepsFunctions d (derived_of o n u qs)
 call_keeps o s t x y u m n f g ns qs d c =
     let own = subst (λ (q : Shader). KeepsFunctions (derived_of q m t ns) (derived_of q n u qs)) (sym c.is) (adds o s t x y u m n f g ns qs d c).keeps in
     subst (λ (e : Derived). KeepsFunctions e (derived_of o n u qs)) c.view own
 
--- what it makes, as a value
+-- the state after the call, as a value
 pub call_value : {A B : Type 0} (r : Result A B) (o : Shader) (s : Bor Module) (t x y u : Module) (m n : Maps) (f g : Functions) (ns qs : FunctionNames) (d : Derived) (F : Source → ImportState → ImportState) → IsCall o s t x y u m n f g ns qs d → OnOk r (import_state n y g ≡ F (source_of m s) (import_state m x f)) → OnOk r (derived_of o n u qs ≡ by_source d (λ z. after_importing z (F z (importing_of d z))) d.source)
 call_value r o s t x y u m n f g ns qs d F c h = imported_value r o s t x y u m n f g ns qs d F c.is c.view c.left c.taken c.names c.offset c.put c.seen h
 
--- ---- what the laws ask of it
+-- ---- what the laws require
 
--- what is made of a function copies it, wherever its items and functions go
+-- copy_function of a function is a copy of it, whatever its items and functions map to
 function_copies : (f : Function) → HasCopies (function_value f)
 function_copies f = λ r h. copies r (function_value f) (record { form = h; alone = alone f })
 

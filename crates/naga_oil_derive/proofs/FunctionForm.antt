@@ -1,4 +1,4 @@
--- The order in which the expressions of a function's value are copied, where it may be copied.
+-- The order in which the expressions of a function's value are copied, if it may be copied.
 use Rattle.std.proofs.Common.{◌≡◌, ⊎_elim, ℕ, zero, suc, ◌+◌, ◌-◌, ◌<◌, ◌≤◌, ◌==◌, true, List, [], ◌∷◌, length, map, slice_get, option_to_list, option_map, unwrap_or, Option, Some, None, nat_lt, replicate, All, refl, ap, sym, ◌∙◌, subst, arith}
 use Rattle.std.specs.List.{flat_map}
 use Rattle.std.proofs.lemmas.Bool.{false≢true, or_cases, or_left, or_right, and_parts, ltb-true}
@@ -99,7 +99,7 @@ body_within ks ls a n (t ∷ ts) w k h =
 
 -- ---- the whole
 
--- the order lists the expressions of a function that may be copied, and the notes tell where its ranges stand in it
+-- the order lists the expressions of a function that may be copied, and the notes give the places of its ranges in the order
 pub walk_of_value : (v : FunctionValue) → MayBeCopied v → IsWalkOf (kinds_in v) (value_links v.expressions) (initialisers_in v) v.body (order_of v) (length (begun v)) (notes_in v)
 walk_of_value v may =
     let ks = kinds_in v in
@@ -123,7 +123,7 @@ walk_of_value v may =
       notes = subst (λ o. AreWithin (length s) o (notes_in v)) h.same b.at.within;
     }
 
--- what initialisers reach stands first in it
+-- what initialisers reach stands first in the order
 pub begun_first : (v : FunctionValue) → length (begun v) ≤ length (order_of v)
 begun_first v =
     let g = added-grows (flat_map (listed (kinds_in v) (value_links v.expressions)) v.body) (begun v) in

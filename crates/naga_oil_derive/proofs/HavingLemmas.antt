@@ -51,7 +51,7 @@ pub source_having : (source t : Module) (m : Maps) (fs : List (Function × Span)
 unfolding source_world
 source_having source t m fs = ap (λ (v : World). named_world (world (value_of source)) v (goes_under m)) (world_having t fs)
 
--- so the state between calls stays one
+-- the state between calls stays one
 pub copying_having : (source t : Module) (m : Maps) (fs : List (Function × Span)) → IsCopying source t m → IsCopying source (having t fs) m
 copying_having source t m fs i =
     let w = world_having t fs in
@@ -63,7 +63,7 @@ copying_having source t m fs i =
       copied = subst (λ k. AreCopied (source_world source (having t fs) m) (world (value_of (having t fs))) k (goes_under m)) (sym (kept_same source t (having t fs) refl)) b;
     }
 
--- ---- where things go
+-- ---- what items map to
 
 function_goes : (source : Module) (m : Maps) (fs : Functions) → (h : ℕ) → unwrap_or (meant_at (meanings fs.names.entries) (slice_get (value_of source).functions h)) h ≡ (went_by m source fs.names).function h
 unfolding value_of

@@ -1,4 +1,4 @@
--- One function more.
+-- One more function.
 use Rattle.std.proofs.Common.{◌≡◌, ⊎_elim, inl, inr, ℕ, zero, suc, ◌<◌, Bool, nat_eq, List, [], ◌∷◌, ◌++◌, length, map, get_or, slice_get, Option, Some, None, IsSome, IfSome, is_some, option_map, unwrap_or, refl, ap, sym, ◌∙◌, subst, All, String, string_bytes, Global, Result, Ok, Err, OnOk, IfOk}
 use Rattle.std.specs.Cow.{cow_str_bytes}
 use Rattle.std.specs.Cmp.Lexicographic.{pointwise}
@@ -78,7 +78,7 @@ pub request_added : (source t u : Module) (m n : Maps) (a b : Functions) (shift 
 request_added source t u m n a b shift depth ns xs ys i r copying adding may th e l is =
     request_at source a b depth ns xs i r (subst (Thins [] ns) (sym e) th) may (names_added source t u m n a b shift copying adding) l is
 
--- an item that is copied went somewhere
+-- an item that is copied is mapped
 pub item_went : (source t u : Module) (m n : Maps) (p : ItemPlace) → AreRanked source → IsCopying source t m → IsThere source p → copy_state n u ≡ copy_item (value_of source) m.offset (copy_state m t) p → WentSomewhere (goes (places_of n)) (Some p)
 unfolding goes_under
 item_went source t u m n p ranked i there e = copied_went source t u m n p ranked i there e
@@ -101,18 +101,18 @@ entry_of v s = (v, s)
 abbrev state_with : CopyState → List (FunctionValue × Span) → Meanings → ImportState
 state_with c f n = record { copying = c; functions = f; names = n }
 
--- the copy of a function, behind the others
+-- the copy of a function, after the others
 put_behind : (source : Module) (f g : Function) (span : Span) (m : Maps) (a b : Functions) → function_value g ≡ copy_function (went_by m source a.names) (function_value f) → b.copies ≡ a.copies ++ (g, shifted m.offset span) ∷ [] → (t : Module) → (import_state m t b).functions ≡ (with_function (value_of source) m.offset (import_state m t a) (function_value f) span).functions
 put_behind source f g span m a b made e t =
     let see = λ (x : Function × Span). (let y : FunctionValue × Span = (function_value x.0, x.1) in y) in
     let fs = map see a.copies in
     ap (map see) e ∙ map-append see a.copies ((g, shifted m.offset span) ∷ []) ∙ ap (λ (v : FunctionValue). fs ++ entry_of v (shifted m.offset span) ∷ []) (made ∙ ap (λ r. copy_function r (function_value f)) (going_same source m a))
 
--- names are told apart by their bytes
+-- names differ by their bytes
 abbrev pub cow_eq : CowStr Global → CowStr Global → Bool
 cow_eq a b = pointwise nat_eq (cow_str_bytes a) (cow_str_bytes b)
 
--- its name means it
+-- the name of a function means its copy
 pub name_put : (f : Function) (a b : Functions) (h : ℕ) (n : CowStr Global) → Some (cow_str_bytes n) ≡ option_map string_bytes f.name → b.names.entries ≡ insert_entry cow_eq a.names.entries n h → meanings b.names.entries ≡ meaning (meanings a.names.entries) (function_value f).name h
 name_put f a b h n is e = ap meanings e ∙ meaning_put cow_eq (λ x y. refl) a.names.entries n h ∙ ap (λ o. meaning (meanings a.names.entries) o h) is
 
@@ -157,7 +157,7 @@ known_at_from m (Some x) f e = ap (λ (g : Function). known_as m g.name) (sym (s
 pub callee_from : {S : Type 0} (m : IndexMap (CowStr Global) ℕ S) (fs : List (Function × Span)) (h : ℕ) (f : Function) → Some f ≡ option_map (λ (e : Function × Span). e.0) (slice_get fs h) → callee_at m fs h ≡ known_as m f.name
 callee_from m fs h f e = known_at_from m (slice_get fs h) f e
 
--- a function that can be called though its name isn't known can be copied, where calls go less deep
+-- a callable function whose name isn't known can be copied, where calls nest less deep
 pub unknown_callee : (source : Module) (fs : Functions) (n h : ℕ) (e : Function × Span) → callee_at fs.names source.functions h ≡ None → slice_get source.functions h ≡ Some e → IsCallable source fs n h → (m : ℕ) × (n ≡ suc m) × IsSome e.0.name × IsImportable source fs m e.0
 unknown_callee source fs zero h e u at c = absurd (false≢true (sym (ap is_some u) ∙ c))
 unknown_callee source fs (suc m) h e u at c =

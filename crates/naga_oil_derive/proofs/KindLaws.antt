@@ -1,4 +1,4 @@
--- A module of which items can be copied has a value that says so.
+-- A module whose items can be copied has a value that says so.
 use Rattle.std.specs.List.{IsDistinct}
 use Rattle.std.proofs.Common.{map, nat_eq, ◌≡◌, refl, ◌∙◌, All}
 use Rattle.naga_oil_ir.specs.Rows.{Kind, TypeKind, ConstantKind, OverrideKind, GlobalKind, ExpressionKind}

@@ -60,7 +60,7 @@ same_part a x b c y d h i e =
     let f : x ++ b ≡ y ++ d = sym (drop_at a (x ++ b) (length a) refl) ∙ ap (drop (length a)) (sym (append_assoc a x b) ∙ e ∙ append_assoc c y d) ∙ drop_at c (y ++ d) (length a) (sym h) in
     sym (take_at x b (length x) refl) ∙ ap (take (length x)) f ∙ take_at y d (length x) (sym i)
 
--- a list that stands behind the first n of an order went to numbers one after another
+-- a list after the first n of an order maps to consecutive numbers
 went_on : (f : ℕ → ℕ) (o x xs : List ℕ) (n m b e : ℕ) → length x ≡ n → map f o ≡ x ++ run m (length o - n) → n ≤ b → StandsFrom o b e xs → map f xs ≡ run (m + (b - n)) (length xs)
 went_on f o x xs n m b e lx w le s =
     let lo : length o ≡ (b + length xs) + length s.behind = ap length s.is ∙ length-append (s.before ++ xs) s.behind ∙ ap (λ k. k + length s.behind) (length-append s.before xs ∙ ap (λ k. k + length xs) s.begins) in

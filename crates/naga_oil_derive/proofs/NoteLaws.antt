@@ -36,7 +36,7 @@ before ks ls o ts r = added (added o (flat_map (listed ks ls) ts)) (externals ks
 abbrev pub note : ℕ → ℕ → Option (Option (ℕ × ℕ))
 note b e = Some (Some (b, e))
 
--- the range at i is noted with what is put before it, and with its places
+-- the range at i is noted with what is copied before it, and with its places
 abbrev NotedAt : List ℕ → Links → List ℕ → List ℕ → Notes → Tokens → ℕ → ℕ × ℕ → Type 0
 NotedAt ks ls s o es ts i r =
     let n = length (before ks ls o (take i ts) r) in
@@ -147,7 +147,7 @@ no_note v = replicate (length v.expressions) None
 pub notes_count : (v : FunctionValue) → length (notes_in v) ≡ length v.expressions
 notes_count v = notes_long (kinds_in v) (value_links v.expressions) v.body (begun v) (no_note v) ∙ length-replicate (length v.expressions) None
 
--- the range that counts is noted with what is put before it
+-- the range that counts is noted with what is copied before it
 pub counted_note : (v : FunctionValue) → MayBeCopied v → (j : ℕ) (q : ℕ × ℕ) → EmitsAt v j q → q.0 < length v.expressions → Counts v j q → let n = length (put_before v j q) in slice_get (notes_in v) q.0 ≡ note n (n + length (others (begun v) (places q)))
 counted_note v may j q at room c =
     let ks = kinds_in v in

@@ -1,4 +1,4 @@
--- What copying the functions that are pending comes to, and that it ends.
+-- The result of copying the pending functions, and that it ends.
 use Rattle.std.proofs.Common.{◌≡◌, ⊎_elim, ℕ, zero, suc, ◌+◌, ◌<◌, ◌≤◌, List, [], ◌∷◌, ◌++◌, length, drop, get_or, slice_get, Option, Some, None, IsSome, IfSome, is_some, option_map, if◌then◌else◌, String, string_bytes, Global, drop_of_length-le, refl, ap, sym, ◌∙◌, subst, arith, All}
 use Rattle.std.specs.List.{sum_by}
 use Rattle.std.proofs.lemmas.Bool.{false≢true}
@@ -26,7 +26,7 @@ use Rattle.naga_oil_derive.specs.CopiedLaw.{IsMidway}
 use Rattle.naga_oil_derive.specs.DerivedFunctions.{meant, meant_at, requests_of}
 use Rattle.naga_oil_derive.specs.Imported.{meanings, Asks, IsCallable, IsAnswerable, IsImportable}
 use Rattle.naga_oil_derive.specs.Answered.{ImportState, import_state, Caller, answer_one, answer_by, answer_all, with_function, import_callee_by, import_callee, import_copy}
-use Rattle.naga_oil_derive.specs.Pending.{IsNew, IsPending, left, finish, finish_all, steps_for, steps_at, call_steps, steps}
+use Rattle.naga_oil_derive.specs.Pending.{IsNew, IsPending, left_requests, complete, complete_all, steps_of_request, steps_of_function, call_steps, pending_steps}
 use Rattle.naga_oil_derive.specs.declared.import.Functions.{Functions}
 use Rattle.naga_oil_derive.specs.declared.import.Pending.{Pending}
 use Rattle.naga_oil_derive.proofs.WorldLemmas.{Begins-refl, Begins-trans, Extends-refl, Extends-trans}
@@ -53,7 +53,7 @@ added_both m kept s t u a b = record {
   names = λ n h. b.names n (a.names n h);
 }
 
--- what came before stays, and what was asked for is there
+-- what came before stays, and what was requested is there
 abbrev Does : Module → Kept → ImportState → Request → ImportState → Type 0
 Does source kept s r u = Added (value_of source) kept s u × Was (value_of source) u r
 
@@ -139,7 +139,7 @@ unfolding import_callee
 calls_to source kept own shift a zero s b k l may = (added_none (value_of source) kept s b.midway, call_known source kept own s k b may)
 calls_to source kept own shift a (suc n) s b k l may = place_does source kept own shift n s k a (calls_to source kept own shift a n) b l may (slice_get source.functions k) refl
 
--- ---- as the code holds it
+-- ---- pending functions of the code
 
 starts : (source t : Module) (m : Maps) (own : Functions) → IsCopying source t m → Between source (kept_between source t) own (import_state m t own)
 starts source t m own i = record { midway = midway_of source t m i; knows = λ n h. h }
@@ -161,14 +161,14 @@ walk_answered source t m own shift n f w a i form walks =
     let each = each_does source kept own shift C (IsCallable source own n) a (calls_to source kept own shift a n) s (starts source t m own i) rs asks in
     thin_answered v n shift s (answer_all n v shift s rs) (function_names f) rs walks.requests (λ r x. absurd (none-some r x.1)) each.1 ∙ ap (answer_all n v shift s) (sym (requests_same f))
 
--- a function that is pending anew is to be imported
-pub new_finish : (source t : Module) (m : Maps) (own : Functions) (shift n : ℕ) (f : Function) (span : Span) (p : Pending) → AreRanked source → IsCopying source t m → IsImportable source own n f → IsNew f span n p → finish (value_of source) shift (import_state m t own) p ≡ import_copy n (value_of source) shift (import_state m t own) (function_value f) span
+-- a function that is added to the pending ones is to be imported
+pub new_finish : (source t : Module) (m : Maps) (own : Functions) (shift n : ℕ) (f : Function) (span : Span) (p : Pending) → AreRanked source → IsCopying source t m → IsImportable source own n f → IsNew f span n p → complete (value_of source) shift (import_state m t own) p ≡ import_copy n (value_of source) shift (import_state m t own) (function_value f) span
 new_finish source t m own shift n f span p a i form new =
     let v = value_of source in
     let s = import_state m t own in
     let rs = p.walk.requests.items in
     let g = function_value f in
-    ap (λ x. with_function v shift (answer_all x v shift s (left p)) (function_value p.function.now) p.span) new.depth ∙ ap (λ x. with_function v shift (answer_all n v shift s (drop x rs)) (function_value p.function.now) p.span) new.answered ∙ ap (λ x. with_function v shift (answer_all n v shift s rs) (function_value x) p.span) new.function ∙ ap (λ x. with_function v shift (answer_all n v shift s rs) g x) new.span ∙ ap (λ x. with_function v shift x g span) (walk_answered source t m own shift n f p.walk a i form new.walks)
+    ap (λ x. with_function v shift (answer_all x v shift s (left_requests p)) (function_value p.function.now) p.span) new.depth ∙ ap (λ x. with_function v shift (answer_all n v shift s (drop x rs)) (function_value p.function.now) p.span) new.answered ∙ ap (λ x. with_function v shift (answer_all n v shift s rs) (function_value x) p.span) new.function ∙ ap (λ x. with_function v shift (answer_all n v shift s rs) g x) new.span ∙ ap (λ x. with_function v shift x g span) (walk_answered source t m own shift n f p.walk a i form new.walks)
 
 pub new_pending : (source : Module) (own : Functions) (n : ℕ) (f : Function) (span : Span) (p : Pending) → IsNew f span n p → IsImportable source own n f → IsSome f.name → IsPending source own p
 new_pending source own n f span p new form named =
@@ -177,21 +177,21 @@ new_pending source own n f span p new form named =
 
 -- ---- one after another
 
-pub finish_last : (m : ModuleValue) (shift : ℕ) (s : ImportState) (ps : List Pending) (p : Pending) → finish_all m shift s (ps ++ p ∷ []) ≡ finish_all m shift (finish m shift s p) ps
+pub finish_last : (m : ModuleValue) (shift : ℕ) (s : ImportState) (ps : List Pending) (p : Pending) → complete_all m shift s (ps ++ p ∷ []) ≡ complete_all m shift (complete m shift s p) ps
 finish_last m shift s [] p = refl
-finish_last m shift s (q ∷ ps) p = ap (λ u. finish m shift u q) (finish_last m shift s ps p)
+finish_last m shift s (q ∷ ps) p = ap (λ u. complete m shift u q) (finish_last m shift s ps p)
 
 -- with one answer more
 abbrev pub next : Pending → Pending
 next p = record p { answered = p.answered + 1 }
 
-pub left_next : (p : Pending) (r : Request) → p.answered < length p.walk.requests.items → r ≡ get_or p.walk.requests.items p.answered r → left p ≡ r ∷ left (next p)
-left_next p r l e = drop_more p.walk.requests.items p.answered r l ∙ ap (λ x. x ∷ left (next p)) (sym e)
+pub left_next : (p : Pending) (r : Request) → p.answered < length p.walk.requests.items → r ≡ get_or p.walk.requests.items p.answered r → left_requests p ≡ r ∷ left_requests (next p)
+left_next p r l e = drop_more p.walk.requests.items p.answered r l ∙ ap (λ x. x ∷ left_requests (next p)) (sym e)
 
-pub finish_next : (m : ModuleValue) (shift : ℕ) (s : ImportState) (p : Pending) (r : Request) → left p ≡ r ∷ left (next p) → finish m shift s p ≡ finish m shift (answer_one (import_callee p.depth m shift) m shift s r) (next p)
+pub finish_next : (m : ModuleValue) (shift : ℕ) (s : ImportState) (p : Pending) (r : Request) → left_requests p ≡ r ∷ left_requests (next p) → complete m shift s p ≡ complete m shift (answer_one (import_callee p.depth m shift) m shift s r) (next p)
 finish_next m shift s p r e = ap (λ rs. with_function m shift (answer_all p.depth m shift s rs) (function_value p.function.now) p.span) e
 
-pub finish_none : (m : ModuleValue) (shift : ℕ) (s : ImportState) (p : Pending) → length p.walk.requests.items ≤ p.answered → finish m shift s p ≡ with_function m shift s (function_value p.function.now) p.span
+pub finish_none : (m : ModuleValue) (shift : ℕ) (s : ImportState) (p : Pending) → length p.walk.requests.items ≤ p.answered → complete m shift s p ≡ with_function m shift s (function_value p.function.now) p.span
 finish_none m shift s p l = ap (λ rs. with_function m shift (answer_all p.depth m shift s rs) (function_value p.function.now) p.span) (drop_of_length-le p.walk.requests.items l)
 
 pub request_asks : (source : Module) (own : Functions) (p : Pending) (r : Request) → IsPending source own p → p.answered < length p.walk.requests.items → r ≡ get_or p.walk.requests.items p.answered r → IsAnswerable source own p.depth r
@@ -210,7 +210,7 @@ thins_steps f Ends = omega arith
 thins_steps f (Keeps {xs = xs} {ys = ys} {x = x} th) = let i = thins_steps f th in omega (arith, i, sum_by-cons f x xs, sum_by-cons f x ys)
 thins_steps f (Drops {xs = xs} {ys = ys} {x = x} a th) = let i = thins_steps f th in omega (arith, i, sum_by-cons f x xs)
 
-steps_some : (f : ℕ → ℕ) (o : Option (FunctionValue × Span)) → 0 < steps_at f o
+steps_some : (f : ℕ → ℕ) (o : Option (FunctionValue × Span)) → 0 < steps_of_function f o
 steps_some f None = omega arith
 steps_some f (Some e) = omega arith
 
@@ -219,20 +219,20 @@ unfolding call_steps
 call_some zero m k = omega arith
 call_some (suc n) m k = steps_some (call_steps n m) (slice_get m.functions k)
 
-pub steps_next : (m : ModuleValue) (p : Pending) (r : Request) → left p ≡ r ∷ left (next p) → steps m p ≡ steps m (next p) + steps_for (call_steps p.depth m) r
+pub steps_next : (m : ModuleValue) (p : Pending) (r : Request) → left_requests p ≡ r ∷ left_requests (next p) → pending_steps m p ≡ pending_steps m (next p) + steps_of_request (call_steps p.depth m) r
 steps_next m p r e =
-    let g = steps_for (call_steps p.depth m) in
-    let a : sum_by g (left p) ≡ g r + sum_by g (left (next p)) = ap (sum_by g) e ∙ sum_by-cons g r (left (next p)) in
+    let g = steps_of_request (call_steps p.depth m) in
+    let a : sum_by g (left_requests p) ≡ g r + sum_by g (left_requests (next p)) = ap (sum_by g) e ∙ sum_by-cons g r (left_requests (next p)) in
     omega (arith, a)
 
-pub new_steps : (source : Module) (n d k : ℕ) (f : Function) (span : Span) (p : Pending) → IsNew f span n p → d ≡ suc n → slice_get source.functions k ≡ Some (f, span) → steps (value_of source) p < call_steps d (value_of source) k
+pub new_steps : (source : Module) (n d k : ℕ) (f : Function) (span : Span) (p : Pending) → IsNew f span n p → d ≡ suc n → slice_get source.functions k ≡ Some (f, span) → pending_steps (value_of source) p < call_steps d (value_of source) k
 unfolding call_steps
 new_steps source n d k f span p new e at =
     let m = value_of source in
-    let g = steps_for (call_steps n m) in
-    let own : steps m p ≡ 1 + sum_by g p.walk.requests.items = ap (λ x. 1 + sum_by (steps_for (call_steps x m)) (left p)) new.depth ∙ ap (λ x. 1 + sum_by g (drop x p.walk.requests.items)) new.answered in
+    let g = steps_of_request (call_steps n m) in
+    let own : pending_steps m p ≡ 1 + sum_by g p.walk.requests.items = ap (λ x. 1 + sum_by (steps_of_request (call_steps x m)) (left_requests p)) new.depth ∙ ap (λ x. 1 + sum_by g (drop x p.walk.requests.items)) new.answered in
     let less : sum_by g p.walk.requests.items ≤ sum_by g (function_names f) = thins_steps g new.walks.requests in
-    let all : call_steps d m k ≡ 2 + sum_by g (function_names f) = ap (λ x. call_steps x m k) e ∙ ap (steps_at (call_steps n m)) (functions_at source k ∙ ap (option_map seen) at) ∙ ap (λ rs. 2 + sum_by g rs) (requests_same f) in
+    let all : call_steps d m k ≡ 2 + sum_by g (function_names f) = ap (λ x. call_steps x m k) e ∙ ap (steps_of_function (call_steps n m)) (functions_at source k ∙ ap (option_map seen) at) ∙ ap (λ rs. 2 + sum_by g rs) (requests_same f) in
     omega (arith, own, less, all)
 
 -- ---- what names mean in the end

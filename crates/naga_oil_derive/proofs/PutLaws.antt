@@ -1,4 +1,4 @@
--- What putting an item does, over values alone.
+-- What copying one item does, over values alone.
 use Rattle.std.proofs.Common.{◌≡◌, ◌⊎◌, inl, inr, ⊎_elim, ℕ, ◌<◌, Bool, List, [], ◌∷◌, ◌++◌, length, Option, Some, None, option_map, slice_get, slice_set, refl, ap, sym, ◌∙◌, subst, arith, All, unwrap_or, map, Decides}
 use Rattle.std.specs.Option.{option_flatten}
 use Rattle.std.specs.List.{AllZip}
@@ -84,7 +84,7 @@ put_one E C f arena places a d m xs ns k x sp row kinds kind copies l roomy =
       roomy = roomy;
     }
 
--- ---- what went somewhere goes where it is renamed to
+-- ---- a mapped item maps to what it is renamed to
 
 under : (C : ℕ → ItemPlace) (o : Option ℕ) (k : ℕ) (q : ItemPlace) → option_map C o ≡ Some q → option_map C o ≡ Some (C (unwrap_or o k))
 under C None k q e = cc
@@ -256,7 +256,7 @@ found : {X : Type 0} (f : X → Row) (xs : List (X × Span)) (k : ℕ) (o : Opti
 found f xs k None r h e = cc
 found f xs k (Some x) r h e = (x, h, (let q : f x.0 ≡ r = cc in q), slice_get_within xs k x h)
 
--- what is made of it
+-- the state after the copy
 put_found : {A : Type 0} (m : ModuleValue) (s : CopyState) (p : ItemPlace) (f : A → Row) (g : A → Span → CopyState) (shift : ℕ) (o : Option (A × Span)) (e : A × Span) (r : Row) → o ≡ Some e → f e.0 ≡ r → PutsOne m s (g e.0 e.1) p (f e.0) (Some (shifted shift e.1)) → PutsOne m s (of_item s g o) p r (option_map (shifted shift) (option_map (λ (v : A × Span). v.1) o))
 put_found {A} m s p f g shift o e r at is one =
     subst (λ (v : Row). PutsOne m s (of_item s g o) p v (option_map (shifted shift) (option_map (λ (y : A × Span). y.1) o))) is (subst (λ (v : Option (A × Span)). PutsOne m s (of_item s g v) p (f e.0) (option_map (shifted shift) (option_map (λ (y : A × Span). y.1) v))) (sym at) one)

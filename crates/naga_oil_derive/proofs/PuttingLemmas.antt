@@ -1,4 +1,4 @@
--- What holds after items were put one after another, also where copying was refused, and what copying them makes.
+-- What holds after items were copied one after another, also if memory ran out, and the result of copying them.
 use Rattle.std.proofs.Common.{◌≡◌, ℕ, List, Option, Some, None, refl, ap, sym, ◌∙◌, subst, All, IfSome}
 use Rattle.std.proofs.lemmas.List.{length-map}
 use Rattle.std.proofs.lemmas.List.Elements.{All-weaker}
@@ -151,7 +151,7 @@ copied_went source t u m n p a i there e =
     let g = copied_item (value_of source) m.offset (kept_between source t) (copy_state m t) p (ranked_copyable source a) (midway_of source t m i) there in
     (g.1.0, ap (λ (s : CopyState). goes s.places p) e ∙ g.1.1)
 
--- ---- items put behind others
+-- ---- items copied after others
 
 pub putting_next : {m : ModuleValue} {shift d : ℕ} {s t u : CopyState} → d ≡ shift → Putting m shift s t → Putting m d t u → Putting m shift s u
 putting_next {m} {t} {u} e a b = putting_trans a (subst (λ x. Putting m x t u) e b)

@@ -29,9 +29,9 @@ use Rattle.naga_oil_derive.proofs.NoteLaws.{before, note, emitted_first, notes_c
 use Rattle.naga_oil_walk.proofs.WalkLemmas.{added-append}
 use Rattle.naga_oil_walk.proofs.WalkNotes.{added-grows}
 
--- ---- how many copies there are
+-- ---- the number of copies
 
--- behind those of initialisers each place has a copy of its own
+-- after the copies for initialisers each place has a copy of its own
 one_more : (r : Renames) (s : ExpressionState) (k : ℕ) (o : Option (Parts × Span)) (a : Parts × Span) → o ≡ Some a → length (copy_expression r false s k o).values ≡ length s.values + 1
 one_more r s k o a e = ap (λ x. length (copy_expression r false s k x).values) e ∙ length_push s.values (copied r s.table a.0, r.span a.1)
 
@@ -91,7 +91,7 @@ order_begins v i p at =
     let g = put_first (kinds_in v) (value_links v.expressions) v.body (begun v) i p at in
     ap (take (length b)) g.1 ∙ take_at b g.0 (length b) refl
 
--- ---- where ranges go
+-- ---- what ranges map to
 
 range_fits : (n m c : ℕ) (r : ℕ × ℕ) (o : Option (ℕ × ℕ)) → ((b e : ℕ) → o ≡ Some (b, e) → (n ≤ b) × (b ≤ e) × (m + (e - n) ≤ c)) → ((brought_range n m c r o).0 ≤ (brought_range n m c r o).1) × ((brought_range n m c r o).1 ≤ c)
 range_fits n m c r None f = (omega arith, omega arith)
@@ -116,7 +116,7 @@ covered_at t f s [] i p c at = absurd (none-some (Emitted p) at)
 covered_at t f s (x ∷ ts) zero p c at = subst (IsCovered t f s) (same_Some x (Emitted p) at) c.0
 covered_at t f s (x ∷ ts) (suc i) p c at = covered_at t f s ts i p c.1 at
 
--- a range of no places ends where it begins
+-- an empty range ends where it begins
 no_places : (q : ℕ × ℕ) → q.0 ≤ q.1 → places q ≡ [] → q.1 ≡ q.0
 no_places q l e = let n : q.1 - q.0 ≡ 0 = sym (run_length (q.1 - q.0) q.0) ∙ ap length e in omega (arith, l, n)
 
@@ -129,7 +129,7 @@ emitted b e = Some (Emitted (b, e))
 abbrev state_of : Renames → FunctionValue → ExpressionState
 state_of r v = copy_expressions r v.expressions (order_of v) (length (begun v))
 
--- how many copies initialisers have
+-- the number of copies for initialisers
 abbrev merged_of : Renames → FunctionValue → ℕ
 merged_of r v = length (state_of r v).values - (length (order_of v) - length (begun v))
 
@@ -140,7 +140,7 @@ brought_in r v k = brought (length (begun v)) (merged_of r v) k
 abbrev covered_by : FunctionValue → ℕ × ℕ → ℕ
 covered_by v q = length (others (begun v) (places q))
 
--- what is noted of the range that counts, and where it leads to
+-- the note on the range that counts, and what the range maps to
 record IsLed (r : Renames) (v : FunctionValue) (j : ℕ) (q : ℕ × ℕ) : Type 0 where
   pub noted : slice_get (notes_in v) q.0 ≡ note (length (put_before v j q)) (length (put_before v j q) + covered_by v q)
   pub begins : brought_in r v (length (put_before v j q)) ≡ copies_of r v (put_before v j q)

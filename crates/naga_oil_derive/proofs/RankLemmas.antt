@@ -139,7 +139,7 @@ none_passes p (x ∷ xs) h =
 
 -- ---- constants and overrides
 
--- the initialiser, behind the type
+-- the initialiser, after the type
 init_there : (m : Module) (o : Option ℕ) (t : Option ItemPlace) → All (λ n. IfSome n (IsPlaceThere m)) (t ∷ option_map ExpressionItem o ∷ []) → IfSome o (λ i. i < length m.global_expressions)
 init_there m None t a = tt
 init_there m (Some i) t a = All-head (λ n. IfSome n (IsPlaceThere m)) (Some (ExpressionItem i)) [] (All-tail (λ n. IfSome n (IsPlaceThere m)) t (Some (ExpressionItem i) ∷ []) a)

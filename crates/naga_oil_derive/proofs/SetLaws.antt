@@ -165,7 +165,7 @@ first_at : (m t : ModuleValue) (h q : ℕ) → kept_in (special_at t.special_typ
 unfolding kept_of
 first_at m t h q e = ap (option_map TypeItem) e
 
--- the special types of the target before and after, and where those of a source went
+-- the special types of the target before and after, and what those of a source map to
 abbrev SetsTo : ModuleValue → SpecialValue → SpecialValue → Places → Type 0
 SetsTo m s x n = x ≡ with_specials s (type_under n) (entries_in m)
 
@@ -175,7 +175,7 @@ keeps_set m s x n is k q h = ap (λ v. special_at v k) is ∙ specials_keep s (t
 each_set : (m : ModuleValue) (s x : SpecialValue) (n : Places) → AreSpecial m → SetsTo m s x n → EachEntry (IsSettled s x (type_under n)) (entries_in m)
 each_set m s x n a is = subst (λ v. EachEntry (IsSettled s v (type_under n)) (entries_in m)) (sym is) (settled s (type_under n) (entries_in m) a.distinct)
 
--- a kept place is where the type went
+-- a kept place is what the type maps to
 stands_set : (m t : ModuleValue) (x : SpecialValue) (n : Places) → AreSpecial m → SetsTo m t.special_types x n → ((p q : ItemPlace) → first_in m t p ≡ Some q → goes n p ≡ Some q) → All (λ (e : Entry). WentSomewhere (goes n) (Some (TypeItem e.1))) (entries_in m) → (p q : ItemPlace) → kept_of m.special_types x p ≡ Some q → goes n p ≡ Some q
 unfolding kept_of
 stands_set m t x n a is stand went (TypeItem h) q e =
@@ -247,7 +247,7 @@ settles_each d e s (x ∷ es) stand had reads set went lacks =
 
 -- ---- the source that is set
 
--- the types of the source went to types that are there
+-- the types of the source map to types that are there
 went_there : (m : ModuleValue) (kept : Kept) (u : CopyState) (e : Entry) → IsMidway m kept u → WentSomewhere (goes u.places) (Some (TypeItem e.1)) → HasAt u.target (TypeItem (type_under u.places e.1))
 went_there m kept u e i w = i.copied.there (TypeItem e.1) (TypeItem (type_under u.places e.1)) (goes_renamed 0 u.places (TypeItem e.1) w.0 w.1)
 

@@ -123,7 +123,7 @@ special_others s (Predeclared k) (Predeclared c) h d = lookup_append c s.predecl
 some_none : (o : Option ℕ) (q : ℕ) → o ≡ Some q → o ≡ None → ⊥
 some_none o q e f = let g : Some q ≡ None = sym e ∙ f in cc
 
--- what was there stays, as keys that lack one get it
+-- types that are there stay, while keys that lack one get one
 pub special_keeps : (s : SpecialValue) (key other : SpecialKey) (h q : ℕ) → special_at s key ≡ None → special_at s other ≡ Some q → special_at (with_special s key h) other ≡ Some q
 special_keeps s key other h q e f = special_others s key other h (λ g. some_none (special_at s other) q f (ap (special_at s) g ∙ e)) ∙ f
 
@@ -145,7 +145,7 @@ pub specials_keep : (s : SpecialValue) (f : ℕ → ℕ) (es : List Entry) (k : 
 specials_keep s f [] k q h = h
 specials_keep s f (e ∷ es) k q h = specials_keep (more s f e) f es k q (more_keeps s f e k q h)
 
--- a key has the type that it had, or where its entry's went
+-- a key has the type that it had, or what its entry's type maps to
 abbrev pub IsSettled : SpecialValue → SpecialValue → (ℕ → ℕ) → Entry → Type 0
 IsSettled s t f e = (special_at t e.0 ≡ Some (f e.1)) ⊎ ((q : ℕ) × (special_at s e.0 ≡ Some q) × (special_at t e.0 ≡ Some q))
 
@@ -205,7 +205,7 @@ here_settled s t f x es keeps a stand h q n true e g =
     let is : x.1 ≡ h = eqb_eq x.1 h e in
     ⊎_elim (λ w. ap f (sym is) ∙ Some_inj (f x.1) q (sym w ∙ g)) (λ w. let r : w.0 ≡ q = Some_inj w.0 q (sym w.2 ∙ g) in stand h q (ap (λ o. or_option o (if x.1 == h then special_at s x.0 else None)) (kept_none_more s t keeps es h n) ∙ ap (λ c. if c then special_at s x.0 else None) e ∙ w.1 ∙ ap Some r)) a
 
--- where each key is settled, the kept place of a type is where it went
+-- if each key is settled, the kept place of a type is what the type maps to
 pub kept_settled : (s t : SpecialValue) (f : ℕ → ℕ) (es : List Entry) → ((k : SpecialKey) (q : ℕ) → special_at s k ≡ Some q → special_at t k ≡ Some q) → EachEntry (IsSettled s t f) es → ((h q : ℕ) → kept_in (special_at s) es h ≡ Some q → f h ≡ q) → (h q : ℕ) → kept_in (special_at t) es h ≡ Some q → f h ≡ q
 kept_settled s t f [] keeps a stand h q e = cc
 kept_settled s t f (x ∷ es) keeps a stand h q e =
@@ -238,7 +238,7 @@ pub length-kept_over : (f : SpecialKey → Option ℕ) (es : List Entry) (ts : L
 length-kept_over f [] ts = refl
 length-kept_over f (e ∷ es) ts = length-kept_over f es (put_kept ts e.1 (f e.0)) ∙ length-put ts e.1 (f e.0)
 
--- where types went that were kept
+-- what kept types map to
 pub kept_over_get : (f : SpecialKey → Option ℕ) (es : List Entry) (ts : List (Option ℕ)) (j : ℕ) → All (λ e. e.1 < length ts) es → option_flatten (slice_get (kept_over f es ts) j) ≡ or_option (kept_in f es j) (option_flatten (slice_get ts j))
 kept_over_get f [] ts j a = refl
 kept_over_get f (e ∷ es) ts j a =

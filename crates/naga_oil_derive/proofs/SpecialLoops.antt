@@ -33,7 +33,7 @@ entry_length key None false e = refl
 entry_length key (Some h) true e = refl
 entry_length key (Some h) false e = absurd (false≢true (sym e))
 
--- how many entries there are
+-- the number of entries
 pub entries_length : (s : SpecialValue) (a b c : Bool) → is_some s.ray_desc ≡ a → is_some s.ray_intersection ≡ b → is_some s.ray_vertex_return ≡ c → length (special_entries s) ≡ (if a then 1 else 0) + (if b then 1 else 0) + (if c then 1 else 0) + length s.predeclared_types
 entries_length s a b c ea eb ec =
     let x = special_entry RayDesc s.ray_desc in

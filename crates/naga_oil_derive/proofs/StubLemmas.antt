@@ -1,4 +1,4 @@
--- Functions that name no more than the types of their arguments and their results.
+-- Functions that name only the types of their arguments and results.
 use Rattle.std.proofs.Common.{◌≡◌, ℕ, zero, suc, List, [], ◌∷◌, ◌++◌, length, map, replicate, slice_get, Option, Some, None, IfSome, option_map, option_to_list, refl, sym, ap, ◌∙◌, All, String, Global}
 use Rattle.std.specs.List.{flat_map}
 use Rattle.std.specs.Option.{option_flatten}
@@ -104,7 +104,7 @@ stub_copied r f is =
     let v = function_value f in
     ap (λ (ls : List (LocalVariable × Span)). copy_function r (bare v (map (λ l. (local_value l.0, l.1)) ls) (block_tokens f.body))) is.0 ∙ ap (λ (ts : Tokens). copy_function r (bare v [] ts)) is.1 ∙ bare_copied r v
 
--- a copy of a signature copies it
+-- a copy of a signature is a copy of the function
 pub signature_same : (r : Renames) (f : Function) (n : Text) (a : List ArgumentValue) (o : Option FunctionResult) (ls : List (LocalVariable × Span)) (es : List (Expression × Span)) (ns : List (ℕ × String Global)) (b : Tokens) → IsStub f → n ≡ (function_value f).name → a ≡ map (argument_under r) (function_value f).arguments → o ≡ option_map (result_under r) f.result → ls ≡ [] → es ≡ [] → ns ≡ [] → b ≡ [] → signature_with n a o (map (λ l. (local_value l.0, l.1)) ls) (expression_values es) (named_values ns) b ≡ copy_function r (function_value f)
 signature_same r f n a o ls es ns b is name arguments outcome locals expressions named body =
     let v = signature_of r (function_value f) in

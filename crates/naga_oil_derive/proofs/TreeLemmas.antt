@@ -246,13 +246,13 @@ AreCopied-step w v u kept m n p q r s a put fresh free is copy f = record {
   known = λ x y g. known_step w m n p q r is a.known put x y g (same_or_not x p);
 }
 
--- the copy is sound if its names went into a sound target
+-- the copy is sound if its names map into a sound target
 pub IsSound-copy : (w v u : World) (kept m : Goes) (r s : Row) (q : ItemPlace) → AreCopied w v kept m → IsSound v → IsCopyOf m r s → Fetches v u s q → IsSound u
 IsSound-copy w v u kept m r s q a i c f = IsSound-step v u s q i f (names_whole w v kept m a i.whole r.names s.names c.names)
 
 -- ---- setting a source, and renaming
 
--- more special types are kept, each where it went
+-- more special types are kept, each at the place that it maps to
 pub AreCopied-kept : (w v : World) (kept kept2 m : Goes) → AreCopied w v kept m → ((p q : ItemPlace) → kept2 p ≡ Some q → m p ≡ Some q) → ((p : ItemPlace) → kept2 p ≡ None → kept p ≡ None) → AreCopied w v kept2 m
 AreCopied-kept w v kept kept2 m a s f = record {
   stand = s;

@@ -1,4 +1,4 @@
--- What answered requests and imported functions are: laws of the values of a derived module.
+-- Answered requests and imported functions: laws of the values of a derived module.
 use Rattle.std.specs.Prelude.{ℕ, ◌≡◌, List, [], ◌∷◌, map, slice_get, Some, All, IsSome, IfSome}
 use Rattle.naga_oil_form.specs.BodyForm.{callee, MayStand}
 use Rattle.naga_oil_ir.specs.ModuleValue.{FunctionValue}
@@ -17,17 +17,17 @@ use Rattle.naga_oil_derive.specs.Functions.{Copies}
 use Rattle.naga_oil_rename.specs.Renames.{Renames}
 use Rattle.naga_oil_derive.specs.Tree.{Kept}
 
--- a function passes the test of form, but for its calls
+-- a function passes the test of form, apart from its calls
 abbrev pub HasForm : FunctionValue → Type 0
 HasForm v =
     MayStand (kinds_in v) (map callee (named_in v)) (value_links v.expressions)
     (initialisers_in v) v.body
 
--- wherever its items and functions go, what is made of a function of that form copies it
+-- whatever items and functions map to, copy_function of a function of that form is a copy of it
 abbrev pub HasCopies : FunctionValue → Type 0
 HasCopies v = (r : Renames) → HasForm v → Copies r v (copy_function r v)
 
--- so it is with each function of the source
+-- copy_function of each function of the source is a copy of it
 abbrev pub HaveCopies : Derived → Type 0
 HaveCopies d = IfSome d.source (λ s.
     (k : ℕ) (x : FunctionValue × Span) → slice_get s.value.functions k ≡ Some x → HasCopies x.0)
@@ -38,7 +38,7 @@ CanAnswer d rs =
     IsSome d.source ×
     IfSome d.source (λ s. All (MayAsk s.value (MayReach d.function_names s)) rs)
 
--- requests were answered one after another, and all else stayed
+-- requests were answered one after another, and everything else stayed
 pub record AnswersOnly (first : Kept) (d e : Derived) (rs : List Request) : Type 0 where
   pub derivation : IsDerivation first e
   pub answered : AreAnswered d rs e
@@ -58,7 +58,7 @@ CallLaw = (first : Kept) (d : Derived) (k : ℕ) →
     AnswersOnly first d (call_function d k) (Call k ∷ []) ×
     ((h : ℕ) × MeansAt (call_function d k) k h)
 
--- a function was imported behind what it names, and all else stayed
+-- a function was imported after what it names, and everything else stayed
 pub record ImportsFunction (first : Kept) (d e : Derived) (v : FunctionValue) (span : Span) : Type 0 where
   pub derivation : IsDerivation first e
   pub place : ℕ
@@ -76,12 +76,12 @@ abbrev pub LocalizedLaw : Type 0
 LocalizedLaw = (d : Derived) (v : FunctionValue) → HasCopies v → HasForm v →
     IsLocalized d v (localize_function d.source d.function_names v)
 
--- items and functions were added, and all else stayed
+-- items and functions were added, and everything else stayed
 pub record AddsOnly (first : Kept) (d e : Derived) : Type 0 where
   pub derivation : IsDerivation first e
   pub keeps : KeepsFunctions d e
 
--- LAW: so it is at any time while functions are imported, also where that is refused
+-- LAW: while functions are imported, also if memory runs out, items and functions were added, and everything else stayed
 abbrev pub AddingLaw : Type 0
 AddingLaw = (first : Kept) (d : Derived) (s : Source) (i : ImportState) →
     IsDerivation first d → d.source ≡ Some s → Adding s.value s.offset (importing_of d s) i →

@@ -12,7 +12,7 @@ abbrev pub known_as : {S : Type 0} → IndexMap (CowStr Global) ℕ S → Option
 known_as m None = None
 known_as m (Some n) = get_by (λ k. bytes_eq (string_bytes n) (cow_str_bytes k)) m
 
--- the function that the name of one of fs means
+-- the function that the name of the function of fs at a place means
 abbrev pub known_at : {S : Type 0} → IndexMap (CowStr Global) ℕ S → Option (Function × Span) → Option ℕ
 known_at m None = None
 known_at m (Some e) = known_as m e.0.name

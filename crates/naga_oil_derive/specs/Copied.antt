@@ -1,4 +1,4 @@
--- What copying an item makes, as a value: where the items of a source went, and the module that they went into.
+-- The state after an item is copied, as a value: what the items of a source map to, and the module that they are copied into.
 use Rattle.std.specs.Prelude.{ℕ, zero, suc, Bool, List, [], ◌∷◌, Option, Some, None, slice_get, slice_set, is_some, if◌then◌else◌}
 use Rattle.naga_oil_ir.specs.Parts.{Parts}
 use Rattle.naga_oil_ir.specs.Places.{place_of, with_element}
@@ -22,7 +22,7 @@ pub record CopyState : Type 0 where
 abbrev pub copy_state : Maps → Module → CopyState
 copy_state m t = record { places = places_of m; target = value_of t }
 
--- a handle goes where it was put; one that went nowhere, a function and a range stay; spans are shifted
+-- a mapped handle maps to its copy; other handles, functions and ranges stay; spans are shifted
 abbrev pub renames_by : ℕ → Places → Renames
 renames_by shift m = record {
   ty = handle_under m.types;
@@ -37,7 +37,7 @@ renames_by shift m = record {
 
 -- ---- one item
 
--- the place of the first equal item of an arena, or the one behind the last
+-- the place of the first equal item of an arena, or the one after the last
 abbrev pub place_in : {A : Type 0} → (A → A → Bool) → List (A × Span) → A → ℕ
 place_in same xs x = place_of (λ e. same x e.0) xs
 
@@ -45,7 +45,7 @@ place_in same xs x = place_of (λ e. same x e.0) xs
 abbrev pub with_item_in : {A : Type 0} → (A → A → Bool) → List (A × Span) → A → Span → List (A × Span)
 with_item_in same xs x s = with_element (λ e. same x e.0) xs (x, s)
 
--- what is made of the item that stands in an arena of the source, if one does
+-- f of the item at a place of the source, or the same state if no item is there
 abbrev pub of_item : {A : Type 0} → CopyState → (A → Span → CopyState) → Option (A × Span) → CopyState
 of_item s f None = s
 of_item s f (Some e) = f e.0 e.1
@@ -70,34 +70,58 @@ with_override s k r span = record {
 
 abbrev pub with_global : CopyState → ℕ → Row → Span → CopyState
 with_global s k r span = record {
-  places = record s.places { global_variables = slice_set s.places.global_variables k (Some (place_in row_eq s.target.global_variables r)) };
+  places = record s.places {
+    global_variables =
+        slice_set s.places.global_variables k (Some (place_in row_eq s.target.global_variables r));
+  };
   target = record s.target { global_variables = with_item_in row_eq s.target.global_variables r span };
 }
 
 abbrev pub with_expression : CopyState → ℕ → Parts → Span → CopyState
 with_expression s k p span = record {
-  places = record s.places { global_expressions = slice_set s.places.global_expressions k (Some (place_in parts_eq s.target.global_expressions p)) };
+  places = record s.places {
+    global_expressions =
+        slice_set s.places.global_expressions k
+        (Some (place_in parts_eq s.target.global_expressions p));
+  };
   target = record s.target { global_expressions = with_item_in parts_eq s.target.global_expressions p span };
 }
 
 -- a type is copied, under a name if one is given
 unfoldable pub put_type : ModuleValue → ℕ → Option Text → CopyState → ℕ → CopyState
-put_type m shift name s k = of_item s (λ r span. with_type s k (under_name name (rename_row (renames_by shift s.places) r)) (shifted shift span)) (slice_get m.types k)
+put_type m shift name s k =
+    of_item s
+    (λ r span.
+    with_type s k (under_name name (rename_row (renames_by shift s.places) r))
+    (shifted shift span))
+    (slice_get m.types k)
 
--- the item at a place is copied, with what it names where that went
+-- the item at a place is copied, with the names that it has renamed to what they map to
 unfoldable pub put : ModuleValue → ℕ → CopyState → ItemPlace → CopyState
 put m shift s (TypeItem k) = put_type m shift None s k
-put m shift s (ConstantItem k) = of_item s (λ r span. with_constant s k (rename_row (renames_by shift s.places) r) (shifted shift span)) (slice_get m.constants k)
-put m shift s (OverrideItem k) = of_item s (λ r span. with_override s k (rename_row (renames_by shift s.places) r) (shifted shift span)) (slice_get m.overrides k)
-put m shift s (GlobalItem k) = of_item s (λ r span. with_global s k (rename_row (renames_by shift s.places) r) (shifted shift span)) (slice_get m.global_variables k)
-put m shift s (ExpressionItem k) = of_item s (λ p span. with_expression s k (rename (renames_by shift s.places) p) (shifted shift span)) (slice_get m.global_expressions k)
+put m shift s (ConstantItem k) =
+    of_item s
+    (λ r span. with_constant s k (rename_row (renames_by shift s.places) r) (shifted shift span))
+    (slice_get m.constants k)
+put m shift s (OverrideItem k) =
+    of_item s
+    (λ r span. with_override s k (rename_row (renames_by shift s.places) r) (shifted shift span))
+    (slice_get m.overrides k)
+put m shift s (GlobalItem k) =
+    of_item s
+    (λ r span. with_global s k (rename_row (renames_by shift s.places) r) (shifted shift span))
+    (slice_get m.global_variables k)
+put m shift s (ExpressionItem k) =
+    of_item s
+    (λ p span. with_expression s k (rename (renames_by shift s.places) p) (shifted shift span))
+    (slice_get m.global_expressions k)
 
 -- ---- an item with what it names
 
 abbrev pub Copier : Type 0
 Copier = CopyState → ItemPlace → CopyState
 
--- what is named is copied in order
+-- the named items are copied in order
 abbrev pub copy_each : Copier → CopyState → List (Option ItemPlace) → CopyState
 copy_each f s [] = s
 copy_each f s (None ∷ ps) = copy_each f s ps
@@ -107,7 +131,7 @@ abbrev pub copy_row_names : Copier → CopyState → Option Row → CopyState
 copy_row_names f s None = s
 copy_row_names f s (Some r) = copy_each f s r.names
 
--- what went somewhere stays there; else what the item names is copied by f, then the item
+-- a mapped item stays; for any other, what it names is copied by f, then the item
 abbrev pub copy_item_by : Copier → ModuleValue → ℕ → Copier
 copy_item_by f m shift s p = if is_some (goes s.places p) then s else put m shift (copy_row_names f s (world m p)) p
 
@@ -116,13 +140,15 @@ unfoldable pub copy_within : ℕ → ModuleValue → ℕ → Copier
 copy_within zero m shift s p = s
 copy_within (suc n) m shift s p = copy_item_by (copy_within n m shift) m shift s p
 
--- the item at a place is copied, and first what it names
+-- the item at a place is copied after what it names
 abbrev pub copy_item : ModuleValue → ℕ → Copier
 copy_item m shift s p = copy_within (depth m) m shift s p
 
 abbrev pub copy_all : ModuleValue → ℕ → CopyState → List (Option ItemPlace) → CopyState
 copy_all m shift s ps = copy_each (copy_item m shift) s ps
 
--- a type is copied under a name if one is given, and first what it names
+-- a type is copied after what it names, under a name if one is given
 abbrev pub copy_named_type : ModuleValue → ℕ → Option Text → CopyState → ℕ → CopyState
-copy_named_type m shift name s k = if is_some (goes s.places (TypeItem k)) then s else put_type m shift name (copy_row_names (copy_item m shift) s (world m (TypeItem k))) k
+copy_named_type m shift name s k =
+    if is_some (goes s.places (TypeItem k)) then s else
+    put_type m shift name (copy_row_names (copy_item m shift) s (world m (TypeItem k))) k

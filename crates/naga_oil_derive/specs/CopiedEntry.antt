@@ -1,4 +1,4 @@
--- What copying entry points makes, as values.
+-- The state after entry points are copied, as values.
 use Rattle.std.specs.Prelude.{ℕ, List, [], ◌∷◌, ◌++◌, map, Option, Some, None, option_map}
 use Rattle.naga_oil_ir.specs.ModuleValue.{ModuleValue, FunctionValue, EntryValue}
 use Rattle.naga_oil_ir.specs.declared.module.MeshInfo.{MeshInfo}
@@ -8,7 +8,7 @@ use Rattle.naga_oil_derive.specs.Derived.{Source, Derived}
 use Rattle.naga_oil_derive.specs.DerivedFunctions.{requests_of}
 use Rattle.naga_oil_derive.specs.DerivedValue.{import_item, place_by, answer_requests, localize_function}
 
--- ---- what an entry point names beside its function, in the order of copying
+-- ---- what an entry point names besides its function, in the order of copying
 
 abbrev pub sizes_names : Option (List (Option ℕ)) → List (Option ItemPlace)
 sizes_names None = []
@@ -16,10 +16,15 @@ sizes_names (Some xs) = map (option_map ExpressionItem) xs
 
 abbrev pub mesh_names : Option MeshInfo → List (Option ItemPlace)
 mesh_names None = []
-mesh_names (Some m) = Some (TypeItem m.vertex_output_type) ∷ Some (TypeItem m.primitive_output_type) ∷ Some (GlobalItem m.output) ∷ option_map ExpressionItem m.max_vertices ∷ option_map ExpressionItem m.max_primitives ∷ []
+mesh_names (Some m) =
+    Some (TypeItem m.vertex_output_type) ∷ Some (TypeItem m.primitive_output_type) ∷
+    Some (GlobalItem m.output) ∷ option_map ExpressionItem m.max_vertices ∷
+    option_map ExpressionItem m.max_primitives ∷ []
 
 abbrev pub entry_names : EntryValue → List (Option ItemPlace)
-entry_names v = sizes_names v.workgroup_size_overrides ++ (mesh_names v.mesh_info ++ option_map GlobalItem v.task_payload ∷ [])
+entry_names v =
+    sizes_names v.workgroup_size_overrides ++
+    (mesh_names v.mesh_info ++ option_map GlobalItem v.task_payload ∷ [])
 
 -- items that may be absent are copied one after another
 abbrev pub import_items : Derived → List (Option ItemPlace) → Derived
@@ -27,7 +32,7 @@ import_items d [] = d
 import_items d (None ∷ ps) = import_items d ps
 import_items d (Some p ∷ ps) = import_items (import_item d p) ps
 
--- ---- an entry point, with what it names where that went
+-- ---- an entry point, with what it names mapped
 
 abbrev pub place_expression : Option Source → Option ℕ → Option ℕ
 place_expression o x = option_map (place_by (λ p. p.global_expressions) o) x
@@ -42,7 +47,7 @@ place_mesh o m = record {
   topology = m.topology;
 }
 
--- its function is f
+-- the copy of an entry point with f as its function
 abbrev pub place_entry : Option Source → FunctionValue → EntryValue → EntryValue
 place_entry o f v = record v {
   function = f;
@@ -53,7 +58,7 @@ place_entry o f v = record v {
 
 -- ---- entry points one after another
 
--- what is made of d, and copies of entry points
+-- a derived module, and copies of entry points
 pub record EntriesState : Type 0 where
   pub derived : Derived
   pub entries : List EntryValue
@@ -61,7 +66,7 @@ pub record EntriesState : Type 0 where
 abbrev pub entry_last : List EntryValue → Derived → FunctionValue → EntryValue → EntriesState
 entry_last done e f v = record { derived = e; entries = done ++ place_entry e.source f v ∷ [] }
 
--- the copy of an entry point comes last: first its function is copied, and then what it names beside
+-- the copy of an entry point is appended, after its function is copied and then what else it names
 abbrev pub copy_entry : EntriesState → EntryValue → EntriesState
 copy_entry s v =
     let e = answer_requests s.derived (requests_of v.function) in
@@ -74,7 +79,7 @@ copy_entries s (v ∷ vs) = copy_entries (copy_entry s v) vs
 abbrev pub entries_state : Derived → List EntryValue → EntriesState
 entries_state d ws = record { derived = d; entries = ws }
 
--- the module, with copies of the entry points of the source
+-- the module with copies of the source's entry points
 abbrev pub module_of : EntriesState → ModuleValue
 module_of s = record s.derived.target { entry_points = s.entries }
 

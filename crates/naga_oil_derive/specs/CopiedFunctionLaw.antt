@@ -1,8 +1,9 @@
--- What the copy of a function is: laws of the values of copying functions.
+-- The copy of a function: laws of the values of copying functions.
 use Rattle.std.specs.Prelude.{ℕ, ◌≡◌, ◌<◌, ◌≤◌, ◌+◌, ◌⊎◌, Bool, true, List, [], ◌∷◌, ◌++◌, length, map, take, reverse, nat_eq, option_to_list, slice_get, Some, is_some}
 use Rattle.std.specs.List.{flat_map}
 use Rattle.std.specs.Map.{lookup, keys_of}
 use Rattle.std.specs.Option.{option_eq, option_flatten}
+use Rattle.naga_oil_ir.specs.Kinds.{first_operation_kind}
 use Rattle.naga_oil_ir.specs.Parts.{Parts}
 use Rattle.naga_oil_form.specs.BodyForm.{callee, places, MayStand}
 use Rattle.naga_oil_form.specs.Links.{has, added, trail}
@@ -21,37 +22,37 @@ use Rattle.naga_oil_walk.specs.Walk.{externals, others, walked}
 -- external expressions and results have no operands
 abbrev pub StandAlone : Values → Type 0
 StandAlone es =
-    (k : ℕ) (e : Parts × Span) → slice_get es k ≡ Some e → e.0.kind < 13 →
+    (k : ℕ) (e : Parts × Span) → slice_get es k ≡ Some e → e.0.kind < first_operation_kind →
     flat_map option_to_list e.0.operands ≡ []
 
--- a function passes the test of form, but for where its calls go
+-- a function passes the test of form, apart from the targets of its calls
 pub record MayBeCopied (v : FunctionValue) : Type 0 where
   pub form :
       MayStand (kinds_in v) (map callee (named_in v)) (value_links v.expressions)
       (initialisers_in v) v.body
   pub alone : StandAlone v.expressions
 
--- where the copy of each expression stands
+-- the place of each expression's copy
 abbrev pub table_of : Renames → FunctionValue → Table
 table_of r v = (copy_expressions r v.expressions (order_of v) (length (begun v))).table
 
--- what copying a function gives is a copy of it
+-- LAW: copy_function of a function is a copy of it
 abbrev pub CopyLaw : Type 0
 CopyLaw = (r : Renames) (v : FunctionValue) → MayBeCopied v → Copies r v (copy_function r v)
 
--- and its expressions stand where the table tells
+-- LAW: its expressions stand at the places that the table gives
 abbrev pub TableLaw : Type 0
 TableLaw =
     (r : Renames) (v : FunctionValue) → MayBeCopied v →
     (c : Copies r v (copy_function r v)) × (c.table ≡ table_of r v)
 
--- in each function external expressions and results have no operands
+-- LAW: in each function external expressions and results have no operands
 abbrev pub AloneLaw : Type 0
 AloneLaw = (f : Function) → StandAlone (expression_values f.expressions)
 
 -- ---- which expressions are copied
 
--- what a part of a body uses, gives or emits
+-- what a part of a body uses, results in or emits
 abbrev pub spoken : Token → List ℕ
 spoken (Use h) = h ∷ []
 spoken (Give h) = h ∷ []
@@ -75,15 +76,15 @@ pub record IsOfReached (r : Renames) (v : FunctionValue) (h : ℕ) (e : Parts) :
 
 -- which expressions have copies
 pub record OnlyReached (r : Renames) (v : FunctionValue) : Type 0 where
-  -- those that are reached, and no others
+  -- an expression has a copy exactly if it is reached
   pub went :
       (k : ℕ) → is_some (option_flatten (slice_get (table_of r v) k)) ≡ has (reached_in v) k
-  -- and nothing else stands among the copies
+  -- each copy is of a reached expression
   pub only :
       (h : ℕ) (e : Parts × Span) → slice_get (copy_function r v).expressions h ≡ Some e →
       IsOfReached r v h e.0
 
--- exactly what is reached is copied
+-- LAW: exactly the reached expressions are copied
 abbrev pub ReachedLaw : Type 0
 ReachedLaw = (r : Renames) (v : FunctionValue) → MayBeCopied v → OnlyReached r v
 
@@ -93,22 +94,22 @@ ReachedLaw = (r : Renames) (v : FunctionValue) → MayBeCopied v → OnlyReached
 abbrev pub EmitsAt : FunctionValue → ℕ → ℕ × ℕ → Type 0
 EmitsAt v i p = slice_get v.body i ≡ Some (Emitted p)
 
--- what is put before the places of a range p that the part of the body at i emits
+-- the expressions copied before the places of a range p that the part of the body at i emits
 abbrev pub put_before : FunctionValue → ℕ → ℕ × ℕ → List ℕ
 put_before v i p =
     let ls = value_links v.expressions in
     added (walked (kinds_in v) ls (initialisers_in v) (take i v.body))
     (externals (kinds_in v) (flat_map (trail ls) (places p)))
 
--- how many copies some places have
+-- the number of copies that some places have
 abbrev pub copies_of : Renames → FunctionValue → List ℕ → ℕ
 copies_of r v xs = length (added [] (map (place_under (table_of r v)) xs))
 
--- a range that begins behind n copies, and covers those of its places that no initialiser reaches
+-- a range that begins after n copies, and covers the copies of its places that no initialiser reaches
 abbrev pub range_from : FunctionValue → ℕ × ℕ → ℕ → ℕ × ℕ
 range_from v p n = (n, n + length (others (begun v) (places p)))
 
--- of ranges that begin alike that at j counts: it has places, or none has and it is the first
+-- of the ranges that begin at one place the one at j counts: it isn't empty, or all are empty and it is the first
 abbrev pub Counts : FunctionValue → ℕ → ℕ × ℕ → Type 0
 Counts v j q =
     (q.0 < q.1) ⊎
@@ -120,38 +121,38 @@ pub record LeadsAt (v : FunctionValue) (j : ℕ) (q : ℕ × ℕ) : Type 0 where
   pub counts : Counts v j q
   pub within : q.0 < length v.expressions
 
--- where the emitted ranges of a copy w of v stand
+-- the emitted ranges of a copy w of v
 pub record RangesStand (r : Renames) (v w : FunctionValue) : Type 0 where
-  -- each lies within the copy's expressions
+  -- each range lies within the copy's expressions
   pub within :
       (i : ℕ) (q : ℕ × ℕ) → EmitsAt w i q → (q.0 ≤ q.1) × (q.1 ≤ length w.expressions)
-  -- one that covers nothing, less what initialisers reach, is copied as (n, n)
+  -- a range that covers nothing, apart from what initialisers reach, is copied as (n, n)
   pub nothing :
       (i : ℕ) (p : ℕ × ℕ) → EmitsAt v i p → others (begun v) (places p) ≡ [] →
       (n : ℕ) × EmitsAt w i (n, n)
-  -- one that counts begins behind the copies of what is put before it
+  -- a range that counts begins after the copies of the expressions before it in the order
   pub begins :
       (j : ℕ) (q : ℕ × ℕ) → LeadsAt v j q →
       EmitsAt w j (range_from v q (copies_of r v (put_before v j q)))
-  -- one of no places stands where the one that counts begins
+  -- an empty range stands where the one that counts begins
   pub empty :
       (i j : ℕ) (p q : ℕ × ℕ) → EmitsAt v i p → p.1 ≤ p.0 → LeadsAt v j q → p.0 ≡ q.0 →
       let n = copies_of r v (put_before v j q) in
       EmitsAt w i (n, n)
-  -- and behind the last copy, where it begins behind the last expression
+  -- an empty range that begins after the last expression stands after the last copy
   pub behind :
       (i : ℕ) (p : ℕ × ℕ) → EmitsAt v i p → length v.expressions ≤ p.0 →
       let n = length w.expressions in
       EmitsAt w i (n, n)
 
--- where emitted ranges go
+-- LAW: what emitted ranges map to
 abbrev pub RangeLaw : Type 0
 RangeLaw =
     (r : Renames) (v : FunctionValue) → MayBeCopied v → RangesStand r v (copy_function r v)
 
 -- ---- names
 
--- whether the copy of the expression at k stands at h
+-- whether the copy of the expression at k is at h
 abbrev pub is_copied_to : Table → ℕ → ℕ → Bool
 is_copied_to t h k = option_eq nat_eq (Some h) (option_flatten (slice_get t k))
 
@@ -161,16 +162,16 @@ named_copies t ns = flat_map (λ e. option_to_list (option_flatten (slice_get t 
 
 -- the names of a copy
 pub record NamesStand (r : Renames) (v : FunctionValue) : Type 0 where
-  -- of the names of what stands at one place the last stays
+  -- a copy with more than one name keeps the last
   pub last :
       (h : ℕ) →
       lookup (nat_eq h) (copy_function r v).named_expressions ≡
       lookup (is_copied_to (table_of r v) h) (reverse v.named_expressions)
-  -- at the first's place
+  -- at the place of the first
   pub first :
       keys_of (copy_function r v).named_expressions ≡
       added [] (named_copies (table_of r v) v.named_expressions)
 
--- which names a copy has
+-- LAW: which names a copy has
 abbrev pub NameLaw : Type 0
 NameLaw = (r : Renames) (v : FunctionValue) → NamesStand r v

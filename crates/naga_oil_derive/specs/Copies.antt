@@ -1,4 +1,4 @@
--- Copies of a function's expressions, and where each stands.
+-- Copies of a function's expressions, and the place of each.
 use Rattle.std.specs.Prelude.{ℕ, ◌≡◌, ◌<◌, ◌≤◌, ◌+◌, ◌-◌, ◌⊎◌, true, false, Bool, nat_lt, is_some, if◌then◌else◌, List, [], ◌∷◌, ◌++◌, length, map, take, slice_get, slice_set, Option, Some, None, option_to_list, unwrap_or}
 use Rattle.std.specs.List.{flat_map}
 use Rattle.std.specs.Option.{option_flatten}
@@ -13,15 +13,15 @@ use Rattle.naga_oil_walk.specs.Walk.{Notes}
 abbrev pub Values : Type 0
 Values = List (Parts × Span)
 
--- where the copy of each expression stands, if it has one
+-- the place of each expression's copy, if it has one
 abbrev pub Table : Type 0
 Table = List (Option ℕ)
 
--- the place of a copy, the place itself where there is none
+-- the place of a copy, or the expression's own place if it has no copy
 abbrev pub place_under : Table → ℕ → ℕ
 place_under t k = unwrap_or (option_flatten (slice_get t k)) k
 
--- items by r, expressions by a table of where their copies stand, and emitted ranges by f
+-- a renaming: of items by r, of expressions by a table of the places of their copies, and of emitted ranges by f
 abbrev pub under_table : Renames → Table → (ℕ × ℕ → ℕ × ℕ) → Renames
 under_table r t f = record r { expression = place_under t; range = f }
 
@@ -29,48 +29,62 @@ under_table r t f = record r { expression = place_under t; range = f }
 abbrev pub copied : Renames → Table → Parts → Parts
 copied r t p = rename (under_table r t r.range) p
 
--- t tells for each expression in the order o, where s is what initialisers reach, which of the values v copies it
+-- t has, for each expression in the order o, the place in v of its copy; s is what initialisers reach
 pub record AreCopies (r : Renames) (es : Values) (s o : List ℕ) (t : Table) (v : Values) : Type 0 where
-  -- those in the order have copies, and no others
+  -- an expression has a copy exactly if it is in the order
   pub went : (k : ℕ) → is_some (option_flatten (slice_get t k)) ≡ has o k
   -- a copy reads as its source with its operands' copies
-  pub reads : (k : ℕ) (a : Parts × Span) → has o k ≡ true → slice_get es k ≡ Some a → (e : Parts × Span) × (slice_get v (place_under t k) ≡ Some e) × (e.0 ≡ copied r t a.0)
-  -- its span is that of the first expression that it copies
-  pub spans : (i k : ℕ) (a e : Parts × Span) → slice_get o i ≡ Some k → has (map (place_under t) (take i o)) (place_under t k) ≡ false → slice_get es k ≡ Some a → slice_get v (place_under t k) ≡ Some e → e.1 ≡ r.span a.1
+  pub reads :
+      (k : ℕ) (a : Parts × Span) → has o k ≡ true → slice_get es k ≡ Some a →
+      (e : Parts × Span) × (slice_get v (place_under t k) ≡ Some e) × (e.0 ≡ copied r t a.0)
+  -- a copy's span is that of the first expression that it copies
+  pub spans :
+      (i k : ℕ) (a e : Parts × Span) → slice_get o i ≡ Some k →
+      has (map (place_under t) (take i o)) (place_under t k) ≡ false → slice_get es k ≡ Some a →
+      slice_get v (place_under t k) ≡ Some e → e.1 ≡ r.span a.1
   -- copies stand in the order of what they copy first
   pub order : added [] (map (place_under t) o) ≡ run 0 (length v)
-  -- two share a copy only if initialisers reach both
-  pub shared : (j k : ℕ) → has o j ≡ true → has o k ≡ true → place_under t j ≡ place_under t k → (j ≡ k) ⊎ ((has s j ≡ true) × (has s k ≡ true))
-  -- and they do share it if they read alike
-  pub merged : (j k : ℕ) (a b : Parts × Span) → has s j ≡ true → has s k ≡ true → slice_get es j ≡ Some a → slice_get es k ≡ Some b → copied r t a.0 ≡ copied r t b.0 → place_under t j ≡ place_under t k
+  -- two expressions share a copy only if initialisers reach both
+  pub shared :
+      (j k : ℕ) → has o j ≡ true → has o k ≡ true → place_under t j ≡ place_under t k →
+      (j ≡ k) ⊎ ((has s j ≡ true) × (has s k ≡ true))
+  -- two expressions that initialisers reach share a copy if their copies are equal
+  pub merged :
+      (j k : ℕ) (a b : Parts × Span) → has s j ≡ true → has s k ≡ true → slice_get es j ≡ Some a →
+      slice_get es k ≡ Some b → copied r t a.0 ≡ copied r t b.0 → place_under t j ≡ place_under t k
 
--- ---- one copy more
+-- ---- one more copy
 
--- no value before n reads so
+-- no value before n is equal
 abbrev pub LacksBefore : ℕ → Values → Parts → Type 0
 LacksBefore n v p = (k : ℕ) (e : Parts × Span) → k < n → slice_get v k ≡ Some e → e.0 ≡ p → ⊥
 
--- the copy c is at h: where copies are unique one that reads alike serves again, else it stands last
+-- the copy c is at h: if copies are unique, an equal one is shared; otherwise c is appended
 abbrev pub IsPut : Bool → Values → Parts × Span → ℕ → Values → Type 0
 IsPut unique old c h new =
-    ((unique ≡ true) × ((e : Parts × Span) × (slice_get old h ≡ Some e) × (e.0 ≡ c.0)) × (new ≡ old)) ⊎ ((unique ≡ true → LacksBefore (length old) old c.0) × (h ≡ length old) × (new ≡ old ++ c ∷ []))
+    ((unique ≡ true) ×
+    ((e : Parts × Span) × (slice_get old h ≡ Some e) × (e.0 ≡ c.0)) × (new ≡ old)) ⊎
+    ((unique ≡ true → LacksBefore (length old) old c.0) × (h ≡ length old) × (new ≡ old ++ c ∷ []))
 
 -- the expression at a place is copied
 abbrev pub IsStep : Renames → Values → Bool → ℕ → Table → Values → Table → Values → Type 0
 IsStep r es unique k t v u w =
-    (a : Parts × Span) → slice_get es k ≡ Some a → (h : ℕ) × (u ≡ slice_set t k (Some h)) × IsPut unique v (copied r t a.0, r.span a.1) h w
+    (a : Parts × Span) → slice_get es k ≡ Some a →
+    (h : ℕ) × (u ≡ slice_set t k (Some h)) × IsPut unique v (copied r t a.0, r.span a.1) h w
 
--- no two values read alike
+-- no two values are equal
 abbrev pub AreApart : Values → Type 0
 AreApart v = (h i : ℕ) (e f : Parts × Span) → slice_get v h ≡ Some e → slice_get v i ≡ Some f → e.0 ≡ f.0 → h ≡ i
 
--- of each expression the operands that are there
+-- the operands of each expression that are there
 abbrev pub value_links : Values → Links
 value_links es = map (λ e. flat_map option_to_list e.0.operands) es
 
--- the first i of the places o are copied, where copies are unique all with unique copies, else those behind the first b, which
--- went by t0 to m copies, each with a copy of its own
-pub record Placed (r : Renames) (es : Values) (o : List ℕ) (b i : ℕ) (unique : Bool) (t0 : Table) (m : ℕ) (t : Table) (v : Values) : Type 0 where
+-- the first i of the places o are copied: if copies are unique, all with unique copies; otherwise those after the first b, which
+-- t0 maps to m copies, each with a copy of its own
+pub record Placed
+    (r : Renames) (es : Values) (o : List ℕ) (b i : ℕ) (unique : Bool) (t0 : Table) (m : ℕ)
+    (t : Table) (v : Values) : Type 0 where
   pub copies : AreCopies r es (take (if unique then i else b) o) (take i o) t v
   pub apart : unique ≡ true → AreApart v
   pub follow : unique ≡ false → map (place_under t) (take i o) ≡ map (place_under t0) (take b o) ++ run m (i - b)
@@ -78,11 +92,11 @@ pub record Placed (r : Renames) (es : Values) (o : List ℕ) (b i : ℕ) (unique
 
 -- ---- emitted ranges
 
--- where a place of the order stands among the copies: of the order's first n places there are m copies
+-- where the place b of an order is among the copies, if the order's first n places have m copies
 abbrev pub brought : ℕ → ℕ → ℕ → ℕ
 brought n m b = m + (b - n)
 
--- the range of the copies by the note on an emitted range: nothing where none was noted, behind the last of c copies
+-- the range of copies for the note on an emitted range; if none was noted, the empty range after the last of c copies
 abbrev pub brought_range : ℕ → ℕ → ℕ → ℕ × ℕ → Option (ℕ × ℕ) → ℕ × ℕ
 brought_range n m c r None = (c, c)
 brought_range n m c r (Some p) = (brought n m p.0, if nat_lt r.0 r.1 then brought n m p.1 else brought n m p.0)
@@ -90,6 +104,6 @@ brought_range n m c r (Some p) = (brought n m p.0, if nat_lt r.0 r.1 then brough
 abbrev pub range_under : Notes → ℕ → ℕ → ℕ → ℕ × ℕ → ℕ × ℕ
 range_under es n m c r = brought_range n m c r (option_flatten (slice_get es r.0))
 
--- what is noted stands among c copies
+-- the noted range lies among c copies
 abbrev pub FitIn : ℕ → ℕ → ℕ → Notes → Type 0
 FitIn n m c es = (k b e : ℕ) → option_flatten (slice_get es k) ≡ Some (b, e) → (n ≤ b) × (b ≤ e) × (m + (e - n) ≤ c)

@@ -4,8 +4,8 @@ use Rattle.naga_oil_form.specs.Links.{AreEarlier}
 use Rattle.naga_oil_form.specs.ItemForm.{NamesForm, ExpressionForm, type_links, types_of, special_types}
 use Rattle.naga_oil_ir.specs.declared.module.Module.{Module}
 
--- the items of a module can be copied: what they name is there, and nothing names what stands on it; so it is in each module that
--- passes the test of form
+-- the items of a module can be copied: what they name is there, and no item depends on itself. Each module that passes the test
+-- of form is copyable
 pub record CopyableItems (m : Module) : Type 0 where
   pub earlier_types : AreEarlier (type_links (types_of m))
   pub names : NamesForm m

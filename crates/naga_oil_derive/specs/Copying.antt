@@ -17,7 +17,7 @@ use Rattle.naga_oil_derive.specs.Collected.{depth}
 
 -- ---- worlds
 
--- all that an item reaches is there, within a depth
+-- everything that an item reaches is there, within a depth
 unfoldable pub IsWhole : ℕ → World → ItemPlace → Type 0
 IsWhole zero w p = ⊥
 IsWhole (suc n) w p = (r : Row) × (w p ≡ Some r) × All (λ o. IfSome o (IsWhole n w)) r.names
@@ -34,7 +34,7 @@ pub record IsSound (v : World) : Type 0 where
   pub whole : AreWhole v
   pub once : HasNoRepeats v
 
--- where places go
+-- what places map to
 abbrev pub Goes : Type 0
 Goes = ItemPlace → Option ItemPlace
 
@@ -44,45 +44,51 @@ NameGoesTo m None (Some q) = ⊥
 NameGoesTo m (Some p) None = ⊥
 NameGoesTo m (Some p) (Some q) = m p ≡ Some q
 
--- s is r, with what it names where that went
+-- s is r with its names mapped
 pub record IsCopyOf (m : Goes) (r s : Row) : Type 0 where
   pub label : s.label ≡ r.label
   pub names : AllZip (NameGoesTo m) r.names s.names
 
--- a place that went somewhere is kept there or has its copy there
+-- a mapped place is mapped to its kept place or to its copy
 pub record AreCopied (w v : World) (kept m : Goes) : Type 0 where
   pub stand : (p q : ItemPlace) → kept p ≡ Some q → m p ≡ Some q
-  pub each : (p q : ItemPlace) (r : Row) → m p ≡ Some q → kept p ≡ None → w p ≡ Some r → (s : Row) × (v q ≡ Some s) × IsCopyOf m r s
+  pub each :
+      (p q : ItemPlace) (r : Row) → m p ≡ Some q → kept p ≡ None → w p ≡ Some r →
+      (s : Row) × (v q ≡ Some s) × IsCopyOf m r s
   pub there : (p q : ItemPlace) → m p ≡ Some q → (s : Row) × (v q ≡ Some s)
   pub known : (p q : ItemPlace) → m p ≡ Some q → (r : Row) × (w p ≡ Some r)
 
--- m, with one place more
+-- n is m with one more place
 pub record Puts (m n : Goes) (p q : ItemPlace) : Type 0 where
   pub at : n p ≡ Some q
   pub others : (x : ItemPlace) → (x ≡ p → ⊥) → n x ≡ m x
 
--- u is v with a row that stands at q, and no other that is new; it is new if no item was equal
+-- u is v with the row s at q, and with no other new row; s is new only if no item was equal
 pub record Fetches (v u : World) (s : Row) (q : ItemPlace) : Type 0 where
   pub at : u q ≡ Some s
   pub stays : (x : ItemPlace) (r : Row) → v x ≡ Some r → u x ≡ Some r
-  pub only : (x : ItemPlace) (r : Row) → u x ≡ Some r → (v x ≡ Some r) ⊎ ((x ≡ q) × ((y : ItemPlace) → v y ≡ Some s → ⊥))
+  pub only :
+      (x : ItemPlace) (r : Row) → u x ≡ Some r →
+      (v x ≡ Some r) ⊎ ((x ≡ q) × ((y : ItemPlace) → v y ≡ Some s → ⊥))
 
 -- ---- modules
 
 abbrev pub IsThere : Module → ItemPlace → Type 0
 IsThere m p = (r : Row) × (world (value_of m) p ≡ Some r)
 
--- behind the initialiser
+-- a rank above that of the initialiser
 abbrev pub rank_behind : ℕ → Option ℕ → ℕ
 rank_behind n None = n
 rank_behind n (Some e) = n + 2 * e + 2
 
--- a number that falls along what an item names: types without sizes, then constants, overrides and expressions, then the types
--- with sizes, then globals
+-- a number that is larger than those of the items named: types without sizes come first, then constants, overrides and
+-- expressions, then types with sizes, then globals
 unfoldable pub rank : Module → ItemPlace → ℕ
 rank m (TypeItem k) = if is_sized m k then length m.types + 2 * length m.global_expressions + 1 + k else k
 rank m (ConstantItem k) = rank_behind (length m.types) (option_map (λ e. e.0.init) (slice_get m.constants k))
-rank m (OverrideItem k) = rank_behind (length m.types) (option_flatten (option_map (λ e. e.0.init) (slice_get m.overrides k)))
+rank m (OverrideItem k) =
+    rank_behind (length m.types)
+    (option_flatten (option_map (λ e. e.0.init) (slice_get m.overrides k)))
 rank m (GlobalItem k) = 2 * length m.types + 2 * length m.global_expressions + 1
 rank m (ExpressionItem k) = length m.types + 2 * k + 1
 
@@ -97,7 +103,13 @@ pub record AreRanked (m : Module) : Type 0 where
 -- ---- maps
 
 abbrev pub places_of : Maps → Places
-places_of m = record { types = m.types.items; constants = m.constants.items; overrides = m.overrides.items; global_variables = m.global_variables.items; global_expressions = m.global_expressions.items }
+places_of m = record {
+  types = m.types.items;
+  constants = m.constants.items;
+  overrides = m.overrides.items;
+  global_variables = m.global_variables.items;
+  global_expressions = m.global_expressions.items;
+}
 
 unfoldable pub goes_under : Maps → Goes
 goes_under m = goes (places_of m)
@@ -105,7 +117,7 @@ goes_under m = goes (places_of m)
 abbrev pub handle_under : List (Option ℕ) → ℕ → ℕ
 handle_under m k = unwrap_or (option_flatten (slice_get m k)) k
 
--- a handle goes where it was put; one that went nowhere, a function and a range stay
+-- a mapped handle maps to its copy; other handles, functions and ranges stay
 abbrev pub renames_under : Maps → Renames
 renames_under m = record {
   ty = handle_under m.types.items;
@@ -129,7 +141,7 @@ abbrev pub put_kept : List (Option ℕ) → ℕ → Option ℕ → List (Option 
 put_kept ts k None = ts
 put_kept ts k (Some q) = slice_set ts k (Some q)
 
--- the places of types, with those of special types that are kept: of two of one type the last
+-- the places of types, with those of kept special types; of two for one type the last
 abbrev pub kept_over : (SpecialKey → Option ℕ) → List (SpecialKey × ℕ) → List (Option ℕ) → List (Option ℕ)
 kept_over f [] ts = ts
 kept_over f (e ∷ es) ts = kept_over f es (put_kept ts e.1 (f e.0))
@@ -140,7 +152,7 @@ special_names es = map (λ e. Some (TypeItem e.1)) es
 
 -- ---- the state between calls
 
--- the source as it reads
+-- the source, with the names that its items have in the target
 unfoldable pub source_world : Module → Module → Maps → World
 source_world source target m = named_world (world (value_of source)) (world (value_of target)) (goes_under m)
 
@@ -150,9 +162,11 @@ kept_between source target = kept_of (special_value source.special_types) (speci
 pub record IsCopying (source target : Module) (m : Maps) : Type 0 where
   pub long : AreLong m source
   pub sound : IsSound (world (value_of target))
-  pub copied : AreCopied (source_world source target m) (world (value_of target)) (kept_between source target) (goes_under m)
+  pub copied :
+      AreCopied (source_world source target m) (world (value_of target))
+      (kept_between source target) (goes_under m)
 
--- all only grows: a place that went somewhere stays there, and each item of the target keeps its handle and its span
+-- maps and target only grow: a mapped place stays mapped, and each item of the target keeps its handle and its span
 pub record Grows (m n : Maps) (t u : Module) : Type 0 where
   pub went : (p q : ItemPlace) → goes_under m p ≡ Some q → goes_under n p ≡ Some q
   pub offset : n.offset ≡ m.offset
@@ -162,6 +176,6 @@ pub record Grows (m n : Maps) (t u : Module) : Type 0 where
 abbrev pub WentSomewhere : Goes → Option ItemPlace → Type 0
 WentSomewhere m o = IfSome o (λ p. (q : ItemPlace) × (m p ≡ Some q))
 
--- ns are what the item names, if it is there
+-- ns is what the item names, if it is there
 abbrev pub AreNames : Option Row → List (Option ItemPlace) → Type 0
 AreNames o ns = IfSome o (λ r. ns ≡ r.names)

@@ -37,7 +37,7 @@ abbrev pub meant_at : Meanings → Option (FunctionValue × Span) → Option ℕ
 meant_at ns None = None
 meant_at ns (Some e) = meant ns e.0.name
 
--- where the items and functions of a source go
+-- what the items and functions of a source map to
 abbrev pub going : Source → Meanings → Renames
 going s ns = record {
   ty = handle_under s.places.types;
@@ -69,30 +69,36 @@ local_requests ns ls l = Item (TypeItem l.0.ty) ∷ flat_map (names_from ns ls) 
 
 -- the types of arguments and of the result
 abbrev pub signature_requests : FunctionValue → List Request
-signature_requests f = map (λ a. Item (TypeItem a.ty)) f.arguments ++ option_to_list (option_map (λ r. Item (TypeItem r.ty)) f.result)
+signature_requests f =
+    map (λ a. Item (TypeItem a.ty)) f.arguments ++
+    option_to_list (option_map (λ r. Item (TypeItem r.ty)) f.result)
 
 -- what a function names, in the order of copying
 abbrev pub requests_of : FunctionValue → List Request
 requests_of f =
-    (signature_requests f ++ flat_map (local_requests (named_in f) (value_links f.expressions)) f.local_variables) ++ flat_map (token_names (kinds_in f) (named_in f) (value_links f.expressions)) f.body
+    (signature_requests f ++
+    flat_map (local_requests (named_in f) (value_links f.expressions)) f.local_variables) ++
+    flat_map (token_names (kinds_in f) (named_in f) (value_links f.expressions)) f.body
 
 -- what is named is there: an item, or a function that passes a test
 abbrev pub MayAsk : ModuleValue → (ℕ → Type 0) → Request → Type 0
 MayAsk m P (Item p) = (r : Row) × (world m p ≡ Some r)
 MayAsk m P (Call f) = (f < length m.functions) × P f
 
--- a function passes the test of form, but for calls, which go to functions that pass a test
+-- a function passes the test of form, except that its calls may be of any functions that pass a test
 pub record MayCopy (m : ModuleValue) (P : ℕ → Type 0) (f : FunctionValue) : Type 0 where
   pub form : MayStand (kinds_in f) (map callee (named_in f)) (value_links f.expressions) (initialisers_in f) f.body
   pub requests : All (MayAsk m P) (requests_of f)
 
--- a function can be called: its name is known, or else it has one and can be copied, where calls of functions whose names aren't
--- known go at most n deep
+-- a function can be called: its name is known, or it has a name and can be copied, where calls of functions whose names aren't
+-- known nest at most n levels
 abbrev pub MayCall : ModuleValue → Meanings → ℕ → ℕ → Type 0
 MayCall m ns zero f = IsSome (meant_at ns (slice_get m.functions f))
-MayCall m ns (suc n) f = IsSome (meant_at ns (slice_get m.functions f)) ⊎ IfSome (slice_get m.functions f) (λ e. IsSome e.0.name × MayCopy m (MayCall m ns n) e.0)
+MayCall m ns (suc n) f =
+    IsSome (meant_at ns (slice_get m.functions f)) ⊎
+    IfSome (slice_get m.functions f) (λ e. IsSome e.0.name × MayCopy m (MayCall m ns n) e.0)
 
--- the same of a source, where such calls go at most as deep as it has functions
+-- a function can be called in a source, where such calls nest at most as many levels as the source has functions
 abbrev pub MayReach : Meanings → Source → ℕ → Type 0
 MayReach ns s f = MayCall s.value ns (length s.value.functions) f
 
@@ -129,16 +135,16 @@ pub record KeepsFunctions (d e : Derived) : Type 0 where
 abbrev pub KeepsMeanings : Derived → Derived → Type 0
 KeepsMeanings d e = (n : Text) (h : ℕ) → meant d.function_names n ≡ Some h → meant e.function_names n ≡ Some h
 
--- g copies f, where items and functions went
+-- g is a copy of f, by what items and functions map to
 abbrev pub IsLocalized : Derived → FunctionValue → FunctionValue → Type 0
 IsLocalized e f g = IfSome e.source (λ s. Copies (going s e.function_names) f g)
 
--- names, of which one means h from then on
+-- names, with one name that now means h
 abbrev pub meaning : Meanings → Text → ℕ → Meanings
 meaning ns None h = ns
 meaning ns (Some n) h = insert_entry bytes_eq ns n h
 
--- a copy of f comes last in d, at h, with its span; its name means it from then on, and what it calls went by the names before
+-- a copy of f is appended to d, at h, with its span; its name means the copy from then on, and its calls are by the names before
 pub record ComesLast (s : Source) (f : FunctionValue) (span : Span) (d e : Derived) (h : ℕ) : Type 0 where
   pub copy : FunctionValue
   pub copies : Copies (going s d.function_names) f copy
@@ -149,18 +155,28 @@ pub record ComesLast (s : Source) (f : FunctionValue) (span : Span) (d e : Deriv
   pub source : e.source ≡ d.source
 
 -- requests are answered one after another: an item is copied with what it reaches, a function whose name isn't known after what
--- it names itself
+-- that function names
 pub data Answers (v : ModuleValue) : Derived → List Request → Derived → Type 0 where
   AllAnswered : {d : Derived} → Answers v d [] d
-  ItemCopied : {d e f : Derived} {p : ItemPlace} {rs : List Request} (q : ItemPlace) → IsImported d e p q → ReadsAsBefore d e → Keeps d e → Answers v e rs f → Answers v d (Item p ∷ rs) f
-  NameKnown : {d f : Derived} {k h : ℕ} {rs : List Request} → meant_at d.function_names (slice_get v.functions k) ≡ Some h → Answers v d rs f → Answers v d (Call k ∷ rs) f
-  FunctionCopied : {d e f g : Derived} {k : ℕ} {x : FunctionValue × Span} {rs : List Request} (h : ℕ) → meant_at d.function_names (slice_get v.functions k) ≡ None → slice_get v.functions k ≡ Some x → Answers v d (requests_of x.0) e → IfSome e.source (λ s. ComesLast s x.0 x.1 e f h) → Answers v f rs g → Answers v d (Call k ∷ rs) g
+  ItemCopied :
+      {d e f : Derived} {p : ItemPlace} {rs : List Request} (q : ItemPlace) → IsImported d e p q →
+      ReadsAsBefore d e → Keeps d e → Answers v e rs f → Answers v d (Item p ∷ rs) f
+  NameKnown :
+      {d f : Derived} {k h : ℕ} {rs : List Request} →
+      meant_at d.function_names (slice_get v.functions k) ≡ Some h → Answers v d rs f →
+      Answers v d (Call k ∷ rs) f
+  FunctionCopied :
+      {d e f g : Derived} {k : ℕ} {x : FunctionValue × Span} {rs : List Request} (h : ℕ) →
+      meant_at d.function_names (slice_get v.functions k) ≡ None →
+      slice_get v.functions k ≡ Some x → Answers v d (requests_of x.0) e →
+      IfSome e.source (λ s. ComesLast s x.0 x.1 e f h) → Answers v f rs g →
+      Answers v d (Call k ∷ rs) g
 
 -- the requests of d's source were answered
 abbrev pub AreAnswered : Derived → List Request → Derived → Type 0
 AreAnswered d rs e = IfSome d.source (λ s. Answers s.value d rs e)
 
--- what f names was answered, and then its copy came last, at h; known names keep their meanings until then
+-- the requests of f were answered, and then its copy was appended, at h; known names keep their meanings until then
 pub record FunctionStands (d e : Derived) (f : FunctionValue) (span : Span) (h : ℕ) (s : Source) : Type 0 where
   pub between : Derived
   pub answered : Answers s.value d (requests_of f) between

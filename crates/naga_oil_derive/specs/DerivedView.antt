@@ -17,11 +17,17 @@ abbrev pub source_of : Maps → Bor Module → Source
 source_of m s = record { value = value_of s.now; offset = m.offset; places = places_of m }
 
 abbrev pub derived_of : Option (Bor Module) → Maps → Module → List (CowStr Global × ℕ) → Derived
-derived_of shader m t names = record { source = option_map (source_of m) shader; target = value_of t; function_names = map (λ e. (cow_str_bytes e.0, e.1)) names }
+derived_of shader m t names = record {
+  source = option_map (source_of m) shader;
+  target = value_of t;
+  function_names = map (λ e. (cow_str_bytes e.0, e.1)) names;
+}
 
 -- the special types are types that are there
 abbrev pub IsSpecialThere : Module → Type 0
-IsSpecialThere t = (k : SpecialKey) (q : ℕ) → special_at (special_value t.special_types) k ≡ Some q → IsThere t (TypeItem q)
+IsSpecialThere t =
+    (k : SpecialKey) (q : ℕ) → special_at (special_value t.special_types) k ≡ Some q →
+    IsThere t (TypeItem q)
 
 -- what holds of each derived module
 pub record IsDerived (shader : Option (Bor Module)) (m : Maps) (t : Module) : Type 0 where

@@ -29,7 +29,7 @@ local_values ls = map (λ l. (local_value l.0, l.1)) ls
 abbrev pub argument_under : Renames → ArgumentValue → ArgumentValue
 argument_under r a = record a { ty = r.ty a.ty }
 
--- what a function gives under a renaming
+-- a function's result under a renaming
 abbrev pub result_under : Renames → FunctionResult → FunctionResult
 result_under r a = record a { ty = r.ty a.ty }
 
@@ -37,17 +37,17 @@ result_under r a = record a { ty = r.ty a.ty }
 abbrev pub local_under : Renames → LocalValue × Span → LocalValue × Span
 local_under r l = (record { name = l.0.name; ty = r.ty l.0.ty; init = option_map r.expression l.0.init }, r.span l.1)
 
--- a name, at the copy of what it names, if that has one
+-- a name of the copy of what it names, if that has one
 abbrev pub name_put : Option ℕ → List ℕ → List (ℕ × List ℕ) → List (ℕ × List ℕ)
 name_put None n done = done
 name_put (Some h) n done = insert_entry nat_eq done h n
 
--- names at the copies of what they name, in order; of the names of one copy the last stays, at the first's place
+-- the names of copies, in order; a copy with more than one name keeps the last, at the place of the first
 abbrev pub names_under : Table → List (ℕ × List ℕ) → List (ℕ × List ℕ) → List (ℕ × List ℕ)
 names_under t done [] = done
 names_under t done (e ∷ es) = names_under t (name_put (option_flatten (slice_get t e.0)) e.1 done) es
 
--- an emitted range's copy covers exactly the copies of its places, in order, less those that s has
+-- an emitted range's copy covers exactly the copies of its places, in order, without those in s
 abbrev pub IsCovered : Table → (ℕ × ℕ → ℕ × ℕ) → List ℕ → Token → Type 0
 IsCovered t f s (Emitted r) = places (f r) ≡ map (place_under t) (others s (places r))
 IsCovered t f s _ = Unit {0}
@@ -62,13 +62,15 @@ begun v = started (value_links v.expressions) (flat_map (λ l. option_to_list l.
 
 -- the expressions of a function in the order of first reach
 abbrev pub order_of : FunctionValue → List ℕ
-order_of v = walked (map (λ e. e.0.kind) v.expressions) (value_links v.expressions) (flat_map (λ l. option_to_list l.0.init) v.local_variables) v.body
+order_of v =
+    walked (map (λ e. e.0.kind) v.expressions) (value_links v.expressions)
+    (flat_map (λ l. option_to_list l.0.init) v.local_variables) v.body
 
--- w copies the function v, where items and functions go by r
+-- w is a copy of the function v, where r renames items and functions
 pub record Copies (r : Renames) (v w : FunctionValue) : Type 0 where
-  -- where each expression goes
+  -- the place of each expression's copy
   pub table : Table
-  -- where each emitted range goes
+  -- the range that each emitted range maps to
   pub range : ℕ × ℕ → ℕ × ℕ
   pub name : w.name ≡ v.name
   pub arguments : w.arguments ≡ map (argument_under r) v.arguments

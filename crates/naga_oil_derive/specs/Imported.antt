@@ -22,18 +22,23 @@ abbrev pub Asks : Module → (ℕ → Type 0) → Request → Type 0
 Asks source P (Item p) = IsThere source p
 Asks source P (Call f) = (f < length source.functions) × P f
 
--- a function passes the test of form, but for calls, which go to functions that pass a test
+-- a function passes the test of form, except that its calls may be of any functions that pass a test
 pub record MayImport (source : Module) (P : ℕ → Type 0) (f : Function) : Type 0 where
-  pub form : MayStand (kinds f.expressions) (callees f.expressions) (operand_links f.expressions) (initialisers f) (block_tokens f.body)
+  pub form :
+      MayStand (kinds f.expressions) (callees f.expressions) (operand_links f.expressions)
+      (initialisers f) (block_tokens f.body)
   pub requests : All (Asks source P) (function_names f)
 
--- a function of a source can be called: its name is known, or else it has one and can be copied, where calls of functions whose
--- names aren't known go at most n deep
+-- a function of a source can be called: its name is known, or it has a name and can be copied, where calls of functions whose
+-- names aren't known nest at most n levels
 abbrev pub IsCallable : Module → Functions → ℕ → ℕ → Type 0
 IsCallable source fs zero f = IsSome (callee_at fs.names source.functions f)
-IsCallable source fs (suc n) f = IsSome (callee_at fs.names source.functions f) ⊎ IfSome (slice_get source.functions f) (λ e. IsSome e.0.name × MayImport source (IsCallable source fs n) e.0)
+IsCallable source fs (suc n) f =
+    IsSome (callee_at fs.names source.functions f) ⊎
+    IfSome (slice_get source.functions f)
+    (λ e. IsSome e.0.name × MayImport source (IsCallable source fs n) e.0)
 
--- a request can be answered, and a function copied, where such calls go at most n deep
+-- a request can be answered, and a function copied, where such calls nest at most n levels
 abbrev pub IsAnswerable : Module → Functions → ℕ → Request → Type 0
 IsAnswerable source fs n r = Asks source (IsCallable source fs n) r
 

@@ -1,4 +1,4 @@
--- Functions that are copied once what they name is.
+-- Functions that wait until what they name is copied.
 use Rattle.std.specs.Prelude.{ℕ, zero, suc, ◌≡◌, ◌+◌, ◌≤◌, List, [], ◌∷◌, drop, slice_get, Option, Some, None, IsSome}
 use Rattle.std.specs.List.{sum_by}
 use Rattle.naga_oil_ir.specs.Body.{block_tokens}
@@ -18,10 +18,11 @@ use Rattle.naga_oil_derive.specs.Imported.{IsAnswerable, IsImportable}
 use Rattle.naga_oil_derive.specs.declared.import.Functions.{Functions}
 use Rattle.naga_oil_derive.specs.declared.import.Pending.{Pending}
 
--- a function passes the test of form, but for its calls
+-- a function passes the test of form, apart from its calls
 abbrev pub MayWalk : Function → Type 0
 MayWalk f =
-    MayStand (kinds f.expressions) (callees f.expressions) (operand_links f.expressions) (initialisers f) (block_tokens f.body)
+    MayStand (kinds f.expressions) (callees f.expressions) (operand_links f.expressions)
+    (initialisers f) (block_tokens f.body)
 
 -- f is pending with its walk, and nothing is answered
 pub record IsNew (f : Function) (s : Span) (n : ℕ) (p : Pending) : Type 0 where
@@ -31,57 +32,66 @@ pub record IsNew (f : Function) (s : Span) (n : ℕ) (p : Pending) : Type 0 wher
   pub walks : Walks f p.walk
   pub answered : p.answered ≡ 0
 
--- a function with a name is pending, which can be copied
+-- a pending function has a name and can be copied
 pub record IsPending (source : Module) (fs : Functions) (p : Pending) : Type 0 where
   pub walks : Walks p.function.now p.walk
   pub form : IsImportable source fs p.depth p.function.now
   pub named : IsSome p.function.now.name
 
--- ---- what becomes of them
+-- ---- how pending functions are copied
 
 -- the requests that are left
-abbrev pub left : Pending → List Request
-left p = drop p.answered p.walk.requests.items
+abbrev pub left_requests : Pending → List Request
+left_requests p = drop p.answered p.walk.requests.items
 
--- what is left is answered, and then a copy comes last
-abbrev pub finish : ModuleValue → ℕ → ImportState → Pending → ImportState
-finish m shift s p = with_function m shift (answer_all p.depth m shift s (left p)) (function_value p.function.now) p.span
+-- the requests left are answered, and then a copy is appended
+abbrev pub complete : ModuleValue → ℕ → ImportState → Pending → ImportState
+complete m shift s p =
+    with_function m shift (answer_all p.depth m shift s (left_requests p))
+    (function_value p.function.now) p.span
 
--- the last one first
-abbrev pub finish_all : ModuleValue → ℕ → ImportState → List Pending → ImportState
-finish_all m shift s [] = s
-finish_all m shift s (p ∷ ps) = finish m shift (finish_all m shift s ps) p
+-- all pending functions are copied, the last one first
+abbrev pub complete_all : ModuleValue → ℕ → ImportState → List Pending → ImportState
+complete_all m shift s [] = s
+complete_all m shift s (p ∷ ps) = complete m shift (complete_all m shift s ps) p
 
--- ---- how many steps that takes at most
+-- ---- an upper bound of the steps
 
--- to answer a request, where a call takes so many
-abbrev pub steps_for : (ℕ → ℕ) → Request → ℕ
-steps_for f (Item p) = 1
-steps_for f (Call k) = f k
+-- to answer a request, where a call of the function at k takes f k steps
+abbrev pub steps_of_request : (ℕ → ℕ) → Request → ℕ
+steps_of_request f (Item p) = 1
+steps_of_request f (Call k) = f k
 
--- to call what stands in a source, where its calls take so many
-abbrev pub steps_at : (ℕ → ℕ) → Option (FunctionValue × Span) → ℕ
-steps_at f None = 1
-steps_at f (Some e) = 2 + sum_by (steps_for f) (requests_of e.0)
+-- to call what stands in a source, where its calls take f k steps
+abbrev pub steps_of_function : (ℕ → ℕ) → Option (FunctionValue × Span) → ℕ
+steps_of_function f None = 1
+steps_of_function f (Some e) = 2 + sum_by (steps_of_request f) (requests_of e.0)
 
--- to call the function at a place, where calls go less than n deep
+-- to call the function at a place, where calls nest less than n levels
 unfoldable pub call_steps : ℕ → ModuleValue → ℕ → ℕ
 call_steps zero m k = 1
-call_steps (suc n) m k = steps_at (call_steps n m) (slice_get m.functions k)
+call_steps (suc n) m k = steps_of_function (call_steps n m) (slice_get m.functions k)
 
--- to copy a function that is pending
-abbrev pub steps : ModuleValue → Pending → ℕ
-steps m p = 1 + sum_by (steps_for (call_steps p.depth m)) (left p)
+-- to copy a pending function
+abbrev pub pending_steps : ModuleValue → Pending → ℕ
+pending_steps m p = 1 + sum_by (steps_of_request (call_steps p.depth m)) (left_requests p)
 
 -- ---- how far requests are answered
 
--- what p asks for before a call is answered, from a state s to t, and the call of the function at k can be made; q is p behind the call
-pub record IsAnsweredTo (source : Module) (fs : Functions) (shift : ℕ) (s : ImportState) (p : Pending) (t : ImportState) (q : Pending) (k : ℕ) : Type 0 where
+-- the requests of p before a call are answered, from a state s to t, and the call of the function at k can be made; q is p after
+-- the call
+pub record IsAnsweredTo
+    (source : Module) (fs : Functions) (shift : ℕ) (s : ImportState) (p : Pending)
+    (t : ImportState) (q : Pending) (k : ℕ) : Type 0 where
   pub answerable : IsAnswerable source fs q.depth (Call k)
-  pub value : finish (value_of source) shift (import_callee q.depth (value_of source) shift t k) q ≡ finish (value_of source) shift s p
-  pub fewer : steps (value_of source) q + call_steps q.depth (value_of source) k ≤ steps (value_of source) p
+  pub value :
+      complete (value_of source) shift (import_callee q.depth (value_of source) shift t k) q ≡
+      complete (value_of source) shift s p
+  pub fewer : pending_steps (value_of source) q + call_steps q.depth (value_of source) k ≤ pending_steps (value_of source) p
 
--- so up to a call, if one is given, or else all is answered, and a copy is to come last
+-- requests are answered up to a call, if one is given; otherwise all are, and a copy is to be appended
 abbrev pub IsAnswered : Module → Functions → ℕ → ImportState → Pending → ImportState → Pending → Option ℕ → Type 0
-IsAnswered source fs shift s p t q None = with_function (value_of source) shift t (function_value q.function.now) q.span ≡ finish (value_of source) shift s p
+IsAnswered source fs shift s p t q None =
+    with_function (value_of source) shift t (function_value q.function.now) q.span ≡
+    complete (value_of source) shift s p
 IsAnswered source fs shift s p t q (Some k) = IsAnsweredTo source fs shift s p t q k

@@ -1,4 +1,4 @@
--- Functions that name no more than the types of their arguments and their results.
+-- Functions that name only the types of their arguments and results.
 use Rattle.std.specs.Prelude.{◌≡◌, ◌++◌, List, [], map, Option, Some, option_map, option_to_list}
 use Rattle.naga_oil_ir.specs.declared.module.Function.{Function}
 use Rattle.naga_oil_ir.specs.declared.module.FunctionArgument.{FunctionArgument}

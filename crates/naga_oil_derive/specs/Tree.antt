@@ -1,4 +1,4 @@
--- An item, read without handles: what it says, and the trees of what it names.
+-- An item read without handles: its label, and the trees of what it names.
 use Rattle.std.specs.Prelude.{ℕ, zero, suc, ◌≡◌, List, [], ◌∷◌, Option, Some, None}
 use Rattle.naga_oil_ir.specs.Rows.{Label, Row}
 use Rattle.naga_oil_ir.specs.declared.names.ItemPlace.{ItemPlace}
@@ -7,7 +7,7 @@ use Rattle.naga_oil_ir.specs.declared.names.ItemPlace.{ItemPlace}
 abbrev pub World : Type 0
 World = ItemPlace → Option Row
 
--- an item with what it names; nothing where an option is absent, and nothing is read below some depth
+-- an item with what it names; an absent option reads as Absent, and what is below some depth as Cut
 mutual
   pub data Tree : Type 0 where
     Cut : Tree
@@ -36,7 +36,7 @@ unfoldable pub tree : ℕ → World → ItemPlace → Tree
 tree zero w p = Cut
 tree (suc n) w p = row_tree (tree n w) (w p)
 
--- of a special type of a source whose key a target has, the place of the target's type
+-- for a special type of a source whose key a target has, the place of the target's type
 abbrev pub Kept : Type 0
 Kept = ItemPlace → Option ItemPlace
 

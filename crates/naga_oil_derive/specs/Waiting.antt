@@ -1,4 +1,4 @@
--- Items that are copied once what they name is.
+-- Items that wait until what they name is copied.
 use Rattle.std.specs.Prelude.{ℕ, zero, suc, ◌≡◌, ◌+◌, ◌<◌, ◌⊎◌, List, [], ◌∷◌, drop, take, Option, Some, None, All}
 use Rattle.std.specs.List.{sum_by}
 use Rattle.naga_oil_ir.specs.Rows.{Row}
@@ -12,14 +12,14 @@ use Rattle.naga_oil_derive.specs.Copying.{Goes, WentSomewhere, AreNames, IsThere
 use Rattle.naga_oil_derive.specs.Copied.{CopyState, put, copy_all}
 use Rattle.naga_oil_derive.specs.declared.copy.Waiting.{Waiting}
 
--- ---- what waits
+-- ---- which items wait
 
--- the first of what waits behind an item
+-- the first of the items that wait after an item
 abbrev pub next_item : List Waiting → Option ItemPlace
 next_item [] = None
 next_item (w ∷ ws) = Some w.item
 
--- an item of a source waits, and ws behind it: it went nowhere, and what it named so far went somewhere or waits next
+-- an item of a source waits, and ws after it: it isn't mapped, and what it named so far is mapped or waits next
 pub record Waits (source : Module) (g : Goes) (w : Waiting) (ws : List Waiting) : Type 0 where
   pub there : IsThere source w.item
   pub names : AreNames (world (value_of source) w.item) w.names.items
@@ -27,47 +27,47 @@ pub record Waits (source : Module) (g : Goes) (w : Waiting) (ws : List Waiting) 
   pub copied : All (λ o. WentSomewhere g o ⊎ (o ≡ next_item ws)) (take w.copied w.names.items)
   pub lower : All (λ v. rank source v.item < rank source w.item) ws
 
--- each waits for those behind it
-abbrev pub AreWaiting : Module → Goes → List Waiting → Type 0
-AreWaiting source g [] = Unit {0}
-AreWaiting source g (w ∷ ws) = Waits source g w ws × AreWaiting source g ws
+-- each item waits for those after it
+abbrev pub AreItemsWaiting : Module → Goes → List Waiting → Type 0
+AreItemsWaiting source g [] = Unit {0}
+AreItemsWaiting source g (w ∷ ws) = Waits source g w ws × AreItemsWaiting source g ws
 
--- what a name asks for: nothing if it went somewhere, else what it names waits anew
-abbrev pub Awaits : Module → Goes → Option ItemPlace → Option Waiting → Type 0
-Awaits source g o None = WentSomewhere g o
-Awaits source g o (Some w) = (o ≡ Some w.item) × Waits source g w [] × (w.copied ≡ 0)
+-- what a name requires: nothing if it is mapped; otherwise what it names waits with no name copied
+abbrev pub AwaitsItem : Module → Goes → Option ItemPlace → Option Waiting → Type 0
+AwaitsItem source g o None = WentSomewhere g o
+AwaitsItem source g o (Some w) = (o ≡ Some w.item) × Waits source g w [] × (w.copied ≡ 0)
 
--- ---- what becomes of them
+-- ---- how waiting items are copied
 
 -- the names that are left
-abbrev pub left : Waiting → List (Option ItemPlace)
-left w = drop w.copied w.names.items
+abbrev pub left_names : Waiting → List (Option ItemPlace)
+left_names w = drop w.copied w.names.items
 
--- what is left is copied, and then the item
-abbrev pub finish : ModuleValue → ℕ → CopyState → Waiting → CopyState
-finish m shift s w = put m shift (copy_all m shift s (left w)) w.item
+-- the names left are copied, and then the item
+abbrev pub finish_item : ModuleValue → ℕ → CopyState → Waiting → CopyState
+finish_item m shift s w = put m shift (copy_all m shift s (left_names w)) w.item
 
--- the last one first
-abbrev pub finish_all : ModuleValue → ℕ → CopyState → List Waiting → CopyState
-finish_all m shift s [] = s
-finish_all m shift s (w ∷ ws) = finish m shift (finish_all m shift s ws) w
+-- all waiting items are copied, the last one first
+abbrev pub finish_items : ModuleValue → ℕ → CopyState → List Waiting → CopyState
+finish_items m shift s [] = s
+finish_items m shift s (w ∷ ws) = finish_item m shift (finish_items m shift s ws) w
 
--- ---- how many steps that takes at most
+-- ---- an upper bound of the steps
 
--- to copy what a name means, where an item takes so many
-abbrev pub steps_for : (ItemPlace → ℕ) → Option ItemPlace → ℕ
-steps_for f None = 1
-steps_for f (Some p) = f p
+-- to copy what a name means, where the item at p takes f p steps
+abbrev pub steps_of_name : (ItemPlace → ℕ) → Option ItemPlace → ℕ
+steps_of_name f None = 1
+steps_of_name f (Some p) = f p
 
-abbrev pub steps_at : (ItemPlace → ℕ) → Option Row → ℕ
-steps_at f None = 1
-steps_at f (Some r) = 2 + sum_by (steps_for f) r.names
+abbrev pub steps_of_row : (ItemPlace → ℕ) → Option Row → ℕ
+steps_of_row f None = 1
+steps_of_row f (Some r) = 2 + sum_by (steps_of_name f) r.names
 
 -- to copy the item at a place; n is more than its depth
 unfoldable pub item_steps : ℕ → World → ItemPlace → ℕ
 item_steps zero w p = 1
-item_steps (suc n) w p = steps_at (item_steps n w) (w p)
+item_steps (suc n) w p = steps_of_row (item_steps n w) (w p)
 
--- to copy an item that waits
-abbrev pub steps : ModuleValue → Waiting → ℕ
-steps m w = 1 + sum_by (steps_for (item_steps (depth m) (world m))) (left w)
+-- to copy a waiting item
+abbrev pub waiting_steps : ModuleValue → Waiting → ℕ
+waiting_steps m w = 1 + sum_by (steps_of_name (item_steps (depth m) (world m))) (left_names w)

@@ -1,4 +1,4 @@
--- What stands in a module, where the items of a source went, and its special types.
+-- What stands in a module, what the items of a source map to, and special types.
 use Rattle.std.specs.Prelude.{ℕ, ◌+◌, ◌≡◌, ◌==◌, ◌&&◌, List, [], ◌∷◌, ◌++◌, map, min, nat_eq, Option, Some, None, option_map, slice_get, is_some, if◌then◌else◌}
 use Rattle.std.specs.Option.{option_flatten}
 use Rattle.std.specs.Map.{lookup}
@@ -33,30 +33,38 @@ span_at m (OverrideItem k) = option_map (λ e. e.1) (slice_get m.overrides k)
 span_at m (GlobalItem k) = option_map (λ e. e.1) (slice_get m.global_variables k)
 span_at m (ExpressionItem k) = option_map (λ e. e.1) (slice_get m.global_expressions k)
 
--- a place of a text, so many bytes further on, at most the last one that a span can name
+-- a place of a text, shifted by an offset, at most to the last place that a span can name
 abbrev pub moved : ℕ → ℕ → ℕ
 moved offset k = min (k + offset) 4294967295
 
--- a span, so many bytes further on; that of what stands in no text stays
+-- a span, shifted by an offset; an undefined span stays
 abbrev pub shifted : ℕ → Span → Span
-shifted offset s = if (s.start == 0) && (s.end == 0) then s else record { start = moved offset s.start; end = moved offset s.end }
+shifted offset s =
+    if (s.start == 0) && (s.end == 0) then s else
+    record { start = moved offset s.start; end = moved offset s.end }
 
--- a list begins with another
+-- ys begins with xs
 abbrev pub Begins : {A : Type 0} → List A → List A → Type 0
 Begins {A} xs ys = (zs : List A) × (ys ≡ xs ++ zs)
 
--- a module has items more, each at the end of its arena, and is otherwise as before
+-- n is m with more items, each at the end of its arena
 pub record Extends (m n : ModuleValue) : Type 0 where
   pub types : Begins m.types n.types
   pub constants : Begins m.constants n.constants
   pub overrides : Begins m.overrides n.overrides
   pub global_variables : Begins m.global_variables n.global_variables
   pub global_expressions : Begins m.global_expressions n.global_expressions
-  pub rest : n ≡ record m { types = n.types; constants = n.constants; overrides = n.overrides; global_variables = n.global_variables; global_expressions = n.global_expressions }
+  pub rest : n ≡ record m {
+    types = n.types;
+    constants = n.constants;
+    overrides = n.overrides;
+    global_variables = n.global_variables;
+    global_expressions = n.global_expressions;
+  }
 
--- ---- where items went
+-- ---- what items map to
 
--- where the items of a source went
+-- what the items of a source map to
 pub record Places : Type 0 where
   pub types : List (Option ℕ)
   pub constants : List (Option ℕ)
@@ -64,7 +72,7 @@ pub record Places : Type 0 where
   pub global_variables : List (Option ℕ)
   pub global_expressions : List (Option ℕ)
 
--- where the item at a place went
+-- what the item at a place maps to
 unfoldable pub goes : Places → ItemPlace → Option ItemPlace
 goes m (TypeItem k) = option_map TypeItem (option_flatten (slice_get m.types k))
 goes m (ConstantItem k) = option_map ConstantItem (option_flatten (slice_get m.constants k))
@@ -77,11 +85,11 @@ abbrev pub name_at : World → Option ItemPlace → Option Text
 name_at v None = None
 name_at v (Some q) = option_map (λ r. r.label.name) (v q)
 
--- a source as it reads: an item that went somewhere has the name that it has there
+-- a source as it reads: a mapped item has the name of what it maps to
 unfoldable pub named_world : World → World → (ItemPlace → Option ItemPlace) → World
 named_world w v m p = option_map (under_name (name_at v (m p))) (w p)
 
--- a source in which a type has another name, if one is given
+-- a source in which a type has the name n, if one is given
 unfoldable pub renamed_at : World → ℕ → Option Text → World
 renamed_at w k n (TypeItem j) = if j == k then option_map (under_name n) (w (TypeItem j)) else w (TypeItem j)
 renamed_at w k n (ConstantItem j) = w (ConstantItem j)
@@ -97,7 +105,10 @@ special_entry key (Some h) = (key, h) ∷ []
 
 -- the special types with their keys, in order
 abbrev pub special_entries : SpecialValue → List (SpecialKey × ℕ)
-special_entries s = special_entry RayDesc s.ray_desc ++ special_entry RayIntersection s.ray_intersection ++ special_entry RayVertexReturn s.ray_vertex_return ++ map (λ e. (Predeclared e.0, e.1)) s.predeclared_types
+special_entries s =
+    special_entry RayDesc s.ray_desc ++ special_entry RayIntersection s.ray_intersection ++
+    special_entry RayVertexReturn s.ray_vertex_return ++
+    map (λ e. (Predeclared e.0, e.1)) s.predeclared_types
 
 -- the special type of a key
 abbrev pub special_at : SpecialValue → SpecialKey → Option ℕ
@@ -110,7 +121,7 @@ abbrev pub or_option : Option ℕ → Option ℕ → Option ℕ
 or_option None b = b
 or_option (Some a) b = Some a
 
--- the place kept for a special type: of two of its keys that are kept the last decides
+-- the place kept for a special type; if two of its keys are kept, the last decides
 abbrev pub kept_in : (SpecialKey → Option ℕ) → List (SpecialKey × ℕ) → ℕ → Option ℕ
 kept_in f [] k = None
 kept_in f (e ∷ es) k = or_option (kept_in f es k) (if e.1 == k then f e.0 else None)
@@ -128,19 +139,39 @@ abbrev pub LacksKey : SpecialKey → List (SpecialKey × ℕ) → Type 0
 LacksKey key [] = Unit {0}
 LacksKey key (e ∷ es) = (e.0 ≡ key → ⊥) × LacksKey key es
 
--- no two entries have one key
+-- no two entries have the same key
 abbrev pub HaveDistinctKeys : List (SpecialKey × ℕ) → Type 0
 HaveDistinctKeys [] = Unit {0}
 HaveDistinctKeys (e ∷ es) = LacksKey e.0 es × HaveDistinctKeys es
 
 -- special types, with one more
 abbrev pub with_special : SpecialValue → SpecialKey → ℕ → SpecialValue
-with_special s RayDesc h = record { ray_desc = Some h; ray_intersection = s.ray_intersection; ray_vertex_return = s.ray_vertex_return; predeclared_types = s.predeclared_types }
-with_special s RayIntersection h = record { ray_desc = s.ray_desc; ray_intersection = Some h; ray_vertex_return = s.ray_vertex_return; predeclared_types = s.predeclared_types }
-with_special s RayVertexReturn h = record { ray_desc = s.ray_desc; ray_intersection = s.ray_intersection; ray_vertex_return = Some h; predeclared_types = s.predeclared_types }
-with_special s (Predeclared c) h = record { ray_desc = s.ray_desc; ray_intersection = s.ray_intersection; ray_vertex_return = s.ray_vertex_return; predeclared_types = s.predeclared_types ++ (c, h) ∷ [] }
+with_special s RayDesc h = record {
+  ray_desc = Some h;
+  ray_intersection = s.ray_intersection;
+  ray_vertex_return = s.ray_vertex_return;
+  predeclared_types = s.predeclared_types;
+}
+with_special s RayIntersection h = record {
+  ray_desc = s.ray_desc;
+  ray_intersection = Some h;
+  ray_vertex_return = s.ray_vertex_return;
+  predeclared_types = s.predeclared_types;
+}
+with_special s RayVertexReturn h = record {
+  ray_desc = s.ray_desc;
+  ray_intersection = s.ray_intersection;
+  ray_vertex_return = Some h;
+  predeclared_types = s.predeclared_types;
+}
+with_special s (Predeclared c) h = record {
+  ray_desc = s.ray_desc;
+  ray_intersection = s.ray_intersection;
+  ray_vertex_return = s.ray_vertex_return;
+  predeclared_types = s.predeclared_types ++ (c, h) ∷ [];
+}
 
--- special types, with those of a source whose keys they lack, each where the source's went
+-- special types with those of a source whose keys they lack, each mapped as the source's type is
 abbrev pub with_specials : SpecialValue → (ℕ → ℕ) → List (SpecialKey × ℕ) → SpecialValue
 with_specials s f [] = s
 with_specials s f (e ∷ es) = with_specials (if is_some (special_at s e.0) then s else with_special s e.0 (f e.1)) f es

@@ -1,4 +1,4 @@
-//! Items that are copied with what they name.
+//! Items that are copied after what they name.
 ghost use Rattle.std.specs.Prelude.{◌≡◌, ◌<◌, ◌+◌, ◌++◌, ◌∷◌, [], All, Some, IfSome, IfOk, OnOk, OnErr, option_map, option_copied, string_bytes};
 ghost use Rattle.std.specs.List.{sum_by};
 ghost use Rattle.naga_oil_derive.specs.World.{value_of, world};
@@ -6,11 +6,11 @@ ghost use Rattle.naga_oil_derive.specs.Copied.{copy_state, put_type, put, copy_i
 ghost use Rattle.naga_oil_derive.specs.Copying.{IsThere, AreRanked, IsBelowItem, AreLong, IsCopying, AreNames, goes_under, special_names};
 ghost use Rattle.naga_oil_derive.specs.Putting.{Putting, TypePutting};
 ghost use Rattle.naga_oil_derive.specs.Stubs.{argument_types, signature_types};
-ghost use Rattle.naga_oil_derive.specs.Waiting.{AreWaiting, Awaits, finish, finish_all, steps};
+ghost use Rattle.naga_oil_derive.specs.Waiting.{AreItemsWaiting, AwaitsItem, finish_item, finish_items, waiting_steps};
 
 use super::*;
 
-fn names_of<T: Names>(item: Option<&T>, alloc: Global) -> Tried<NameList>
+fn names_of<T: Names>(item: Option<&T>, alloc: Global) -> AllocResult<NameList>
     ensures { IfOk result (λ v. AreNames (option_map T.row_of (option_copied item.entry)) v.items) }
 {
     match item {
@@ -19,8 +19,8 @@ fn names_of<T: Names>(item: Option<&T>, alloc: Global) -> Tried<NameList>
     }
 }
 
-/// What the item at a place names, in the order of copying.
-fn names_at(source: &Module, item: ItemPlace, alloc: Global) -> Tried<NameList>
+/// Returns what the item at a place names, in the order of copying.
+fn names_at(source: &Module, item: ItemPlace, alloc: Global) -> AllocResult<NameList>
     ensures { IfOk result (λ v. AreNames (world (value_of source.now) item) v.items) }
 {
     match item {
@@ -32,16 +32,16 @@ fn names_at(source: &Module, item: ItemPlace, alloc: Global) -> Tried<NameList>
     }
 }
 
-/// An item that is copied once what it names is.
+/// An item that waits until what it names is copied.
 #[derive(Drop)]
 pub struct Waiting {
     pub item: ItemPlace,
     pub names: NameList,
-    /// How many of the names are copied.
+    /// The number of names that are copied.
     pub copied: usize,
 }
 
-/// What is copied: where the items of a source went, and the module that they went into.
+/// The state of copying: what the items of a source map to, and the module that they are copied into.
 #[derive(Drop)]
 pub struct Copying {
     pub maps: Maps,
@@ -49,7 +49,7 @@ pub struct Copying {
     pub alloc: Global,
 }
 
-/// Copies an item, when what it names was copied.
+/// Copies an item, after what it names was copied.
 macro_rules! copy {
     ($copying:expr, $source:ident, $handle:ident, $arena:ident, $renamed:ident $(, $alloc:expr)?) => {{
         let Some(item) = $source.$arena.try_get($handle) else {
@@ -64,8 +64,8 @@ macro_rules! copy {
 }
 
 impl Copying {
-    /// Copies a type, under a name if one is given, when what it names was copied.
-    fn copy_type(&mut self, source: &Module, handle: Handle<Type>, name: Name) -> Tried
+    /// Copies a type, under `name` if one is given, after what it names was copied.
+    fn copy_type(&mut self, source: &Module, handle: Handle<Type>, name: Name) -> AllocResult
         requires there { IsThere source.now (ItemPlace.TypeItem handle) }
         requires long { AreLong self.old.maps source.now }
         ensures put { let old = copy_state self.old.maps self.old.target in
@@ -87,9 +87,9 @@ impl Copying {
         Ok(())
     }
 
-    /// Copies the item at a place, when what it names was copied.
+    /// Copies the item at a place, after what it names was copied.
     #[rattlefmt::skip]
-    fn copy_alone(&mut self, source: &Module, item: ItemPlace) -> Tried
+    fn copy_alone(&mut self, source: &Module, item: ItemPlace) -> AllocResult
         requires there { IsThere source.now item }
         requires long { AreLong self.old.maps source.now }
         ensures put { let old = copy_state self.old.maps self.old.target in
@@ -108,10 +108,10 @@ impl Copying {
         }
     }
 
-    /// What a name asks for: what it names waits, unless that went somewhere.
-    fn awaited(&self, source: &Module, name: &Option<ItemPlace>) -> Tried<Option<Waiting>>
+    /// Returns the item that a name means as a waiting one, unless that item was copied before.
+    fn awaited(&self, source: &Module, name: &Option<ItemPlace>) -> AllocResult<Option<Waiting>>
         requires { IfSome name.now (IsThere source.now) }
-        ensures { IfOk result (Awaits source.now (goes_under self.now.maps) name.now) }
+        ensures { IfOk result (AwaitsItem source.now (goes_under self.now.maps) name.now) }
     {
         let Some(item) = name else { return Ok(None) };
         if self.maps.has_gone(*item) {
@@ -125,23 +125,28 @@ impl Copying {
         }))
     }
 
-    /// Goes on to the next that an item names, or copies the item if none is left.
-    fn copy_next(&mut self, source: &Module, mut top: Waiting, waiting: &mut Vec<Waiting>) -> Tried
+    /// Adds the next item that `top` names to `waiting`, or copies the item of `top` if no name is left.
+    fn copy_next(
+        &mut self,
+        source: &Module,
+        mut top: Waiting,
+        waiting: &mut Vec<Waiting>,
+    ) -> AllocResult
         requires ranked { AreRanked source.now }
         requires copying { IsCopying source.now self.old.target self.old.maps }
         requires waiting { let went = goes_under self.old.maps in
-            AreWaiting source.now went (waiting.old.items ++ top ∷ []) }
+            AreItemsWaiting source.now went (waiting.old.items ++ top ∷ []) }
         ensures waiting { let went = goes_under self.new.maps in
-            OnOk result (AreWaiting source.now went waiting.new.items) }
+            OnOk result (AreItemsWaiting source.now went waiting.new.items) }
         ensures copied { let m = value_of source.now in
             let shift = self.old.maps.offset in
             let old = copy_state self.old.maps self.old.target in
             let new = copy_state self.new.maps self.new.target in
-            let made = finish_all m shift (finish m shift old top) waiting.old.items in
-            OnOk result (finish_all m shift new waiting.new.items ≡ made) }
+            let made = finish_items m shift (finish_item m shift old top) waiting.old.items in
+            OnOk result (finish_items m shift new waiting.new.items ≡ made) }
         ensures fewer { let m = value_of source.now in
-            let old = sum_by (steps m) waiting.old.items in
-            OnOk result (sum_by (steps m) waiting.new.items < old + steps m top) }
+            let old = sum_by (waiting_steps m) waiting.old.items in
+            OnOk result (sum_by (waiting_steps m) waiting.new.items < old + waiting_steps m top) }
         ensures putting { let old = copy_state self.old.maps self.old.target in
             let new = copy_state self.new.maps self.new.target in
             Putting (value_of source.now) self.old.maps.offset old new }
@@ -159,15 +164,15 @@ impl Copying {
         Ok(())
     }
 
-    /// Copies the items that wait, the last one first, each behind what it names.
-    fn copy_waiting(&mut self, source: &Module, mut waiting: Vec<Waiting>) -> Tried
+    /// Copies the waiting items, the last one first, each after what it names.
+    fn copy_waiting(&mut self, source: &Module, mut waiting: Vec<Waiting>) -> AllocResult
         requires ranked { AreRanked source.now }
         requires copying { IsCopying source.now self.old.target self.old.maps }
-        requires waiting { AreWaiting source.now (goes_under self.old.maps) waiting.items }
+        requires waiting { AreItemsWaiting source.now (goes_under self.old.maps) waiting.items }
         ensures copied { let m = value_of source.now in
             let old = copy_state self.old.maps self.old.target in
             let new = copy_state self.new.maps self.new.target in
-            OnOk result (new ≡ finish_all m self.old.maps.offset old waiting.items) }
+            OnOk result (new ≡ finish_items m self.old.maps.offset old waiting.items) }
         ensures putting { let old = copy_state self.old.maps self.old.target in
             let new = copy_state self.new.maps self.new.target in
             Putting (value_of source.now) self.old.maps.offset old new }
@@ -180,7 +185,12 @@ impl Copying {
     }
 
     /// Copies what an item names.
-    fn copy_names(&mut self, source: &Module, item: &ItemPlace, list: &[Option<ItemPlace>]) -> Tried
+    fn copy_names(
+        &mut self,
+        source: &Module,
+        item: &ItemPlace,
+        list: &[Option<ItemPlace>],
+    ) -> AllocResult
         requires ranked { AreRanked source.now }
         requires below { All (IsBelowItem source.now item.now) list.now }
         requires copying { IsCopying source.now self.old.target self.old.maps }
@@ -199,8 +209,8 @@ impl Copying {
         Ok(())
     }
 
-    /// Copies the item at a place into the target, and first what it names; what went somewhere before stays there.
-    pub fn copy_item(&mut self, source: &Module, item: &ItemPlace) -> Tried
+    /// Copies the item at a place into the target, after what it names; items that were copied before aren't copied again.
+    pub fn copy_item(&mut self, source: &Module, item: &ItemPlace) -> AllocResult
         requires there { IsThere source.now item.now }
         requires ranked { AreRanked source.now }
         requires copying { IsCopying source.now self.old.target self.old.maps }
@@ -212,7 +222,7 @@ impl Copying {
             Putting (value_of source.now) self.old.maps.offset old new }
         ensures offset { self.new.maps.offset ≡ self.old.maps.offset }
     {
-        // Most went somewhere before.
+        // Most items were copied before.
         if self.maps.has_gone(*item) {
             return Ok(());
         }
@@ -224,8 +234,13 @@ impl Copying {
         self.copy_waiting(source, waiting)
     }
 
-    /// Copies a type, under a name if one is given, and first what it names; what went somewhere before stays there.
-    pub fn copy_named_type(&mut self, source: &Module, handle: Handle<Type>, name: Name) -> Tried
+    /// Copies a type, under `name` if one is given, after what it names; items that were copied before aren't copied again.
+    pub fn copy_named_type(
+        &mut self,
+        source: &Module,
+        handle: Handle<Type>,
+        name: Name,
+    ) -> AllocResult
         requires there { IsThere source.now (ItemPlace.TypeItem handle) }
         requires ranked { AreRanked source.now }
         requires copying { IsCopying source.now self.old.target self.old.maps }
@@ -250,8 +265,8 @@ impl Copying {
         Ok(())
     }
 
-    // Copies the types of arguments.
-    fn copy_arguments(&mut self, source: &Module, arguments: &[FunctionArgument]) -> Tried
+    /// Copies the types of arguments.
+    fn copy_arguments(&mut self, source: &Module, arguments: &[FunctionArgument]) -> AllocResult
         requires ranked { AreRanked source.now }
         requires there { All (λ a. IsThere source.now (ItemPlace.TypeItem a.ty)) arguments.now }
         requires copying { IsCopying source.now self.old.target self.old.maps }
@@ -271,7 +286,7 @@ impl Copying {
     }
 
     /// Copies the types of a function's arguments and its result.
-    pub fn copy_signature(&mut self, source: &Module, function: &Function) -> Tried
+    pub fn copy_signature(&mut self, source: &Module, function: &Function) -> AllocResult
         requires ranked { AreRanked source.now }
         requires arguments { let arguments = function.now.arguments.items in
             All (λ a. IsThere source.now (ItemPlace.TypeItem a.ty)) arguments }
@@ -295,7 +310,7 @@ impl Copying {
     }
 
     /// Copies the special types of a source.
-    pub fn copy_special(&mut self, source: &Module, entries: &[SpecialEntry]) -> Tried
+    pub fn copy_special(&mut self, source: &Module, entries: &[SpecialEntry]) -> AllocResult
         requires ranked { AreRanked source.now }
         requires there { All (λ e. IsThere source.now (ItemPlace.TypeItem e.1)) entries.now }
         requires copying { IsCopying source.now self.old.target self.old.maps }

@@ -1,4 +1,4 @@
-//! The module that is put together, and the items that are copied into it.
+//! The module that is built, and the items that are copied into it.
 ghost use Rattle.std.specs.Prelude.{◌≡◌, ◌<◌, ◌↔◌, Some, IsTrue, IfOk, OnOk, OnErr, length, option_map, string_bytes};
 ghost use Rattle.naga_oil_ir.specs.declared.names.ItemPlace.{ItemPlace};
 ghost use Rattle.naga_oil_derive.specs.World.{value_of, special_entries};
@@ -8,14 +8,14 @@ ghost use Rattle.naga_oil_derive.specs.Derived.{Derived, nothing, cleared, mappe
 
 use super::*;
 
-/// Where an item went, or want of memory.
-pub type Placed<T> = Tried<Handle<T>>;
+/// The handle of a copy, or out of memory.
+pub type HandleResult<T> = AllocResult<Handle<T>>;
 
 mod entries;
 mod functions;
 
-/// A module that is put together from items and functions of others, its sources. Equal items merge, and one that was
-/// there keeps its handle and its span.
+/// A module that is built from items and functions of other modules, its sources. Equal items merge: the module's own item
+/// keeps its handle and its span.
 #[derive(Drop)]
 pub struct DerivedModule<'a> {
     pub(crate) shader: Option<&'a Module>,
@@ -36,7 +36,7 @@ impl<'a> Model for DerivedModule<'a> {
 }
 
 impl<'a> DerivedModule<'a> {
-    /// A module of nothing, with no source.
+    /// An empty module, with no source.
     pub fn new(alloc: Global) -> Self
         ensures { result ≡ nothing }
     {
@@ -51,11 +51,11 @@ impl<'a> DerivedModule<'a> {
         }
     }
 
-    /// A module of nothing, with no source, and with room for so many functions or up to twice as many.
+    /// An empty module, with no source, and with capacity for `count` functions (rounded up, at most to twice `count`).
     ///
     /// # Errors
-    /// Where there is no memory.
-    pub fn with_functions(alloc: Global, count: usize) -> Tried<Self>
+    /// If there is no memory.
+    pub fn with_functions(alloc: Global, count: usize) -> AllocResult<Self>
         ensures { IfOk result (λ d. d ≡ nothing) }
     {
         let count = rounded_room(count);
@@ -71,12 +71,13 @@ impl<'a> DerivedModule<'a> {
         Ok(made)
     }
 
-    /// Sets the module that items are copied from, of which spans are shifted by so many bytes. Its special types are
-    /// copied at once; those of earlier sources stand for those for the same.
+    /// Sets the source: the module that items are copied from, with its spans shifted by `span_offset` bytes. The special
+    /// types of the source are copied at once; a special type that this module has already stands for the source's one with
+    /// the same key.
     ///
     /// # Errors
-    /// Where there is no memory; then no source is set.
-    pub fn set_shader_source(&mut self, shader: &'a Module, span_offset: usize) -> Tried
+    /// If there is no memory; then no source is set.
+    pub fn set_shader_source(&mut self, shader: &'a Module, span_offset: usize) -> AllocResult
         requires { CopyableItems shader.now }
         ensures value { let made = set_source self.old (value_of shader.now) span_offset in
             OnOk result (self.new ≡ made) }
@@ -95,7 +96,7 @@ impl<'a> DerivedModule<'a> {
         Ok(())
     }
 
-    /// The source that is set.
+    /// Returns the source, if one is set.
     pub fn source(&self) -> Option<&'a Module>
         ensures { let set = option_map (λ s. s.value) self.now.source in
             option_map (λ m. value_of m.now) result ≡ set }
@@ -103,21 +104,21 @@ impl<'a> DerivedModule<'a> {
         self.shader
     }
 
-    /// The module so far.
+    /// Returns the module built so far.
     pub fn module(&self) -> &Module
         ensures { value_of result.now ≡ self.now.target }
     {
         &self.copying.target
     }
 
-    /// Leaves the source.
+    /// Unsets the source.
     pub fn clear_shader_source(&mut self)
         ensures { self.new ≡ cleared self.old }
     {
         self.shader = None;
     }
 
-    /// A span of the source, in the texts of all sources one behind another; the undefined one stays.
+    /// Returns a span of the source shifted by the source's offset; an undefined span stays as it is.
     pub fn map_span(&self, span: Span) -> Span
         ensures { result ≡ mapped_span self.now.source span }
     {
@@ -127,7 +128,7 @@ impl<'a> DerivedModule<'a> {
         self.copying.maps.span(span)
     }
 
-    fn import(&mut self, item: ItemPlace) -> Tried
+    fn import(&mut self, item: ItemPlace) -> AllocResult
         requires { HasItem self.old item }
         ensures keeps { Keeps self.old self.new }
         ensures value { OnOk result (self.new ≡ import_item self.old item) }
@@ -138,8 +139,8 @@ impl<'a> DerivedModule<'a> {
         self.copying.copy_item(shader, &item)
     }
 
-    /// Copies a type of the source, and what it names first, and gives the copy.
-    pub fn import_type(&mut self, h_type: &Handle<Type>) -> Placed<Type>
+    /// Copies a type of the source after what it names, and returns the handle of the copy.
+    pub fn import_type(&mut self, h_type: &Handle<Type>) -> HandleResult<Type>
         requires { HasItem self.old (ItemPlace.TypeItem h_type.now) }
         ensures keeps { Keeps self.old self.new }
         ensures value { let made = import_item self.old (ItemPlace.TypeItem h_type.now) in
@@ -150,9 +151,9 @@ impl<'a> DerivedModule<'a> {
         Ok(self.copying.maps.ty(*h_type))
     }
 
-    /// Copies a type of the source under a name, or under its own if none is given; of a type that was copied before,
-    /// gives that copy.
-    pub fn rename_type(&mut self, h_type: &Handle<Type>, name: Option<String>) -> Placed<Type>
+    /// Copies a type of the source under `name`, or under its own name if none is given, and returns the handle of the copy.
+    /// A type that was copied before isn't renamed; its copy is returned.
+    pub fn rename_type(&mut self, h_type: &Handle<Type>, name: Option<String>) -> HandleResult<Type>
         requires { HasItem self.old (ItemPlace.TypeItem h_type.now) }
         ensures keeps { Keeps self.old self.new }
         ensures value { let text = option_map (λ n. Some (string_bytes n)) name in
@@ -166,8 +167,8 @@ impl<'a> DerivedModule<'a> {
         Ok(self.copying.maps.ty(*h_type))
     }
 
-    /// Copies a constant of the source, and what it names first, and gives the copy.
-    pub fn import_const(&mut self, h_const: &Handle<Constant>) -> Placed<Constant>
+    /// Copies a constant of the source after what it names, and returns the handle of the copy.
+    pub fn import_const(&mut self, h_const: &Handle<Constant>) -> HandleResult<Constant>
         requires { HasItem self.old (ItemPlace.ConstantItem h_const.now) }
         ensures keeps { Keeps self.old self.new }
         ensures value { let made = import_item self.old (ItemPlace.ConstantItem h_const.now) in
@@ -179,8 +180,11 @@ impl<'a> DerivedModule<'a> {
         Ok(self.copying.maps.constant(*h_const))
     }
 
-    /// Copies a global variable of the source, and what it names first, and gives the copy.
-    pub fn import_global(&mut self, h_global: &Handle<GlobalVariable>) -> Placed<GlobalVariable>
+    /// Copies a global variable of the source after what it names, and returns the handle of the copy.
+    pub fn import_global(
+        &mut self,
+        h_global: &Handle<GlobalVariable>,
+    ) -> HandleResult<GlobalVariable>
         requires { HasItem self.old (ItemPlace.GlobalItem h_global.now) }
         ensures keeps { Keeps self.old self.new }
         ensures value { let made = import_item self.old (ItemPlace.GlobalItem h_global.now) in
@@ -192,8 +196,11 @@ impl<'a> DerivedModule<'a> {
         Ok(self.copying.maps.global(*h_global))
     }
 
-    /// Copies a global expression of the source, and what it names first, and gives the copy.
-    pub fn import_global_expression(&mut self, h_expr: Handle<Expression>) -> Placed<Expression>
+    /// Copies a global expression of the source after what it names, and returns the handle of the copy.
+    pub fn import_global_expression(
+        &mut self,
+        h_expr: Handle<Expression>,
+    ) -> HandleResult<Expression>
         requires { HasItem self.old (ItemPlace.ExpressionItem h_expr) }
         ensures keeps { Keeps self.old self.new }
         ensures value { let made = import_item self.old (ItemPlace.ExpressionItem h_expr) in
@@ -205,8 +212,11 @@ impl<'a> DerivedModule<'a> {
         Ok(self.copying.maps.expression(h_expr))
     }
 
-    /// Copies an override of the source, and what it names first, and gives the copy.
-    pub fn import_pipeline_override(&mut self, h_override: &Handle<Override>) -> Placed<Override>
+    /// Copies an override of the source after what it names, and returns the handle of the copy.
+    pub fn import_pipeline_override(
+        &mut self,
+        h_override: &Handle<Override>,
+    ) -> HandleResult<Override>
         requires { HasItem self.old (ItemPlace.OverrideItem h_override.now) }
         ensures keeps { Keeps self.old self.new }
         ensures value { let made = import_item self.old (ItemPlace.OverrideItem h_override.now) in
@@ -218,7 +228,7 @@ impl<'a> DerivedModule<'a> {
         Ok(self.copying.maps.pipeline_override(*h_override))
     }
 
-    /// Whether there is a special type.
+    /// Whether the module has a special type.
     pub fn has_required_special_types(&self) -> bool
         ensures { IsTrue result ↔ (0 < length (special_entries self.now.target.special_types)) }
     {
@@ -230,7 +240,7 @@ impl<'a> DerivedModule<'a> {
     }
 }
 
-/// The arenas and special types, with no entry points.
+/// Returns the arenas and special types, without entry points.
 impl From<DerivedModule<'_>> for Module {
     ghost from_gives = { λ d m. value_of m ≡ d.target };
 

@@ -1,4 +1,4 @@
-//! Functions that are copied with those that they call.
+//! Functions that are copied after the functions that they call.
 ghost use Rattle.std.specs.Prelude.{◌≡◌, ◌<◌, ◌+◌, Some, IsSome, OnOk, IfOk, All, option_map, string_bytes};
 ghost use Rattle.std.specs.Cow.{cow_str_bytes};
 ghost use Rattle.std.specs.List.{sum_by};
@@ -12,16 +12,16 @@ ghost use Rattle.naga_oil_derive.specs.Answered.{import_state, answer_all, impor
 ghost use Rattle.naga_oil_derive.specs.Putting.{Adding};
 ghost use Rattle.naga_oil_derive.specs.Imported.{IsAnswerable, IsImportable};
 ghost use Rattle.naga_oil_derive.specs.Went.{went_by};
-ghost use Rattle.naga_oil_derive.specs.Pending.{IsNew, IsPending, IsAnswered, MayWalk, finish, finish_all, call_steps, steps};
+ghost use Rattle.naga_oil_derive.specs.Pending.{IsNew, IsPending, IsAnswered, MayWalk, complete, complete_all, call_steps, pending_steps};
 ghost use Rattle.naga_oil_walk.specs.Walks.{Walks};
 
 use super::*;
 use std::borrow::CowStr;
 
-/// The functions that names mean. The names of a source's functions stay there.
+/// The functions that names mean. A name of a source's function is borrowed from the source.
 pub type FunctionNames<'n> = IndexMap<CowStr<'n>, Handle<Function>>;
 
-/// Where the items and functions of a source went; a function goes by its name.
+/// What the items and functions of a source map to; a function maps to the function that its name means.
 #[derive(Clone, Copy)]
 pub struct Went<'a> {
     pub maps: &'a Maps,
@@ -30,14 +30,14 @@ pub struct Went<'a> {
     pub alloc: Global,
 }
 
-/// The function that a name means.
+/// Returns the function that a name means, if the name is known.
 pub fn known_as(functions: &FunctionNames<'_>, name: &Option<String>) -> Option<Handle<Function>>
     ensures { result ≡ known_as functions.now name.now }
 {
     functions.get(name.as_ref()?.as_str()).copied()
 }
 
-/// The function that the name of one of a source means.
+/// Returns the function that the name of the source's function at `handle` means.
 fn callee_in(
     names: &FunctionNames<'_>,
     source: &Module,
@@ -50,7 +50,7 @@ fn callee_in(
 }
 
 impl Went<'_> {
-    /// Where a function went, if its name is known.
+    /// Returns the function that a function of the source maps to, if its name is known.
     pub fn callee(&self, handle: Handle<Function>) -> Option<Handle<Function>>
         ensures { result ≡ callee_at self.now.functions.now self.now.source.now.functions handle }
     {
@@ -58,28 +58,28 @@ impl Went<'_> {
     }
 }
 
-/// Copies of functions, and those that names mean.
+/// Copies of functions, and the functions that names mean.
 #[derive(Drop)]
 pub struct Functions<'n> {
     pub copies: Arena<Function>,
     pub names: FunctionNames<'n>,
 }
 
-/// A function that is copied once what it names is.
+/// A function that waits until what it names is copied.
 #[derive(Drop)]
 pub struct Pending<'a> {
     pub function: &'a Function,
     pub span: Span,
-    /// Its calls of functions whose names aren't known go so deep at most.
+    /// The most levels of calls of functions whose names aren't known.
     pub depth: usize,
     pub walk: Walk,
-    /// How many requests of the walk are answered.
+    /// The number of the walk's requests that are answered.
     pub answered: usize,
 }
 
 impl<'a> Pending<'a> {
-    /// A function of which nothing is answered yet.
-    fn new(function: &'a Function, span: Span, depth: usize, alloc: Global) -> Tried<Self>
+    /// A pending function, with no request answered.
+    fn new(function: &'a Function, span: Span, depth: usize, alloc: Global) -> AllocResult<Self>
         requires { MayWalk function.now }
         ensures { IfOk result (IsNew function.now span depth) }
     {
@@ -94,13 +94,13 @@ impl<'a> Pending<'a> {
     }
 }
 
-/// Puts a copy of a function last, all of whose requests are answered; its name then means the copy.
+/// Appends the copy of a function whose requests are all answered; the function's name then means the copy.
 fn put<'n>(
     source: &Module,
     of: &Pending<'n>,
     copying: &Copying,
     functions: &mut Functions<'n>,
-) -> Tried
+) -> AllocResult
     requires walks { Walks of.now.function.now of.now.walk }
     requires named { IsSome of.now.function.now.name }
     ensures value { let shift = copying.now.maps.offset in
@@ -125,7 +125,7 @@ fn put<'n>(
     Ok(())
 }
 
-/// Adds the function that is called to those that are pending, if its name isn't known.
+/// Adds a called function to the pending ones, if its name isn't known.
 fn open<'a>(
     source: &'a Module,
     handle: Handle<Function>,
@@ -133,7 +133,7 @@ fn open<'a>(
     pending: &mut Vec<Pending<'a>>,
     copying: &Copying,
     functions: &Functions<'_>,
-) -> Tried
+) -> AllocResult
     requires ranked { AreRanked source.now }
     requires copying { IsCopying source.now copying.now.target copying.now.maps }
     requires answerable { IsAnswerable source.now functions.now depth (Request.Call handle) }
@@ -142,11 +142,11 @@ fn open<'a>(
     ensures value { let m = value_of source.now in
         let shift = copying.now.maps.offset in
         let now = import_state copying.now.maps copying.now.target functions.now in
-        let made = finish_all m shift (import_callee depth m shift now handle) pending.old.items in
-        OnOk result (finish_all m shift now pending.new.items ≡ made) }
+        let made = complete_all m shift (import_callee depth m shift now handle) pending.old.items in
+        OnOk result (complete_all m shift now pending.new.items ≡ made) }
     ensures fewer { let m = value_of source.now in
-        let old = sum_by (steps m) pending.old.items in
-        OnOk result (sum_by (steps m) pending.new.items < old + call_steps depth m handle) }
+        let old = sum_by (pending_steps m) pending.old.items in
+        OnOk result (sum_by (pending_steps m) pending.new.items < old + call_steps depth m handle) }
 {
     let Some(callee) = source.functions.try_get(handle) else {
         return Ok(());
@@ -160,13 +160,13 @@ fn open<'a>(
     Ok(())
 }
 
-/// Answers the requests of a function, up to the first call of one whose name isn't known, which is handed back.
+/// Answers the requests of a function up to the first call of a function whose name isn't known; that function is returned.
 fn answer_items(
     source: &Module,
     top: &mut Pending<'_>,
     copying: &mut Copying,
     functions: &Functions<'_>,
-) -> Tried<Option<Handle<Function>>>
+) -> AllocResult<Option<Handle<Function>>>
     requires ranked { AreRanked source.now }
     requires copying { IsCopying source.now copying.old.target copying.old.maps }
     requires top { IsPending source.now functions.now top.old }
@@ -195,14 +195,14 @@ fn answer_items(
     Ok(None)
 }
 
-/// Answers the requests of a function and puts its copy, or goes on to the first that it calls whose name isn't known.
+/// Answers the requests of a function and appends its copy, or adds the first callee whose name isn't known to `pending`.
 fn advance<'a>(
     source: &'a Module,
     mut top: Pending<'a>,
     pending: &mut Vec<Pending<'a>>,
     copying: &mut Copying,
     functions: &mut Functions<'a>,
-) -> Tried
+) -> AllocResult
     requires ranked { AreRanked source.now }
     requires copying { IsCopying source.now copying.old.target copying.old.maps }
     requires top { IsPending source.now functions.old top }
@@ -212,11 +212,11 @@ fn advance<'a>(
         let shift = copying.old.maps.offset in
         let old = import_state copying.old.maps copying.old.target functions.old in
         let new = import_state copying.new.maps copying.new.target functions.new in
-        let made = finish_all m shift (finish m shift old top.entry) pending.old.items in
-        OnOk result (finish_all m shift new pending.new.items ≡ made) }
+        let made = complete_all m shift (complete m shift old top.entry) pending.old.items in
+        OnOk result (complete_all m shift new pending.new.items ≡ made) }
     ensures fewer { let m = value_of source.now in
-        let old = sum_by (steps m) pending.old.items in
-        OnOk result (sum_by (steps m) pending.new.items < old + steps m top.entry) }
+        let old = sum_by (pending_steps m) pending.old.items in
+        OnOk result (sum_by (pending_steps m) pending.new.items < old + pending_steps m top.entry) }
     ensures adding { let m = value_of source.now in
         let shift = copying.old.maps.offset in
         let old = import_state copying.old.maps copying.old.target functions.old in
@@ -233,13 +233,13 @@ fn advance<'a>(
     open(source, handle, depth, pending, copying, functions)
 }
 
-/// Copies the functions that are pending, the last one first, each behind what it names.
+/// Copies the pending functions, the last one first, each after what it names.
 fn copy_pending<'a>(
     source: &'a Module,
     mut pending: Vec<Pending<'a>>,
     copying: &mut Copying,
     functions: &mut Functions<'a>,
-) -> Tried
+) -> AllocResult
     requires ranked { AreRanked source.now }
     requires copying { IsCopying source.now copying.old.target copying.old.maps }
     requires pending { All (IsPending source.now functions.old) pending.items }
@@ -247,7 +247,7 @@ fn copy_pending<'a>(
         let shift = copying.old.maps.offset in
         let old = import_state copying.old.maps copying.old.target functions.old in
         let new = import_state copying.new.maps copying.new.target functions.new in
-        OnOk result (new ≡ finish_all m shift old pending.entry.items) }
+        OnOk result (new ≡ complete_all m shift old pending.entry.items) }
     ensures adding { let m = value_of source.now in
         let shift = copying.old.maps.offset in
         let old = import_state copying.old.maps copying.old.target functions.old in
@@ -261,8 +261,8 @@ fn copy_pending<'a>(
     Ok(())
 }
 
-/// Puts a copy of a function last; its name then means the copy. Calls of functions whose names aren't known go so deep at
-/// most.
+/// Appends a copy of a function; the function's name then means the copy. Calls of functions whose names aren't known nest at
+/// most `depth` levels.
 pub fn import<'n>(
     source: &'n Module,
     function: &Function,
@@ -295,7 +295,7 @@ pub fn import<'n>(
     Ok(handle)
 }
 
-/// A copy of a function; what it names is copied first.
+/// Returns a copy of a function, after copying what it names.
 pub fn localize<'n>(
     source: &'n Module,
     function: &Function,
@@ -339,7 +339,7 @@ pub fn localize<'n>(
     localized(names, function, &walk)
 }
 
-/// The function that a callee's name means, copied if the name isn't known.
+/// Returns the function that a callee's name means; the callee is copied if its name isn't known.
 pub fn import_callee<'n>(
     source: &'n Module,
     handle: Handle<Function>,

@@ -11,20 +11,20 @@ ghost use Rattle.naga_oil_derive.specs.AnsweredLaw.{HaveCopies, AnswerLaw, CallL
 
 use super::*;
 
-/// Rows, and the parts of expressions, pass the tests of equality exactly if they are the same.
+/// The tests of equality of rows, and of the parts of expressions, hold exactly if both are equal.
 pub fn equal_items()
     ensures rows { (a b : Row) → IsTrue (row_eq a b) ↔ (a ≡ b) }
     ensures parts { (a b : Parts) → IsTrue (parts_eq a b) ↔ (a ≡ b) }
 {}
 
-/// In a value each item stands in the arena of its kind; where items can be copied, each names what is there, of lower
-/// rank.
+/// In a module's value each item stands in the arena of its kind. If items can be copied, each names items that are there and
+/// have a lower rank.
 pub fn copyable_values()
     ensures kinds { KindLaw }
     ensures items { CopyableLaw }
 {}
 
-/// The special types of a module are there, no two of them for the same.
+/// The special types of a module are there; no two have the same key.
 pub fn are_special(source: &Module)
     requires { CopyableItems source.now }
     ensures { AreSpecial (value_of source.now) }
@@ -33,28 +33,28 @@ pub fn are_special(source: &Module)
     let _keys = source.special_types.predeclared_types.iter();
 }
 
-/// An item that is put, when what it names went somewhere, is one copy.
+/// Copying an item, after what it names is mapped, makes one copy.
 pub fn one_copy()
     ensures item { PutLaw }
     ensures named { TypePutLaw }
 {}
 
-/// An item is copied with what it names, once: the module gets the first occurrences of what it reaches, and the copy
-/// reads as the item to every depth.
+/// An item is copied once, after what it names: the module gets the first occurrences of the items that it reaches, and the
+/// copy reads as the item to every depth.
 pub fn copies_with_names()
     ensures item { CopiedLaw }
     ensures all { AllCopiedLaw }
     ensures again { AgainLaw }
 {}
 
-/// A type that is copied under a name reads so from then on.
+/// A type that is copied under a name reads with that name from then on.
 pub fn copies_under_a_name()
     ensures named { TypeCopiedLaw }
     ensures again { TypeAgainLaw }
 {}
 
-/// Each derived module is a derivation, by the special types that it has now; what is made of a function of its source
-/// copies it.
+/// Each derived module is a derivation, by the special types that it has now; `copy_function` of a function of its source is a
+/// copy of that function.
 pub fn is_derivation(derived: &DerivedModule<'_>)
     ensures derivation { IsDerivation (kept_by derived.now) derived.now }
     ensures copies { HaveCopies derived.now }
@@ -63,27 +63,27 @@ pub fn is_derivation(derived: &DerivedModule<'_>)
     let _source = derived.shader;
 }
 
-/// A module of nothing is a derivation, and each stays one without its source; in a derivation what went somewhere
-/// reads there as its source.
+/// The empty module is a derivation, and a derivation without its source is one. In a derivation each mapped item reads as its
+/// source.
 pub fn derivations()
     ensures nothing { NothingLaw }
     ensures cleared { ClearedLaw }
     ensures placed { PlacedLaw }
 {}
 
-/// An item of the source is imported, a type under a name if one is given; then the module is a derivation still.
+/// After an item of the source is imported, or a type under a name, the module is still a derivation.
 pub fn derivations_with_items()
     ensures import { ImportLaw }
     ensures rename { RenameLaw }
 {}
 
-/// A module of which items can be copied is set as the source; then each of its special types stands where one of its
-/// key stands.
+/// After a module whose items can be copied is set as the source, each of its special types maps to the target's special type
+/// of one of its keys.
 pub fn derivations_with_a_source()
     ensures { SetLaw }
 {}
 
-/// Requests are answered, and functions imported behind what they name; then the module is a derivation still.
+/// After requests are answered, and functions imported after what they name, the module is still a derivation.
 pub fn derivations_with_functions()
     ensures answers { AnswerLaw }
     ensures call { CallLaw }

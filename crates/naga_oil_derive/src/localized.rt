@@ -1,4 +1,4 @@
-//! A function, copied with its expressions in the order of a walk.
+//! Copies of functions, with their expressions in the order of a walk.
 ghost use Rattle.std.specs.Prelude.{◌≡◌, ◌<◌, length, OnOk, IfOk, slice_get, [], map, option_map, string_bytes};
 ghost use Rattle.std.specs.Option.{option_flatten};
 ghost use Rattle.naga_oil_ir.specs.Body.{block_tokens};
@@ -19,19 +19,19 @@ use super::*;
 /// An expression with its span.
 pub type Entry = (Expression, Span);
 
-/// Says where expressions and emitted ranges of a function go, beside the items and functions.
+/// What the expressions and emitted ranges of a function map to, besides items and functions.
 #[derive(Drop)]
 pub struct Copied<'a> {
     pub went: Went<'a>,
-    /// Where the copy of each expression stands.
+    /// The handle of each expression's copy.
     pub table: &'a [Option<Operand>],
-    /// Where the emitted ranges begin and end in the order of copying, by their first places.
+    /// The bounds of the emitted ranges in the order of copying, by the ranges' first places.
     pub emitted: &'a [Bounds],
-    /// How many expressions of the order the initialisers of local variables reach.
+    /// The number of expressions in the order that initialisers of local variables reach.
     pub began: usize,
-    /// How many copies they have.
+    /// The number of copies of those expressions.
     pub merged: usize,
-    /// How many copies there are.
+    /// The number of all copies.
     pub count: usize,
     ghost fits: { FitIn began merged count emitted.now },
 }
@@ -62,8 +62,8 @@ impl Renaming for Copied<'_> {
     fn span(&self, span: Span) -> Span { self.went.maps.span(span) }
 }
 
-/// Puts a copy last; where copies are unique, one that reads alike serves again.
-fn put(target: &mut Arena<Expression>, copy: Entry, unique: bool) -> Tried<Operand>
+/// Appends a copy; if copies are to be unique, returns an equal one that is there instead.
+fn put(target: &mut Arena<Expression>, copy: Entry, unique: bool) -> AllocResult<Operand>
     ensures place { let old = expression_values target.old in
         IfOk result (λ h. h ≡ place_of_copy unique old (parts copy.0)) }
     ensures values { let old = expression_values target.old in
@@ -76,7 +76,7 @@ fn put(target: &mut Arena<Expression>, copy: Entry, unique: bool) -> Tried<Opera
     target.append(copy.0, copy.1)
 }
 
-/// Copies of expressions, and where each stands.
+/// Copies of expressions, and the handle of each expression's copy.
 #[derive(Drop)]
 pub struct Copies {
     pub target: Arena<Expression>,
@@ -84,8 +84,8 @@ pub struct Copies {
 }
 
 impl Copies {
-    /// A copy of the expression at a place.
-    fn copy_at(&self, names: Went<'_>, source: &[Entry], place: usize) -> Tried<Entry>
+    /// Returns a copy of the expression at a place.
+    fn copy_at(&self, names: Went<'_>, source: &[Entry], place: usize) -> AllocResult<Entry>
         requires { place < length source.now }
         ensures { IfOk result (IsCopyAt (went names.entry) self.now.table.items source.now place) }
     {
@@ -96,7 +96,13 @@ impl Copies {
     }
 
     /// Copies the expression at a place.
-    fn copy_place(&mut self, names: Went<'_>, source: &[Entry], place: usize, unique: bool) -> Tried
+    fn copy_place(
+        &mut self,
+        names: Went<'_>,
+        source: &[Entry],
+        place: usize,
+        unique: bool,
+    ) -> AllocResult
         requires place { place < length source.now }
         requires room { length self.old.table.items ≡ length source.now }
         ensures room { length self.new.table.items ≡ length self.old.table.items }
@@ -112,9 +118,8 @@ impl Copies {
     }
 }
 
-/// Copies of the expressions of a function in the order of a walk; of those that initialisers reach, the ones that read alike
-/// share a copy.
-pub fn copy_expressions(names: Went<'_>, function: &Function, walk: &Walk) -> Tried<Copies>
+/// Copies the expressions of a function in the order of a walk; equal expressions that initialisers reach share a copy.
+pub fn copy_expressions(names: Went<'_>, function: &Function, walk: &Walk) -> AllocResult<Copies>
     requires { Walks function.now walk.now }
     ensures { let es = expression_values function.now.expressions in
         let order = walk.now.places.items in
@@ -133,7 +138,7 @@ pub fn copy_expressions(names: Went<'_>, function: &Function, walk: &Walk) -> Tr
     Ok(copies)
 }
 
-/// What a function gives, with its type renamed.
+/// Returns a function's result with its type renamed.
 fn renamed_result<R: Renaming>(names: &R, outcome: Option<FunctionResult>) -> Option<FunctionResult>
     ensures { result ≡ option_map (result_under (R.renames names.now)) outcome }
 {
@@ -143,12 +148,12 @@ fn renamed_result<R: Renaming>(names: &R, outcome: Option<FunctionResult>) -> Op
     })
 }
 
-/// Arguments with their types renamed.
+/// Returns arguments with their types renamed.
 fn renamed_arguments<R: Renaming>(
     names: &R,
     arguments: &[FunctionArgument],
     alloc: Global,
-) -> Tried<Vec<FunctionArgument>>
+) -> AllocResult<Vec<FunctionArgument>>
     ensures { let r = R.renames names.now in
         let made = map (argument_under r) (map argument_value arguments.now) in
         IfOk result (λ v. map argument_value v.items ≡ made) }
@@ -162,8 +167,8 @@ fn renamed_arguments<R: Renaming>(
 }
 
 impl Copied<'_> {
-    /// Local variables with their types and initialisers renamed.
-    fn locals(&self, locals: &[(LocalVariable, Span)]) -> Tried<Arena<LocalVariable>>
+    /// Returns local variables with their types and initialisers renamed.
+    fn locals(&self, locals: &[(LocalVariable, Span)]) -> AllocResult<Arena<LocalVariable>>
         ensures { let c = self.now in
             let ranges = range_under c.emitted.now c.began c.merged c.count in
             let r = under_table (went c.went) c.table.now ranges in
@@ -179,8 +184,9 @@ impl Copied<'_> {
         Ok(copies)
     }
 
-    /// Names at the copies of what they name; of the names of one copy the last stays, at the first's place.
-    fn named(&self, names: &NamedExpressions) -> Tried<NamedExpressions>
+    /// Returns the names of the copies of named expressions. A copy with more than one name keeps the last, at the place of the
+    /// first.
+    fn named(&self, names: &NamedExpressions) -> AllocResult<NamedExpressions>
         ensures { let made = names_under self.now.table.now [] (named_values names.now.entries) in
             IfOk result (λ m. named_values m.entries ≡ made) }
     {
@@ -194,8 +200,8 @@ impl Copied<'_> {
     }
 }
 
-/// The copy of a function whose items and callees were copied.
-pub fn localized(names: Went<'_>, function: &Function, walk: &Walk) -> Tried<Function>
+/// Returns the copy of a function whose items and callees were copied.
+pub fn localized(names: Went<'_>, function: &Function, walk: &Walk) -> AllocResult<Function>
     requires { Walks function.now walk.now }
     ensures { let made = copy_function (went names.entry) (function_value function.now) in
         IfOk result (λ f. function_value f ≡ made) }
@@ -221,7 +227,7 @@ pub fn localized(names: Went<'_>, function: &Function, walk: &Walk) -> Tried<Fun
     })
 }
 
-/// A body of no statements.
+/// Returns an empty body.
 pub fn no_body(alloc: Global) -> Block
     ensures { block_tokens result ≡ [] }
 {
@@ -229,8 +235,8 @@ pub fn no_body(alloc: Global) -> Block
     Block { body }
 }
 
-/// The copy of a function of no local variables and no statements, whose types were copied.
-pub fn localized_stub(maps: &Maps, function: &Function, alloc: Global) -> Tried<Function>
+/// Returns the copy of a stub, a function without local variables and statements, whose types were copied.
+pub fn localized_stub(maps: &Maps, function: &Function, alloc: Global) -> AllocResult<Function>
     requires { IsStub function.now }
     ensures { let made = copy_function (renames_under maps.now) (function_value function.now) in
         IfOk result (λ f. function_value f ≡ made) }

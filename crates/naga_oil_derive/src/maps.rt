@@ -1,4 +1,4 @@
-//! Where the items of a source went.
+//! What the items of a source map to.
 ghost use Rattle.std.specs.Prelude.{◌≡◌, ℕ, List, replicate, is_some, slice_get, IfOk, None};
 ghost use Rattle.std.specs.Option.{option_flatten};
 ghost use Rattle.naga_oil_ir.specs.ModuleValue.{no_items};
@@ -8,7 +8,7 @@ ghost use Rattle.naga_oil_derive.specs.Copying.{goes_under, renames_under, AreLo
 
 use super::*;
 
-/// Where the items of a source went, and how far spans are shifted.
+/// The handles of the copies of a source's items, and the offset by which spans are shifted.
 #[derive(Drop)]
 pub struct Maps {
     pub types: Vec<Option<Handle<Type>>>,
@@ -19,13 +19,13 @@ pub struct Maps {
     pub offset: usize,
 }
 
-pub(crate) fn nowhere<K>(count: usize, alloc: Global) -> Tried<Vec<Option<Index<K>>>>
+pub(crate) fn nowhere<K>(count: usize, alloc: Global) -> AllocResult<Vec<Option<Index<K>>>>
     ensures { IfOk result (λ v. v.items ≡ replicate count None) }
 {
     Ok(vec![in alloc; None; count]?)
 }
 
-/// What a list holds at a place, if it is there.
+/// Returns what a list holds at a place, if anything.
 pub fn stands_at<T: Copy>(items: &[Option<T>], place: usize) -> Option<T>
     ensures { result ≡ option_flatten (slice_get items.now place) }
 {
@@ -61,8 +61,8 @@ impl Maps {
         }
     }
 
-    /// The maps of a source whose items went nowhere yet.
-    pub fn new(source: &Module, offset: usize, alloc: Global) -> Tried<Maps>
+    /// The maps of a source of which no item is copied yet.
+    pub fn new(source: &Module, offset: usize, alloc: Global) -> AllocResult<Maps>
         ensures offset { IfOk result (λ m. m.offset ≡ offset) }
         ensures long { IfOk result (λ m. AreLong m source.now) }
         ensures places { IfOk result (λ m. places_of m ≡ no_places (value_of source.now)) }
@@ -77,7 +77,7 @@ impl Maps {
         })
     }
 
-    /// Whether an item went somewhere.
+    /// Whether an item is mapped: it was copied, or a special type of the target stands for it.
     #[tactic(auto, using(crate::proofs::CopyLemmas::is_some_mapped), unfolding(crate::specs::Copying::goes_under, crate::specs::World::goes))]
     pub fn has_gone(&self, item: ItemPlace) -> bool
         ensures { result ≡ is_some (goes_under self.now item) }
@@ -92,7 +92,7 @@ impl Maps {
     }
 }
 
-/// A handle goes where it was put, and stays if it went nowhere; functions and ranges stay.
+/// A mapped handle maps to its copy; other handles, functions and ranges stay as they are.
 #[rattlefmt::skip]
 impl Renaming for Maps {
     ghost renames = { renames_under };
@@ -105,7 +105,7 @@ impl Renaming for Maps {
     fn expression(&self, handle: Handle<Expression>) -> Handle<Expression> { place_of(&self.global_expressions, handle).unwrap_or(handle) }
     fn range(&self, range: Range<Expression>) -> Range<Expression> { range }
 
-    /// A span that is known, so far behind, at most at the last place that a span can name.
+    /// Returns a span shifted by the offset, at most to the last place that a span can name; an undefined span stays.
     fn span(&self, span: Span) -> Span {
         if span == Span::UNDEFINED { return span; }
         Span::new(moved(span.start, self.offset), moved(span.end, self.offset))

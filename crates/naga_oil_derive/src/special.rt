@@ -1,4 +1,4 @@
-//! Special types: what they are for, and which stand for those of a source.
+//! Special types by their keys, and those of a target that stand for a source's.
 ghost use Rattle.std.specs.Prelude.{◌≡◌, ◌<◌, ◌++◌, ℕ, length, take, All, Option, Some, None, OnOk, OnErr, IfOk};
 ghost use Rattle.naga_oil_ir.specs.ModuleValue.{special_value};
 ghost use Rattle.naga_oil_derive.specs.World.{special_entry, special_entries, special_at as special_at_key, with_special, with_specials, HaveDistinctKeys};
@@ -6,7 +6,7 @@ ghost use Rattle.naga_oil_derive.specs.Copying.{handle_under, kept_over};
 
 use super::*;
 
-/// What a special type is for.
+/// The key of a special type: what the type is for.
 #[derive(Clone, Copy)]
 pub enum SpecialKey {
     RayDesc,
@@ -16,13 +16,17 @@ pub enum SpecialKey {
     Predeclared(u64),
 }
 
-/// A special type with what it is for.
+/// A special type with its key.
 pub type SpecialEntry = (SpecialKey, Handle<Type>);
 
 /// A special type, if there is one.
 pub type SpecialType = Option<Handle<Type>>;
 
-fn push_special(key: SpecialKey, handle: SpecialType, entries: &mut Vec<SpecialEntry>) -> Tried
+fn push_special(
+    key: SpecialKey,
+    handle: SpecialType,
+    entries: &mut Vec<SpecialEntry>,
+) -> AllocResult
     ensures { OnOk result (entries.new.items ≡ entries.old.items ++ special_entry key handle) }
 {
     if let Some(handle) = handle {
@@ -31,8 +35,8 @@ fn push_special(key: SpecialKey, handle: SpecialType, entries: &mut Vec<SpecialE
     Ok(())
 }
 
-/// The special types in order, no two of them for the same.
-pub fn special_entries(special: &SpecialTypes, alloc: Global) -> Tried<Vec<SpecialEntry>>
+/// Returns the special types in order; no two have the same key.
+pub fn special_entries(special: &SpecialTypes, alloc: Global) -> AllocResult<Vec<SpecialEntry>>
     ensures entries { IfOk result (λ v. v.items ≡ special_entries (special_value special.now)) }
     ensures distinct { IfOk result (λ v. HaveDistinctKeys v.items) }
 {
@@ -47,7 +51,7 @@ pub fn special_entries(special: &SpecialTypes, alloc: Global) -> Tried<Vec<Speci
     Ok(entries)
 }
 
-/// The special type for something.
+/// Returns the special type of a key, if there is one.
 pub fn special_at(special: &SpecialTypes, key: SpecialKey) -> SpecialType
     ensures { result ≡ special_at_key (special_value special.now) key }
 {
@@ -59,8 +63,8 @@ pub fn special_at(special: &SpecialTypes, key: SpecialKey) -> SpecialType
     }
 }
 
-/// Sets the special type for something that has none.
-fn set_special(special: &mut SpecialTypes, key: SpecialKey, handle: Handle<Type>) -> Tried
+/// Sets the special type of a key that has none.
+fn set_special(special: &mut SpecialTypes, key: SpecialKey, handle: Handle<Type>) -> AllocResult
     requires { special_at_key (special_value special.old) key ≡ None }
     ensures set { let made = with_special (special_value special.old) key handle in
         OnOk result (special_value special.new ≡ made) }
@@ -77,7 +81,7 @@ fn set_special(special: &mut SpecialTypes, key: SpecialKey, handle: Handle<Type>
     Ok(())
 }
 
-/// Lets the special types that a target has stand for those of a source: of two for one type the last.
+/// Maps special types of a source to those of a target with the same keys. For a type with two keys the last decides.
 pub fn keep_special(entries: &[SpecialEntry], target: &SpecialTypes, types: &mut [SpecialType])
     requires { All (λ e. e.1 < length types.old) entries.now }
     ensures { let at = special_at_key (special_value target.now) in
@@ -90,8 +94,12 @@ pub fn keep_special(entries: &[SpecialEntry], target: &SpecialTypes, types: &mut
     }
 }
 
-/// Sets the special types that a target lacks to the copies of a source's.
-pub fn set_specials(entries: &[SpecialEntry], maps: &Maps, special: &mut SpecialTypes) -> Tried
+/// Sets the special types that a target lacks to the copies of the source's.
+pub fn set_specials(
+    entries: &[SpecialEntry],
+    maps: &Maps,
+    special: &mut SpecialTypes,
+) -> AllocResult
     ensures some { let old = special_value special.old in
         let made = with_specials old (handle_under maps.now.types.items) in
         (n : ℕ) × (special_value special.new ≡ made (take n entries.now)) }

@@ -57,7 +57,7 @@ emitted_same ks fs gs hs xs ys k e f m =
     let Q : List ℕ → Type 0 = λ zs. MayBeEmitted ks fs hs zs k in
     subst Q f (subst P e m)
 
--- how far a walk over a body has come: gs were the marks, hs are the marks now, i parts are behind
+-- how far a walk over a body has come: gs were the marks, hs are the marks now, i parts are done
 pub record IsWalking (n : ℕ) (ks : List ℕ) (fs : List (Option ℕ)) (ls : Links) (ss gs hs : List Bool) (ts : Tokens) (i : ℕ) : Type 0 where
   pub there : AreFineBy n ks fs ls ss gs ts → AreFineBy n ks fs ls ss hs (drop i ts)
   pub back : AreFineBy n ks fs ls ss hs (drop i ts) → AreFineBy n ks fs ls ss gs ts

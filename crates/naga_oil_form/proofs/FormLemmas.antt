@@ -52,7 +52,7 @@ and_decides false t d e = (λ h. absurd (false≢true h), λ h. d.1 h.0)
 pub decides_same : {P Q : Type 0} (b : Bool) → (P → Q) → (Q → P) → Decides b P → Decides b Q
 decides_same b f g d = (λ h. f (d.0 h), λ h. d.1 (g h))
 
--- a test, where what is tested goes by another name
+-- a test of a value that is equal to another
 pub decides_by : {A : Type 0} (P : A → Type 0) (x y : A) (b : Bool) → x ≡ y → Decides b (P x) → Decides b (P y)
 decides_by {A} P x y b e d = let Q : A → Type 0 = λ z. Decides b (P z) in subst Q e d
 

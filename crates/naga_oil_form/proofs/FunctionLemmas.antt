@@ -7,8 +7,7 @@ use Rattle.std.proofs.lemmas.Option.{slice_get_within, same_Some, get_or_from_sl
 use Rattle.naga_oil_ir.specs.declared.module.Function.{Function}
 use Rattle.naga_oil_ir.specs.declared.module.Module.{Module}
 use Rattle.naga_oil_ir.specs.declared.span.Span.{Span}
-use Rattle.naga_oil_marks.specs.Marks.{with_decoration}
-use Rattle.naga_oil_form.specs.BodyForm.{IsSpanFine}
+use Rattle.naga_oil_words.specs.Marks.{with_decoration}
 use Rattle.naga_oil_form.specs.NameForm.{Name, function_name}
 use Rattle.naga_oil_form.specs.WellFormed.{NamedForm, FunctionsForm, FunctionListForm}
 use Rattle.naga_oil_form.specs.Links.{is_marked, AreMarks}
@@ -33,7 +32,7 @@ pub keys_tested : {X : Type 0} (P : ℕ → Type 0) (es : List (ℕ × X)) (ks :
 keys_tested P es ks b e d =
     (λ h. unmapped P (λ x. x.0) es (subst (All P) e (d.0 h)), λ a. d.1 (subst (All P) (sym e) (All-map P (λ x. x.0) es a)))
 
--- ---- elements one after another
+-- ---- elements one after the other
 
 -- a fact of each element and its place, one element further
 pub each_more : {A : Type 0} (P : ℕ → A → Type 0) (xs : List A) (i : ℕ) (x : A) → i < length xs → x ≡ get_or xs i x → P i x → ((k : ℕ) (e : A) → k < i → slice_get xs k ≡ Some e → P k e) → (k : ℕ) (e : A) → k < i + 1 → slice_get xs k ≡ Some e → P k e
@@ -59,11 +58,10 @@ module _ (m : Module) (d : Name) (n : ℕ) where
   unfolding FunctionsForm
   list_form f distinct = record {
     named = all_each (λ e. IsSome e.0.name) m.functions (λ k e at. (f k e at).0);
-    spans = all_each (λ e. IsSpanFine n e.1) m.functions (λ k e at. (f k e at).1);
-    functions = λ k e at. (f k e at).2;
+    functions = λ k e at. (f k e at).1;
     distinct = distinct;
   }
 
   pub list_each : FunctionListForm m d n → (k : ℕ) (e : Function × Span) → slice_get m.functions k ≡ Some e → NamedForm m k n e
   unfolding FunctionsForm
-  list_each r k e at = (each_all_of (λ e. IsSome e.0.name) m.functions k e r.named at, each_all_of (λ e. IsSpanFine n e.1) m.functions k e r.spans at, r.functions k e at)
+  list_each r k e at = (each_all_of (λ e. IsSome e.0.name) m.functions k e r.named at, r.functions k e at)

@@ -1,7 +1,12 @@
-pub mod LinkLemmas
-pub mod FormLemmas
 pub mod BodyFormLemmas
 pub mod BodyFormWords
+pub mod DecisionLemmas
+pub mod FormGivenLemmas
+pub mod FormItemsLemmas
+pub mod FormLawLemmas
+pub mod FormLemmas
+pub mod FormPartsLemmas
 pub mod FunctionLemmas
+pub mod LinkLemmas
 pub mod NameFormLemmas
 pub mod StubLemmas

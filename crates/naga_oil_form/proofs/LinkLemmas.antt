@@ -110,13 +110,13 @@ set_at fs j k false e h =
 pub marked-set : (fs : List Bool) (j k : ℕ) → j < length fs → is_marked (slice_set fs j true) k ≡ (is_marked fs k || (j == k))
 marked-set fs j k h = set_at fs j k (j == k) refl h
 
--- one mark more
+-- one more mark
 pub mark_more : (old now : List Bool) (xs : List ℕ) (i : ℕ) → i < length xs → All (λ x. x < length old) xs → length now ≡ length old → ((k : ℕ) → is_marked now k ≡ (is_marked old k || has (take i xs) k)) → (k : ℕ) → is_marked (slice_set now (get_or xs i 0) true) k ≡ (is_marked old k || has (take (i + 1) xs) k)
 mark_more old now xs i lt a e m k =
     let within : get_or xs i 0 < length old = a i 0 lt in
     marked-set now (get_or xs i 0) k (omega arith) ∙ ap (λ b. b || (get_or xs i 0 == k)) (m k) ∙ or_assoc (is_marked old k) (has (take i xs) k) (get_or xs i 0 == k) ∙ ap (λ b. is_marked old k || b) (sym (list_any_more (λ y. y == k) xs i 0 lt))
 
--- no mark stands behind the last place
+-- no mark stands after the last place
 pub marked_past : (fs : List Bool) (k : ℕ) → length fs ≤ k → is_marked fs k ≡ false
 marked_past fs k h = ap (λ o. unwrap_or o false) (slice_get_past fs k h)
 
@@ -142,7 +142,7 @@ linked-none vs k h = ap (λ o. unwrap_or o []) (slice_get-map (λ (w : Vec ℕ G
 pub linked_past : (vs : List (Vec ℕ Global)) (k : ℕ) → length vs ≤ k → linked (lists vs) k ≡ []
 linked_past vs k h = linked-none vs k (slice_get_past vs k h)
 
--- what is named stands before what names it
+-- a named place stands before the place that names it
 pub named_below : (ls : Links) → AreEarlier ls → (k x : ℕ) → has (linked ls k) x ≡ true → x < k
 named_below ls a k x h = All-has (λ y. y < k) (linked ls k) x (a k) h
 
@@ -263,14 +263,14 @@ flat_map-same : (f g : ℕ → List ℕ) (xs : List ℕ) → All (λ x. f x ≡ 
 flat_map-same f g [] a = refl
 flat_map-same f g (x ∷ xs) a = let h : f x ≡ g x = All-head (λ y. f y ≡ g y) x xs a in let t = flat_map-same f g xs (All-tail (λ y. f y ≡ g y) x xs a) in cc
 
--- any number that is more than the place gives the same
+-- each number greater than the place gives the same list
 pub reached-enough : (ls : Links) → AreEarlier ls → (n m k : ℕ) → k < n → k < m → reach n ls k ≡ reach m ls k
 reached-enough ls a zero m k h i = absurd (omega arith)
 reached-enough ls a (suc n) zero k h i = absurd (omega arith)
 reached-enough ls a (suc n) (suc m) k h i =
     ap (λ xs. xs ++ k ∷ []) (flat_map-same (reach n ls) (reach m ls) (linked ls k) (All-weaker (λ x. x < k) (λ x. reach n ls x ≡ reach m ls x) (λ x l. reached-enough ls a n m x (omega arith) (omega arith)) (linked ls k) (a k)))
 
--- what a place reaches, by what it names
+-- the places that a place reaches, by the places that it names
 pub trail-step : (ls : Links) → AreEarlier ls → (k : ℕ) → trail ls k ≡ flat_map (trail ls) (linked ls k) ++ k ∷ []
 unfolding trail
 trail-step ls a k =
@@ -289,12 +289,12 @@ reaches-step ls a fs gs k m =
 marked-push_at : (gs : List Bool) (b : Bool) (k : ℕ) → k ≡ length gs → is_marked (gs ++ b ∷ []) k ≡ b
 marked-push_at gs b k e = ap (λ i. is_marked (gs ++ b ∷ []) i) e ∙ ap (λ o. unwrap_or o false) (slice_get-append_at gs b)
 
--- one place more
+-- one more place
 pub reaches-push : (ls : Links) → AreEarlier ls → (fs gs : List Bool) (p : ℕ) (b : Bool) (xs : List ℕ) → length gs ≡ p → linked ls p ≡ xs → b ≡ (is_marked fs p || list_any (is_marked gs) xs) → ((x : ℕ) → x < p → is_marked gs x ≡ reaches ls fs x) → (k : ℕ) → k < p + 1 → is_marked (gs ++ b ∷ []) k ≡ reaches ls fs k
 reaches-push ls a fs gs p b xs long named is m k h =
     ⊎_elim (λ e. marked-push_at gs b k (omega arith) ∙ is ∙ ap (λ ys. is_marked fs p || list_any (is_marked gs) ys) (sym named) ∙ reaches-step ls a fs gs p m ∙ ap (reaches ls fs) (sym e)) (⊎_elim (λ l. ap (λ o. unwrap_or o false) (slice_get-append_within gs (b ∷ []) k (omega arith)) ∙ m k l) (λ l. absurd (omega arith))) (cases_order k p)
 
--- behind the last place nothing is reached but the place itself, which isn't marked
+-- a place after the last reaches only itself, and isn't marked
 pub reaches-past : (ls : Links) → AreEarlier ls → (fs : List Bool) → length fs ≤ length ls → (k : ℕ) → length ls ≤ k → reaches ls fs k ≡ false
 reaches-past ls a fs h k g =
     ap (list_any (is_marked fs)) (trail-step ls a k ∙ ap (λ o. flat_map (trail ls) (unwrap_or o []) ++ k ∷ []) (slice_get_past ls k g)) ∙ or_false (is_marked fs k) ∙ marked_past fs k (omega arith)

@@ -1,4 +1,4 @@
--- Distinct names, found by a set that takes one after another.
+-- Distinct names, found by a set that takes one name after the other.
 use Rattle.std.proofs.Common.{◌≡◌, not, ◌<◌, zero, suc, length, take, get_or, arith, ℕ, Bool, false, true, List, [], ◌∷◌, ◌++◌, ◌||◌, map, nat_eq, refl, sym, ap, ◌∙◌, IsPermutation}
 use Rattle.std.specs.List.{IsDistinct, AllByRecursion, list_any}
 use Rattle.std.specs.Cmp.{IsEquivalence}
@@ -19,7 +19,7 @@ any_after : {X : Type 0} (p : X → Bool) (x : X) (xs ys : List X) → AllByRecu
 any_after p x [] ys a = a.0
 any_after p x (z ∷ zs) ys a = any_after p x zs ys a.1
 
--- what stands before a text of distinct ones isn't equal to it
+-- a text before another in a list of distinct texts isn't equal to the other
 pub absent_before : {X : Type 0} {eq : X → X → Bool} → IsEquivalence eq → (xs ys : List X) (x : X) → IsDistinct eq (xs ++ x ∷ ys) → list_any (eq x) xs ≡ false
 unfolding IsDistinct
 absent_before laws [] ys x d = refl

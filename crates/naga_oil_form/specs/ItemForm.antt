@@ -1,7 +1,8 @@
--- Which items may stand: what they name, and the order and kinds of global expressions.
+-- Which items may stand: the items that they name, and the order and kinds of global expressions.
 use Rattle.std.specs.Prelude.{◌≡◌, ◌<◌, ◌⊎◌, ℕ, Bool, true, false, List, ◌++◌, length, map, slice_get, Option, Some, None, option_to_list, is_none, All, IfSome, nat_eq, ◌||◌}
 use Rattle.std.specs.List.{filter_map, list_any, IsDistinct}
 use Rattle.naga_oil_form.specs.BodyForm.{kinds, operand_links}
+use Rattle.naga_oil_ir.specs.Kinds.{global_variable_kind, last_result_kind}
 use Rattle.naga_oil_ir.specs.Rows.{Row, type_row, constant_row, override_row, global_row, expression_row}
 use Rattle.naga_oil_form.specs.Links.{Links, AreEarlier, AtEach, trail, has, reaches}
 use Rattle.naga_oil_ir.specs.declared.module.Module.{Module}
@@ -14,9 +15,9 @@ use Rattle.naga_oil_ir.specs.declared.types.Override.{Override}
 use Rattle.naga_oil_ir.specs.declared.names.ItemPlace.{ItemPlace}
 use Rattle.naga_oil_ir.specs.declared.names.ItemPlace.TheVariants.{TypeItem, ConstantItem, OverrideItem, GlobalItem, ExpressionItem}
 
--- ---- what there is
+-- ---- existing items
 
--- an item is there
+-- an item exists
 abbrev pub IsThere : Module → ItemPlace → Type 0
 IsThere m (TypeItem k) = k < length m.types
 IsThere m (ConstantItem k) = k < length m.constants
@@ -24,13 +25,13 @@ IsThere m (OverrideItem k) = k < length m.overrides
 IsThere m (GlobalItem k) = k < length m.global_variables
 IsThere m (ExpressionItem k) = k < length m.global_expressions
 
--- all that an item names is there
+-- all that an item names exists
 abbrev pub NamesThere : Module → Row → Type 0
 NamesThere m r = All (λ o. IfSome o (IsThere m)) r.names
 
 -- ---- types
 
--- the type that is named
+-- the named type, if the item is a type
 abbrev pub type_at : Option ItemPlace → Option ℕ
 type_at None = None
 type_at (Some (TypeItem k)) = Some k
@@ -47,7 +48,7 @@ types_named r = filter_map type_at r.names
 abbrev pub types_of : Module → List TypeOfShader
 types_of m = map (λ e. e.0) m.types
 
--- of each type the types that it names
+-- for each type the types that it names
 abbrev pub type_links : List TypeOfShader → Links
 type_links ts = map (λ t. types_named (type_row t)) ts
 
@@ -60,19 +61,19 @@ is_override (Some (OverrideItem k)) = true
 is_override (Some (GlobalItem k)) = false
 is_override (Some (ExpressionItem k)) = false
 
--- of each type whether its size is an override's
+-- for each type whether an override gives its size
 abbrev pub pending : List TypeOfShader → List Bool
 pending ts = map (λ t. list_any is_override (type_row t).names) ts
 
--- a type is sized: it is, or reaches, one whose size is an override's
+-- a type is sized: an override gives its size, or the size of a type that it reaches
 abbrev pub is_sized : Module → ℕ → Bool
 is_sized m k = reaches (type_links (types_of m)) (pending (types_of m)) k
 
--- all that an item names is there, and none of it is a type that passes a test
+-- all that an item names exists, and none of it is a type that passes a test
 abbrev pub NamesWell : Module → (ℕ → Bool) → Row → Type 0
 NamesWell m p r = NamesThere m r × (list_any p (types_named r) ≡ false)
 
--- what the items name is there, and constants, overrides and global expressions name no sized type
+-- what the items name exists, and constants, overrides and global expressions name no sized type
 pub record NamesForm (m : Module) : Type 0 where
   pub types : AtEach (λ t. NamesThere m (type_row t)) (types_of m)
   pub constants : AtEach (λ e. NamesWell m (is_sized m) (constant_row e.0)) m.constants
@@ -100,15 +101,15 @@ initialiser m (Some (OverrideItem k)) = init_of_override (slice_get m.overrides 
 initialiser m (Some (GlobalItem k)) = None
 initialiser m (Some (ExpressionItem k)) = None
 
--- each expression that names a constant or an override stands after that one's initialiser
+-- each expression that names a constant or an override stands after its initialiser
 abbrev pub StandAfter : Module → List (Expression × Span) → Type 0
 StandAfter m es = (k : ℕ) (e : Expression × Span) → slice_get es k ≡ Some e → All (λ o. IfSome (initialiser m o) (λ i. i < k)) (expression_row e.0).names
 
 -- a global expression is no global, local, argument or result
 abbrev pub IsGlobalKind : ℕ → Type 0
-IsGlobalKind k = (k < 4) ⊎ (12 < k)
+IsGlobalKind k = (k < global_variable_kind) ⊎ (last_result_kind < k)
 
--- global expressions are of their kinds, and stand after what they need
+-- global expressions have the kinds of global expressions, and stand after the expressions that they need
 pub record ExpressionForm (m : Module) : Type 0 where
   pub earlier_operands : AreEarlier (operand_links m.global_expressions)
   pub after : StandAfter m m.global_expressions
@@ -133,7 +134,7 @@ is_plain m k = is_unnamed (slice_get (types_of m) k) || has (special_types m.spe
 abbrev pub ReachPlain : Module → List ℕ → Type 0
 ReachPlain m ks = All (λ k. All (λ j. is_plain m j ≡ true) (trail (type_links (types_of m)) k)) ks
 
--- special types are there, are distinct, aren't sized, and reach only unnamed or special types
+-- special types exist, are distinct, aren't sized, and reach only unnamed or special types
 pub record SpecialForm (m : Module) : Type 0 where
   pub there : All (λ k. k < length m.types) (special_types m.special_types)
   pub distinct : IsDistinct nat_eq (special_types m.special_types)

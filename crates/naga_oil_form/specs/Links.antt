@@ -1,9 +1,9 @@
--- What places name and reach.
+-- The places that places name and reach.
 use Rattle.std.specs.Prelude.{ℕ, zero, suc, ◌<◌, ◌≡◌, List, [], ◌∷◌, ◌++◌, map, Vec, unwrap_or, slice_get, Some, Bool, false, ◌==◌, if◌then◌else◌, All}
 use Rattle.std.specs.Global.{Global}
 use Rattle.std.specs.List.{flat_map, list_any}
 
--- of each place the places that it names, in order
+-- for each place the places that it names, in order
 abbrev pub Links : Type 0
 Links = List (List ℕ)
 
@@ -15,16 +15,16 @@ lists vs = map (λ v. v.items) vs
 abbrev pub linked : Links → ℕ → List ℕ
 linked ls k = unwrap_or (slice_get ls k) []
 
--- each place names earlier places alone
+-- each place names only earlier places
 abbrev pub AreEarlier : Links → Type 0
 AreEarlier ls = (k : ℕ) → All (λ x. x < k) (linked ls k)
 
--- what a place reaches, in order and with repeats, and last itself; n is more than the place
+-- the places that a place reaches, in order and with repeats, and last the place itself; n is greater than the place
 abbrev pub reach : ℕ → Links → ℕ → List ℕ
 reach zero ls k = []
 reach (suc n) ls k = flat_map (reach n ls) (linked ls k) ++ k ∷ []
 
--- what a place reaches
+-- the places that a place reaches
 unfoldable pub trail : Links → ℕ → List ℕ
 trail ls k = reach (suc k) ls k
 
@@ -32,12 +32,12 @@ trail ls k = reach (suc k) ls k
 abbrev pub has : List ℕ → ℕ → Bool
 has o x = list_any (λ y. y == x) o
 
--- o, and then the first occurrences of what xs adds to it
+-- o, and then the first occurrences of the elements of xs that are not in o
 abbrev pub added : List ℕ → List ℕ → List ℕ
 added o [] = o
 added o (x ∷ xs) = added (if has o x then o else o ++ x ∷ []) xs
 
--- all that some places reach, each once
+-- the places that some places reach, each once
 abbrev pub started : Links → List ℕ → List ℕ
 started ls roots = added [] (flat_map (trail ls) roots)
 

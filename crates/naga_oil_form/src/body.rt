@@ -1,18 +1,19 @@
-// The test of form of a body: what its statements may use, emit and give.
+// The test of form of a body: the expressions that its statements may use, emit and give.
 ghost use Rattle.std.specs.Prelude.{IfOk, ◌≡◌, ◌↔◌, ◌<◌, ℕ, List, IsTrue, length, slice_set, Some, None, true, false};
 ghost use Rattle.naga_oil_form.specs.Links.{is_marked, AreMarks};
 ghost use Rattle.naga_oil_form.specs.BodyForm.{known_by, MayBeEmitted, marks_after, places, made, is_result, IsFineOver, MayBeGivenOver, AreFineOver, MayStandOver};
 
-use super::form::{Reading, Tested, callee_at, is_external, is_result};
+use super::form::{Reading, callee_at, is_external, is_result};
 use super::links::{are_below, are_earlier, is_marked, no_marks, reached_from};
 use naga_oil_ir::{Expression, Range, Token};
+use naga_oil_words::AllocResult;
 use std::alloc::Global;
 
-/// What is known of a function's expressions before its body is walked.
+/// The facts about a function's expressions before its body is visited.
 #[derive(Clone, Copy)]
 struct Known<'a> {
     read: &'a Reading,
-    /// What initialisers reach.
+    /// Marks of the places that initialisers reach.
     started: &'a [bool],
 }
 
@@ -33,7 +34,7 @@ fn may_be_emitted(of: &Known<'_>, done: &[bool], operands: &[usize], place: usiz
         & all_known
 }
 
-/// Whether a range may be emitted; its places are marked as far as they may.
+/// Returns whether a range may be emitted. Its places are marked up to the first that may not.
 fn take_range(of: &Known<'_>, done: &mut Vec<bool>, range: Range<Expression>) -> bool
     requires { length done.old.items ≡ length of.now.read.now.links.items }
     ensures long { length done.new.items ≡ length done.old.items }
@@ -53,7 +54,7 @@ fn take_range(of: &Known<'_>, done: &mut Vec<bool>, range: Range<Expression>) ->
     true
 }
 
-/// Whether a result may be given, by a call of a function or by another statement; it is marked if it may.
+/// Returns whether a result may be given, by a call of a function or by another statement, and marks the result if so.
 fn take_given(of: &Known<'_>, done: &mut Vec<bool>, by: Option<usize>, place: usize) -> bool
     requires { length done.old.items ≡ length of.now.read.now.links.items }
     ensures long { length done.new.items ≡ length done.old.items }
@@ -68,7 +69,7 @@ fn take_given(of: &Known<'_>, done: &mut Vec<bool>, by: Option<usize>, place: us
     true
 }
 
-/// Whether a part of a body may stand; what it emits or gives is marked if it may.
+/// Returns whether a part of a body may stand, and marks the places that it emits or gives if so.
 fn take_token(of: &Known<'_>, done: &mut Vec<bool>, token: Token) -> bool
     requires { length done.old.items ≡ length of.now.read.now.links.items }
     ensures long { length done.new.items ≡ length done.old.items }
@@ -85,7 +86,7 @@ fn take_token(of: &Known<'_>, done: &mut Vec<bool>, token: Token) -> bool
     }
 }
 
-/// Whether no marked place is a result.
+/// Returns whether no marked place is a result.
 fn no_result_is_marked(kinds: &[u64], marks: &[bool]) -> bool
     ensures { IsTrue result ↔
         ((k : ℕ) → is_marked marks.now k ≡ true → is_result kinds.now k ≡ false) }
@@ -94,8 +95,11 @@ fn no_result_is_marked(kinds: &[u64], marks: &[bool]) -> bool
     places.all(|(place, mark)| !*mark || !is_result(kinds, place))
 }
 
-/// Whether the parts of a body may stand one after another.
-fn body_may_stand(of: &Known<'_>, tokens: &[Token], alloc: Global) -> Tested
+/// Returns whether the parts of a body may stand one after the other.
+///
+/// # Errors
+/// If out of memory.
+fn body_may_stand(of: &Known<'_>, tokens: &[Token], alloc: Global) -> AllocResult<bool>
     ensures { let started = of.now.started.now in
         IfOk result (λ b. (s : List ℕ) → AreMarks started s →
         (IsTrue b ↔ AreFineOver of.now.read.now s tokens.now)) }
@@ -109,9 +113,16 @@ fn body_may_stand(of: &Known<'_>, tokens: &[Token], alloc: Global) -> Tested
     Ok(true)
 }
 
-/// Whether what was read of a function's expressions may stand with the initialisers of its local variables and the parts
-/// of its body.
-pub fn may_stand(read: &Reading, inits: &[usize], tokens: &[Token], alloc: Global) -> Tested
+/// Returns whether a function's expressions may stand with the initialisers of its local variables and the parts of its body.
+///
+/// # Errors
+/// If out of memory.
+pub fn may_stand(
+    read: &Reading,
+    inits: &[usize],
+    tokens: &[Token],
+    alloc: Global,
+) -> AllocResult<bool>
     ensures { IfOk result (λ b. IsTrue b ↔ MayStandOver read.now inits.now tokens.now) }
 {
     if !are_earlier(&read.links) || !are_below(inits, read.links.len()) {

@@ -1,5 +1,8 @@
 //! The test of form of a whole module.
-ghost use Rattle.std.specs.Prelude.{◌≡◌, IfErr, OnOk};
+ghost use Rattle.std.specs.Prelude.{◌≡◌, IfErr, OnOk, Some, None, if◌then◌else◌};
+ghost use Rattle.naga_oil_ir.specs.ModuleValue.{module_value};
+ghost use Rattle.naga_oil_form.specs.Form.{is_formed};
+ghost use Rattle.naga_oil_form.specs.FormView.{GivesFormed};
 ghost use Rattle.naga_oil_form.specs.WellFormed.{WellFormed};
 ghost use Rattle.naga_oil_form.specs.declared.check_form.FormFault.TheVariants.{WrongForm};
 
@@ -9,14 +12,17 @@ use super::form_names::{entries_are_distinct, functions_are_fine};
 use naga_oil_ir::Module;
 use std::alloc::{AllocError, Global};
 
-/// Why a module isn't taken.
+/// Why `check_form` refuses a module.
 #[derive(Clone, Copy, Debug, PartialEq, Eq)]
 pub enum FormFault {
     /// The module doesn't pass the test of form.
     WrongForm,
-    /// A growth of memory was refused.
+    /// Out of memory.
     Memory,
 }
+
+/// A value, or why the test of form has none.
+pub type FormResult<T = ()> = Result<T, FormFault>;
 
 impl From<AllocError> for FormFault {
     ghost use Rattle.std.specs.Prelude.{◌≡◌};
@@ -29,13 +35,8 @@ impl From<AllocError> for FormFault {
     }
 }
 
-/// Tests the form of a module, whose functions' names get a decoration, over a text of so many bytes.
-pub fn check_form(
-    of: &Module,
-    alloc: Global,
-    decoration: &str,
-    text_len: usize,
-) -> Result<(), FormFault>
+// Tests each clause of the form of a module.
+fn test_form(of: &Module, alloc: Global, decoration: &str, text_len: usize) -> Result<(), FormFault>
     ensures ok { OnOk result (WellFormed of.now decoration.now text_len) }
     ensures err { IfErr result (λ e.
         e ≡ WrongForm → WellFormed of.now decoration.now text_len → ⊥) }
@@ -48,4 +49,23 @@ pub fn check_form(
         return Ok(());
     }
     Err(FormFault::WrongForm)
+}
+
+/// Tests the form of a module over a text of `text_len` bytes; the names of functions are compared with `decoration` added.
+///
+/// # Errors
+/// `WrongForm` if the module isn't well formed, `Memory` if out of memory.
+pub fn check_form(
+    of: &Module,
+    alloc: Global,
+    decoration: &str,
+    text_len: usize,
+) -> Result<(), FormFault>
+    ensures ok { OnOk result (WellFormed of.now decoration.now text_len) }
+    ensures err { IfErr result (λ e.
+        e ≡ WrongForm → WellFormed of.now decoration.now text_len → ⊥) }
+    ensures value { let passes = is_formed (module_value of.now) decoration.now text_len in
+        GivesFormed (λ done. done) result (if passes then Some tt else None) }
+{
+    test_form(of, alloc, decoration, text_len)
 }

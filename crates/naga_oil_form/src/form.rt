@@ -1,22 +1,22 @@
-// What the tests of form share: what expressions name, by their kinds.
+// Shared parts of the tests of form: spans, tokens, and the kinds and operands of expressions.
 ghost use Rattle.std.specs.Prelude.{◌≡◌, ◌↔◌, ◌<◌, ℕ, IsTrue, IfOk, IfSome, All, map, slice_get, option_to_list};
 ghost use Rattle.std.specs.List.{flat_map};
 ghost use Rattle.naga_oil_form.specs.BodyForm.{IsSpanFine, IsTokenFine, IsReading, is_external, is_result, callee};
 
-use naga_oil_ir::{Expression, Named, Operand, Span, Token};
+use naga_oil_ir::{
+    Expression, FIRST_OPERATION_KIND, FIRST_RESULT_KIND, LAST_EXTERNAL_KIND, Named, Operand, Span,
+    Token,
+};
 use std::alloc::{AllocError, Global};
 
-/// What a test answers, unless it finds no memory.
-pub type Tested = Result<bool, AllocError>;
-
-/// Whether a span lies in a text of so many bytes.
+/// Returns whether a span lies in a text of `text_len` bytes.
 pub fn is_span_fine(span: Span, text_len: usize) -> bool
     ensures { IsTrue result ↔ IsSpanFine text_len span }
 {
     span.start <= span.end && span.end as usize <= text_len
 }
 
-/// Whether the spans of items lie in a text of so many bytes.
+/// Returns whether the spans of items lie in a text of `text_len` bytes.
 pub fn are_spans_fine<T>(items: &[(T, Span)], text_len: usize) -> bool
     ensures { IsTrue result ↔ All (λ e. IsSpanFine text_len e.1) items.now }
 {
@@ -33,7 +33,7 @@ fn is_token_fine(token: Token, calls_below: usize, text_len: usize) -> bool
     }
 }
 
-/// Whether a body's calls go to the first functions, so many of them, and its spans lie in a text of so many bytes.
+/// Returns whether a body calls only the first `calls_below` functions, and its spans lie in a text of `text_len` bytes.
 pub fn are_tokens_fine(tokens: &[Token], calls_below: usize, text_len: usize) -> bool
     ensures { IsTrue result ↔ All (IsTokenFine calls_below text_len) tokens.now }
 {
@@ -53,16 +53,19 @@ fn present(operands: &[Option<Operand>], alloc: Global) -> Result<Vec<usize>, Al
     Ok(places)
 }
 
-/// What the test of form looks at in expressions, of each one.
+/// The parts of expressions that the test of form needs, one entry for each expression.
 #[derive(Drop)]
 pub struct Reading {
     pub kinds: Vec<u64>,
     pub named: Vec<Named>,
-    /// The operands that are there.
+    /// The operands that are present.
     pub links: Vec<Vec<usize>>,
 }
 
-/// Reads expressions.
+/// Reads the parts of expressions.
+///
+/// # Errors
+/// If out of memory.
 pub fn read(items: &[(Expression, Span)], alloc: Global) -> Result<Reading, AllocError>
     ensures { IfOk result (IsReading items.now) }
 {
@@ -81,21 +84,23 @@ pub fn read(items: &[(Expression, Span)], alloc: Global) -> Result<Reading, Allo
     Ok(read)
 }
 
-/// Whether an expression of this kind is external.
+/// Returns whether the expression at a place is external.
 pub fn is_external(kinds: &[u64], place: usize) -> bool
     ensures { result ≡ is_external kinds.now place }
 {
-    kinds.get(place).is_some_and(|kind| *kind < 7)
+    kinds
+        .get(place)
+        .is_some_and(|kind| *kind < FIRST_RESULT_KIND)
 }
 
-/// Whether an expression of this kind is a result.
+/// Returns whether the expression at a place is a result.
 pub fn is_result(kinds: &[u64], place: usize) -> bool
     ensures { result ≡ is_result kinds.now place }
 {
-    kinds.get(place).is_some_and(|kind| 6 < *kind && *kind < 13)
+    kinds.get(place).is_some_and(|kind| LAST_EXTERNAL_KIND < *kind && *kind < FIRST_OPERATION_KIND)
 }
 
-/// Of an expression the function whose result it is.
+/// Returns the called function if the expression at a place is the result of a call.
 pub fn callee_at(named: &[Named], place: usize) -> Option<Option<usize>>
     ensures { result ≡ slice_get (map callee named.now) place }
 {

@@ -3,11 +3,12 @@ ghost use Rattle.std.specs.Prelude.{◌≡◌, ◌↔◌, ◌<◌, IsTrue, IfOk,
 ghost use Rattle.naga_oil_form.specs.WellFormed.{NamedThere, SignatureForm, ExpressionsForm, initialisers_of, initialisers, SpansWithin, IsBare, FunctionForm, IsExpressionThere, MeshForm, EntryForm};
 
 use super::body::may_stand;
-use super::form::{Tested, are_spans_fine, are_tokens_fine, read};
+use super::form::{are_spans_fine, are_tokens_fine, read};
 use naga_oil_ir::{
     EntryPoint, Expression, Function, FunctionArgument, FunctionResult, Handle, Index,
     LocalVariable, MeshInfo, Module, Named, NamedExpressions, Span, Token, Type, push_block,
 };
+use naga_oil_words::AllocResult;
 use std::alloc::{AllocError, Global};
 
 fn is_type_there(of: &Module, ty: Handle<Type>) -> bool
@@ -16,21 +17,21 @@ fn is_type_there(of: &Module, ty: Handle<Type>) -> bool
     ty.index() < of.types.len()
 }
 
-/// Whether the types of arguments are there.
+/// Returns whether the types of arguments exist.
 fn arguments_are_there(of: &Module, arguments: &[FunctionArgument]) -> bool
     ensures { IsTrue result ↔ All (λ a. a.ty < length of.now.types) arguments.now }
 {
     arguments.iter().all(|item| is_type_there(of, item.ty))
 }
 
-/// Whether the type of a result is there.
+/// Returns whether the type of a result exists.
 fn result_is_there(of: &Module, outcome: Option<FunctionResult>) -> bool
     ensures { IsTrue result ↔ IfSome outcome (λ r. r.ty < length of.now.types) }
 {
     outcome.is_none_or(|outcome| is_type_there(of, outcome.ty))
 }
 
-/// Whether the types of local variables are there.
+/// Returns whether the types of local variables exist.
 fn locals_are_there(of: &Module, locals: &[(LocalVariable, Span)]) -> bool
     ensures { IsTrue result ↔ All (λ l. l.0.ty < length of.now.types) locals.now }
 {
@@ -50,7 +51,10 @@ fn names_are_there(names: &NamedExpressions, limit: usize) -> bool
     are_handles_below(handles, limit)
 }
 
-/// The initialisers of local variables, in order.
+/// Returns the initialisers of local variables, in order.
+///
+/// # Errors
+/// If out of memory.
 fn initialisers(locals: &[(LocalVariable, Span)], alloc: Global) -> Result<Vec<usize>, AllocError>
     ensures { IfOk result (λ v. v.items ≡ initialisers_of locals.now) }
 {
@@ -62,7 +66,7 @@ fn initialisers(locals: &[(LocalVariable, Span)], alloc: Global) -> Result<Vec<u
     Ok(inits)
 }
 
-/// Whether what an expression of a function names is there.
+/// Returns whether the item that an expression of a function names exists.
 fn is_named_there(of: &Module, function: &Function, named: Named) -> bool
     ensures { IsTrue result ↔ NamedThere of.now function.now named }
 {
@@ -100,8 +104,16 @@ fn spans_are_within(function: &Function, text_len: usize) -> bool
         && are_spans_fine(function.expressions.as_slice(), text_len)
 }
 
-/// Whether what the expressions of a function name is there, and they may stand with its body.
-fn expressions_are_fine(of: &Module, function: &Function, tokens: &[Token], alloc: Global) -> Tested
+/// Returns whether the items that the expressions of a function name exist, and the expressions may stand with its body.
+///
+/// # Errors
+/// If out of memory.
+fn expressions_are_fine(
+    of: &Module,
+    function: &Function,
+    tokens: &[Token],
+    alloc: Global,
+) -> AllocResult<bool>
     ensures { IfOk result (λ b. IsTrue b ↔ ExpressionsForm of.now function.now tokens.now) }
 {
     let read = read(function.expressions.as_slice(), alloc)?;
@@ -110,7 +122,7 @@ fn expressions_are_fine(of: &Module, function: &Function, tokens: &[Token], allo
     Ok(are_named_there(of, function, &read.named) & stand)
 }
 
-/// Whether a function has neither local variables, expressions nor statements: then its form is that of its signature.
+/// Returns whether a function has neither local variables, expressions nor statements. Its form is then that of its signature.
 fn is_bare(function: &Function) -> bool
     ensures { IsTrue result ↔ IsBare function.now }
 {
@@ -119,15 +131,18 @@ fn is_bare(function: &Function) -> bool
         && function.body.body.is_empty()
 }
 
-/// Whether a function whose calls may go to the first functions, so many of them, passes the test of form in a text of so
-/// many bytes.
+/// Returns whether a function passes the test of form in a text of `text_len` bytes and calls only the first `calls_below`
+/// functions.
+///
+/// # Errors
+/// If out of memory.
 pub fn function_is_fine(
     of: &Module,
     function: &Function,
     calls_below: usize,
     text_len: usize,
     alloc: Global,
-) -> Tested
+) -> AllocResult<bool>
     ensures { IfOk result (λ b. IsTrue b ↔ FunctionForm of.now calls_below text_len function.now) }
 {
     let signed = signature_is_fine(of, function);
@@ -141,14 +156,14 @@ pub fn function_is_fine(
     Ok(fine & spanned & are_tokens_fine(&tokens, calls_below, text_len))
 }
 
-/// Whether a handle that may be absent names one of the first places, so many of them.
+/// Returns whether a handle is absent or below `limit`.
 fn is_below<K>(handle: Option<Index<K>>, limit: usize) -> bool
     ensures { IsTrue result ↔ IfSome handle (λ k. k < limit) }
 {
     handle.is_none_or(|handle| handle.index() < limit)
 }
 
-/// Whether what a mesh shader puts out is there.
+/// Returns whether the items that the output of a mesh shader names exist.
 fn is_mesh_there(of: &Module, mesh: Option<MeshInfo>) -> bool
     ensures { IsTrue result ↔ IfSome mesh (MeshForm of.now) }
 {
@@ -170,8 +185,16 @@ fn are_sizes_there(of: &Module, sizes: Option<[Option<Handle<Expression>>; 3]>) 
     }
 }
 
-/// Whether an entry point passes the test of form in a text of so many bytes.
-fn entry_is_fine(of: &Module, entry: &EntryPoint, text_len: usize, alloc: Global) -> Tested
+/// Returns whether an entry point passes the test of form in a text of `text_len` bytes.
+///
+/// # Errors
+/// If out of memory.
+fn entry_is_fine(
+    of: &Module,
+    entry: &EntryPoint,
+    text_len: usize,
+    alloc: Global,
+) -> AllocResult<bool>
     ensures { IfOk result (λ b. IsTrue b ↔ EntryForm of.now text_len entry.now) }
 {
     let fine = function_is_fine(of, &entry.function, of.functions.len(), text_len, alloc)?;
@@ -182,8 +205,11 @@ fn entry_is_fine(of: &Module, entry: &EntryPoint, text_len: usize, alloc: Global
     )
 }
 
-/// Whether entry points pass the test of form in a text of so many bytes.
-pub fn entries_are_fine(of: &Module, text_len: usize, alloc: Global) -> Tested
+/// Returns whether entry points pass the test of form in a text of `text_len` bytes.
+///
+/// # Errors
+/// If out of memory.
+pub fn entries_are_fine(of: &Module, text_len: usize, alloc: Global) -> AllocResult<bool>
     ensures { let entries = of.now.entry_points.items in
         IfOk result (λ b. IsTrue b ↔ All (EntryForm of.now text_len) entries) }
 {

@@ -5,15 +5,17 @@ ghost use Rattle.std.specs.List.{filter_map, list_any, IsDistinct};
 ghost use Rattle.naga_oil_form.specs.Links.{lists, is_marked, reaches, AreEarlier, AreMarks, AtEach};
 ghost use Rattle.naga_oil_ir.specs.Rows.{type_row, expression_row};
 ghost use Rattle.naga_oil_form.specs.BodyForm.{IsSpanFine};
-ghost use Rattle.naga_oil_form.specs.WellFormed.{ItemSpans};
+ghost use Rattle.naga_oil_form.specs.WellFormed.{SpanForm};
 ghost use Rattle.naga_oil_form.specs.ItemForm.{types_of, type_at, type_links, is_override, pending, is_sized, IsThere, NamesWell, NamesForm, initialiser, StandAfter, IsGlobalKind, special_types, is_plain, ReachPlain, ExpressionForm, SpecialForm, ItemForm};
 
-use super::form::{Tested, are_spans_fine, is_span_fine, read};
+use super::form::{are_spans_fine, is_span_fine, read};
 use super::links::{any_marked, are_below, are_earlier, is_marked, marks_of, reached_from};
 use ItemPlace::{ConstantItem, ExpressionItem, GlobalItem, OverrideItem, TypeItem};
 use naga_oil_ir::{
-    Expression, Index, ItemPlace, Module, Names, Span, SpecialTypes, Type, UniqueArena,
+    Expression, GLOBAL_VARIABLE_KIND, Index, ItemPlace, LAST_RESULT_KIND, Module, Names, Span,
+    SpecialTypes, Type, UniqueArena,
 };
+use naga_oil_words::AllocResult;
 use std::alloc::{AllocError, Global};
 use std::collections::HashSet;
 
@@ -58,8 +60,16 @@ fn names_override(names: &[Option<ItemPlace>]) -> bool
     names.iter().any(|n| matches!(n, Some(OverrideItem(_))))
 }
 
-/// Whether all that items name is there, and none of it is a marked type.
-fn items_name_well<T: Names>(of: &Module, marks: &[bool], items: &[T], alloc: Global) -> Tested
+/// Returns whether all that items name exists, and none of it is a marked type.
+///
+/// # Errors
+/// If out of memory.
+fn items_name_well<T: Names>(
+    of: &Module,
+    marks: &[bool],
+    items: &[T],
+    alloc: Global,
+) -> AllocResult<bool>
     ensures { let marked = is_marked marks.now in
         IfOk result (λ b.
         IsTrue b ↔ AtEach (λ e. NamesWell of.now marked (T.row_of e)) items.now) }
@@ -74,8 +84,12 @@ fn items_name_well<T: Names>(of: &Module, marks: &[bool], items: &[T], alloc: Gl
     Ok(true)
 }
 
-/// Whether all that the items name is there, and constants, overrides and global expressions name no sized type.
-fn all_items_name_well(of: &Module, sized: &[bool], alloc: Global) -> Tested
+/// Returns whether all that the items of a module name exists, and constants, overrides and global expressions name no sized
+/// type.
+///
+/// # Errors
+/// If out of memory.
+fn all_items_name_well(of: &Module, sized: &[bool], alloc: Global) -> AllocResult<bool>
     requires { (k : ℕ) → is_marked sized.now k ≡ is_sized of.now k }
     ensures { IfOk result (λ b. IsTrue b ↔ NamesForm of.now) }
 {
@@ -87,7 +101,10 @@ fn all_items_name_well(of: &Module, sized: &[bool], alloc: Global) -> Tested
     Ok(types & constants & overrides & globals & expressions)
 }
 
-/// Of each type the types that it names.
+/// Returns for each type the types that it names.
+///
+/// # Errors
+/// If out of memory.
 fn type_links(types: &[Type], alloc: Global) -> Result<Vec<Vec<usize>>, AllocError>
     ensures { IfOk result (λ v. lists v.items ≡ type_links types.now) }
 {
@@ -100,7 +117,10 @@ fn type_links(types: &[Type], alloc: Global) -> Result<Vec<Vec<usize>>, AllocErr
     Ok(links)
 }
 
-/// Marks the sized types.
+/// Returns marks of the sized types.
+///
+/// # Errors
+/// If out of memory.
 fn sized_types(types: &[Type], alloc: Global) -> Result<Vec<bool>, AllocError>
     requires { AreEarlier (type_links types.now) }
     ensures { let links = type_links types.now in
@@ -131,8 +151,11 @@ fn initialisers_are_before(of: &Module, names: &[Option<ItemPlace>], limit: usiz
     names.iter().all(|name| initialiser(of, name).is_none_or(|init| init < limit))
 }
 
-/// Whether each expression stands after the initialisers of what it names.
-fn stand_after(of: &Module, items: &[(Expression, Span)], alloc: Global) -> Tested
+/// Returns whether each expression stands after the initialisers of the items that it names.
+///
+/// # Errors
+/// If out of memory.
+fn stand_after(of: &Module, items: &[(Expression, Span)], alloc: Global) -> AllocResult<bool>
     ensures { IfOk result (λ b. IsTrue b ↔ StandAfter of.now items.now) }
 {
     for (place, entry) in items.iter().enumerate() {
@@ -147,11 +170,14 @@ fn stand_after(of: &Module, items: &[(Expression, Span)], alloc: Global) -> Test
 fn are_global_kinds(kinds: &[u64]) -> bool
     ensures { IsTrue result ↔ All IsGlobalKind kinds.now }
 {
-    kinds.iter().all(|kind| *kind < 4 || 12 < *kind)
+    kinds.iter().all(|kind| *kind < GLOBAL_VARIABLE_KIND || LAST_RESULT_KIND < *kind)
 }
 
-/// Whether the global expressions may stand where they do.
-fn expressions_are_fine(of: &Module, alloc: Global) -> Tested
+/// Returns whether the global expressions pass the test of form.
+///
+/// # Errors
+/// If out of memory.
+fn expressions_are_fine(of: &Module, alloc: Global) -> AllocResult<bool>
     ensures { IfOk result (λ b. IsTrue b ↔ ExpressionForm of.now) }
 {
     let items = of.global_expressions.as_slice();
@@ -160,7 +186,10 @@ fn expressions_are_fine(of: &Module, alloc: Global) -> Tested
     Ok(are_earlier(&read.links) & after & are_global_kinds(&read.kinds))
 }
 
-/// The special types, the three named ones first.
+/// Returns the special types, the three named ones first.
+///
+/// # Errors
+/// If out of memory.
 fn special_types(of: &SpecialTypes, alloc: Global) -> Result<Vec<usize>, AllocError>
     ensures { IfOk result (λ v. v.items ≡ special_types of.now) }
 {
@@ -175,7 +204,7 @@ fn special_types(of: &SpecialTypes, alloc: Global) -> Result<Vec<usize>, AllocEr
     Ok(places)
 }
 
-fn are_distinct(places: &[usize], alloc: Global) -> Tested
+fn are_distinct(places: &[usize], alloc: Global) -> AllocResult<bool>
     ensures { IfOk result (λ b. IsTrue b ↔ IsDistinct nat_eq places.now) }
 {
     let set: HashSet<usize> = places.iter().copied().collect(alloc)?;
@@ -190,7 +219,7 @@ fn is_plain(of: &Module, special: &[bool], place: usize) -> bool
     ty.is_some_and(|ty| ty.name.is_none()) || is_marked(special, place)
 }
 
-/// Whether marked types are unnamed or special.
+/// Returns whether the marked types are unnamed or special.
 fn are_plain(of: &Module, special: &[bool], reached: &[bool]) -> bool
     requires { AreMarks special.now (special_types of.now.special_types) }
     ensures { IsTrue result ↔
@@ -200,13 +229,16 @@ fn are_plain(of: &Module, special: &[bool], reached: &[bool]) -> bool
     marks.all(|(place, mark)| !*mark || is_plain(of, special, place))
 }
 
-/// Whether the special types pass the test of form.
+/// Returns whether the special types pass the test of form.
+///
+/// # Errors
+/// If out of memory.
 fn special_types_are_fine(
     of: &Module,
     links: &[Vec<usize>],
     sized: &[bool],
     alloc: Global,
-) -> Tested
+) -> AllocResult<bool>
     requires links { lists links.now ≡ type_links (types_of of.now) }
     requires earlier { AreEarlier (lists links.now) }
     requires sized { (k : ℕ) → is_marked sized.now k ≡ is_sized of.now k }
@@ -222,8 +254,11 @@ fn special_types_are_fine(
     Ok(distinct & !any_marked(sized, &places) & are_plain(of, &special, &reached))
 }
 
-/// Whether the items of a module pass the test of form.
-pub fn items_are_fine(of: &Module, alloc: Global) -> Tested
+/// Returns whether the items of a module pass the test of form.
+///
+/// # Errors
+/// If out of memory.
+pub fn items_are_fine(of: &Module, alloc: Global) -> AllocResult<bool>
     ensures { IfOk result (λ b. IsTrue b ↔ ItemForm of.now) }
 {
     let types = of.types.items();
@@ -244,13 +279,14 @@ fn are_type_spans_fine(types: &UniqueArena<Type>, text_len: usize) -> bool
     types.iter().all(|ty| is_span_fine(*ty.1, text_len))
 }
 
-/// Whether the spans of a module's items, but for functions, lie in a text of so many bytes.
+/// Returns whether the spans of a module's items lie in a text of `text_len` bytes.
 pub fn spans_are_fine(of: &Module, text_len: usize) -> bool
-    ensures { IsTrue result ↔ ItemSpans of.now text_len }
+    ensures { IsTrue result ↔ SpanForm of.now text_len }
 {
     are_type_spans_fine(&of.types, text_len)
         & are_spans_fine(of.constants.as_slice(), text_len)
         & are_spans_fine(of.overrides.as_slice(), text_len)
         & are_spans_fine(of.global_variables.as_slice(), text_len)
         & are_spans_fine(of.global_expressions.as_slice(), text_len)
+        & are_spans_fine(of.functions.as_slice(), text_len)
 }

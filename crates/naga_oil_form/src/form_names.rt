@@ -1,21 +1,23 @@
-//! Functions and their names in the test of form.
+//! The test of form of functions and their names.
 ghost use Rattle.std.specs.Prelude.{◌≡◌, ◌↔◌, IsTrue, IfOk, map, nat_eq, option_map, unwrap_or, string_bytes};
 ghost use Rattle.std.specs.List.{IsDistinct};
 ghost use Rattle.std.specs.Cow.{cow_str_bytes};
 ghost use Rattle.std.specs.Cmp.Lexicographic.{pointwise};
 ghost use Rattle.naga_oil_form.specs.NameForm.{entry_name};
 ghost use Rattle.naga_oil_form.specs.WellFormed.{NamedForm, FunctionListForm};
-ghost use Rattle.naga_oil_marks.specs.Marks.{with_decoration};
+ghost use Rattle.naga_oil_words.specs.Marks.{with_decoration};
 
-use super::form::{Tested, is_span_fine};
 use super::form_function::function_is_fine;
 use naga_oil_ir::{EntryPoint, Function, Module, Span};
-use naga_oil_marks::has_module_mark;
+use naga_oil_words::{AllocResult, has_module_mark};
 use std::alloc::{AllocError, Global};
 use std::borrow::CowStr;
 use std::collections::HashSet;
 
-/// A name with a decoration, or as it is if it has the mark of a module.
+/// Returns a name with the decoration, or the name alone if it has the mark of a module.
+///
+/// # Errors
+/// If out of memory.
 fn with_decoration<'a>(
     name: &'a str,
     decoration: &str,
@@ -37,25 +39,36 @@ fn name_or<'a>(function: &'a Function, other: &'a str) -> &'a str
     function.name.as_ref().map_or(other, |name| name.as_str())
 }
 
-/// Whether a function is named and passes the test of form, and its span lies in the text.
+/// Returns whether a function is named, passes the test of form and calls only the first `calls_below` functions.
+///
+/// # Errors
+/// If out of memory.
 fn item_is_fine(
     of: &Module,
     item: &(Function, Span),
     calls_below: usize,
     text_len: usize,
     alloc: Global,
-) -> Tested
+) -> AllocResult<bool>
     ensures { IfOk result (λ b. IsTrue b ↔ NamedForm of.now calls_below text_len item.now) }
 {
-    if item.0.name.is_none() || !is_span_fine(item.1, text_len) {
+    if item.0.name.is_none() {
         return Ok(false);
     }
     function_is_fine(of, &item.0, calls_below, text_len, alloc)
 }
 
-/// Whether functions are named and pass the test of form in a text of so many bytes, the calls of each going to those before it,
-/// and their names, decorated, are distinct. Each is looked at once.
-pub fn functions_are_fine(of: &Module, decoration: &str, text_len: usize, alloc: Global) -> Tested
+/// Returns whether functions are named, pass the test of form in a text of `text_len` bytes and call only those before them,
+/// and their decorated names are distinct.
+///
+/// # Errors
+/// If out of memory.
+pub fn functions_are_fine(
+    of: &Module,
+    decoration: &str,
+    text_len: usize,
+    alloc: Global,
+) -> AllocResult<bool>
     ensures { IfOk result (λ b. IsTrue b ↔ FunctionListForm of.now decoration.now text_len) }
 {
     let functions = of.functions.as_slice();
@@ -72,8 +85,15 @@ pub fn functions_are_fine(of: &Module, decoration: &str, text_len: usize, alloc:
     Ok(true)
 }
 
-/// Whether the names of entry points' functions, decorated, are distinct.
-pub fn entries_are_distinct(entries: &[EntryPoint], decoration: &str, alloc: Global) -> Tested
+/// Returns whether the decorated names of the functions of entry points are distinct.
+///
+/// # Errors
+/// If out of memory.
+pub fn entries_are_distinct(
+    entries: &[EntryPoint],
+    decoration: &str,
+    alloc: Global,
+) -> AllocResult<bool>
     ensures { let told = map (λ e. with_decoration decoration.now (entry_name e.function)) entries.now in
         IfOk result (λ b. IsTrue b ↔ IsDistinct (pointwise nat_eq) told) }
 {

@@ -1,25 +1,25 @@
-// What places name and reach.
+// The places that places name and reach.
 ghost use Rattle.std.specs.Prelude.{[], ◌≡◌, ◌↔◌, ◌<◌, ◌||◌, ◌&&◌, ℕ, IsTrue, IfOk, All, length};
 ghost use Rattle.std.specs.List.{list_any};
 ghost use Rattle.naga_oil_form.specs.Links.{lists, linked, AreEarlier, has, started, is_marked, AreMarks};
 
 use std::alloc::{AllocError, Global};
 
-/// Whether a place is marked; behind the last mark none is.
+/// Returns whether a place is marked. Places after the last mark are not.
 pub fn is_marked(marks: &[bool], place: usize) -> bool
     ensures { result ≡ is_marked marks.now place }
 {
     marks.get(place).copied().unwrap_or(false)
 }
 
-/// Whether places stand before a limit.
+/// Returns whether places are less than a limit.
 pub fn are_below(places: &[usize], limit: usize) -> bool
     ensures { IsTrue result ↔ All (λ x. x < limit) places.now }
 {
     places.iter().all(|place| *place < limit)
 }
 
-/// Whether each place names earlier places alone.
+/// Returns whether each place names only earlier places.
 pub fn are_earlier(links: &[Vec<usize>]) -> bool
     ensures { IsTrue result ↔ AreEarlier (lists links.now) }
 {
@@ -43,7 +43,10 @@ fn mark_all(marks: &mut Vec<bool>, places: &[usize])
     }
 }
 
-/// So many places, none of them marked.
+/// Returns marks of `count` places, none of them set.
+///
+/// # Errors
+/// If out of memory.
 pub fn no_marks(count: usize, alloc: Global) -> Result<Vec<bool>, AllocError>
     ensures long { IfOk result (λ v. length v.items ≡ count) }
     ensures none { IfOk result (λ v. AreMarks v.items []) }
@@ -51,7 +54,10 @@ pub fn no_marks(count: usize, alloc: Global) -> Result<Vec<bool>, AllocError>
     vec![in alloc; false; count]
 }
 
-/// So many places, some of them marked.
+/// Returns marks of `count` places, of which `places` are set.
+///
+/// # Errors
+/// If out of memory.
 pub fn marks_of(places: &[usize], count: usize, alloc: Global) -> Result<Vec<bool>, AllocError>
     requires { All (λ x. x < count) places.now }
     ensures long { IfOk result (λ v. length v.items ≡ count) }
@@ -62,7 +68,10 @@ pub fn marks_of(places: &[usize], count: usize, alloc: Global) -> Result<Vec<boo
     Ok(marks)
 }
 
-/// Marks all that some places reach.
+/// Returns marks of all places that `roots` reach.
+///
+/// # Errors
+/// If out of memory.
 pub fn reached_from(
     links: &[Vec<usize>],
     roots: &[usize],
@@ -83,7 +92,7 @@ pub fn reached_from(
     Ok(marks)
 }
 
-/// Whether one of some places is marked.
+/// Returns whether one of the places is marked.
 pub fn any_marked(marks: &[bool], places: &[usize]) -> bool
     ensures { result ≡ list_any (is_marked marks.now) places.now }
 {

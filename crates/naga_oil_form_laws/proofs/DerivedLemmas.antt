@@ -40,7 +40,7 @@ derivation o t ns = record { source = o; target = t; function_names = ns }
 abbrev AreSpecialIn : ModuleValue → Entry → Type 0
 AreSpecialIn t e = MayBeSpecial t e.1
 
--- ---- items come
+-- ---- items are imported
 
 module _ (first : Kept) (s : Source) (t : ModuleValue) (ns : List (List ℕ × ℕ)) (i : IsDerivation first (derivation (Some s) t ns)) (target : AreFormed t) (source : AreFormed s.value) where
   abbrev pub now : CopyState
@@ -53,7 +53,7 @@ module _ (first : Kept) (s : Source) (t : ModuleValue) (ns : List (List ℕ × �
     spans = target.spans;
   }
 
-  -- what came leaves the items formed
+  -- imported items leave the items formed
   later_formed : (u : CopyState) → IsLater s.value first now u → IsStateFormed first u → AreFormed u.target
   later_formed u l f =
       let stays = Extends-stays t u.target l.extends in
@@ -199,7 +199,7 @@ module _ (first : Kept) (d : Derived) (m : ModuleValue) (shift : ℕ) (f : HasFo
   abbrev last : CopyState
   last = record { places = copied.places; target = ended }
 
-  -- a special type of the source goes to a special one
+  -- a special type of the source maps to a special one
   gone_special : (k j : ℕ) → goes copied.places (TypeItem k) ≡ Some (TypeItem j) → IsSpecial m.special_types k → IsSpecial specials j
   gone_special k j g h =
       let e = special_entry_of (Settles d (set_source d m shift) (record { value = m; offset = shift; places = copied.places })) es k sets.settles h in

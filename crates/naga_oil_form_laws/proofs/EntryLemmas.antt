@@ -103,7 +103,7 @@ entry_later m n h e f = record {
 
 -- ---- items that may be absent are imported
 
--- an item that is named went to one that is there
+-- an item that is named maps to one that is there
 abbrev WentThere : Source → ModuleValue → Option ItemPlace → Type 0
 WentThere s t o = IfSome o (λ p. (q : ItemPlace) × (goes s.places p ≡ Some q) × HasAt t q)
 
@@ -176,7 +176,7 @@ module _ (m : ModuleValue) where
       let P : Option ItemPlace → Type 0 = λ x. IfSome x (HasAt m) in
       All-append P (sizes_names v.workgroup_size_overrides) (mesh_names v.mesh_info ++ option_map GlobalItem v.task_payload ∷ []) (sizes_asked v.workgroup_size_overrides f.workgroup_size) (All-append P (mesh_names v.mesh_info) (option_map GlobalItem v.task_payload ∷ []) (mesh_asked v.mesh_info f.mesh_info) (All-cons P (option_map GlobalItem v.task_payload) [] (payload_asked v.task_payload f.task_payload) (All-nil P)))
 
--- ---- and goes where it is there
+-- ---- what an entry point names maps to what is there
 
 module _ (s : Source) (t : ModuleValue) where
   gone : (p : ItemPlace) → WentThere s t (Some p) → (x : ItemPlace) → goes s.places p ≡ Some x → HasAt t x

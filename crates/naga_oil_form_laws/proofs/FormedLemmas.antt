@@ -89,7 +89,7 @@ same_functions m n e = ap (λ (v : ModuleValue). v.functions) e.rest
 pub has_more : (m n : ModuleValue) → Extends m n → HasMore m n
 has_more m n e = extends_more m n m.functions n.functions e (let s = ap length (same_functions m n e) in omega (arith, s))
 
--- ---- items come
+-- ---- items are imported
 
 abbrev derivation : Option Source → ModuleValue → Meanings → Derived
 derivation o t ns = record { source = o; target = t; function_names = ns }
@@ -121,7 +121,7 @@ rename_any first (Some s) t ns k name f h =
 pub renamed : (first : Kept) (d : Derived) (k : ℕ) (name : Option Text) → IsFormed first d → HasItem d (TypeItem k) → IsFormed first (rename_type d k name)
 renamed first d k name f h = rename_any first d.source d.target d.function_names k name f h
 
--- ---- a source is set or goes
+-- ---- a source is set or unset
 
 pub source_set : (first : Kept) (d : Derived) (m : ModuleValue) (shift : ℕ) → IsFormed first d → AreFormed m → AreFunctionsFormed m 4294967295 → IsFormed (kept_of m.special_types d.target.special_types) (set_source d m shift)
 source_set first d m shift f i g =
@@ -153,7 +153,7 @@ nothing_is first = record {
     nothing_meant None k e = none-some k e
     nothing_meant (Some n) k e = none-some k e
 
--- ---- functions come
+-- ---- functions are imported
 
 pub import_begins : (first : Kept) (s : Source) (t : ModuleValue) (ns : Meanings) → IsFormed first (derivation (Some s) t ns) → IsImporting first s (importing_of (derivation (Some s) t ns) s)
 import_begins first s t ns f = record {

@@ -6,7 +6,7 @@ use Rattle.std.proofs.lemmas.Bool.{false≢true}
 use Rattle.std.proofs.lemmas.List.{length-map, append-nil}
 use Rattle.std.proofs.lemmas.List.Elements.{All-weaker, All-map}
 use Rattle.std.proofs.lemmas.Option.{slice_get-map}
-use Rattle.naga_oil_marks.specs.Marks.{has_module_mark, with_decoration}
+use Rattle.naga_oil_words.specs.Marks.{has_module_mark, with_decoration}
 use Rattle.naga_oil_ir.specs.Body.{block_tokens}
 use Rattle.naga_oil_form.specs.BodyForm.{callee, kinds, callees, named_of, operand_links, IsSpanFine, MayStand}
 use Rattle.naga_oil_form.specs.ItemForm.{special_types}

@@ -1,4 +1,4 @@
--- The copy of a function passes the test of form, once what it names was answered.
+-- The copy of a function passes the test of form, after what it names was answered.
 use Rattle.std.proofs.Common.{◌≡◌, ⊎_elim, ℕ, zero, suc, ◌<◌, ◌≤◌, Bool, true, false, cond, List, [], ◌∷◌, length, map, take, Option, Some, None, option_map, option_to_list, unwrap_or, is_some, slice_get, nat_eq, refl, ap, sym, ◌∙◌, subst, arith, All, IfSome}
 use Rattle.std.specs.List.{flat_map}
 use Rattle.std.specs.Option.{option_flatten}
@@ -38,7 +38,7 @@ use Rattle.naga_oil_form_laws.proofs.RequestLemmas.{type_within, constant_within
 use Rattle.naga_oil_form_laws.proofs.SpanLemmas.{shifted_fine}
 use Rattle.naga_oil_form_laws.proofs.WalkLemmas.{copy_at, copy_within, source_of}
 
--- a request was answered: an item went to one that is there, and the name of a function means one of the first n
+-- a request was answered: an item maps to one that is there, and the name of a function means one of the first n
 abbrev pub Answered : (m t : ModuleValue) → Places → Meanings → ℕ → Request → Type 0
 Answered m t places names n (Item p) = (q : ItemPlace) × (goes places p ≡ Some q) × HasAt t q
 Answered m t places names n (Call k) = (h : ℕ) × (meant_at names (slice_get m.functions k) ≡ Some h) × (h < n)
@@ -100,7 +100,7 @@ module _ (m t : ModuleValue) (shift : ℕ) (places : Places) (names : Meanings) 
   abbrev u : Renames
   u = under_table r copies.table copies.range
 
-  -- ---- where things went
+  -- ---- what items map to
 
   gone_at : (p q : ItemPlace) → goes places p ≡ Some q → HasAt t q → (x : ItemPlace) → goes places p ≡ Some x → HasAt t x
   gone_at p q e h x g = let same : q ≡ x = same_Some q x (sym e ∙ g) in subst (HasAt t) same h
@@ -244,7 +244,7 @@ module _ (m t : ModuleValue) (shift : ℕ) (places : Places) (names : Meanings) 
   local_spans_gone =
       subst (All (λ (x : LocalValue × Span). IsSpanFine 4294967295 x.1)) (sym copies.locals) (All-map (λ (x : LocalValue × Span). IsSpanFine 4294967295 x.1) (local_under u) v.local_variables (All-weaker (λ (x : LocalValue × Span). IsSpanFine 4294967295 x.1) (λ (x : LocalValue × Span). IsSpanFine 4294967295 (shifted shift x.1)) (λ x h. shifted_fine shift x.1 h) v.local_variables f.local_spans))
 
-  -- the copy passes the test of form, where its calls go to the first n functions
+  -- the copy passes the test of form, if it calls the first n functions
   pub copy_formed : IsFunctionFormed t n 4294967295 w
   copy_formed = record {
     arguments = argument_types;

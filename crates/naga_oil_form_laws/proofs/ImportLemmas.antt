@@ -110,14 +110,14 @@ form_later m n c b v h f =
 same_name : (n o : Text) → n ≡ o → IsSome o → IsSome n
 same_name n o e h = subst (λ (x : Text). IsSome x) (sym e) h
 
--- what one name more means
+-- what one more name means
 pub meaning_cases : (ns : Meanings) (o x : Text) (h y : ℕ) → meant (meaning ns o h) x ≡ Some y → (meant ns x ≡ Some y) ⊎ ((x ≡ o) × (y ≡ h))
 meaning_cases ns None x h y e = inl e
 meaning_cases ns (Some b) None h y e = absurd (none-some y e)
 meaning_cases ns (Some b) (Some d) h y e =
     ⊎_elim (λ t. let same : d ≡ b = (bytes_eq-Decides d b).0 t in let own : meant (meaning ns (Some b) h) (Some d) ≡ Some h = ap (λ z. meant (meaning ns (Some b) h) (Some z)) same ∙ meaning_same ns (Some b) h refl in inr (ap Some same, same_Some y h (sym e ∙ own))) (λ f. inl (sym (lookup_other ns b d h f) ∙ e)) (cases_Bool (bytes_eq d b))
 
--- ---- one element more
+-- ---- one more element
 
 last_or : {X : Type 0} (xs : List X) (x : X) (k : ℕ) (e : X) → slice_get (xs ++ x ∷ []) k ≡ Some e → ((k < length xs) × (slice_get xs k ≡ Some e)) ⊎ ((k ≡ length xs) × (x ≡ e))
 last_or [] x zero e h = inr (refl, same_Some x e h)
@@ -149,7 +149,7 @@ pub record IsImporting (first : Kept) (s : Source) (i : ImportState) : Type 0 wh
   pub known : AreKnown i.functions i.names
   pub without_entries : i.copying.target.entry_points ≡ []
 
--- a later state, with functions of the source before its place c that came
+-- a later state, with imported functions of the source before its place c
 pub record Later (s : Source) (c : ℕ) (i u : ImportState) : Type 0 where
   pub went : (p q : ItemPlace) → goes i.copying.places p ≡ Some q → goes u.copying.places p ≡ Some q
   pub stays : (p : ItemPlace) (r : Row) → world i.copying.target p ≡ Some r → world u.copying.target p ≡ Some r
@@ -246,7 +246,7 @@ all_import first s c f calls (r ∷ rs) i h a =
     let rest = all_import first s c f calls rs j one.0.importing (All-tail (AsksBefore s c) r rs a) in
     (imports_trans first s c i j u one.0 rest.0, All-cons (AnsweredIn s u) r rs (answered_later s c j u rest.0.later r one.1) rest.1)
 
--- ---- a function comes last
+-- ---- a function is appended
 
 pub answered_given : (s : Source) (j : ImportState) (fs : List (FunctionValue × Span)) (r : Request) → AnsweredIn s j r → Answered s.value (given j.copying.target fs) j.copying.places j.names (length j.functions) r
 answered_given s j fs (Item p) a = (a.0, a.1, (a.2.0, world_given_at j.copying.target fs a.0 ∙ a.2.1))
@@ -291,7 +291,7 @@ no_meaning : (s : Source) (c : ℕ) (i j : ImportState) (x : Text) → Later s c
 no_meaning s c i j x l n f None e = e
 no_meaning s c i j x l n f (Some h) e = ⊎_elim (λ old. absurd (none-some h (sym n ∙ old))) (λ y. absurd (f y.0 y.1 y.2 y.3 y.4)) (l.new x h e)
 
--- a function that may come is imported behind what it names
+-- a function that may be imported is imported after what it names
 pub copy_imports : (first : Kept) (s : Source) (c : ℕ) (f : Caller) (i : ImportState) (v : FunctionValue) (span : Span) → CallsBefore first s c f → MayCome s.value c v span → IsImporting first s i → meant i.names v.name ≡ None → let j = answer_by (answer_one f s.value s.offset) i (requests_of v) in IsImporting first s (import_copy_by f s.value s.offset i v span) × Later s c i j × (meant j.names v.name ≡ None)
 copy_imports first s c f i v span calls may h unknown =
     let j = answer_by (answer_one f s.value s.offset) i (requests_of v) in
@@ -301,7 +301,7 @@ copy_imports first s c f i v span calls may h unknown =
     let still = no_meaning s c i j v.name all.0.later unknown may.apart (meant j.names v.name) refl in
     (function_comes first s j c v span all.0.importing may.form all.1 may.named still may.spanned, all.0.later, still)
 
--- each function of a source may come
+-- each function of a source may be imported
 pub each_comes : (m : ModuleValue) (k : ℕ) (e : FunctionValue × Span) → AreFunctionsFormed m 4294967295 → slice_get m.functions k ≡ Some e → MayCome m k e.0 e.1
 each_comes m k e f at = record {
   named = f.named k e at;
@@ -311,7 +311,7 @@ each_comes m k e f at = record {
   spanned = f.spans k e at;
 }
 
--- a later state once a function came last
+-- a later state, after a function was appended
 last_later : (s : Source) (k : ℕ) (e : FunctionValue × Span) (i j : ImportState) → slice_get s.value.functions k ≡ Some e → meant j.names e.0.name ≡ None → Later s k i j → Later s (suc k) i (with_function s.value s.offset j e.0 e.1)
 last_later s k e i j at unknown l =
     let u = with_function s.value s.offset j e.0 e.1 in

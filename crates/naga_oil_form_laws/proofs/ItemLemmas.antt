@@ -13,7 +13,7 @@ use Rattle.naga_oil_derive.proofs.CopyLemmas.{same_rows}
 use Rattle.naga_oil_derive.proofs.DeriveLemmas.{world_empty, nothing_some}
 use Rattle.naga_oil_form_laws.specs.ItemsStand.{OfType, ReachesOnly, IsFixed, IsUnsized, MayNameType, NamesBefore, StandsBehind, MayStandBehind, IsIn, MayName, ItemsStand, MayBeSpecial, AreFormed}
 
--- ---- the module of nothing
+-- ---- the empty module
 
 no_span : (p : ItemPlace) (s : Span) → span_at no_items p ≡ Some s → ⊥
 unfolding span_at

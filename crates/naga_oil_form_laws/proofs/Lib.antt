@@ -8,6 +8,7 @@ pub mod FormedModules
 pub mod FunctionFormLemmas
 pub mod ImportLemmas
 pub mod ItemLemmas
+pub mod ModuleShapes
 pub mod OwnedLemmas
 pub mod ParsedFunctions
 pub mod ParsedItems

@@ -3,7 +3,7 @@ use Rattle.std.proofs.Common.{◌≡◌, ◌⊎◌, inl, inr, ⊎_elim, ℕ, zer
 use Rattle.std.proofs.lemmas.List.{length-map, length-append}
 use Rattle.std.proofs.lemmas.List.Elements.{All-nil, All-weaker, All-map}
 use Rattle.std.proofs.lemmas.Option.{none-some, slice_get-map}
-use Rattle.naga_oil_marks.specs.Marks.{with_decoration}
+use Rattle.naga_oil_words.specs.Marks.{with_decoration}
 use Rattle.naga_oil_form.specs.BodyForm.{IsSpanFine}
 use Rattle.naga_oil_ir.specs.ModuleValue.{ModuleValue, FunctionValue, ArgumentValue, function_value}
 use Rattle.naga_oil_form.specs.NameForm.{function_name}
@@ -36,7 +36,7 @@ use Rattle.naga_oil_form_laws.proofs.RequestLemmas.{all_at}
 
 -- ---- worlds that name the same
 
--- a world, and the same but for the names of items that are no types
+-- a world, and the world with other names of items that are no types
 record NamesSame (v u : World) : Type 0 where
   types : (k : ℕ) → u (TypeItem k) ≡ v (TypeItem k)
   from : (p : ItemPlace) (r : Row) → u p ≡ Some r → (s : Row) × (v p ≡ Some s) × (r.names ≡ s.names) × (r.label.kind ≡ s.label.kind)

@@ -1,4 +1,4 @@
--- An item that is put may stand, if its source may.
+-- An item that is copied may stand, if its source may.
 use Rattle.std.proofs.Common.{◌≡◌, ⊎_elim, ℕ, zero, suc, ◌<◌, true, ◌||◌, List, [], ◌∷◌, Option, Some, None, option_map, slice_get, refl, ap, sym, ◌∙◌, subst, arith, All, IfSome}
 use Rattle.std.specs.List.{AllZip, list_any}
 use Rattle.std.proofs.lemmas.List.Elements.{All-nil, All-cons, All-head, All-tail}
@@ -18,9 +18,9 @@ use Rattle.naga_oil_derive.proofs.WorldLemmas.{named_names}
 use Rattle.naga_oil_form_laws.specs.ItemsStand.{OfType, ReachesOnly, AllReached, IsFixed, IsUnsized, MayNameType, IsBefore, NamesBefore, StandsBehind, MayStandBehind, IsIn, may_name_kind, MayName, MayBeGlobal, ItemsStand}
 use Rattle.naga_oil_form_laws.proofs.ItemLemmas.{names_later}
 
--- ---- places go to places of their kind
+-- ---- places map to places of their kind
 
--- where a place goes is a place of its kind
+-- a place maps to a place of its kind
 pub record KeepsKinds (m : Goes) : Type 0 where
   pub kind : (p q : ItemPlace) → m p ≡ Some q → place_number q ≡ place_number p
 
@@ -39,7 +39,7 @@ kind_kept m (ExpressionItem k) q e = ap place_number (mapped ExpressionItem _ q 
 pub keeps_kinds : (m : Places) → KeepsKinds (goes m)
 keeps_kinds m = record { kind = kind_kept m }
 
--- what a place of a type has, the type that it goes to has
+-- what a place of a type has, the type that it maps to has
 type_gone : (m : Goes) (Q R : ℕ → Type 0) → ((k j : ℕ) → m (TypeItem k) ≡ Some (TypeItem j) → Q k → R j) → (p q : ItemPlace) → place_number q ≡ place_number p → m p ≡ Some q → OfType Q p → OfType R q
 type_gone m Q R f (TypeItem k) (TypeItem j) n e h = f k j e h
 type_gone m Q R f (ConstantItem k) (TypeItem j) n e h = absurd (omega (arith, n))
@@ -61,7 +61,7 @@ override_gone _ _ n = absurd (omega (arith, n))
 
 -- ---- the names of a copy
 
--- what holds of each name holds of where it goes
+-- what holds of each name holds of what it maps to
 pub zip_names : (m : Goes) (Q R : ItemPlace → Type 0) → ((p q : ItemPlace) → m p ≡ Some q → Q p → R q) → (ps qs : List (Option ItemPlace)) → AllZip (NameGoesTo m) ps qs → All (λ o. IfSome o Q) ps → All (λ o. IfSome o R) qs
 zip_names m Q R f [] [] z a = All-nil (λ o. IfSome o R)
 zip_names m Q R f [] (q ∷ qs) z a = absurd z
@@ -86,7 +86,7 @@ any_zip m k (p ∷ ps) (q ∷ qs) z = λ i. override_zip m p q k z.0 i || any_zi
 
 -- ---- what copies of types reach
 
--- a world reads as another, but for names of items
+-- a world reads as another, apart from names of items
 pub record NamesAs (w w0 : World) : Type 0 where
   pub names : (p : ItemPlace) (r : Row) → w p ≡ Some r → (s : Row) × (w0 p ≡ Some s) × (r.names ≡ s.names)
 
@@ -109,7 +109,7 @@ some_weaker P Q f (Some q) h = f q h
 pub all_depths : (P : ℕ → ℕ → Type 0) (ns : List (Option ItemPlace)) → ((n : ℕ) → All (λ o. IfSome o (OfType (P n))) ns) → All (λ o. IfSome o (OfType (λ k. (n : ℕ) → P n k))) ns
 all_depths P ns h = λ i x l. some_weaker (λ q. (n : ℕ) → OfType (P n) q) (OfType (λ k. (n : ℕ) → P n k)) (swap_type P) _ (swap_some (λ n. OfType (P n)) _ (λ n. h n i x l))
 
--- what a type has that is copied, its copy has
+-- what a copied type has, its copy has
 abbrev pub CopiesHave : (w w0 : World) (kept m : Goes) (P Q : ℕ → Row → Type 0) → Type 0
 CopiesHave w w0 kept m P Q = (k j : ℕ) (source r copy : Row) → m (TypeItem k) ≡ Some (TypeItem j) → kept (TypeItem k) ≡ None → w0 (TypeItem k) ≡ Some source → w (TypeItem k) ≡ Some r → r.names ≡ source.names → IsCopyOf m r copy → P k source → Q j copy
 
@@ -154,7 +154,7 @@ fixed_copies w w0 kept m kinds k j source r copy g n at e names c h =
 pub unsized_copied : (w w0 v : World) (kept m : Goes) → AreCopied w v kept m → NamesAs w w0 → KeepsKinds m → KeptUnsized v kept → (k j : ℕ) → m (TypeItem k) ≡ Some (TypeItem j) → IsUnsized w0 k → IsUnsized v j
 unsized_copied w w0 v kept m a same kinds u k j g h = reach_copied w w0 v kept m IsFixed IsFixed a same kinds (fixed_copies w w0 kept m kinds) u k j g h
 
--- ---- a place that is free stands behind those that are not
+-- ---- a free place stands after those that are not
 
 rows_before : {X : Type 0} (f : X → Row) (xs : List X) (j k : ℕ) (r : Row) → option_map f (slice_get xs j) ≡ Some r → option_map f (slice_get xs k) ≡ None → j < k
 rows_before f [] j k r e g = cc
@@ -237,7 +237,7 @@ module _ (m : ModuleValue) (kept : Kept) (s : CopyState) (i : IsMidway m kept s)
         kinds = λ y z h. ⊎_elim (λ old. target.kinds y z old) (λ new. subst (λ (b : Row). MayBeGlobal b.label.kind) (is y z new.0 h) (subst MayBeGlobal (sym (ap (λ l. l.kind) c.label ∙ kind)) (source.kinds p r at))) (f.only y z h);
       }
 
-  -- what is put may stand
+  -- what is copied may stand
   pub put_stands : (b : CopyState) (p : ItemPlace) (r row : Row) (span : Option Span) → world m p ≡ Some r → row.names ≡ r.names → row.label.kind ≡ r.label.kind → PutsOne m s b p row span → ItemsStand (world b.target)
   put_stands b p r row span at ns kind c =
       ⊎_elim (λ same. subst (λ (t : ModuleValue). ItemsStand (world t)) (sym same) target) (λ new. new_stands b.target p c.place r row c.copy at ns kind c.copies c.fetches c.kind new.0) c.adds

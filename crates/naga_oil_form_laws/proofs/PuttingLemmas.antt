@@ -1,4 +1,4 @@
--- An item that is copied with what it names is items put one after another.
+-- Copying an item after what it names is copying items one after another.
 use Rattle.std.proofs.Common.{◌≡◌, ℕ, zero, suc, ◌<◌, List, [], ◌∷◌, Option, Some, None, is_some, if◌then◌else◌, refl, ap, sym, ◌∙◌, subst, arith, All, IfSome}
 use Rattle.std.proofs.lemmas.List.Elements.{All-head, All-tail, All-weaker}
 use Rattle.naga_oil_ir.specs.Rows.{Row, Text}
@@ -40,13 +40,13 @@ one_more : (m : ModuleValue) (shift : ℕ) (s : CopyState) (p : ItemPlace) → c
 unfolding copy_within
 one_more m shift s p = refl
 
--- what went nowhere is put behind what it names
+-- an item that isn't mapped is copied after what it names
 item_step : (m : ModuleValue) (shift : ℕ) (s : CopyState) (p : ItemPlace) (r : Row) → IsCopyable m → world m p ≡ Some r → goes s.places p ≡ None → copy_item m shift s p ≡ put m shift (copy_all m shift s r.names) p
 item_step m shift s p r c at fresh =
     let l = c.ranked.within p r at in
     within_same m shift c.rank c.ranked (depth m) (suc (depth m)) p (r, at) l (omega (arith, l)) s ∙ one_more m shift s p ∙ ap (λ o. if is_some o then s else put m shift (copy_row_names (copy_item m shift) s (world m p)) p) fresh ∙ ap (λ o. put m shift (copy_row_names (copy_item m shift) s o) p) at
 
--- ---- items put
+-- ---- items copied one after another
 
 module _ (m : ModuleValue) (shift : ℕ) (kept : Kept) (c : IsCopyable m) where
   -- what copying an item does

@@ -1,4 +1,4 @@
--- What a function names is asked for, and is there where it passes the test of form.
+-- What a function names is requested, and is there if the function passes the test of form.
 use Rattle.std.proofs.Common.{◌≡◌, ◌⊎◌, inl, inr, ⊎_elim, ℕ, zero, suc, ◌<◌, ◌==◌, nat_lt, true, false, List, [], ◌∷◌, ◌++◌, length, map, Option, Some, None, option_map, option_to_list, slice_get, refl, ap, sym, ◌∙◌, subst, arith, All, IfSome}
 use Rattle.std.specs.List.{flat_map}
 use Rattle.std.proofs.lemmas.Bool.{or_cases, false≢true, ltb-true}
@@ -120,7 +120,7 @@ pub from_at : {X : Type 0} (P : X → Type 0) (xs : List X) → ((k : ℕ) (x : 
 from_at P [] f = All-nil P
 from_at P (x ∷ xs) f = All-cons P x xs (f 0 x refl) (from_at P xs (λ k y e. f (suc k) y e))
 
--- ---- what is asked for is there
+-- ---- what is requested is there
 
 module _ (m : ModuleValue) (P : ℕ → Type 0) (c n : ℕ) (v : FunctionValue) (calls : (g : ℕ) → g < c → (g < length m.functions) × P g) where
   abbrev Asks : Request → Type 0
@@ -193,7 +193,7 @@ module _ (m : ModuleValue) (P : ℕ → Type 0) (c n : ℕ) (v : FunctionValue) 
       let body = flat_all Asks (token_names ks ns ls) v.body (All-weaker (IsTokenFine c n) (λ t. All Asks (token_names ks ns ls t)) (token_there ks ns ls names) v.body f.statements) in
       All-append Asks (signature_requests v ++ flat_map (local_requests ns ls) v.local_variables) (flat_map (token_names ks ns ls) v.body) (All-append Asks (signature_requests v) (flat_map (local_requests ns ls) v.local_variables) signature locals) body
 
--- ---- what the expressions in the order name is asked for
+-- ---- what the expressions in the order name is requested
 
 module _ (P : Request → Type 0) (v : FunctionValue) where
   abbrev ns : List Named
@@ -269,7 +269,7 @@ module _ (P : Request → Type 0) (v : FunctionValue) where
     in_brief k h =
         or_cases (has (begun v) k) (has (flat_map (brief (kinds_in v) ls) v.body) k) (sym (has-added (begun v) (flat_map (brief (kinds_in v) ls) v.body) k) ∙ ap (λ o. has o k) follow.same ∙ h)
 
-    -- what an expression in the order names is asked for
+    -- what an expression in the order names is requested
     pub order_asks : (k : ℕ) → has (order_of v) k ≡ true → All P (requests_at ns k)
     order_asks k h = ⊎_elim (begun_has k) (λ j. body_has (kinds_in v) v.body k j of_body) (in_brief k h)
 

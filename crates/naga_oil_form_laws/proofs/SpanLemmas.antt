@@ -51,7 +51,7 @@ span_kept m n (OverrideItem k) e at = kept_at (λ x. x.0) (λ x. x.1) m.override
 span_kept m n (GlobalItem k) e at = kept_at (λ x. x.0) (λ x. x.1) m.global_variables n.global_variables k at.0 e.global_variables (slice_get m.global_variables k) refl at.1
 span_kept m n (ExpressionItem k) e at = kept_at (λ x. parts_row x.0) (λ x. x.1) m.global_expressions n.global_expressions k at.0 e.global_expressions (slice_get m.global_expressions k) refl at.1
 
--- ---- what is put has a span that lies within
+-- ---- what is copied has a span that lies within
 
 mapped_span : (n : ℕ) (o : Option Span) (s : Span) → ((t : Span) → o ≡ Some t → IsSpanFine 4294967295 t) → option_map (shifted n) o ≡ Some s → IsSpanFine 4294967295 s
 mapped_span n None s h e = cc

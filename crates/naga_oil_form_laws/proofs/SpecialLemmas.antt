@@ -59,7 +59,7 @@ of_parts P s b =
     let cs = coded s.predeclared_types in
     subst (All P) (sym (entries_nested s)) (all_append P x (y ++ (z ++ cs)) b.ray_desc (all_append P y (z ++ cs) b.ray_intersection (all_append P z cs b.ray_vertex_return b.predeclared)))
 
--- ---- one special type more
+-- ---- one more special type
 
 one_entry : (P : Entry → Type 0) (e : Entry) → P e → All P (e ∷ [])
 one_entry P e h = All-cons P e [] h (All-nil P)
@@ -78,7 +78,7 @@ with_if : (P : Entry → Type 0) (s : SpecialValue) (key : SpecialKey) (h : ℕ)
 with_if P s key h true a p = a
 with_if P s key h false a p = with_one P s key h a p
 
--- what holds of the special types, and of where more of them went, holds of all
+-- what holds of the special types, and of what more of them map to, holds of all
 pub with_all : (P : Entry → Type 0) (s : SpecialValue) (f : ℕ → ℕ) (es : List Entry) → All P (special_entries s) → All (λ (e : Entry). P (e.0, f e.1)) es → All P (special_entries (with_specials s f es))
 with_all P s f [] a b = a
 with_all P s f (e ∷ es) a b =

@@ -1,4 +1,4 @@
--- Items stay formed while items are put one after another.
+-- Items stay formed while items are copied one after another.
 use Rattle.std.proofs.Common.{◌≡◌, ℕ, Option, Some, None, refl, sym, subst}
 use Rattle.naga_oil_ir.specs.Rows.{Row, Text}
 use Rattle.naga_oil_ir.specs.ModuleValue.{ModuleValue}

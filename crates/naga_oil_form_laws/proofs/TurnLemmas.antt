@@ -62,7 +62,7 @@ unknown : (o : Option ℕ) → ((h : ℕ) → o ≡ Some h → ⊥) → o ≡ No
 unknown None f = refl
 unknown (Some h) f = absurd (f h refl)
 
--- ---- in turn
+-- ---- one after another
 
 fewer_names : (m : ModuleValue) (K L : Text → Type 0) (vs : List (FunctionValue × Span)) → ((x : Text) → L x → K x) → MayComeInTurn m K vs → MayComeInTurn m L vs
 fewer_names m K L [] f h = tt
@@ -120,7 +120,7 @@ passing_in_turn m test f = fewer_names m (IsNameBefore m 0) no_name (filter test
 pub functions_from_nothing : (first : Kept) (m : ModuleValue) (d : Derived) (vs : List (FunctionValue × Span)) → IsFormedOf first m d → ((x : Text) → IsKnownIn d x → ⊥) → MayComeInTurn m no_name vs → IsFormedOf first m (import_functions d vs)
 functions_from_nothing first m d vs f n h = functions_in_turn first m d vs f (fewer_names m no_name (IsKnownIn d) vs n h)
 
--- ---- functions without their bodies
+-- ---- stubs
 
 stub_form : (m : ModuleValue) (c : ℕ) (e : FunctionValue × Span) → IsFunctionFormed m c 4294967295 e.0 → IsFunctionFormed m 0 4294967295 (stub e).0
 stub_form m c e f = record {

@@ -43,7 +43,7 @@ has_not : (b : Bool) → (b ≡ true → ⊥) → b ≡ false
 has_not true f = absurd (f refl)
 has_not false f = refl
 
--- ---- the first of those that go to one place
+-- ---- the first of those that map to one place
 
 pub record FirstTo (f : ℕ → ℕ) (o : List ℕ) (h : ℕ) : Type 0 where
   pub index : ℕ

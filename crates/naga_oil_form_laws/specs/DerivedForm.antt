@@ -21,34 +21,34 @@ pub record HasFormedItems (first : Kept) (d : Derived) : Type 0 where
   pub target : AreFormed d.target
   pub source : IfSome d.source (λ s. AreFormed s.value)
 
--- LAW: so it is with the module of nothing
-abbrev pub NothingLaw : Type 0
-NothingLaw = (first : Kept) → HasFormedItems first nothing
+-- LAW: the items of the empty module pass
+abbrev pub NothingItemsLaw : Type 0
+NothingItemsLaw = (first : Kept) → HasFormedItems first nothing
 
--- LAW: and without the source
-abbrev pub ClearedLaw : Type 0
-ClearedLaw = (first later : Kept) (d : Derived) → HasFormedItems first d → HasFormedItems later (cleared d)
+-- LAW: items pass without the source
+abbrev pub ClearedItemsLaw : Type 0
+ClearedItemsLaw = (first later : Kept) (d : Derived) → HasFormedItems first d → HasFormedItems later (cleared d)
 
--- LAW: once an item is imported
-abbrev pub ImportLaw : Type 0
-ImportLaw =
+-- LAW: items pass after an item is imported
+abbrev pub ImportItemsLaw : Type 0
+ImportItemsLaw =
     (first : Kept) (d : Derived) (p : ItemPlace) → HasFormedItems first d → HasItem d p →
     HasFormedItems first (import_item d p)
 
--- LAW: once a type is, under a name
-abbrev pub RenameLaw : Type 0
-RenameLaw =
+-- LAW: items pass after a type is imported under a name
+abbrev pub RenameItemsLaw : Type 0
+RenameItemsLaw =
     (first : Kept) (d : Derived) (k : ℕ) (name : Option Text) → HasFormedItems first d → HasItem d (TypeItem k) →
     HasFormedItems first (rename_type d k name)
 
--- LAW: once a module of such items is set as the source
-abbrev pub SetLaw : Type 0
-SetLaw = (first : Kept) (d : Derived) (m : ModuleValue) (shift : ℕ) → HasFormedItems first d → AreFormed m →
+-- LAW: items pass after a module of such items is set as the source
+abbrev pub SetItemsLaw : Type 0
+SetItemsLaw = (first : Kept) (d : Derived) (m : ModuleValue) (shift : ℕ) → HasFormedItems first d → AreFormed m →
     HasFormedItems (kept_of m.special_types d.target.special_types) (set_source d m shift)
 
 -- ---- with functions
 
--- a derivation whose items and functions pass, as those of its source do; it has no entry points until the module is made
+-- a derivation whose items and functions pass, as those of its source do; it has no entry points yet
 pub record IsFormed (first : Kept) (d : Derived) : Type 0 where
   pub items : HasFormedItems first d
   pub functions : AreFunctionsFormed d.target 4294967295
@@ -56,7 +56,8 @@ pub record IsFormed (first : Kept) (d : Derived) : Type 0 where
   pub without_entries : d.target.entry_points ≡ []
   pub source : IfSome d.source (λ s. AreFunctionsFormed s.value 4294967295)
 
--- a function over the handles of a source may come, calling functions before its place c alone: its name isn't that of one of those
+-- a function over the handles of a source may be imported: it calls only functions before its place c, and none of them has its
+-- name
 pub record MayCome (m : ModuleValue) (c : ℕ) (v : FunctionValue) (span : Span) : Type 0 where
   pub named : IsSome v.name
   pub among : c ≤ length m.functions
@@ -64,49 +65,51 @@ pub record MayCome (m : ModuleValue) (c : ℕ) (v : FunctionValue) (span : Span)
   pub form : IsFunctionFormed m c 4294967295 v
   pub spanned : IsSpanFine 4294967295 span
 
--- so it may, where a source is set
+-- a source is set, from which the function may be imported
 abbrev pub MayBeImported : Derived → (c : ℕ) → FunctionValue → Span → Type 0
 MayBeImported d c v span = IsSome d.source × IfSome d.source (λ s. MayCome s.value c v span)
 
--- LAW: each function of a source may come
+-- LAW: each function of a source may be imported
 abbrev pub ComingLaw : Type 0
 ComingLaw =
     (m : ModuleValue) (k : ℕ) (e : FunctionValue × Span) → AreFunctionsFormed m 4294967295 →
     slice_get m.functions k ≡ Some e → MayCome m k e.0 e.1
 
--- LAW: items and functions pass in the module of nothing
+-- LAW: the items and functions of the empty module pass
 abbrev pub NothingFormedLaw : Type 0
 NothingFormedLaw = (first : Kept) → IsFormed first nothing
 
--- LAW: and without the source
+-- LAW: items and functions pass without the source
 abbrev pub ClearedFormedLaw : Type 0
 ClearedFormedLaw = (first later : Kept) (d : Derived) → IsFormed first d → IsFormed later (cleared d)
 
--- LAW: once an item is imported
+-- LAW: items and functions pass after an item is imported
 abbrev pub ImportFormedLaw : Type 0
-ImportFormedLaw = (first : Kept) (d : Derived) (p : ItemPlace) → IsFormed first d → HasItem d p → IsFormed first (import_item d p)
+ImportFormedLaw =
+    (first : Kept) (d : Derived) (p : ItemPlace) → IsFormed first d → HasItem d p →
+    IsFormed first (import_item d p)
 
--- LAW: once a type is, under a name
+-- LAW: items and functions pass after a type is imported under a name
 abbrev pub RenameFormedLaw : Type 0
 RenameFormedLaw =
     (first : Kept) (d : Derived) (k : ℕ) (name : Option Text) → IsFormed first d → HasItem d (TypeItem k) →
     IsFormed first (rename_type d k name)
 
--- LAW: once a module whose items and functions pass is set as the source
+-- LAW: items and functions pass after a module whose items and functions pass is set as the source
 abbrev pub SetFormedLaw : Type 0
 SetFormedLaw =
     (first : Kept) (d : Derived) (m : ModuleValue) (shift : ℕ) → IsFormed first d → AreFormed m →
     AreFunctionsFormed m 4294967295 →
     IsFormed (kept_of m.special_types d.target.special_types) (set_source d m shift)
 
--- LAW: once a function is imported whose name isn't known
+-- LAW: items and functions pass after a function is imported whose name isn't known
 abbrev pub FunctionFormedLaw : Type 0
 FunctionFormedLaw =
     (first : Kept) (d : Derived) (c : ℕ) (v : FunctionValue) (span : Span) → IsFormed first d →
     MayBeImported d c v span → meant d.function_names v.name ≡ None →
     IsFormed first (import_function d v span)
 
--- LAW: once a function is, unless its name is known
+-- LAW: items and functions pass after a function is imported if it is new
 abbrev pub FunctionIfNewLaw : Type 0
 FunctionIfNewLaw =
     (first : Kept) (d : Derived) (c : ℕ) (v : FunctionValue) (span : Span) → IsFormed first d →

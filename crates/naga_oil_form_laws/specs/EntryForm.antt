@@ -1,4 +1,4 @@
--- Which entry points pass the test of form, and which modules, and that the module that is made does.
+-- Which entry points and modules pass the test of form, and that the module that a derived module becomes does.
 use Rattle.std.specs.Prelude.{◌≡◌, ◌<◌, ◌≤◌, ℕ, nat_eq, List, [], length, slice_get, Option, Some, unwrap_or, codes, All, IfSome, IsSome}
 use Rattle.std.specs.List.{IsDistinct}
 use Rattle.naga_oil_form.specs.ItemForm.{special_types}
@@ -20,7 +20,7 @@ use Rattle.naga_oil_form_laws.specs.ItemsStand.{AreFormed}
 abbrev pub IsExpressionIn : ModuleValue → Option ℕ → Type 0
 IsExpressionIn m o = IfSome o (λ k. k < length m.global_expressions)
 
--- what a mesh shader puts out is there
+-- what a mesh shader's output names is there
 pub record IsMeshFormed (m : ModuleValue) (i : MeshInfo) : Type 0 where
   pub vertex : i.vertex_output_type < length m.types
   pub primitive : i.primitive_output_type < length m.types
@@ -39,41 +39,41 @@ pub record IsEntryFormed (m : ModuleValue) (n : ℕ) (e : EntryValue) : Type 0 w
 abbrev pub entry_name : EntryValue → List ℕ
 entry_name e = unwrap_or e.function.name (codes "main")
 
--- the entry points of a module pass it, and no two have one name
+-- the entry points of a module pass the test of form, and no two have the same name
 pub record AreEntriesFormed (m : ModuleValue) (n : ℕ) : Type 0 where
   pub forms : All (IsEntryFormed m n) m.entry_points
   pub distinct :
       (j k : ℕ) (e f : EntryValue) → slice_get m.entry_points j ≡ Some e → slice_get m.entry_points k ≡ Some f →
       entry_name e ≡ entry_name f → j ≡ k
 
--- a module passes the test of form, but that two of its special types may be one, where the texts of all modules stand one behind
--- another: so it may be copied
+-- a module passes the test of form over the joined texts of all modules, except that two of its special types may be one type;
+-- such a module may be copied
 pub record IsModuleFormed (m : ModuleValue) : Type 0 where
   pub items : AreFormed m
   pub functions : AreFunctionsFormed m 4294967295
   pub entry_points : AreEntriesFormed m 4294967295
 
--- LAW: so does the module that is made with copies of the entry points of a source that does
+-- LAW: a derived module of good form becomes a module of good form, with copies of its source's entry points
 abbrev pub MakeLaw : Type 0
 MakeLaw =
     (first : Kept) (d : Derived) → IsFormed first d → IsSome d.source →
     IfSome d.source (λ s. AreEntriesFormed s.value 4294967295) → IsModuleFormed (make_module d)
 
--- LAW: a module that passes the test of form under a decoration, over a text that a span can name, does as a value
+-- LAW: the value of a module that passes the test of form under a decoration, over a text that spans can cover, is formed
 abbrev pub ParsedLaw : Module → Type 0
 ParsedLaw m = (decoration : List ℕ) (n : ℕ) → n ≤ 4294967295 → WellFormed m decoration n → IsModuleFormed (value_of m)
 
--- LAW: the items of a module that passes as a value can be copied
+-- LAW: the items of a module whose value is formed can be copied
 abbrev pub CopyableModuleLaw : Type 0
 CopyableModuleLaw = (m : Module) → AreFormed (value_of m) → CopyableItems m
 
--- LAW: and it passes the test of form over the texts of all modules, if no two of its special types are one
+-- LAW: a module whose value is formed passes the test of form over the texts of all modules, if its special types are distinct
 abbrev pub WellFormedLaw : Type 0
 WellFormedLaw =
     (m : Module) → IsModuleFormed (value_of m) → IsDistinct nat_eq (special_types m.special_types) →
     WellFormed m [] 4294967295
 
--- what copying and sending calls ask of a module: the test of form, but that two of its special types may be one
+-- what copying and redirecting require of a module: the test of form, except that two of its special types may be one type
 pub record MayBeCopiedFrom (m : Module) : Type 0 where
   pub items : CopyableItems m
   pub spans : SpanForm m 4294967295
@@ -81,6 +81,6 @@ pub record MayBeCopiedFrom (m : Module) : Type 0 where
   pub functions : FunctionsForm m 4294967295 m.functions
   pub entry_points : All (EntryForm m 4294967295) m.entry_points.items
 
--- LAW: so it is with each module that passes as a value
+-- LAW: each module whose value is formed may be copied and redirected
 abbrev pub CopiedFromLaw : Type 0
 CopiedFromLaw = (m : Module) → IsModuleFormed (value_of m) → MayBeCopiedFrom m

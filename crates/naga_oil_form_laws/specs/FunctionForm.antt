@@ -25,15 +25,15 @@ IsNamedThere m f (LocalAt k) = k < length f.local_variables
 IsNamedThere m f (ArgumentAt k) = k < length f.arguments
 IsNamedThere m f (FunctionAt k) = k < length m.functions
 
--- a body that takes the result of a function calls it
+-- a body that takes the result of a function calls the function
 abbrev pub AreResultsOfCalls : Tokens → Type 0
 AreResultsOfCalls ts = (i f h : ℕ) → slice_get ts i ≡ Some (GiveCall f h) → (j : ℕ) × (slice_get ts j ≡ Some (Callee f))
 
--- what names a function is a result
+-- an expression that names a function is a result
 abbrev pub NamesFunctionAsResult : Parts → Type 0
 NamesFunctionAsResult p = (f : ℕ) → p.named ≡ FunctionAt f → result_kind (Some p.kind) ≡ true
 
--- the test of form of a function whose calls go to the first c functions, in a text of n bytes
+-- the test of form of a function that calls only the first c functions, in a text of n bytes
 pub record IsFunctionFormed (m : ModuleValue) (c n : ℕ) (f : FunctionValue) : Type 0 where
   pub arguments : All (λ a. a.ty < length m.types) f.arguments
   pub result : IfSome f.result (λ r. r.ty < length m.types)
@@ -47,7 +47,7 @@ pub record IsFunctionFormed (m : ModuleValue) (c n : ℕ) (f : FunctionValue) : 
   pub local_spans : All (λ e. IsSpanFine n e.1) f.local_variables
   pub expression_spans : All (λ e. IsSpanFine n e.1) f.expressions
 
--- the functions of a module pass it, the calls of each going to those before it; each has a name, and no two the same
+-- the functions of a module pass the test of form, each calling only functions before it; each has a name of its own
 pub record AreFunctionsFormed (m : ModuleValue) (n : ℕ) : Type 0 where
   pub named : (k : ℕ) (e : FunctionValue × Span) → slice_get m.functions k ≡ Some e → IsSome e.0.name
   pub distinct :
@@ -56,7 +56,7 @@ pub record AreFunctionsFormed (m : ModuleValue) (n : ℕ) : Type 0 where
   pub forms : (k : ℕ) (e : FunctionValue × Span) → slice_get m.functions k ≡ Some e → IsFunctionFormed m k n e.0
   pub spans : (k : ℕ) (e : FunctionValue × Span) → slice_get m.functions k ≡ Some e → IsSpanFine n e.1
 
--- each function is known by its name, and each name that is known means one of them
+-- each function is known by its name, and each known name means one of them
 pub record AreKnown (functions : List (FunctionValue × Span)) (names : Meanings) : Type 0 where
   pub known : (k : ℕ) (e : FunctionValue × Span) → slice_get functions k ≡ Some e → meant names e.0.name ≡ Some k
   pub there : (name : Text) (k : ℕ) → meant names name ≡ Some k → k < length functions

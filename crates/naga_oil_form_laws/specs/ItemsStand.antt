@@ -1,4 +1,4 @@
--- Which items may stand in a module, told by what stands at its places.
+-- Which items may stand in a module, by what stands at its places.
 use Rattle.std.specs.Prelude.{◌≡◌, ◌⊎◌, ◌<◌, ℕ, zero, suc, Bool, true, false, not, nat_eq, ◌==◌, ◌||◌, if◌then◌else◌, map, Some, None, All, IfSome}
 use Rattle.std.specs.List.{list_any, IsDistinct}
 use Rattle.naga_oil_form.specs.BodyForm.{IsSpanFine}
@@ -15,7 +15,7 @@ use Rattle.naga_oil_derive.specs.CopiedLaw.{place_number, IsKinded, IsCopyable, 
 
 -- ---- what types reach
 
--- what a place of a type is to have, and other places need not
+-- the property that a place of a type is to have; other places need not have it
 abbrev pub OfType : (ℕ → Type 0) → ItemPlace → Type 0
 OfType P (TypeItem k) = P k
 OfType P (ConstantItem k) = Unit {0}
@@ -23,12 +23,14 @@ OfType P (OverrideItem k) = Unit {0}
 OfType P (GlobalItem k) = Unit {0}
 OfType P (ExpressionItem k) = Unit {0}
 
--- a type, and what types it reaches within a depth, have a property, told by place and row
+-- a type, and the types that it reaches within a depth, have a property of place and row
 unfoldable pub ReachesOnly : ℕ → World → (ℕ → Row → Type 0) → ℕ → Type 0
 ReachesOnly zero w P k = Unit {0}
-ReachesOnly (suc n) w P k = (r : Row) → w (TypeItem k) ≡ Some r → P k r × All (λ o. IfSome o (OfType (ReachesOnly n w P))) r.names
+ReachesOnly (suc n) w P k =
+    (r : Row) → w (TypeItem k) ≡ Some r →
+    P k r × All (λ o. IfSome o (OfType (ReachesOnly n w P))) r.names
 
--- a type, and all types that it reaches, have it
+-- a type, and all types that it reaches, have the property
 abbrev pub AllReached : World → (ℕ → Row → Type 0) → ℕ → Type 0
 AllReached w P k = (n : ℕ) → ReachesOnly n w P k
 
@@ -42,7 +44,7 @@ IsUnsized w k = AllReached w IsFixed k
 
 -- ---- what items name
 
--- the item at a place may name the type at j: a type an earlier one; a constant, an override or an expression none that is sized
+-- the item at a place may name the type at j: a type names earlier types; constants, overrides and expressions name no sized type
 abbrev pub MayNameType : World → ItemPlace → ℕ → Type 0
 MayNameType w (TypeItem k) j = j < k
 MayNameType w (ConstantItem k) j = IsUnsized w j
@@ -58,11 +60,11 @@ IsBefore k (OverrideItem j) = Unit {0}
 IsBefore k (GlobalItem j) = Unit {0}
 IsBefore k (ExpressionItem j) = j < k
 
--- so are all that the item at a place names
+-- all expressions that the item at a place names are before k
 abbrev pub NamesBefore : World → ℕ → ItemPlace → Type 0
 NamesBefore w k p = (r : Row) → w p ≡ Some r → All (λ o. IfSome o (IsBefore k)) r.names
 
--- the expression at k may name the item at a place: an earlier expression; a constant or an override whose initialiser is earlier
+-- the expression at k may name the item at a place: an earlier expression, or a constant or override whose initialiser is earlier
 abbrev pub StandsBehind : World → ℕ → ItemPlace → Type 0
 StandsBehind w k (TypeItem j) = Unit {0}
 StandsBehind w k (ConstantItem j) = NamesBefore w k (ConstantItem j)
@@ -70,7 +72,7 @@ StandsBehind w k (OverrideItem j) = NamesBefore w k (OverrideItem j)
 StandsBehind w k (GlobalItem j) = Unit {0}
 StandsBehind w k (ExpressionItem j) = j < k
 
--- the same of any item, where only expressions have to stand behind what they name
+-- the item at a place may name the item at another; only expressions must stand after what they name
 abbrev pub MayStandBehind : World → ItemPlace → ItemPlace → Type 0
 MayStandBehind w (TypeItem k) q = Unit {0}
 MayStandBehind w (ConstantItem k) q = Unit {0}
@@ -81,7 +83,8 @@ MayStandBehind w (ExpressionItem k) q = StandsBehind w k q
 abbrev pub IsIn : World → ItemPlace → Type 0
 IsIn w q = (r : Row) × (w q ≡ Some r)
 
--- what items of one kind name, kinds by number: types name types and overrides; expressions no globals; the others types and expressions
+-- the kinds that items of a kind name, by number: types name types and overrides, expressions no globals, others types and
+-- expressions
 abbrev pub may_name_kind : ℕ → ℕ → Bool
 may_name_kind zero b = (b == 0) || (b == 2)
 may_name_kind (suc a) b = if a == 3 then not (b == 3) else (b == 0) || (b == 4)
@@ -128,8 +131,8 @@ pub record MayBeSpecial (m : ModuleValue) (k : ℕ) : Type 0 where
 abbrev pub AreSpansFine : ModuleValue → ℕ → Type 0
 AreSpansFine m n = (p : ItemPlace) (s : Span) → span_at m p ≡ Some s → IsSpanFine n s
 
--- the items of a module pass the test of form, but that two of its special types may be one, where the texts of all modules stand
--- one behind another: each item stands in the arena of its kind, and no two special types have one key
+-- the items of a module pass the test of form over the joined texts of all modules, except that two of its special types may be
+-- one type: each item stands in the arena of its kind, and no two special types have the same key
 pub record AreFormed (m : ModuleValue) : Type 0 where
   pub kinds : IsKinded m
   pub keys : IsDistinct nat_eq (map (λ e. e.0) m.special_types.predeclared_types)
@@ -137,6 +140,6 @@ pub record AreFormed (m : ModuleValue) : Type 0 where
   pub special : All (λ e. MayBeSpecial m e.1) (special_entries m.special_types)
   pub spans : AreSpansFine m 4294967295
 
--- LAW: such items can be copied
-abbrev pub CopyableLaw : Type 0
-CopyableLaw = (m : ModuleValue) → AreFormed m → IsCopyable m × AreSpecial m
+-- LAW: items that pass can be copied
+abbrev pub CopyableItemsLaw : Type 0
+CopyableItemsLaw = (m : ModuleValue) → AreFormed m → IsCopyable m × AreSpecial m

@@ -1,8 +1,9 @@
 -- The definitions that the contracts of this crate cite.
 pub mod DerivedForm
 pub mod EntryForm
-mod GoodFormRows
 pub mod FunctionForm
+mod GoodFormRows
 pub mod ItemsStand
 pub mod OwnedForm
+pub mod Shape
 pub mod TurnForm

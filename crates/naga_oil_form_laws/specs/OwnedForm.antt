@@ -1,6 +1,6 @@
--- Modules whose items get other names, and whose entry points become functions, pass the test of form still.
+-- Modules still pass the test of form after their items are renamed and their entry points become functions.
 use Rattle.std.specs.Prelude.{◌≡◌, ℕ, List, [], ◌++◌, length, map, slice_get, None, Some, option_map, All, IsSome}
-use Rattle.naga_oil_marks.specs.Marks.{with_decoration}
+use Rattle.naga_oil_words.specs.Marks.{with_decoration}
 use Rattle.naga_oil_form.specs.BodyForm.{IsSpanFine}
 use Rattle.naga_oil_ir.specs.ModuleValue.{ModuleValue, FunctionValue, ArgumentValue}
 use Rattle.naga_oil_ir.specs.Rows.{Row, Text}
@@ -30,18 +30,18 @@ name_items g m = record m {
   functions = map (name_function g) m.functions;
 }
 
--- no two functions have one name then, and each has one
+-- each function has a name of its own then
 pub record KeepsNames (g : Text → Text) (m : ModuleValue) : Type 0 where
   pub named : (name : Text) → IsSome name → IsSome (g name)
   pub distinct :
       (j k : ℕ) (e f : FunctionValue × Span) → slice_get m.functions j ≡ Some e → slice_get m.functions k ≡ Some f →
       g e.0.name ≡ g f.0.name → j ≡ k
 
--- LAW: such a module passes if it did before
+-- LAW: a renamed module passes if it did before
 abbrev pub NamedLaw : Type 0
 NamedLaw = (g : Text → Text) (m : ModuleValue) → KeepsNames g m → IsModuleFormed m → IsModuleFormed (name_items g m)
 
--- LAW: so it is with the decoration under which a module passes the test
+-- LAW: the decoration under which a module passes the test is such a renaming
 abbrev pub DecorationLaw : Type 0
 DecorationLaw =
     (m : Module) (decoration : List ℕ) (n : ℕ) → WellFormed m decoration n →
@@ -63,17 +63,17 @@ without_bindings name f = record f {
   result = option_map result_without_binding f.result;
 }
 
--- LAW: it passes if it did before
+-- LAW: a function without bindings passes if it did before
 abbrev pub UnboundLaw : Type 0
 UnboundLaw =
     (m : ModuleValue) (c n : ℕ) (name : Text) (f : FunctionValue) → IsFunctionFormed m c n f →
     IsFunctionFormed m c n (without_bindings name f)
 
--- a module with these behind its functions, and no entry points
+-- a module with functions appended to its own, and no entry points
 abbrev pub append_functions : List (FunctionValue × Span) → ModuleValue → ModuleValue
 append_functions fs m = record m { functions = m.functions ++ fs; entry_points = [] }
 
--- functions may stand behind those of a module: they call those alone, have names, and no two of all have the same
+-- functions may be appended to those of a module: they call only the module's, have names, and all names are distinct
 pub record MayBeAppended (m : ModuleValue) (fs : List (FunctionValue × Span)) : Type 0 where
   pub named : All (λ e. IsSome e.0.name) fs
   pub forms : All (λ e. IsFunctionFormed m (length m.functions) 4294967295 e.0) fs
@@ -82,7 +82,7 @@ pub record MayBeAppended (m : ModuleValue) (fs : List (FunctionValue × Span)) :
       (j k : ℕ) (e f : FunctionValue × Span) → slice_get (m.functions ++ fs) j ≡ Some e →
       slice_get (m.functions ++ fs) k ≡ Some f → e.0.name ≡ f.0.name → j ≡ k
 
--- LAW: the module passes if it did before
+-- LAW: a module with functions appended passes if it did before
 abbrev pub AppendedLaw : Type 0
 AppendedLaw =
     (m : ModuleValue) (fs : List (FunctionValue × Span)) → MayBeAppended m fs → IsModuleFormed m →

@@ -4,7 +4,7 @@ ghost use Rattle.naga_oil_form_laws.specs.DerivedForm.{RenameFormedLaw, SetForme
 ghost use Rattle.naga_oil_form_laws.specs.EntryForm.{MakeLaw};
 ghost use Rattle.naga_oil_form_laws.specs.FunctionForm.{CopyFormLaw};
 
-/// The copy of a function that passes the test of form, but for where its calls go, passes so too.
+/// The copy of a function that passes the test of form, apart from the targets of its calls, passes it likewise.
 pub fn copies_have_form()
     ensures { CopyFormLaw }
 {}
@@ -14,8 +14,8 @@ pub fn functions_may_come()
     ensures { ComingLaw }
 {}
 
-/// A derived module passes the test of form, items and functions, if its sources do: the module of nothing, one without
-/// its source, once an item is imported, or a type under a name, and once a source is set.
+/// The items and functions of a derived module pass the test of form if those of its sources do: in the empty module, without
+/// a source, and after an item is imported, a type is imported under a name, or a source is set.
 pub fn modules_stay_formed()
     ensures nothing { NothingFormedLaw }
     ensures cleared { ClearedFormedLaw }
@@ -24,13 +24,13 @@ pub fn modules_stay_formed()
     ensures set { SetFormedLaw }
 {}
 
-/// So it does once a function is imported that may come, if its name isn't known, or unless it is.
+/// The items and functions of a derived module still pass the test of form after a function is imported.
 pub fn modules_with_functions_stay_formed()
     ensures function { FunctionFormedLaw }
     ensures if_new { FunctionIfNewLaw }
 {}
 
-/// The module that is made of a derived module of good form, with copies of the entry points of its source, passes.
+/// The module that a derived module of good form becomes, with copies of its source's entry points, passes the test of form.
 pub fn made_modules_are_formed()
     ensures { MakeLaw }
 {}

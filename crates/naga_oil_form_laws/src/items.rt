@@ -1,18 +1,18 @@
 //! Items that are copied into a derived module stay formed.
-ghost use Rattle.naga_oil_form_laws.specs.DerivedForm.{NothingLaw, ClearedLaw, ImportLaw, RenameLaw, SetLaw};
-ghost use Rattle.naga_oil_form_laws.specs.ItemsStand.{CopyableLaw};
+ghost use Rattle.naga_oil_form_laws.specs.DerivedForm.{NothingItemsLaw, ClearedItemsLaw, ImportItemsLaw, RenameItemsLaw, SetItemsLaw};
+ghost use Rattle.naga_oil_form_laws.specs.ItemsStand.{CopyableItemsLaw};
 
 /// Items that pass the test of form can be copied.
 pub fn formed_items_can_be_copied()
-    ensures { CopyableLaw }
+    ensures { CopyableItemsLaw }
 {}
 
-/// The items of a derived module pass the test of form if those of its sources do: of a module of nothing, without its
-/// source, once an item is imported, or a type under a name, and once a source is set.
+/// The items of a derived module pass the test of form if those of its sources do: in the empty module, without a source, and
+/// after an item is imported, a type is imported under a name, or a source is set.
 pub fn items_stay_formed()
-    ensures nothing { NothingLaw }
-    ensures cleared { ClearedLaw }
-    ensures import { ImportLaw }
-    ensures rename { RenameLaw }
-    ensures set { SetLaw }
+    ensures nothing { NothingItemsLaw }
+    ensures cleared { ClearedItemsLaw }
+    ensures import { ImportItemsLaw }
+    ensures rename { RenameItemsLaw }
+    ensures set { SetItemsLaw }
 {}

@@ -3,7 +3,7 @@ ghost use Rattle.naga_oil_form_laws.specs.EntryForm.{ParsedLaw, CopyableModuleLa
 
 use super::*;
 
-/// A module that passes the test of form, over a text that a span can name, passes as a value.
+/// The value of a module that passes the test of form, over a text that spans can cover, is formed.
 pub fn well_formed_modules_are_formed(parsed: &Module)
     ensures { ParsedLaw parsed.now }
 {
@@ -11,8 +11,8 @@ pub fn well_formed_modules_are_formed(parsed: &Module)
     let _keys = parsed.special_types.predeclared_types.iter();
 }
 
-/// A module that passes as a value can be copied from, items and functions, and passes the test of form if no two of its
-/// special types are one.
+/// The items and functions of a module whose value is formed can be copied. The module passes the test of form if its special
+/// types are distinct.
 pub fn formed_modules_are_well_formed()
     ensures items { CopyableModuleLaw }
     ensures copied { CopiedFromLaw }

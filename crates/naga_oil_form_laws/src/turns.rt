@@ -1,28 +1,28 @@
-//! Functions and items that are imported one after another leave a module of good form.
-ghost use Rattle.naga_oil_form_laws.specs.TurnForm.{SourceLaw, ItemLaw, TypeLaw, MadeLaw, TargetLaw, WholeLaw, HeaderLaw};
-ghost use Rattle.naga_oil_form_laws.specs.TurnForm.{InTurnLaw, AllInTurnLaw, PassingInTurnLaw, FromNothingLaw, StubsInTurnLaw, NewInTurnLaw, ItemsInTurnLaw};
+//! A module stays of good form while functions and items are imported one after another.
+ghost use Rattle.naga_oil_form_laws.specs.TurnForm.{SourceFormLaw, ItemLaw, TypeLaw, MadeFormLaw, TargetFormLaw, WholeLaw, HeaderLaw};
+ghost use Rattle.naga_oil_form_laws.specs.TurnForm.{InTurnFormLaw, AllInTurnLaw, PassingInTurnLaw, FromNothingLaw, StubsInTurnLaw, NewInTurnLaw, ItemsInTurnLaw};
 
-/// A module of good form is set as a source, and what is there is copied; then the module is of good form still, and the
-/// functions that it knows stay. So is the module that is made of it.
+/// After a module of good form is set as a source, or items that are there are copied, the derived module is still of good form,
+/// and knows the same functions. The module that it becomes is of good form.
 pub fn what_a_source_has_may_come()
-    ensures source { SourceLaw }
+    ensures source { SourceFormLaw }
     ensures item { ItemLaw }
     ensures named { TypeLaw }
-    ensures made { MadeLaw }
-    ensures target { TargetLaw }
+    ensures made { MadeFormLaw }
+    ensures target { TargetFormLaw }
 {}
 
-/// Functions may be imported in turn whose names aren't known by then, and so may all those of a module of good form, or
-/// those that pass a test, with their bodies or without.
+/// Functions may be imported one after another if their names aren't known by then. All functions of a module of good form may
+/// be, as may those that pass a test, with their bodies or as stubs.
 pub fn functions_come_in_turn()
-    ensures imported { InTurnLaw }
+    ensures imported { InTurnFormLaw }
     ensures all { AllInTurnLaw }
     ensures passing { PassingInTurnLaw }
     ensures stubs { StubsInTurnLaw }
     ensures from_nothing { FromNothingLaw }
 {}
 
-/// So may functions if they are new, and items that are there.
+/// Functions may be imported one after another if they are new, and items if they are there.
 pub fn what_is_new_comes_in_turn()
     ensures functions { NewInTurnLaw }
     ensures items { ItemsInTurnLaw }

@@ -1,5 +1,5 @@
-//! Modules that are put together from parts of others. A test is a case of a table; one driver makes its sources, copies, and
-//! compares what stands after each call and in the end.
+//! Modules that are copied from parts of others. A test is a case of a table; one driver builds its sources, copies, and
+//! compares the module after each call and in the end.
 ghost use Rattle.std.specs.Prelude.{IsTrue};
 ghost use Rattle.naga_oil_derive.specs.Derived.{HasItem};
 
@@ -67,10 +67,10 @@ struct Source {
 /// What an item reads as: its span, its name, what its number is, and that number.
 type Said<'a> = (Span, &'a str, &'static str, u64);
 
-/// How many types, constants, overrides, global variables and global expressions there are.
+/// The numbers of types, constants, overrides, global variables and global expressions.
 type Counts = [usize; 5];
 
-/// One or two sources, whether there is a special type, and what stands after all copies.
+/// One or two sources, whether there is a special type, and the expected items after all copies.
 struct Case {
     first: Source,
     second: Option<Source>,
@@ -102,7 +102,7 @@ static SPANS: Case = Case {
     counts: [2, 0, 0, 0, 0],
 };
 
-/// The first ray description stands for the second.
+/// The first ray description is used in place of the second.
 static SPECIAL: Case = Case {
     first: Source {
         parts: &[Rays(32)],
@@ -473,7 +473,7 @@ fn said(module: &Module, kind: Kind, place: usize) -> Option<Said<'_>> {
     }
 }
 
-/// Whether the item at a place reads as it should, if there is one.
+/// Whether the item at a place has the expected text, if there is one.
 fn is_said(module: &Module, kind: Kind, place: usize, wanted: &Said<'_>) -> bool {
     match said(module, kind, place) {
         Some((span, name, word, number)) => {
@@ -512,15 +512,15 @@ fn are_said(module: &Module, items: &[(Kind, usize, Said<'static>)]) -> bool {
     true
 }
 
-/// Whether what stands is a beginning of what is wanted, and no less than what stood.
+/// Whether the items are a front of the expected ones, and at least those before.
 fn is_begun(derived: &DerivedModule<'_>, case: &Case, before: &Counts) -> bool {
     let module = derived.module();
     let counts = counts(module);
     are_within(before, &counts) && are_within(&counts, &case.counts) && are_said(module, case.items)
 }
 
-/// Whether one of so many calls sets the source, and the others none, and all leave what stood. Where there may be several,
-/// no source is left to be set before them.
+/// Whether one of `calls` calls sets the source, the others set none, and all keep the items before. With several calls,
+/// no source is set before them.
 fn is_set<'a>(
     derived: &mut DerivedModule<'a>,
     source: &'a Module,
@@ -545,7 +545,7 @@ fn is_set<'a>(
     false
 }
 
-/// Whether one of so many calls makes the copy at its place, and all leave what stood.
+/// Whether one of `calls` calls makes the copy at its place, and all keep the items before.
 fn is_copied(
     derived: &mut DerivedModule<'_>,
     asked: Asked,
@@ -586,7 +586,7 @@ fn is_mapped(derived: &DerivedModule<'_>, mapped: Span) -> bool {
     derived.map_span(TEN) == mapped && derived.map_span(NONE) == NONE
 }
 
-/// Whether a source is set and copied from as it should be.
+/// Whether a source is set, and the copies from it are the expected ones.
 fn is_source<'a>(
     derived: &mut DerivedModule<'a>,
     module: &'a Module,
@@ -618,7 +618,7 @@ fn are_sources<'a>(
     }
 }
 
-/// Whether all that is wanted stands when the source is left.
+/// Whether all expected items are there at the end of a source.
 fn is_left(derived: &mut DerivedModule<'_>, case: &Case) -> bool {
     derived.clear_shader_source();
     is_mapped(derived, TEN) && is_begun(derived, case, &case.counts)
@@ -631,7 +631,7 @@ fn derives(modules: (&Module, &Module), case: &Case, calls: usize, alloc: Global
         && is_left(&mut derived, case)
 }
 
-/// Whether a case goes as it should, each of its calls by one of so many.
+/// Whether a case has its expected results, each with at most `calls` calls.
 fn is_case(case: &Case, calls: usize, alloc: Global) -> Result<bool, AllocError> {
     let (mut first, mut second) = (Module::new(alloc), Module::new(alloc));
     fill_both(&mut first, &mut second, case, alloc)?;

@@ -1,6 +1,6 @@
 //! Tests of the crates of the intermediate form and of copies: `ir`, `derive`, and of redirected calls `redirect` and `order`.
 //!
-//! They stand here since a check of tests proves the whole crate again.
+//! The tests are in a crate of their own, since the check of a crate with tests proves that crate twice.
 #![tactic(auto)]
 
 #[cfg(test)]

@@ -1,5 +1,5 @@
-//! Modules, calls that are sent in them, and the order that their functions are put in at the end. A test is a case of a table;
-//! one driver makes its module, asks, and compares.
+//! Modules, redirected calls in them, and the final order of their functions. A test is a case of a table;
+//! one driver builds its module, makes the calls, and compares.
 mod refused;
 
 use naga_oil_form::check_form::{FormFault, check_form};
@@ -14,14 +14,14 @@ const NONE: Span = Span::UNDEFINED;
 /// A function: its name, whether it takes an argument, and what it calls, by places.
 type Drawn = (&'static str, bool, &'static [usize]);
 
-/// Where a function's first call goes, and what the result of it is of.
+/// The callee of a function's first call, and the callee of that call's result.
 type Callee = Option<(usize, usize)>;
 
-/// Where the first calls of the first four functions go; behind the last function is an entry point.
+/// The callees of the first calls of the first four functions. After the last function is an entry point.
 type Goes = [Callee; 4];
 
-/// Calls that are sent: the original and its replacement, a function that is omitted, the places that are answered, or the
-/// text of the error, and where calls go then.
+/// Redirected calls: the original and its replacement, a function that is omitted, the places that are returned, or the
+/// text of the error, and the callees after that.
 struct Sent {
     original: &'static str,
     replacement: &'static str,
@@ -39,7 +39,7 @@ struct Order {
     goes: Goes,
 }
 
-/// Functions, what an entry point calls, where calls go at first, the calls that are sent, and the order in the end.
+/// Functions, the callee of an entry point, the first callees, the redirected calls, and the final order.
 struct Case {
     functions: &'static [Drawn],
     calls: &'static [usize],
@@ -313,7 +313,7 @@ fn callee(function: &Function) -> Callee {
     }
 }
 
-/// Where the first call of the function at a place goes, or of the entry point behind the last.
+/// The callee of the first call of the function at a place, or of the entry point after the last.
 fn goes_at(module: &Module, place: usize) -> Callee {
     match module.functions.try_get(Index::new(place)) {
         Some(function) => callee(function),
@@ -339,7 +339,7 @@ fn is_told(error: &RedirectError, wanted: &str, alloc: Global) -> Option<bool> {
     Some(told.as_str() == wanted)
 }
 
-/// Whether an answer is the wanted one, or none where memory was refused.
+/// Whether a result is the expected one, or absent where memory was refused.
 fn is_answer(answer: &Result<Pair, RedirectError>, sent: &Sent, alloc: Global) -> Option<bool> {
     match answer {
         Ok((from, to)) => Some((from.index(), to.index()) == sent.places),
@@ -352,7 +352,7 @@ fn answers(redirector: &mut Redirector, sent: &Sent, alloc: Global) -> Option<bo
     is_answer(&answer, sent, alloc)
 }
 
-/// Whether one of so many calls is answered as it should; one that is refused changes nothing.
+/// Whether one of `calls` calls has the expected result. A refused call changes nothing.
 fn is_sent(
     redirector: &mut Redirector,
     sent: &Sent,
@@ -381,7 +381,7 @@ fn are_sent(redirector: &mut Redirector, case: &Case, calls: u32, alloc: Global)
     true
 }
 
-/// Whether a module's functions have these names, in this order, and calls go so; none where memory was refused.
+/// Whether a module's functions have these names, in this order, and these callees; absent where memory was refused.
 fn is_ordered(module: &Module, names: &str, goes: &Goes, alloc: Global) -> Option<bool> {
     let found = names_of(module, alloc).ok()?;
     Some(found.as_str() == names && goes_so(module, goes))
@@ -420,7 +420,7 @@ fn both(are_sent: bool, is_order: Option<bool>) -> Option<bool> {
     }
 }
 
-/// Whether a case is answered as it should, each of its calls by one of so many; none where memory was refused.
+/// Whether a case has its expected results, each with at most `calls` calls; absent where memory was refused.
 fn is_case(case: &Case, calls: u32, alloc: Global) -> Result<Option<bool>, FormFault> {
     let mut redirector = calling(case, alloc)?;
     let are_sent = are_sent(&mut redirector, case, calls, alloc);
@@ -461,7 +461,7 @@ fn add_numbered(module: &mut Module, place: usize, alloc: Global) -> Result<(), 
     add_function(module, name.as_str(), false, &[place], alloc)
 }
 
-/// So many functions besides the first, each of which calls the one before it.
+/// A number of functions after the first, each of which calls the one before it.
 fn fill_row(module: &mut Module, callers: usize, alloc: Global) -> Result<(), AllocError> {
     add_function(module, "f", false, &[], alloc)?;
     for place in 0..callers {
@@ -476,7 +476,7 @@ fn names_of_row(module: &mut Module, callers: usize, alloc: Global) -> Result<St
     names_of(module, alloc)
 }
 
-/// Where the first calls go of a function alone.
+/// The callees of the first calls of a function alone.
 static ALONE: Goes = [None; 4];
 
 /// Whether the functions of a module keep their order, and call the one before them.
@@ -535,7 +535,7 @@ fn error_at(place: usize, alloc: Global) -> Result<RedirectError, AllocError> {
     })
 }
 
-/// Whether the error of a place is told as it should.
+/// Whether the error of a place has the expected text.
 fn tells(place: usize, wanted: &str, alloc: Global) -> Result<bool, AllocError> {
     let error = error_at(place, alloc)?;
     let told = format!(in alloc; "{error}")?;

@@ -1,11 +1,11 @@
 -- What a front end says whose function holds blocks within blocks.
-use Rattle.std.specs.Prelude.{ℕ, zero, suc, List, [], ◌∷◌, Some, None, codes}
+use Rattle.std.specs.Prelude.{ℕ, zero, suc, [], ◌∷◌, Some, None, codes}
 use Rattle.naga_oil_ir.specs.Body.{Tokens, inside}
 use Rattle.naga_oil_ir.specs.ModuleValue.{ModuleValue, FunctionValue, no_items}
 use Rattle.naga_oil_ir.specs.Spans.{undefined}
 use Rattle.naga_oil_ir.specs.declared.tokens.Token.TheVariants.{At, Head}
 
--- a block within so many blocks
+-- a block within this number of blocks
 abbrev pub nested_tokens : (levels : ℕ) → Tokens
 nested_tokens zero = []
 nested_tokens (suc levels) = At undefined ∷ Head 1 ∷ inside (nested_tokens levels)

@@ -17,7 +17,7 @@ abbrev pub type_said : List ℕ → Option (List ℕ) → Row
 type_said name None = row (TypeKind 0) (Some name) (Some 2 ∷ []) [] []
 type_said name (Some m) = row (TypeKind 10) (Some name) (Some 4 ∷ []) (record { name = Some m; binding = None; offset = 0 } ∷ []) (Some (TypeItem 0) ∷ [])
 
--- a vector, and the named type behind it
+-- a vector, and the named type after it
 abbrev pub types_said : List ℕ → Option (List ℕ) → List (Row × Span)
 types_said name member = (row (TypeKind 1) None (Some 1 ∷ []) [] [], undefined) ∷ (type_said name member, place) ∷ []
 
@@ -51,7 +51,7 @@ abbrev pub entries_said : Bool → List EntryValue
 entries_said true = entry_said ∷ []
 entries_said false = []
 
--- a module of a type, a function and, if that is asked for, the entry point
+-- a module of a type, a function and, if requested, the entry point
 abbrev pub said : List ℕ → Option (List ℕ) → List ℕ → Bool → ModuleValue
 said ty member function is_entered = record no_items {
   types = types_said ty member;

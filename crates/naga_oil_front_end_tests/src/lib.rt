@@ -1,11 +1,18 @@
-//! Tests of makes over front ends other than Mini: one that gives `malformed` modules, one whose headers come `returning` as something
-//! else, one of blocks `nested` as deep as they may be, and `palette`, the front end that the guide to front ends shows.
+//! Tests of front ends, and of builds over front ends other than Mini.
 //!
-//! They stand here since a check of tests proves the whole crate again, and beside others.
+//! - `mini`: the texts that Mini reads and writes.
+//! - `palette`: the front end of the guide to front ends.
+//! - `malformed`: a front end that returns malformed modules.
+//! - `nested`: a front end whose blocks are nested up to the limit.
+//! - `returning`: a front end whose headers don't survive the round trip.
+//!
+//! The tests are in a crate of their own, since the check of a crate with tests proves that crate twice.
 #![tactic(auto)]
 
 #[cfg(test)]
 mod malformed;
+#[cfg(test)]
+mod mini;
 #[cfg(test)]
 mod nested;
 #[cfg(test)]

@@ -96,7 +96,7 @@ impl Model for Calling {
     } };
 }
 
-// A function that says nothing but the type of its result.
+// A function with only a result type.
 #[derive(Drop)]
 struct Plain {
     name: Option<&'static str>,
@@ -148,7 +148,7 @@ impl Model for Entry {
     } };
 }
 
-// A front end to which each text says the module of these.
+// A front end that reads each text as one of these modules.
 #[derive(Drop)]
 struct Malformed {
     items: Items,
@@ -271,7 +271,7 @@ impl Backend for Malformed {
 
 const NONE: Span = Span::UNDEFINED;
 
-// A span that ends behind every text.
+// A span that ends after every text.
 const FAR: Span = Span {
     start: 0,
     end: 1_000_000,
@@ -341,7 +341,7 @@ fn entry_of(pipeline: Pipeline) -> Entry {
     }
 }
 
-// Adds the module m, of which each text says this module.
+// Adds the module m, whose texts are all read as this module.
 fn adds_m(
     rt: &(impl Abort + AllocGlobal),
     composer: &mut Composer<Malformed>,
@@ -371,7 +371,7 @@ fn is_of_m(error: &ComposerError) -> bool {
     }
 }
 
-// A shader that imports the module is made, or refused for its form; the module stays.
+// A shader that imports the module is built, or refused for its form. The module stays.
 fn is_told(
     rt: &(impl Abort + AllocGlobal),
     composer: &mut Composer<Malformed>,
@@ -413,7 +413,7 @@ fn front_of(items: Items, caller: Caller, span: Span, entry: Pipeline) -> Malfor
     }
 }
 
-// What stands beside the modules that are refused.
+// The other parts of the modules that are refused.
 #[test]
 fn makes_modules_of_good_form(rt: HostRuntime) -> Result<(), Fail> {
     for (row, items) in [

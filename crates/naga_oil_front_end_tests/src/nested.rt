@@ -20,7 +20,7 @@ struct Nested {
     levels: usize,
 }
 
-// A block within so many blocks.
+// A block within `levels` blocks.
 fn blocks(alloc: Global, levels: usize) -> Result<Block, AllocError>
     ensures { IfOk result (λ b. block_tokens b ≡ nested_tokens levels) }
 {
@@ -100,7 +100,7 @@ impl Backend for Nested {
     }
 }
 
-// Whether the first function of a made shader holds just so many blocks, one within the other.
+// Whether the first function of a built shader has exactly this depth of nested blocks.
 fn is_nested(made: &Module, levels: usize) -> bool {
     let Some((function, _)) = made.functions.as_slice().first() else {
         return false;

@@ -3,8 +3,8 @@ use naga_oil::compose::{
     Capabilities, ComposableModuleDescriptor, Composer, ComposerError, NagaModuleDescriptor,
     ShaderLanguage,
 };
-use naga_oil_example_front::Palette;
 use naga_oil_ir::{Backend, BackendRefusal, Module};
+use naga_oil_palette::Palette;
 use std::alloc::{AllocError, Global};
 use std::process::Abort;
 use std::test::Fail;
@@ -30,7 +30,7 @@ fn written(alloc: Global, made: &Module) -> Result<String, AllocError> {
     }
 }
 
-// A shader as Palette writes it, or what is told of a refusal.
+// A shader as Palette writes it, or the report of a refusal.
 fn shown(
     alloc: Global,
     composer: &Composer<Palette>,
@@ -84,7 +84,7 @@ wall
     Ok(())
 }
 
-// What isn't understood is told with its place, and so is a colour that there is no room for, where it stands.
+// A wrong line is reported with its place, and so is a colour that there is no room for.
 #[test]
 fn tells_faults_of_palettes(rt: HostRuntime) -> Result<(), Fail> {
     let mut composer = Composer::new(rt.alloc(), Palette);

@@ -1,4 +1,4 @@
-// A front end whose written headers say something else when they are read again.
+// A front end whose headers don't survive the round trip.
 ghost use Rattle.std.specs.Prelude.{◌≡◌, ◌∷◌, [], Some, None, IfOk, map, option_map, string_bytes, codes};
 ghost use Rattle.naga_oil_ir.specs.Rows.{Row, type_row, member_label, member_type};
 ghost use Rattle.naga_oil_ir.specs.declared.names.ItemPlace.TheVariants.{TypeItem};
@@ -20,7 +20,7 @@ use std::marker::Model;
 use std::process::Abort;
 use std::test::Fail;
 
-// What a text says: a type, which is a struct of one member or else a scalar, a function, and perhaps an entry point whose
+// The module of a text: a type, which is a struct of one member or else a scalar, a function, and perhaps an entry point whose
 // function has no name.
 #[derive(Clone, Copy)]
 struct Said {
@@ -246,7 +246,7 @@ const FIRST: Said = Said {
     is_entered: false,
 };
 
-// What it reads back, as it should.
+// The module that is read back after an unchanged round trip.
 const BACK: Said = Said {
     ty: "SX_naga_oil_mod_XNUX",
     member: Some("x"),
@@ -254,7 +254,7 @@ const BACK: Said = Said {
     is_entered: false,
 };
 
-// What is read first, what is read back, and what is told of a shader.
+// The module that is read first, the module that is read back, and the expected report of a shader.
 type Row = (Said, Option<Said>, &'static str);
 
 fn make_saying(said: Option<Said>) -> Option<Saying> {
@@ -346,7 +346,7 @@ fn tells_what_does_not_come_back(rt: HostRuntime) -> Result<(), Fail> {
 }
 
 // An entry point whose function has no name becomes the function `main`, unless there is one: a header of two functions is
-// written as `!!`, which says the first module.
+// written as `!!`, which is read as the first module.
 static ENTERED: [Row; 2] = [
     (
         Said {

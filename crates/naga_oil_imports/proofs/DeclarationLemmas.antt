@@ -1,4 +1,4 @@
--- A map of the code after a path has been pushed at a key or taken away, as what it declares.
+-- The declarations of a map of the code after a path is appended at a key or removed.
 use Rattle.std.proofs.Common.{◌≡◌, ℕ, zero, suc, ◌+◌, ◌-◌, ◌<◌, ◌≤◌, Bool, true, false, not, cond, List, [], ◌∷◌, ◌++◌, length, take, map, Option, Some, None, unwrap_or, string_bytes, String, Vec, refl, sym, ap, subst, ◌∙◌, arith, slice_get, get_or, ltb, Result, Ok, Err, OnErr, MatchOption, length-append}
 use Rattle.std.specs.Prelude.{bytes_eq}
 use Rattle.std.specs.declared.alloc.Global.{Global}
@@ -24,11 +24,11 @@ Paths = Vec (String Global) Global
 abbrev pub Entries : Type 0
 Entries = List (String Global × Paths)
 
--- what entries declare
+-- the declarations of entries
 abbrev pub shown : Entries → Declared
 shown es = map (λ e. (string_bytes e.0, map string_bytes e.1.items)) es
 
--- the test of the map: the key is these bytes
+-- the test of the map: whether the key has these bytes
 abbrev pub is_key : List ℕ → String Global → Bool
 is_key key k = bytes_eq key (string_bytes k)
 
@@ -72,7 +72,8 @@ nowhere_above : (key : List ℕ) (es : Entries) → length es ≤ place_or_len k
 nowhere_above key [] h = tt
 nowhere_above key (x ∷ es) h = nowhere_by key x es (nowhere_above key es) (bytes_eq key (string_bytes x.0)) refl h
 
--- the value at a place is changed: nothing changes, or the first key with these bytes has these paths
+-- the value at a place is changed: nothing changes, or the first key with these bytes has these
+-- paths
 pub set_stays : (es : Entries) (i : ℕ) (v w : Paths) → slice_get (values_of es) i ≡ Some v → w.items ≡ v.items → shown (set_value_at es i w) ≡ shown es
 set_stays [] i v w at same = refl
 set_stays (x ∷ es) zero v w at same =
@@ -108,7 +109,7 @@ nothing_pops key (x ∷ es) none =
     ap (λ ds. (string_bytes x.0, map string_bytes x.1.items) ∷ ds) (nothing_pops key es none.1)
     ∙ sym (ap (λ b. cond b ((string_bytes x.0, take (length (map string_bytes x.1.items) - 1) (map string_bytes x.1.items)) ∷ shown es) ((string_bytes x.0, map string_bytes x.1.items) ∷ without_path (shown es) key)) none.0)
 
--- a new key goes last
+-- a new key is appended last
 pub insert_pushes : (key path : List ℕ) (es : Entries) (k : String Global) (w : Paths) → IsNowhere key es → string_bytes k ≡ key → map string_bytes w.items ≡ path ∷ []
     → shown (insert_entry string_eq es k w) ≡ with_path (shown es) key path
 insert_pushes key path [] k w none is one = λ j. (is j, one j) ∷ []
@@ -165,7 +166,7 @@ paths_less xs ys n m (Some x) all front some =
     let seen : map string_bytes xs ≡ map string_bytes ys ++ string_bytes x ∷ [] = ap (map string_bytes) all ∙ map-append string_bytes ys (x ∷ []) in
     sym (ap (λ zs. take (length zs - 1) zs) seen ∙ front_one (map string_bytes ys) (string_bytes x))
 
--- leaves pushed one after the other
+-- leaves appended one after another
 with_leaves-append : (d : Declared) (ls : List Leaf) (key path : List ℕ) → with_leaves d (ls ++ (key, path) ∷ []) ≡ with_path (with_leaves d ls) key path
 with_leaves-append d [] key path = refl
 with_leaves-append d ((k, p) ∷ ls) key path = with_leaves-append (with_path d k p) ls key path
@@ -189,7 +190,7 @@ longer : (d : Declared) (ls : List Leaf) → length d ≤ length (with_leaves d 
 longer d [] = omega arith
 longer d ((k, p) ∷ ls) = omega (arith, longer_path d k p, longer (with_path d k p) ls)
 
--- a path that is pushed and taken away again, among the first keys
+-- a path that is appended and removed again, among the first keys
 taken_by : (n : ℕ) (k key path : List ℕ) (ps : List (List ℕ)) (d u : Declared) (c : List ℕ × List (List ℕ)) → (take n u ≡ take n (with_path d key path) → take n (without_path u key) ≡ take n d)
     → (b : Bool) → bytes_eq k key ≡ b → c ∷ take n u ≡ take (suc n) (cond b ((k, ps ++ path ∷ []) ∷ d) ((k, ps) ∷ with_path d key path))
     → take (suc n) (without_path (c ∷ u) key) ≡ (k, ps) ∷ take n d
@@ -216,7 +217,7 @@ taken (suc n) key path ((k, ps) ∷ d) [] h e = absurd (by (bytes_eq k key) e)
     by false e = cc
 taken (suc n) key path ((k, ps) ∷ d) (c ∷ u) h e = taken_by n k key path ps d u c (taken n key path d u (omega arith)) (bytes_eq k key) refl e
 
--- one leaf is taken back
+-- one leaf is removed
 pub leaf_back : (before : Declared) (n : ℕ) (all front : List code.Leaf) (last : code.Leaf) (key : List ℕ) (u v : Declared) → length before ≡ n → all ≡ front ++ last ∷ [] → key ≡ string_bytes last.key
     → v ≡ without_path u key → take n u ≡ take n (with_leaves before (map leaf_of all)) → take n v ≡ take n (with_leaves before (map leaf_of front))
 leaf_back before n all front last key u v long split is popped same =
@@ -225,13 +226,13 @@ leaf_back before n all front last key u v long split is popped same =
     ap (take n) (popped ∙ ap (without_path u) is)
     ∙ taken n (string_bytes last.key) (string_bytes last.path) (with_leaves before (map leaf_of front)) u (omega (arith, longer before (map leaf_of front))) (same ∙ ap (take n) pushed)
 
--- all leaves have been taken back
+-- all leaves have been removed
 pub all_back : (before : Declared) (n : ℕ) (es kept : Entries) (rest : List code.Leaf) → length before ≡ n → length rest ≡ 0 → kept ≡ take n es → take n (shown es) ≡ take n (with_leaves before (map leaf_of rest)) → shown kept ≡ before
 all_back before n es kept rest long none cut same =
     ap shown cut ∙ sym (take-map (λ e. (string_bytes e.0, map string_bytes e.1.items)) n es) ∙ same
     ∙ ap (λ ls. take n (with_leaves before (map leaf_of ls))) (nil_from_length rest none) ∙ take_all n before (omega arith)
 
--- a refusal of a part of a reading is one of the whole
+-- a fault of a part of a reading is one of the whole
 pub refuses_by : {X Y : Type 0} (e : ImportFault) (x : Result X SyntaxFault) (y : Result Y SyntaxFault) → ((f : SyntaxFault) → x ≡ Err f → y ≡ Err f) → RefusesImport e x → RefusesImport e y
 refuses_by (Syntax text at) x y by h = by (text.now, at) h
 refuses_by Memory x y by h = tt

@@ -1,4 +1,4 @@
--- Bytes of ASCII that begin no identifier, one after another.
+-- ASCII bytes that begin no identifier, one after another.
 use Rattle.std.proofs.Common.{◌≡◌, ℕ, suc, ◌+◌, ◌-◌, ◌<◌, Bool, true, false, cond, eqb, ◌||◌, Some, List, [], ◌∷◌, ◌++◌, length, take, drop, get_or, refl, sym, ap, subst, ◌∙◌, arith}
 use Rattle.std.specs.Char.{encode_utf8}
 use Rattle.std.specs.List.{prefix_len, slice_get}
@@ -34,7 +34,7 @@ gap_starts_none b e = rw (is_xid_start-ascii b (gap_ascii b e)) (grind (arith, n
 gap_first : (b : ℕ) (bs : List ℕ) → IsUtf8 (b ∷ bs) → is_gap_byte b ≡ true → BeginsWithChar (b ∷ bs) b bs
 gap_first b bs u e = first_char (b ∷ bs) bs b u (ap (λ l. l ++ bs) (sym (encode_ascii b (gap_ascii b e))))
 
--- what stands before the first other byte is written as it is
+-- the bytes before the first other byte are written as they are
 pub gap_passes : (kept : Bool) (bs : List ℕ) → IsUtf8 bs → Passes kept bs (keeps_behind kept (take (prefix_len is_gap_byte bs) bs)) (drop (prefix_len is_gap_byte bs) bs)
 gap_passes kept [] u = passes_none kept [] u
 gap_passes kept (b ∷ bs) u =
@@ -48,7 +48,7 @@ gap_passes kept (b ∷ bs) u =
       | false ↦ λ e. passes_none kept (b ∷ bs) u
     ] refl
 
--- another byte at the front is no character of these
+-- another byte at the front belongs to no character of these
 not_first : (b : ℕ) (bs : List ℕ) (c : ℕ) (more : List ℕ) → BeginsWithChar (b ∷ bs) c more → is_gap_byte b ≡ false → (k : ℕ) → is_gap_byte k ≡ true → eqb c k ≡ false
 not_first b bs c more first stop k gap =
     ne_eqb c k (λ e.
@@ -57,7 +57,7 @@ not_first b bs c more first stop k gap =
     let both : true ≡ false = sym gap ∙ ap is_gap_byte (sym is) ∙ stop in
     cc)
 
--- behind such bytes neither `.` nor `@` stands
+-- after such bytes neither `.` nor `@` comes
 pub none_keeps : (bs : List ℕ) (c : ℕ) (more : List ℕ) → BeginsWithChar (drop (prefix_len is_gap_byte bs) bs) c more → (eqb c 46 || eqb c 64) ≡ false
 none_keeps [] c more first = absurd (omega (arith, first.shorter))
 none_keeps (b ∷ bs) c more first =
@@ -68,7 +68,7 @@ none_keeps (b ∷ bs) c more first =
       | false ↦ λ e f. rw (not_first b bs c more f e 46 refl, not_first b bs c more f e 64 refl) refl
     ] refl first
 
--- behind such bytes each character of ASCII begins an identifier
+-- after such bytes each ASCII character begins an identifier
 pub ascii_starts : (bs : List ℕ) (c : ℕ) (more : List ℕ) → BeginsWithChar (drop (prefix_len is_gap_byte bs) bs) c more → c < 128 → starts_identifier c ≡ true
 ascii_starts [] c more first ascii = absurd (omega (arith, first.shorter))
 ascii_starts (b ∷ bs) c more first ascii =
@@ -83,7 +83,7 @@ ascii_starts (b ∷ bs) c more first ascii =
           rw (is_xid_start-ascii c ascii) (grind (arith, nat_tests, stop))
     ] refl first
 
--- the same behind what was passed before, and a character behind it
+-- the same after earlier text that was passed, with a character after it
 module _ (bs gap from : List ℕ) (g : gap ≡ take (prefix_len is_gap_byte bs) bs) (f : from ≡ drop (prefix_len is_gap_byte bs) bs) where
   pub passes_gap : (text : List ℕ) (kept next : Bool) → IsUtf8 bs → next ≡ keeps_behind kept gap → Passes false text kept bs → Passes false text next from
   passes_gap text kept next u n before = passes_more false kept next text bs from before (rw (n, g, f) (gap_passes kept bs u))

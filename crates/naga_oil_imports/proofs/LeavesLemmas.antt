@@ -1,4 +1,4 @@
--- Heads that are open by counting are those of a stack, and a reader with a stack gives the leaves.
+-- Open heads found by counting are those of a stack, and a reader with a stack gives the leaves.
 use Rattle.std.proofs.Common.{◌≡◌, ℕ, zero, suc, ◌+◌, ◌-◌, Bool, true, false, ◌&&◌, ◌||◌, cond, leb, List, [], ◌∷◌, ◌++◌, length, take, filter, map, Result, Ok, Err, refl, sym, ap, ◌∙◌, arith, append_assoc, append-nil}
 use Rattle.std.specs.List.{list_all, list_any, concat}
 use Rattle.std.proofs.lemmas.List.Folds.{list_all-map, list_any-append}
@@ -8,7 +8,7 @@ use Rattle.naga_oil_lines.specs.Tokens.{Lexeme}
 use Rattle.naga_oil_imports.specs.Leaves.{SyntaxFault, Part, head, leaf, close, nothing, wrong, is_head, is_old_head, is_close, beginnings, has_no_more_closes, is_open, open_heads, Leaf, then_leaves, leaves_of, parts, behind_import, line_leaves}
 use Rattle.naga_oil_imports.specs.ImportReader.{Reader, at_start, step, may_end, run}
 
--- how many `}` find no head among the parts before them
+-- the number of `}` that find no head among the parts before them
 unmatched : List Part → ℕ
 unmatched [] = 0
 unmatched (head is_old text ∷ ps) = unmatched ps - 1
@@ -17,7 +17,7 @@ unmatched (close at ∷ ps) = suc (unmatched ps)
 unmatched (nothing ∷ ps) = unmatched ps
 unmatched (wrong f ∷ ps) = unmatched ps
 
--- there are no more `}` than so many heads and those of the list
+-- there are at most as many `}` as `n` heads and those of the list
 within : ℕ → List Part → Bool
 within n ps = leb (length (filter is_close ps)) (n + length (filter is_head ps))
 
@@ -59,7 +59,7 @@ is_open_unmatched : (ps : List Part) → is_open ps ≡ leb (unmatched ps) 0
 unfolding within
 is_open_unmatched ps = all_same has_no_more_closes (within 0) (beginnings ps) (λ front. grind (arith, nat_tests)) ∙ all_within 0 ps
 
--- a part behind the others that is no `}` leaves the heads as they are, but for itself
+-- appending a part that is no `}` leaves the heads unchanged, except for the part itself
 unmatched-behind : (q : Part) → unmatched (q ∷ []) ≡ 0 → (ps : List Part) → unmatched (ps ++ q ∷ []) ≡ unmatched ps
 unfolding unmatched
 unmatched-behind q e [] = e
@@ -95,7 +95,7 @@ if_none (h ∷ hs) = 0
 front_of : List (List ℕ) → List (List ℕ)
 front_of hs = take (length hs - 1) hs
 
--- a `}` behind parts takes the last open head away, or finds none
+-- a `}` after parts removes the last open head, or finds none
 record Closed (at : ℕ) (ps : List Part) : Type 0 where
   found : unmatched (ps ++ close at ∷ []) ≡ unmatched ps + if_none (open_heads ps)
   left : open_heads (ps ++ close at ∷ []) ≡ front_of (open_heads ps)
@@ -130,7 +130,7 @@ closed_at at (close at' ∷ ps) = let r = closed_at at ps in record { found = ap
 closed_at at (nothing ∷ ps) = let r = closed_at at ps in record { found = r.found; left = r.left }
 closed_at at (wrong f ∷ ps) = let r = closed_at at ps in record { found = r.found; left = r.left }
 
--- the reader behind parts, with such leaves
+-- the reader after parts, with such leaves
 abbrev reader : List Part → List Leaf → Reader
 reader before ls = record { heads = open_heads before; old_form = list_any is_old_head before; leaves = ls }
 
@@ -153,18 +153,18 @@ ended : (b : Bool) (ls : List Leaf) (f : SyntaxFault) → cond b (Ok ls) (Err f)
 ended true ls f = ap Ok (sym (append-nil ls))
 ended false ls f = refl
 
--- a part that is neither a head nor a `}` leaves the heads and the form
+-- a part that is neither a head nor a `}` leaves the heads and the form unchanged
 same_reader : (before : List Part) (p : Part) (ls : List Leaf) → unmatched (p ∷ []) ≡ 0 → open_heads (p ∷ []) ≡ [] → is_old_head p ≡ false → reader before ls ≡ reader (before ++ p ∷ []) ls
 same_reader before p ls none no_head not_old =
     let heads : open_heads before ≡ open_heads (before ++ p ∷ []) = sym (open_heads-behind p none before ∙ ap (λ hs. open_heads before ++ hs) no_head ∙ append-nil (open_heads before)) in
     let old : list_any is_old_head before ≡ list_any is_old_head (before ++ p ∷ []) = sym (is_old_head-behind before p ∙ ap (λ b. list_any is_old_head before || b) not_old ∙ or-false (list_any is_old_head before)) in
     λ j. record { heads = heads j; old_form = old j; leaves = ls }
 
--- what a reader and counting have in common once parts have been read
+-- how a reader and counting correspond after the same parts
 abbrev Agrees : ℕ → List Part → List Leaf → List Part → Type 0
 Agrees end before ls ps = run end (reader before ls) ps ≡ then_leaves (Ok ls) (leaves_of end before ps)
 
--- what a `}` adds where these heads are open
+-- the leaves that a `}` adds where these heads are open
 abbrev closing : ℕ → List (List ℕ) → Result (List Leaf) SyntaxFault
 closing at hs = elim hs [ [] ↦ Err (codes "close brace without open", at) | x ∷ xs ↦ Ok [] ]
 
@@ -201,7 +201,7 @@ reads_leaves end before ls (nothing ∷ ps) =
     ap (λ r. run end r ps) (same_reader before nothing ls refl refl refl) ∙ reads_leaves end (before ++ nothing ∷ []) ls ps ∙ ap (then_leaves (Ok ls)) (sym (then_leaves-nil (leaves_of end (before ++ nothing ∷ []) ps)))
 reads_leaves end before ls (wrong f ∷ ps) = refl
 
--- a line behind `#import`, read from the start
+-- a line after `#import`, read from the start
 pub line_read : (end : ℕ) (ts behind : List Lexeme) → behind_import end ts ≡ Ok behind → run end at_start (parts 0 behind) ≡ line_leaves end ts
 unfolding line_leaves
 line_read end ts behind e = reads_leaves end [] [] (parts 0 behind) ∙ then_leaves-nil (leaves_of end [] (parts 0 behind))
@@ -211,7 +211,7 @@ pub line_refused : (end : ℕ) (ts : List Lexeme) (f : SyntaxFault) → behind_i
 unfolding line_leaves
 line_refused end ts f e = ap (λ r. elim r [ Ok b ↦ leaves_of end [] (parts 0 b) | Err g ↦ Err g ]) e
 
--- one part more, and the end
+-- one more part, and the end
 pub part_read : (end : ℕ) (r next : Reader) (p : Part) (all ps : List Part) (whole : Result (List Leaf) SyntaxFault) → all ≡ p ∷ ps → step r p ≡ Ok next → run end r all ≡ whole → run end next ps ≡ whole
 unfolding run
 part_read end r next p all ps whole e s told = sym (ap (λ x. elim x [ Ok n ↦ run end n ps | Err f ↦ Err f ]) s) ∙ sym (ap (run end r) e) ∙ told

@@ -1,4 +1,4 @@
--- Marks cover the names that are declared.
+-- The marks cover the declared names.
 use Rattle.std.proofs.Common.{◌≡◌, ℕ, zero, suc, ◌+◌, ◌<◌, Bool, true, false, cond, ◌&&◌, ◌||◌, eqb, List, [], ◌∷◌, ◌++◌, length, map, drop, Some, None, String, Vec, string_bytes, bytes_eq, Result, Ok, Err, refl, sym, ap, subst, ◌∙◌, arith, append_assoc, append-nil}
 use Rattle.std.specs.declared.alloc.Global.{Global}
 use Rattle.std.specs.List.{list_all, slice_get}
@@ -58,7 +58,7 @@ next_key (x ∷ es) zero e is =
     ap (λ y. string_bytes y.0 ∷ entry_keys es) (sym same)
 next_key (x ∷ es) (suc at) e is = next_key es at e is
 
--- and where there is none
+-- the names from a place on, where there is no entry
 no_key : (es : List Entry) (at : ℕ) → None ≡ slice_get es at → drop at (entry_keys es) ≡ []
 no_key [] zero is = refl
 no_key [] (suc at) is = refl
@@ -70,7 +70,7 @@ no_more [] at is = refl
 no_more (x ∷ es) zero is = absurd (cc)
 no_more (x ∷ es) (suc at) is = no_more es at is
 
--- a name is marked, and those behind it are left
+-- a name is marked, and those after it are left
 pub marks_next : (es : List Entry) (at : ℕ) (e : Entry) (name other : List ℕ) (old new whole : Bool) → Some e ≡ slice_get es at → name ≡ string_bytes e.0
     → new ≡ (old || eqb (slot_of other) (slot_of name)) → (old || shares_slot (drop at (entry_keys es)) other) ≡ whole
     → (new || shares_slot (drop (at + 1) (entry_keys es)) other) ≡ whole
@@ -82,7 +82,7 @@ marks_next es at e name other old new whole is named marked before =
     ∙ ap (λ names. old || shares_slot names other) (sym (next_key es at e is))
     ∙ before
 
--- there is none at the place
+-- no name is left
 pub marks_past : (es : List Entry) (at : ℕ) (other : List ℕ) (old whole : Bool) → None ≡ slice_get es at
     → (old || shares_slot (drop at (entry_keys es)) other) ≡ whole → (old || shares_slot (drop (at + 1) (entry_keys es)) other) ≡ whole
 marks_past es at other old whole is before =
@@ -115,7 +115,7 @@ all_own q (x ∷ xs) own = and_both _ _ (own x (or_left _ _ (same_slot (slot_of 
 pub covers_all : (old new : DeclaredNames) (declared : Declared) → ((other : List ℕ) → has_mark new other ≡ (has_mark old other || shares_slot (drop 0 (keys_of declared)) other)) → Covers new declared
 covers_all old new declared marked = all_own (has_mark new) (keys_of declared) (λ x shares. marked x ∙ or_right _ _ shares)
 
--- one path more keeps the names, or puts one behind
+-- one more path keeps the names, or appends one
 keys_more : (declared : Declared) (key path : List ℕ) → (more : List (List ℕ)) × (keys_of (with_path declared key path) ≡ keys_of declared ++ more)
 keys_more [] key path = (key ∷ [], refl)
 keys_more ((k, paths) ∷ rest) key path =
@@ -131,7 +131,7 @@ keys_leaves declared ((key, path) ∷ leaves) =
     let rest = keys_leaves (with_path declared key path) leaves in
     (one.0 ++ rest.0, rest.1 ∙ ap (λ l. l ++ rest.0) one.1 ∙ append_assoc (keys_of declared) one.0 rest.0)
 
--- the names behind those that were declared before are marked
+-- the names after those declared before are marked
 covers_behind : (old new : DeclaredNames) (before after : Declared) (more : List (List ℕ)) → keys_of after ≡ keys_of before ++ more → Covers old before
     → ((other : List ℕ) → has_mark new other ≡ (has_mark old other || shares_slot (drop (length before) (keys_of after)) other)) → Covers new after
 covers_behind old new before after more keys covers marked =
@@ -141,7 +141,8 @@ covers_behind old new before after more keys covers marked =
     ∙ and_both _ _ (all_kept (has_mark old) (has_mark new) (keys_of before) (λ x e. marked x ∙ or_left _ _ e) covers)
     (all_own (has_mark new) more (λ x shares. marked x ∙ or_right _ _ (ap (λ l. shares_slot l x) behind ∙ shares)))
 
--- marks cover what is declared after an import line once the names behind the earlier ones are marked
+-- marks cover the declarations after an import line once the names after the earlier ones are
+-- marked
 pub covers_import : (old new : DeclaredNames) (before after : Declared) (leaves : Result (List Leaf) SyntaxFault) → Covers old before → with_import before leaves ≡ Ok after
     → ((other : List ℕ) → has_mark new other ≡ (has_mark old other || shares_slot (drop (length before) (keys_of after)) other)) → Covers new after
 covers_import old new before after (Ok leaves) covers import marked =

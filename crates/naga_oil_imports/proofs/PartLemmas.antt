@@ -1,4 +1,4 @@
--- The parts of an import line, read off the front of its tokens.
+-- The parts of an import line, read from the front of its tokens.
 use Rattle.std.proofs.Common.{◌≡◌, ℕ, zero, suc, ◌+◌, ◌<◌, ◌≤◌, Bool, true, false, List, [], ◌∷◌, ◌++◌, length, take, drop, map, get_or, Some, None, unwrap_or, string_bytes, String, refl, sym, ap, ◌∙◌, append-nil, take-append-drop, arith, nat_eq}
 use Rattle.std.specs.Prelude.{codes}
 use Rattle.std.specs.declared.alloc.Global.{Global}
@@ -12,7 +12,7 @@ use Rattle.naga_oil_lines.specs.Tokens.{Lexeme, identifier, other, whitespace}
 use Rattle.naga_oil_lines.specs.Tokenizer.{lexeme_of}
 use Rattle.naga_oil_imports.specs.Leaves.{Part, nothing, alias_after, alias_len, unit_len, unit_part, mark_part, parts, behind_last_colons}
 
--- parts go on behind the tokens that have been told
+-- the parts continue after the tokens already read
 parts-told : (told : ℕ) (ts : List Lexeme) → parts told ts ≡ parts 0 (drop told ts)
 unfolding parts
 parts-told zero ts = refl
@@ -23,7 +23,7 @@ pub no_parts : (tokens : List Token) → length tokens ≡ 0 → parts 0 (map le
 unfolding parts
 no_parts tokens e = ap (λ ts. parts 0 (map lexeme_of ts)) (nil_from_length tokens e)
 
--- the tokens begin with a unit, a character by itself, or white space
+-- the tokens begin with a unit, any other character, or white space
 pub unit_first : (all ts rest : List Lexeme) (name : List ℕ) (at : ℕ) (p : Part) → all ≡ identifier name at ∷ ts → p ≡ unit_part name (alias_after ts) (drop (alias_len (alias_after ts)) ts) → rest ≡ drop (unit_len ts) ts
     → parts 0 all ≡ p ∷ parts 0 rest
 unfolding parts
@@ -37,11 +37,11 @@ pub white_first : (all ts : List Lexeme) (text : List ℕ) (at : ℕ) → all �
 unfolding parts
 white_first all ts text at e = ap (parts 0) e
 
--- the token in front, as the tokens are seen
+-- the first token, as a lexeme
 pub seen_first : (tokens behind : List Token) (first t : Token) → tokens ≡ first ∷ behind → first ≡ t → map lexeme_of tokens ≡ lexeme_of t ∷ map lexeme_of behind
 seen_first tokens behind first t e is = ap (map lexeme_of) e ∙ ap (λ x. lexeme_of x ∷ map lexeme_of behind) is
 
--- one text more
+-- one more text
 pub concat_more : (xs : List (String Global)) (i : ℕ) (x : String Global) → i < length xs → x ≡ get_or xs i x → concat (map string_bytes (take (i + 1) xs)) ≡ concat (map string_bytes (take i xs)) ++ string_bytes x
 concat_more xs i x h e =
     ap (λ ys. concat (map string_bytes ys)) (take_more xs i x h ∙ ap (λ y. take i xs ++ y ∷ []) (sym e))
@@ -67,7 +67,7 @@ no_last (c ∷ cs) lacks =
     let rest : behind_last_colons cs ≡ None = no_last cs (λ i h. lacks (suc i) (omega arith)) in
     rw (rest, not_begins (c ∷ cs) (lacks 0 (omega arith))) refl
 
--- the last `::` of the text stands at i, before these bytes
+-- the last `::` of the text is at i, before these bytes
 pub last_at : (s back : List ℕ) (i : ℕ) → drop i s ≡ 58 ∷ 58 ∷ back → ((k : ℕ) → i < k → k ≤ length s → LacksTextAt (codes "::") s k) → behind_last_colons s ≡ Some back
 last_at [] back zero e lacks = cc
 last_at [] back (suc i) e lacks = cc
@@ -79,7 +79,7 @@ last_at (c ∷ cs) back (suc i) e lacks =
     let rest : behind_last_colons cs ≡ Some back = last_at cs back i e (λ k h g. lacks (suc k) (omega arith) (omega arith)) in
     rw rest refl
 
--- what `rsplit_once` gives
+-- the result of `rsplit_once`
 pub last_found : (s back : List ℕ) (i j : ℕ) → RFindsText (codes "::") s (Some (i, j)) → back ≡ drop j s → back ≡ unwrap_or (behind_last_colons s) s
 last_found s back i j found is = sym (ap (λ o. unwrap_or o s) (last_at s back i (found.1.split ∙ ap (λ bs. 58 ∷ 58 ∷ bs) (sym is)) found.0))
 

@@ -1,4 +1,4 @@
--- What stands before an identifier that is substituted.
+-- The text before an identifier that is substituted.
 use Rattle.std.proofs.Common.{◌≡◌, ℕ, suc, ◌+◌, Bool, true, false, cond, eqb, ◌||◌, List, [], ◌∷◌, ◌++◌, length, take, drop, refl, sym, ap, ◌∙◌, arith, append_assoc, length-append, add-zero}
 use borrow.Author.Tests.{ne_eqb}
 use Rattle.std.specs.Char.{is_whitespace, encode_utf8}
@@ -63,7 +63,7 @@ module _ (bs : List ℕ) (c : ℕ) (more name behind : List ℕ) (first : Begins
   kept_passes = token_passes true false bs name behind (identifier name) cut u identifier_first (λ at. refl) (λ declared at. refl) (λ offset at. refl)
 
 -- ---- any other character
--- white space is one token with the white space behind it
+-- white space is one token with the white space after it
 abbrev white : List ℕ → List ℕ
 white cs = encode_utf8_all (take (prefix_len is_whitespace cs) cs)
 
@@ -113,7 +113,7 @@ module _ (kept : Bool) (bs : List ℕ) (c : ℕ) (more : List ℕ) (first : Begi
   abbrev run : List ℕ
   run = encode_utf8 c ++ white (chars more)
 
-  -- a run of white space, from its first character and from behind it
+  -- a run of white space, from its first character and from after it
   place : (at : ℕ) → at + length (encode_utf8 c) + length (white (chars more)) ≡ at + length run
   place at = omega (arith, length-append (encode_utf8 c) (white (chars more)))
 

@@ -1,4 +1,4 @@
--- A text without `::` stands as it is where nothing is declared.
+-- A text without `::` is unchanged where nothing is declared.
 use Rattle.std.proofs.Common.{◌≡◌, ℕ, zero, suc, ◌+◌, Bool, true, false, List, [], ◌∷◌, ◌++◌, take, drop, None, refl, sym, ap, ◌∙◌, ◌||◌, ◌==◌, append_assoc, append-nil, subst, length, ◌≤◌}
 use Rattle.std.specs.Char.{is_whitespace, len_utf8, encode_utf8}
 use Rattle.std.specs.List.{flat_map, list_any}
@@ -28,7 +28,7 @@ back_uncut : (xs ys : List ℕ) → cut_at_first (xs ++ ys) ≡ None → cut_at_
 back_uncut [] ys e = e
 back_uncut (a ∷ xs) ys e = back_uncut xs ys (tail_uncut a (xs ++ ys) e)
 
--- ---- tokens that stand as they are
+-- ---- tokens that are unchanged
 pub record Plain (kept : Bool) (ts : List Lexeme) (text : List ℕ) : Type 0 where
   pub written : substituted_from [] kept ts ≡ text
   pub unused : (offset : ℕ) → mentions_in [] (usize_sites (sites_from offset kept ts)) ≡ []
@@ -103,7 +103,7 @@ any_drop p (b ∷ bs) (suc i) e = any_drop p bs i (rest (p b) e)
     rest true h = cc
     rest false h = h
 
--- one without `:` has no `::`
+-- a text without `:` has no `::`
 pub lacks_colons : (bs : List ℕ) → list_any (λ b. b == 58) bs ≡ false → (i : ℕ) → i ≤ length bs → LacksTextAt (58 ∷ 58 ∷ []) bs i
 lacks_colons bs none i within rest e =
     let lost = any_drop (λ b. b == 58) bs i none in

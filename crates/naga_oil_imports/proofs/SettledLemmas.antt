@@ -1,4 +1,4 @@
--- Identifiers that are substituted one after another, up to a refusal.
+-- Identifiers that are substituted one after another, up to an error.
 use Rattle.std.proofs.Common.{◌≡◌, ℕ, IsErrAnd, ◌<◌, nat_lt, Bool, true, false, cond, not, ◌&&◌, eqb, List, [], ◌∷◌, ◌++◌, length, map, Option, Some, None, Vec, String, string_bytes, bytes_eq, Result, Ok, Err, IfErr, refl, sym, ap, subst, ◌∙◌, arith, append_assoc, append-nil}
 use Rattle.std.specs.declared.alloc.Global.{Global}
 use Rattle.std.specs.List.{flat_map}
@@ -17,7 +17,7 @@ use Rattle.naga_oil_imports.specs.Uses.{Uses}
 use Rattle.naga_oil_imports.proofs.SiteLemmas.{with_mentions-append, begins_later}
 
 -- ---- the paths of an identifier
--- what the code's map holds at a key
+-- the value of the code's map at a key
 pub paths_of_map : (key : List ℕ) (es : List (String Global × Vec (String Global) Global))
     → paths_of (map (λ e. (string_bytes e.0, map string_bytes e.1.items)) es) key ≡ option_map_or (λ v. map string_bytes v.items) (lookup (λ k. bytes_eq key (string_bytes k)) es) []
 paths_of_map key [] = refl
@@ -34,7 +34,7 @@ paths_of_map key (e ∷ es) =
 abbrev pub own_path : List ℕ → List ℕ
 own_path name = longer_path (first_part name) (behind_first name)
 
--- an identifier is its first part, `::` and what follows that
+-- an identifier is its first part, `::` and the rest
 abbrev pub Parts : List ℕ → Option (List ℕ × List ℕ) → Type 0
 Parts s None = Unit {0}
 Parts s (Some p) = s ≡ p.0 ++ 58 ∷ 58 ∷ p.1
@@ -53,7 +53,7 @@ parts_of (a ∷ b ∷ more) = by (eqb a 58) (eqb b 58) refl refl (cut_at_first (
     by true false p q r h = later r h
     by true true p q r h = (λ i. eqb-true a 58 p i ∷ eqb-true b 58 q i ∷ more)
 
--- which is the identifier if something follows, and else its first part
+-- the path is the identifier if there is a rest, and else its first part
 pub own_whole : (name : List ℕ) → 0 < length (behind_first name) → name ≡ own_path name
 own_whole name h = by (cut_at_first name) (parts_of name) h
   where
@@ -90,7 +90,7 @@ refused_none declared allowed s e = ap (λ b. mentions_in declared (cond b [] (s
 pub settled_one : (declared : Declared) (allowed : Bool) (s : Site) → is_refused declared allowed s ≡ false → first_ambiguous declared allowed (s ∷ []) ≡ None
 settled_one declared allowed s e = ap (λ b. cond b (Some s.place) None) e
 
--- want of memory at an identifier that is not refused
+-- out of memory at an identifier that is not ambiguous
 pub memory_one : (declared : Declared) (allowed : Bool) (s : Site) (mentions : List Mention) (old new : Uses) → is_refused declared allowed s ≡ false → mentions_in declared (s ∷ []) ≡ mentions
     → BeginsUses mentions old new → RefusesUses declared allowed (s ∷ []) old new Memory
 memory_one declared allowed s mentions old new e m b = record {
@@ -127,7 +127,7 @@ some_first declared allowed (s ∷ xs) ys place e =
       | false ↦ λ g. (let more = some_first declared allowed xs ys place g in (more.0, ap (λ l. s ∷ l) more.1))
     ] e
 
--- what comes before it in more identifiers begins alike
+-- more identifiers only append to those before the first ambiguous one
 before_more : (declared : Declared) (allowed : Bool) (xs ys : List Site) → (zs : List Site) × (before_ambiguous declared allowed (xs ++ ys) ≡ before_ambiguous declared allowed xs ++ zs)
 before_more declared allowed [] ys = (before_ambiguous declared allowed ys, refl)
 before_more declared allowed (s ∷ xs) ys =
@@ -141,7 +141,7 @@ before_none : (declared : Declared) (allowed : Bool) (xs : List Site) → first_
 before_none declared allowed xs e =
     ap (before_ambiguous declared allowed) (sym (append-nil xs)) ∙ (none_behind declared allowed xs [] e).1 ∙ append-nil xs
 
--- all but what is left is substituted
+-- everything but what is left is substituted
 pub record Settled (declared : Declared) (allowed : Bool) (all : List Site) (old now : Uses) (left : List Site) : Type 0 where
   pub done : List Site
   pub none : first_ambiguous declared allowed done ≡ None
@@ -168,7 +168,7 @@ settled_none declared allowed all old now s = ap (first_ambiguous declared allow
 pub settled_uses : (declared : Declared) (allowed : Bool) (all : List Site) (old now : Uses) → Settled declared allowed all old now [] → now ≡ with_mentions old (mentions_in declared all)
 settled_uses declared allowed all old now s = s.uses ∙ ap (λ ss. with_mentions old (mentions_in declared ss)) (sym (append-nil s.done) ∙ s.whole)
 
--- a refusal at what comes next
+-- an error at the next identifier
 pub settled_refused : (declared : Declared) (allowed : Bool) (all : List Site) (old mid new : Uses) (one rest : List Site) (fault : SubstituteFault) → Settled declared allowed all old mid (one ++ rest)
     → RefusesUses declared allowed one mid new fault → RefusesUses declared allowed all old new fault
 settled_refused declared allowed all old mid new one rest (Ambiguous place) s r =
@@ -191,13 +191,13 @@ settled_refused declared allowed all old mid new one rest Memory s r =
     (ap (mentions_in declared) before ∙ flat_map-append (mentions_of declared) s.done (before_ambiguous declared allowed one ++ more.0)
     ∙ ap (λ l. mentions_in declared s.done ++ l) (flat_map-append (mentions_of declared) (before_ambiguous declared allowed one) more.0)) r
 
--- ---- a count of paths
+-- ---- a number of paths
 pub refused_is : (declared : Declared) (allowed : Bool) (s : Site) (xs : List (String Global)) (behind : List ℕ) → paths_for declared s.name ≡ longer_paths (map string_bytes xs) behind
     → is_refused declared allowed s ≡ (not allowed && nat_lt 1 (length xs))
 refused_is declared allowed s xs behind e =
     ap (λ n. not allowed && nat_lt 1 n) (ap length e ∙ length-map (map string_bytes xs) (λ path. longer_path path behind) ∙ length-map xs string_bytes)
 
--- a fault as the answer
+-- an error as the result
 pub fault_answer : {T : Type 0} (r : Result T SubstituteFault) (P : SubstituteFault → Type 0) (fault : SubstituteFault) → IsErrAnd r (λ e. e ≡ fault) → P fault → IfErr r P
 fault_answer (Ok u) P fault h p = tt
 fault_answer (Err e) P fault h p = subst P (sym h) p

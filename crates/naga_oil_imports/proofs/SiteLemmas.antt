@@ -17,11 +17,11 @@ with_mentions-append uses (m ∷ xs) ys = with_mentions-append (with_use uses m.
 pub begins_none : (all : List Mention) (old new : Uses) → new ≡ old → BeginsUses all old new
 begins_none all old new e = record { done = []; left = all; whole = refl; now = e }
 
--- all of them are
+-- all the uses are recorded
 pub begins_all : (all : List Mention) (old new : Uses) → new ≡ with_mentions old all → BeginsUses all old new
 begins_all all old new e = record { done = all; left = []; whole = append-nil all; now = e }
 
--- a beginning of some uses behind others that are recorded
+-- a beginning of some uses after others that are recorded
 pub begins_later : (front one rest all : List Mention) (old mid new : Uses) → mid ≡ with_mentions old front → all ≡ front ++ (one ++ rest) → BeginsUses one mid new → BeginsUses all old new
 begins_later front one rest all old mid new m e b = record {
   done = front ++ b.done;
@@ -43,7 +43,7 @@ of_paths-append f behind xs ys =
     ∙ ap (flat_map f) (map-append (λ path. longer_path path behind) (map string_bytes xs) (map string_bytes ys))
     ∙ flat_map-append f (longer_paths (map string_bytes xs) behind) (longer_paths (map string_bytes ys) behind)
 
--- one path more is written
+-- one more path is written
 pub of_paths-more : {B : Type 0} (f : List ℕ → List B) (behind : List ℕ) (xs : List (String Global)) (i : ℕ) (x : String Global) → i < length xs → x ≡ get_or xs i x
     → of_paths f behind (take (i + 1) xs) ≡ of_paths f behind (take i xs) ++ f (longer_path (string_bytes x) behind)
 of_paths-more f behind xs i x h e =
@@ -60,7 +60,7 @@ of_paths-all f behind xs i x h e =
     ∙ ap (λ l. l ++ of_paths f behind (drop (i + 1) xs)) (of_paths-more f behind xs i x h e)
     ∙ append_assoc (of_paths f behind (take i xs)) (f (longer_path (string_bytes x) behind)) (of_paths f behind (drop (i + 1) xs))
 
--- ---- what is written for a path, and its use
+-- ---- the text written for a path, and its use
 pub written_item : (name path m item : List ℕ) → Some (m, item) ≡ module_and_item path → path_text name path ≡ decorated_name (Some m) item
 unfolding path_text
 written_item name path m item e = ap (path_text_by name path) (sym e)
@@ -92,7 +92,7 @@ pub on_err : {P : Type 0} (r : Result (Unit {0}) AllocError) → P → OnErr r P
 on_err (Ok u) p = tt
 on_err (Err e) p = p
 
--- one path more is written, or used
+-- one more path is written, or its use recorded
 pub text_more : (f : List ℕ → List ℕ) (behind : List ℕ) (xs : List (String Global)) (i : ℕ) (x : String Global) (whole old mid new : List ℕ) → i < length xs → x ≡ get_or xs i x
     → whole ≡ longer_path (string_bytes x) behind → mid ≡ old ++ of_paths f behind (take i xs) → new ≡ mid ++ f whole → new ≡ old ++ of_paths f behind (take (i + 1) xs)
 text_more f behind xs i x whole old mid new h e w m n =

@@ -1,4 +1,4 @@
--- Places of identifiers that a number of the machine holds.
+-- Places of identifiers that fit in a `usize`.
 use Rattle.std.proofs.Common.{◌≡◌, ℕ, ◌+◌, ◌<◌, ◌≤◌, ◌^◌, Bool, true, false, List, [], ◌∷◌, length, refl, ap, arith}
 use Rattle.std.specs.Prelude.{All}
 use Rattle.std.specs.Str.{chars, IsUtf8}
@@ -23,7 +23,7 @@ tokens_count offset end h false (identifier text at ∷ ts) w =
 tokens_count offset end h kept (other c at ∷ ts) w = tokens_count offset end h (keeps_next (other c at)) ts (All-tail (Within end) _ _ w)
 tokens_count offset end h kept (whitespace text at ∷ ts) w = tokens_count offset end h false ts (All-tail (Within end) _ _ w)
 
--- the identifiers of a text that ends within the numbers of the machine
+-- the identifiers of a text whose end fits in a `usize`
 pub sites_count : (offset : ℕ) (text : List ℕ) → IsUtf8 text → offset + length text < 2 ^ 64 → usize_sites (sites offset (lexemes 0 0 (chars text))) ≡ sites offset (lexemes 0 0 (chars text))
 sites_count offset text u h =
     tokens_count offset (length text) h false (lexemes 0 0 (chars text)) (lexemes_within 0 0 (length text) (chars text) (omega (arith, ap length (encodes-chars text u))))

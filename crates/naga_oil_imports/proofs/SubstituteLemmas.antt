@@ -1,4 +1,4 @@
--- Cuts around `::`.
+-- Texts cut around `::`.
 use Rattle.std.proofs.Common.{◌≡◌, ℕ, zero, suc, ◌<◌, ◌≤◌, Bool, true, false, eqb, ◌&&◌, List, [], ◌∷◌, length, take, drop, Option, Some, None, MatchOption, Bor, refl, sym, ap, ◌∙◌, arith}
 use borrow.Author.Tests.{eqb-true}
 use Rattle.std.specs.Option.{option_map}
@@ -8,7 +8,7 @@ use Rattle.naga_oil_imports.specs.Substituted.{cut_at_first, module_and_item}
 colons : List ℕ
 colons = 58 ∷ 58 ∷ []
 
--- no `::` stands at the front
+-- no `::` at the front
 not_here : (a b : ℕ) (more : List ℕ) → LacksTextAt (58 ∷ 58 ∷ []) (a ∷ b ∷ more) 0 → (eqb a 58 && eqb b 58) ≡ false
 not_here a b more none = by (eqb a 58) (eqb b 58) refl refl
   where
@@ -55,7 +55,7 @@ last_at (a ∷ b ∷ more) zero back none at =
     rw (last_none (b ∷ more) (λ k h. none (suc k) (omega arith) (omega (arith, h))), first, second, rest) refl
 last_at (a ∷ b ∷ more) (suc i) back none at = rw (last_at (b ∷ more) i back (λ k g h. none (suc k) (omega (arith, g)) (omega (arith, h))) at) refl
 
--- what `split_once` gives at `::`
+-- the result of `split_once` at `::`
 pub split_first : (s : List ℕ) (r : Option (Bor (List ℕ) × Bor (List ℕ)))
     → MatchOption r (FindsText (58 ∷ 58 ∷ []) s None) (λ x. SplitsAroundMatch (FindsText (58 ∷ 58 ∷ [])) s x.0.now x.1.now)
     → option_map (λ p. (p.0.now, p.1.now)) r ≡ cut_at_first s
@@ -64,7 +64,7 @@ split_first s (Some x) h =
     let found = h.2 in
     sym (first_at s h.0 x.1.now found.0 (found.1.split ∙ ap (λ l. 58 ∷ 58 ∷ l) (sym h.4)) ∙ ap (λ l. Some (l, x.1.now)) (sym h.3))
 
--- a path without `::`, and one that is split around its last
+-- a path without `::`, and one that is cut around its last `::`
 pub path_is_whole : (s : List ℕ) → RFindsText (58 ∷ 58 ∷ []) s None → None ≡ module_and_item s
 path_is_whole s h = sym (last_none s h)
 

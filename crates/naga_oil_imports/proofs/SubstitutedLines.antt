@@ -1,4 +1,4 @@
--- Where no line end is in a text, none is in its covered, cut or substituted form.
+-- A text without a line end has none in its covered, cut or substituted form.
 use Rattle.std.proofs.Common.{◌≡◌, ℕ, zero, suc, ◌+◌, ◌-◌, ◌<◌, ◌/◌, ◌%◌, ◌&&◌, nat_lt, Bool, true, false, cond, eqb, ltb, Option, Some, None, List, [], ◌∷◌, ◌++◌, length, get_or, take, codes, refl, sym, ap, subst, ◌∙◌, arith}
 use borrow.Author.Tests.{eqb-true, ne_eqb}
 use lib.Utf8.{encode, next}
@@ -18,7 +18,7 @@ use Rattle.naga_oil_lines.specs.Cover.{mark_at, spaces, deeper, shallower, past_
 use Rattle.naga_oil_lines.specs.CoveredLines.{covered_lines}
 use Rattle.naga_oil_imports.specs.Declarations.{Declared, paths_of}
 use Rattle.naga_oil_lines.specs.Decorate.{letter, letters, bits, base32, decorated_name}
-use Rattle.naga_oil_marks.specs.Marks.{module_mark}
+use Rattle.naga_oil_words.specs.Marks.{module_mark}
 use Rattle.naga_oil_imports.specs.Substituted.{cut_at_first, module_and_item, first_part, behind_first, longer_path, paths_or, longer_paths, paths_for, path_text_by, path_text, keeps_next, token_text, substituted_from, substituted}
 use Rattle.naga_oil_lines.specs.Tokens.{Lexeme, identifier, other, whitespace, starts_identifier, more_in_token, lexeme_at, lexemes}
 
@@ -201,7 +201,7 @@ unfolding paths_for
 in_paths_for declared name h k =
     in_all_extended _ (behind_first name) (in_paths_or (paths_of declared (first_part name)) (first_part name) (in_paths_of declared (first_part name) h) (in_first_part name k)) (in_behind_first name k)
 
--- ---- what is written
+-- ---- the text that is written
 in_written_as : (name path : List ℕ) (o : Option (List ℕ × List ℕ)) → None10 name → None10 path → NoneInParts o → None10 (path_text_by name path o)
 in_written_as name path (Some p) h k l = in_decorated p.0 p.1 l.1
 in_written_as name path None h k l = elim (list_any (λ b. eqb b 34) path) as (λ t. None10 (cond t name path)) [ true ↦ h | false ↦ k ]
@@ -322,7 +322,7 @@ in_covered_lines s (line ∷ more) h = (in_cover s line h.0, in_covered_lines ((
 pub cover_holds_no_newline : (s : CommentState) (line : List ℕ) → count_by (λ b. eqb b 10) line ≡ 0 → count_by (λ b. eqb b 10) ((cover s line).0) ≡ 0
 cover_holds_no_newline s line e = counted ((cover s line).0) (in_cover s line (uncounted line e))
 
--- so it is with many lines, and with those of a text
+-- many lines, and those of a text, likewise
 pub covered_lines_hold_no_newline : (s : CommentState) (texts : List (List ℕ)) → All (λ line. count_by (λ b. eqb b 10) line ≡ 0) texts
     → All (λ line. count_by (λ b. eqb b 10) line ≡ 0) (covered_lines s texts)
 covered_lines_hold_no_newline s texts h =

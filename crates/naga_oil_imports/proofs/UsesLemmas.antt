@@ -1,4 +1,4 @@
--- Uses of imported modules, as the code's map holds them.
+-- Uses of imported modules in the code's map.
 use Rattle.std.proofs.Common.{◌≡◌, ℕ, true, false, cond, List, [], ◌∷◌, map, Some, None, Result, Ok, Err, OnOk, OnErr, String, Vec, string_bytes, bytes_eq, ap, subst, ◌∙◌}
 use Rattle.std.specs.declared.alloc.Global.{Global}
 use Rattle.std.specs.declared.alloc.AllocError.{AllocError}
@@ -58,7 +58,7 @@ use_first key name item place es v e =
     subst (λ n. lookup (λ k. bytes_eq n (string_bytes k)) es ≡ None → use_of v ≡ first_use n item place → map use_entry (insert_entry string_eq es key v) ≡ with_use (map use_entry es) n item place)
     e (first_used key item place es v)
 
--- a push at a module that is there, done or refused
+-- an append at a module that is there, done or refused
 pub use_pushed : (r : Result (Unit {0}) AllocError) (name item : List ℕ) (place : ℕ) (es new : List (String Global × ImportDefWithOffset)) (v w : ImportDefWithOffset)
     → lookup (λ k. bytes_eq name (string_bytes k)) es ≡ Some v → new ≡ set_value (λ k. bytes_eq name (string_bytes k)) es w
     → OnOk r (use_of w ≡ with_item (use_of v) item) → OnOk r (map use_entry new ≡ with_use (map use_entry es) name item place)

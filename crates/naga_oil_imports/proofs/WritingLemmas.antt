@@ -1,4 +1,4 @@
--- A text whose identifiers are substituted from one to the next.
+-- A text whose identifiers are substituted one after another.
 use Rattle.std.proofs.Common.{Option, Some, ◌≡◌, ℕ, ◌+◌, ◌-◌, Bool, true, false, cond, not, ◌&&◌, ◌||◌, eqb, List, [], ◌∷◌, ◌++◌, length, None, refl, sym, ap, subst, ◌∙◌, arith, append_assoc, append-nil, length-append}
 use borrow.Author.Tests.{eqb-true}
 use Rattle.std.specs.List.{flat_map, list_any}
@@ -31,7 +31,7 @@ no_cut [] e = refl
 no_cut (a ∷ []) e = refl
 no_cut (a ∷ b ∷ more) e = let n = not_colon a (b ∷ more) e in rw (n.0, no_cut (b ∷ more) n.1) refl
 
--- no `::` stands at the front, and none behind it
+-- no `::` at the front, and none after it
 pub not_cut : (a b : ℕ) (more : List ℕ) → cut_at_first (a ∷ b ∷ more) ≡ None → ((eqb a 58 && eqb b 58) ≡ false) × (cut_at_first (b ∷ more) ≡ None)
 not_cut a b more e =
     elim (eqb a 58 && eqb b 58) as (λ x. cond x (Some ([], more)) (option_map {U = List ℕ × List ℕ} (λ p. (a ∷ p.0, p.1)) (cut_at_first (b ∷ more))) ≡ None → (x ≡ false) × (cut_at_first (b ∷ more) ≡ None)) [
@@ -48,7 +48,7 @@ no_module [] e = refl
 no_module (a ∷ []) e = refl
 no_module (a ∷ b ∷ more) e = let n = not_cut a b more e in rw (no_module (b ∷ more) n.1, n.0) refl
 
--- it has one path, itself, which is written as it is and uses nothing
+-- an identifier of its own has one path, itself, which is written as it is and uses nothing
 pub record Own (declared : Declared) (name : List ℕ) : Type 0 where
   pub paths : paths_for declared name ≡ name ∷ []
   pub text : path_text name name ≡ name
@@ -76,7 +76,8 @@ is_own_gives declared name e =
     by false true p q h = own_without_cut declared name (no_cut name p) (eqb-true _ _ q)
 
 -- ---- one identifier after another
--- the text is read up to the rest, and written behind the start up to what is unwritten, which stands as it is up to the rest
+-- the text is read up to the rest, and written after the start up to the unwritten part, which is
+-- unchanged up to the rest
 pub record Writing (declared : Declared) (allowed : Bool) (offset : ℕ) (input start : List ℕ) (old now : Uses) (output unwritten rest : List ℕ) : Type 0 where
   pub read : List ℕ
   pub whole : input ≡ read ++ rest
@@ -99,7 +100,7 @@ module _ (declared : Declared) (allowed : Bool) (offset : ℕ) (input start : Li
     settled = settled_start declared allowed all old old refl;
   }
 
-  -- want of memory between two identifiers
+  -- out of memory between two identifiers
   pub writing_refused : (now : Uses) (output unwritten rest : List ℕ) → Writing declared allowed offset input start old now output unwritten rest → RefusesUses declared allowed all old now Memory
   writing_refused now output unwritten rest w =
       settled_refused declared allowed all old now now [] (usize_sites (sites offset (lexemes 0 (length w.read) (chars rest)))) Memory w.settled (begins_none [] now now refl)
@@ -162,7 +163,7 @@ module _ (declared : Declared) (allowed : Bool) (offset : ℕ) (input start : Li
       before_next : Settled declared allowed all old now ((this ∷ []) ++ usize_sites (sites offset (lexemes 0 (length next_read) (chars more))))
       before_next = subst (Settled declared allowed all old now) next_sites w.settled
 
-      -- what is unwritten before it
+      -- the unwritten text before the next identifier
       pub unwritten_before : (f : List ℕ) × (unwritten ≡ f ++ from)
       unwritten_before = (w.plain ++ front, w.behind ∙ ap (λ l. w.plain ++ l) site.before.whole ∙ sym (append_assoc w.plain front from))
 
@@ -172,7 +173,7 @@ module _ (declared : Declared) (allowed : Bool) (offset : ℕ) (input start : Li
           let left : length rest ≡ length front + length from = ap length site.before.whole ∙ length-append front from in
           omega arith
 
-      -- it stands for itself
+      -- the next identifier stands for itself
       pub own_read : is_own declared name ≡ true → Writing declared allowed offset input start old now output unwritten more
       own_read e =
           let own = is_own_gives declared name e in
@@ -195,7 +196,7 @@ module _ (declared : Declared) (allowed : Bool) (offset : ℕ) (input start : Li
                 (settled_one declared allowed this (one_path declared allowed this name own.paths)) (ap (with_mentions now) (sym uses));
           }
 
-      -- it is written
+      -- the next identifier is written
       module _ (place : ℕ) (is : place ≡ usize_place (offset + (length input - length from))) where
         this_is : record { name = name; place = place } ≡ this
         this_is i = record { name = name; place = (is ∙ ap (λ n. usize_place (offset + n)) place_of_next) i }

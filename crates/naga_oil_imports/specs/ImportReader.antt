@@ -1,4 +1,5 @@
--- Reading an import line part by part with a stack of heads, for the contracts of the private functions. The public ones speak of `Leaves`.
+-- Reading an import line part by part with a stack of heads, for the contracts of the private
+-- functions. The public ones cite `Leaves`.
 use Rattle.std.specs.Prelude.{ℕ, ◌-◌, Bool, false, ◌||◌, if◌then◌else◌, nat_le, Result, Ok, Err, List, [], ◌∷◌, ◌++◌, length, take, codes, bytes_eq}
 use Rattle.std.specs.List.{concat}
 use Rattle.naga_oil_imports.specs.Declarations.{Declared}
@@ -14,7 +15,7 @@ pub record Reader : Type 0 where
 abbrev pub at_start : Reader
 at_start = record { heads = []; old_form = false; leaves = [] }
 
--- one part more
+-- one more part
 abbrev pub step : Reader → Part → Result Reader SyntaxFault
 step r (head is_old text) = Ok (record { heads = r.heads ++ text ∷ []; old_form = r.old_form || is_old; leaves = r.leaves })
 step r (leaf key name) = Ok (record { heads = r.heads; old_form = r.old_form; leaves = r.leaves ++ (key, concat r.heads ++ name) ∷ [] })
@@ -35,7 +36,7 @@ unfoldable pub run : (end : ℕ) → Reader → List Part → Result (List Leaf)
 run end r [] = finish end r
 run end r (p ∷ ps) = elim (step r p) [ Ok next ↦ run end next ps | Err f ↦ Err f ]
 
--- one path less, the last at its key
+-- without the last path at a key
 abbrev pub without_path : Declared → (key : List ℕ) → Declared
 without_path [] key = []
 without_path ((k, paths) ∷ more) key = if bytes_eq k key then (k, take (length paths - 1) paths) ∷ more else (k, paths) ∷ without_path more key

@@ -1,4 +1,4 @@
--- Import lines whose leaves or faults are known, computed.
+-- Rows of import lines with their leaves or faults, computed.
 use Rattle.std.specs.Prelude.{◌≡◌, ℕ, refl, Ok, Err, List, [], ◌∷◌, codes}
 use Rattle.std.specs.Str.{chars}
 use lib.Utf8.{encode}

@@ -1,4 +1,4 @@
--- What the types of the import reader show.
+-- The types of the import reader, seen as those of `Leaves`.
 use Rattle.std.specs.Prelude.{ℕ, Bool, true, false, Option, Some, None, Result, Err, List, ◌++◌, ◌≡◌, map, codes, string_bytes, MatchOption}
 use Rattle.naga_oil_imports.specs.Leaves as lines
 use Rattle.naga_oil_imports.specs.Leaves.{SyntaxFault}
@@ -12,12 +12,12 @@ use Rattle.naga_oil_imports.specs.declared.parse_imports.Part.TheVariants.{Head,
 use Rattle.naga_oil_imports.specs.declared.parse_imports.Leaf.{Leaf}
 use Rattle.naga_oil_imports.specs.declared.parse_imports.ImportLine.{ImportLine}
 
--- the fault, but for want of memory
+-- the fault; out of memory is none
 abbrev pub fault_of : ImportFault → Option SyntaxFault
 fault_of (Syntax text at) = Some (text.now, at)
 fault_of Memory = None
 
--- an error is the fault that the value is, or want of memory
+-- the error is the fault of the value, or out of memory
 abbrev pub RefusesImport : {X : Type 0} → ImportFault → Result X SyntaxFault → Type 0
 RefusesImport e value = MatchOption (fault_of e) (Unit {0}) (λ f. value ≡ Err f)
 

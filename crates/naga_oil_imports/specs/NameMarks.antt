@@ -1,13 +1,17 @@
--- Marks by which most names are told to be undeclared without a look at what is declared.
+-- Marks that show, without a lookup among the declarations, that most names are undeclared.
 use Rattle.std.specs.Prelude.{◌≡◌, ℕ, ◌+◌, ◌*◌, ◌%◌, Bool, true, false, ◌==◌, List, [], ◌∷◌, length, map, get_or}
 use Rattle.std.specs.List.{list_all, list_any}
 use Rattle.naga_oil_imports.specs.declared.declared_names.DeclaredNames.{DeclaredNames}
 use Rattle.naga_oil_imports.specs.Declarations.{Declared}
 
+-- the number of slots
+abbrev pub slot_count : ℕ
+slot_count = 64
+
 -- the slot of a name, by its first byte and its length
 abbrev pub slot_of : List ℕ → ℕ
 slot_of [] = 0
-slot_of (b ∷ bs) = (b + 8 * (length (b ∷ bs) % 8)) % 64
+slot_of (b ∷ bs) = (b + 8 * (length (b ∷ bs) % 8)) % slot_count
 
 -- whether the slot of a name has its mark
 abbrev pub has_mark : DeclaredNames → List ℕ → Bool

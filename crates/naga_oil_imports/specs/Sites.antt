@@ -1,22 +1,25 @@
--- Where the identifiers of a text are that are substituted.
+-- The places of the identifiers of a text that are substituted.
 use Rattle.std.specs.Prelude.{◌≡◌, ℕ, ◌+◌, ◌<◌, Bool, false, not, ◌&&◌, ◌||◌, ◌==◌, List, [], ◌∷◌, ◌++◌, length, IsTrue}
 use Rattle.std.specs.List.{list_any}
 use Rattle.std.specs.Str.{chars, IsUtf8}
+use Rattle.naga_oil_words.specs.Bytes.{dot, colon, at_sign}
 use Rattle.naga_oil_imports.specs.Declarations.{Declared, paths_of}
 use Rattle.naga_oil_lines.specs.Tokens.{identifier, lexemes}
 use Rattle.naga_oil_imports.specs.Substituted.{sites_from, substituted_from}
 
--- an identifier without `:` that is not declared, which stands for itself alone
+-- an identifier without `:` that is not declared: it stands for itself
 abbrev pub is_own : Declared → List ℕ → Bool
-is_own declared name = not (list_any (λ b. b == 58) name) && (length (paths_of declared name) == 0)
+is_own declared name = not (list_any (λ b. b == colon) name) && (length (paths_of declared name) == 0)
 
--- whether an identifier is kept behind these bytes, none of which is of one, where kept says it of one in their place
+-- whether an identifier after this gap, which is of no identifier, stays as it is: by the gap's
+-- last byte, or by `kept` if the gap is empty
 abbrev pub keeps_behind : (kept : Bool) → List ℕ → Bool
 keeps_behind kept [] = kept
-keeps_behind kept (b ∷ bs) = keeps_behind ((b == 46) || (b == 64)) bs
+keeps_behind kept (b ∷ bs) = keeps_behind ((b == dot) || (b == at_sign)) bs
 
--- what stands before the rest of a text is written as it is, with no identifier that is substituted; kept and next say
--- whether an identifier is kept that begins the text, and one that begins the rest
+-- the text before a rest is written as it is, and has no identifier that is substituted; `kept` and
+-- `next` say whether an identifier at the start of the text, and one at the start of the rest, is
+-- kept
 pub record Passes (kept : Bool) (text : List ℕ) (next : Bool) (rest : List ℕ) : Type 0 where
   pub front : List ℕ
   pub whole : text ≡ front ++ rest
@@ -28,11 +31,12 @@ pub record Passes (kept : Bool) (text : List ℕ) (next : Bool) (rest : List ℕ
 abbrev pub HasNoSite : List ℕ → Type 0
 HasNoSite text = (next : Bool) × Passes false text next []
 
--- the first identifier of the text that is substituted, the text from it on, and the text behind it; a word has no `:`
+-- the first identifier of the text that is substituted, the text from it on, and the text after it;
+-- a word has no `:`
 pub record FindsSite (text name : List ℕ) (is_word : Bool) (from behind : List ℕ) : Type 0 where
   pub before : Passes false text false from
   pub cut : from ≡ name ++ behind
-  pub word : IsTrue is_word → list_any (λ b. b == 58) name ≡ false
+  pub word : IsTrue is_word → list_any (λ b. b == colon) name ≡ false
   pub shorter : length behind < length from
   pub utf8 : IsUtf8 behind
   pub token : (at : ℕ) → lexemes 0 at (chars from) ≡ identifier name at ∷ lexemes 0 (at + length name) (chars behind)

@@ -1,25 +1,25 @@
--- What imported modules are used for.
+-- The items used of imported modules.
 use Rattle.std.specs.Prelude.{ℕ, if◌then◌else◌, List, [], ◌∷◌, ◌++◌, map, String, string_bytes, bytes_eq}
 use Rattle.std.specs.declared.alloc.Global.{Global}
 use Rattle.indexmap.specs.IndexMap.{IndexMap}
 use Rattle.naga_oil_imports.specs.declared.import_definition.ImportDefinition.{ImportDefinition}
 use Rattle.naga_oil_imports.specs.declared.import_definition.ImportDefWithOffset.{ImportDefWithOffset}
 
--- a module's name, and the items that are asked of it in order
+-- a module's name, and the items used of it, in order
 pub record Import : Type 0 where
   pub import : List ℕ
   pub items : List (List ℕ)
 
--- the empty name, of which no item is asked
+-- the empty name, with no items
 abbrev pub nothing_asked : Import
 nothing_asked = record { import = []; items = [] }
 
--- what a module is used for, and the place of its first use
+-- an import, and the place of its first use
 pub record Use : Type 0 where
   pub import : Import
   pub offset : ℕ
 
--- what is used, each under its module's name, in order of first use
+-- the uses, each under its module's name, in order of first use
 abbrev pub Uses : Type 0
 Uses = List (List ℕ × Use)
 
@@ -27,16 +27,17 @@ Uses = List (List ℕ × Use)
 abbrev pub first_use : (name item : List ℕ) → ℕ → Use
 first_use name item place = record { import = record { import = name; items = item ∷ [] }; offset = place }
 
--- one item more
+-- one more item
 abbrev pub with_item : Use → List ℕ → Use
 with_item u item = record u { import = record u.import { items = u.import.items ++ item ∷ [] } }
 
--- one use more: it is pushed at its module, whose first place stays; a new module goes last
+-- one more use: its item is appended at its module, whose first place stays; a new module is
+-- appended last
 abbrev pub with_use : Uses → (name item : List ℕ) → ℕ → Uses
 with_use [] name item place = (name, first_use name item place) ∷ []
 with_use (u ∷ more) name item place = if bytes_eq name u.0 then (u.0, with_item u.1 item) ∷ more else u ∷ with_use more name item place
 
--- what the code's values stand for
+-- the code's values as these records
 abbrev pub import_of : ImportDefinition → Import
 import_of d = record { import = string_bytes d.import; items = map string_bytes d.items.items }
 

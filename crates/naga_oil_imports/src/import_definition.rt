@@ -1,17 +1,17 @@
-// What a module is imported for.
+// Imports of modules, with the items used of them.
 ghost use Rattle.std.specs.Prelude.{◌≡◌, IfOk, OnOk, OnErr};
 ghost use Rattle.std.specs.String.{string_bytes};
 
 use std::alloc::{AllocError, Global};
 
-/// An import of a module, with the items that are asked of it in order.
+/// An import of a module, with the items used of it, in order.
 #[derive(Debug, Drop, PartialEq, Eq)]
 pub struct ImportDefinition {
     pub import: String,
     pub items: Vec<String>,
 }
 
-/// An import, with the place in the text, in bytes, where it is first asked for.
+/// An import, with the place in the text, in bytes, of its first use.
 #[derive(Debug, Drop)]
 pub struct ImportDefWithOffset {
     definition: ImportDefinition,
@@ -21,7 +21,7 @@ pub struct ImportDefWithOffset {
 impl ImportDefinition {
     ghost use Rattle.naga_oil_imports.specs.Uses.{import_of, nothing_asked};
 
-    /// An import with the empty name, of which no item is asked. It takes no memory.
+    /// Returns an import with an empty name and no items. It allocates nothing.
     pub fn new(alloc: Global) -> ImportDefinition
         ensures { import_of result ≡ nothing_asked }
     {
@@ -31,7 +31,7 @@ impl ImportDefinition {
         }
     }
 
-    /// An equal import.
+    /// Returns an equal import.
     pub fn try_clone(&self) -> Result<ImportDefinition, AllocError>
         ensures { IfOk result (λ copy. import_of copy ≡ import_of self.now) }
     {
@@ -45,7 +45,7 @@ impl ImportDefinition {
 impl ImportDefWithOffset {
     ghost use Rattle.naga_oil_imports.specs.Uses.{import_of, use_of, Use, first_use, with_item};
 
-    /// An import that is first asked for at the place.
+    /// Returns an import whose first use is at the place.
     pub fn new(definition: ImportDefinition, offset: usize) -> ImportDefWithOffset
         ensures { use_of result ≡ record { import = import_of definition; offset = offset } }
     {
@@ -58,14 +58,14 @@ impl ImportDefWithOffset {
         &self.definition
     }
 
-    /// The place in the text, in bytes, where the import is first asked for.
+    /// The place in the text, in bytes, of the import's first use.
     pub fn offset(&self) -> usize
         ensures { result ≡ (use_of self.now).offset }
     {
         self.offset
     }
 
-    /// An equal import, asked for at the same place.
+    /// Returns an equal import with the same place.
     pub fn try_clone(&self) -> Result<ImportDefWithOffset, AllocError>
         ensures { IfOk result (λ copy. use_of copy ≡ use_of self.now) }
     {
@@ -75,7 +75,7 @@ impl ImportDefWithOffset {
         })
     }
 
-    // An import that is first asked for at the place, for one item.
+    // The import that the first use makes: of one item, at the place.
     pub(crate) fn first_use(
         alloc: Global,
         module_name: &str,
@@ -94,7 +94,7 @@ impl ImportDefWithOffset {
         })
     }
 
-    // Asks for one item more.
+    // Adds one item.
     pub(crate) fn push_item(&mut self, item: String) -> Result<(), AllocError>
         ensures ok { let more = with_item (use_of self.old) (string_bytes item) in
             OnOk result (use_of self.new ≡ more) }

@@ -1,4 +1,5 @@
-//! What import lines declare, and what the identifiers of a text stand for under them.
+//! What import lines declare, and the paths that the identifiers of a text stand for under these
+//! declarations.
 #![tactic(auto)]
 
 pub mod declared_names;

@@ -1,5 +1,5 @@
-//! Import lines: what they declare.
-ghost use Rattle.std.specs.Prelude.{false, ◌≡◌, ℕ, ◌<◌, ◌≤◌, ◌++◌, ◌∷◌, [], List, length, map, drop, Ok, Err, OnOk, OnErr, IfOk, IfErr, IfSome, MatchOption, unwrap_or, string_bytes};
+//! Import lines and what they declare.
+ghost use Rattle.std.specs.Prelude.{false, ◌≡◌, ℕ, ◌<◌, ◌≤◌, ◌++◌, ◌∷◌, [], List, length, map, drop, Ok, Err, OnOk, OnErr, IfOk, IsOk, IfErr, IfSome, MatchOption, unwrap_or, string_bytes};
 ghost use Rattle.std.specs.List.{concat};
 ghost use Rattle.naga_oil_imports.specs.Declarations.{Declared, declared_of, with_path};
 ghost use Rattle.std.specs.Str.{chars};
@@ -9,9 +9,7 @@ ghost use Rattle.naga_oil_imports.specs.Leaves.{leaf, close, behind_hash, behind
 ghost use Rattle.naga_oil_imports.specs.ImportReader.{at_start, step, may_end, without_path};
 ghost use Rattle.naga_oil_imports.specs.ImportView.{head_of, RefusesImport, alias_of, part_of, leaf_of, reader_of};
 
-pub use crate::substitute::{
-    SubstituteFault, push_substituted, record_identifiers, substitute_identifiers,
-};
+pub use crate::substitute::{SubstituteFault, Substitution, substitute_identifiers};
 use indexmap::IndexMap;
 use naga_oil_lines::tokenizer::{Token, Tokenizer};
 use std::alloc::{AllocError, AllocFailed, Global};
@@ -19,9 +17,9 @@ use std::alloc::{AllocError, AllocFailed, Global};
 /// Why an import line is refused.
 #[derive(Debug, Drop, PartialEq, Eq)]
 pub enum ImportFault {
-    /// What is wrong with the line, and the place in bytes from the start of the text.
+    /// The reason, and its place in bytes from the start of the text.
     Syntax(&'static str, usize),
-    /// There was no memory for what the line declares.
+    /// Out of memory.
     Memory,
 }
 
@@ -45,7 +43,7 @@ impl<T: Drop> From<AllocFailed<T>> for ImportFault {
     }
 }
 
-// What follows a name: an `as` may lack its identifier.
+// The alias after a name: an `as` may lack its identifier.
 #[derive(Clone, Copy)]
 enum Alias<'a> {
     NoAlias,
@@ -53,7 +51,8 @@ enum Alias<'a> {
     Lacking(usize),
 }
 
-// A piece of an import line: a head by its name and whether the old form made it, a leaf by its key and name.
+// A part of an import line: a head, by its name and whether it is of the old form; an item, by its
+// key and name.
 #[derive(Clone, Copy)]
 enum Part<'a> {
     Head(&'a str, bool),
@@ -70,7 +69,7 @@ struct Leaf {
     path: String,
 }
 
-// What has been read of an import line.
+// The part of an import line read so far.
 #[derive(Drop)]
 struct ImportLine {
     heads: Vec<String>,
@@ -107,7 +106,7 @@ fn alias_after<'a>(tokens: &[Token<'a>]) -> Alias<'a>
     }
 }
 
-// What follows the last `::` of a name, else the name.
+// The text after the last `::` of a name, else the name.
 fn last_segment(name: &str) -> &str
     ensures { result.now ≡ unwrap_or (behind_last_colons name.now) name.now }
 {
@@ -189,7 +188,7 @@ fn mark_part<'a>(mark: char, at: usize, behind: &[Token<'a>]) -> Part<'a>
     }
 }
 
-// A unit with the `{` that it is before, and what is left behind it.
+// A unit with the `{` after it, if there is one, and the remaining tokens.
 fn unit<'t, 'a>(name: &'a str, behind: &'t [Token<'a>]) -> (Part<'a>, &'t [Token<'a>])
     ensures part { let more = map lexeme_of behind.now in
         let renamed = alias_after more in
@@ -204,7 +203,7 @@ fn unit<'t, 'a>(name: &'a str, behind: &'t [Token<'a>]) -> (Part<'a>, &'t [Token
     (unit_part(name, alias, after), rest)
 }
 
-// The part that the tokens begin with, and what is left behind it.
+// The part that the tokens begin with, and the remaining tokens.
 fn next_part<'t, 'a>(tokens: &'t [Token<'a>]) -> Option<(Part<'a>, &'t [Token<'a>])>
     ensures parts { let whole = parts 0 (map lexeme_of tokens.now) in
         MatchOption result (whole ≡ []) (λ r.
@@ -221,7 +220,7 @@ fn next_part<'t, 'a>(tokens: &'t [Token<'a>]) -> Option<(Part<'a>, &'t [Token<'a
     }
 }
 
-// The tokens behind `#` and `import`, where the text ends at the place.
+// The tokens after `#` and `import`, given the place of the text's end.
 fn behind_import<'t, 'a>(
     tokens: &'t [Token<'a>],
     end: usize,
@@ -282,7 +281,7 @@ impl ImportLine {
         Ok(())
     }
 
-    // The texts of all heads and the name.
+    // The texts of all heads, then the name.
     fn path_of(&self, alloc: Global, name: &str) -> Result<String, AllocError>
         ensures { let front = concat (map string_bytes self.now.heads.items) in
             IfOk result (λ t. string_bytes t ≡ front ++ name.now) }
@@ -338,13 +337,13 @@ impl ImportLine {
 }
 
 fn tokens_of<'a>(alloc: Global, input: &'a str) -> Result<Vec<Token<'a>>, AllocError>
-    ensures { let told = emit false (lexemes 0 0 (chars input.now)) in
-        IfOk result (λ v. map lexeme_of v.items ≡ told) }
+    ensures { let expected = emit false (lexemes 0 0 (chars input.now)) in
+        IfOk result (λ v. map lexeme_of v.items ≡ expected) }
 {
     Tokenizer::new(input, false).collect(alloc)
 }
 
-// The leaves of a text as an import line.
+// The leaves of a text read as an import line.
 fn read_leaves(alloc: Global, input: &str) -> Result<Vec<Leaf>, ImportFault>
     ensures ok { IfOk result (λ ls. import_leaves input.now ≡ Ok (map leaf_of ls.items)) }
     ensures err { IfErr result (λ e. RefusesImport e (import_leaves input.now)) }
@@ -362,7 +361,7 @@ fn read_leaves(alloc: Global, input: &str) -> Result<Vec<Leaf>, ImportFault>
     Ok(line.leaves)
 }
 
-// Pushes a path at a key, and leaves the map as it was where there is no memory.
+// Appends a path at a key. When out of memory, the map stays unchanged.
 fn push_path(
     alloc: Global,
     declared: &mut IndexMap<String, Vec<String>>,
@@ -385,7 +384,7 @@ fn push_path(
     Ok(())
 }
 
-// Takes the last path at a key away.
+// Removes the last path at a key.
 fn pop_path(declared: &mut IndexMap<String, Vec<String>>, key: &str)
     ensures { declared_of declared.new ≡ without_path (declared_of declared.old) key.now }
 {
@@ -394,7 +393,7 @@ fn pop_path(declared: &mut IndexMap<String, Vec<String>>, key: &str)
     }
 }
 
-// Takes leaves back that were pushed last, where so many keys were there before.
+// Removes the leaves that were appended last to a map of `len` keys.
 fn take_back(declared: &mut IndexMap<String, Vec<String>>, len: usize, leaves: &[Leaf])
     ensures { (before : Declared) → length before ≡ len →
         declared_of declared.old ≡ with_leaves before (map leaf_of leaves.now) →
@@ -408,7 +407,7 @@ fn take_back(declared: &mut IndexMap<String, Vec<String>>, len: usize, leaves: &
     declared.truncate(len);
 }
 
-// Pushes the path of each leaf at its key, or none where there is no memory for all.
+// Appends the path of each leaf at its key; when out of memory, none of them.
 fn push_leaves(
     alloc: Global,
     declared: &mut IndexMap<String, Vec<String>>,
@@ -429,10 +428,10 @@ fn push_leaves(
     Ok(())
 }
 
-/// Reads a text as an import line, as naga_oil's README shows them, and pushes the path of each item that it names at the item's key.
-///
-/// The key is the item's alias, else what follows the last `::` of its name, else its name. A new key goes last, and a path
-/// that a key already has is pushed again. A refusal leaves the map as it was.
+/// Reads a text as an import line, in the forms that naga_oil's README shows, and appends the path
+/// of each item to the paths of the item's key. The key is the item's alias, else the text after
+/// the last `::` of its name, else its name. A new key is appended last; a path that a key already
+/// has is appended again. On an error the map stays unchanged.
 pub fn parse_imports(
     alloc: Global,
     input: &str,
@@ -447,5 +446,14 @@ pub fn parse_imports(
 {
     let leaves = read_leaves(alloc, input)?;
     push_leaves(alloc, declared_imports, leaves.as_slice())?;
+    Ok(())
+}
+
+/// Reads a text as an import line, as `parse_imports` does, only for its fault.
+pub fn check_imports(alloc: Global, input: &str) -> Result<(), ImportFault>
+    ensures ok { OnOk result (IsOk (import_leaves input.now)) }
+    ensures err { IfErr result (λ e. RefusesImport e (import_leaves input.now)) }
+{
+    read_leaves(alloc, input)?;
     Ok(())
 }

@@ -5,6 +5,7 @@ ghost use Rattle.std.specs.List.{flat_map, list_any};
 ghost use Rattle.std.specs.Str.{chars, IsUtf8};
 ghost use Rattle.std.specs.Str.Pattern.{LacksTextAt};
 ghost use Rattle.std.specs.String.{string_bytes};
+ghost use Rattle.naga_oil_words.specs.Bytes.{colon};
 ghost use Rattle.naga_oil_imports.specs.Declarations.{declared_of, paths_of};
 ghost use Rattle.naga_oil_lines.specs.Decorate.{decorated_name};
 ghost use Rattle.naga_oil_imports.specs.NameMarks.{Covers};
@@ -63,7 +64,7 @@ fn record_use(
     Ok(())
 }
 
-// The part of an identifier before its first `::`, and what follows that.
+// The part of an identifier before its first `::`, and the text after it.
 fn split_identifier(name: &str) -> (&str, &str)
     ensures first { result.0.now ≡ first_part name.now }
     ensures behind { result.1.now ≡ behind_first name.now }
@@ -74,7 +75,7 @@ fn split_identifier(name: &str) -> (&str, &str)
     }
 }
 
-// A path and what follows it.
+// A path, followed by `::` and the rest, if any.
 fn longer_path<'a>(alloc: Global, path: &'a str, behind: &str) -> Result<CowStr<'a>, AllocError>
     ensures { IfOk result (λ whole. cow_str_bytes whole ≡ longer_path path.now behind.now) }
 {
@@ -96,7 +97,8 @@ fn own_path<'a>(identifier: &'a str, first: &'a str, behind: &str) -> &'a str
     if behind.is_empty() { first } else { identifier }
 }
 
-// Whether an identifier behind such bytes is kept, where one in their place would be or not: their last one decides.
+// Whether an identifier after this gap stays as it is: by the gap's last byte, or by `kept` if the
+// gap is empty.
 fn keeps_behind(gap: &str, kept: bool) -> bool
     ensures { result ≡ keeps_behind kept gap.now }
 {
@@ -106,7 +108,7 @@ fn keeps_behind(gap: &str, kept: bool) -> bool
     }
 }
 
-// Whether a character begins an identifier, where each one of ASCII does, as behind a gap.
+// Whether a character begins an identifier, if every ASCII character would, as after a gap.
 fn starts_behind_gap(first: char) -> bool
     requires { first < 128 → starts_identifier first ≡ true }
     ensures { result ≡ starts_identifier first }
@@ -114,7 +116,8 @@ fn starts_behind_gap(first: char) -> bool
     first.is_ascii() || starts_identifier(first)
 }
 
-/// An identifier that is substituted, with the text from it on and the text behind it. A word has no `:`.
+/// An identifier that is substituted, with the text from it on and the text after it. A word has no
+/// `:`.
 #[derive(Clone, Copy)]
 struct SiteText<'a> {
     name: &'a str,
@@ -157,23 +160,28 @@ fn next_site(text: &str) -> Option<SiteText<'_>>
     None
 }
 
-// How the identifiers of a text are substituted.
+/// How the identifiers of a text are substituted.
 #[derive(Clone, Copy)]
-struct Substitution<'a> {
-    alloc: Global,
-    declared_imports: &'a IndexMap<String, Vec<String>>,
-    names: &'a DeclaredNames,
-    allow_ambiguous: bool,
-    offset: usize,
-    // Without it uses are recorded, and nothing is written.
-    writes: bool,
+pub struct Substitution<'a> {
+    pub alloc: Global,
+    pub declared_imports: &'a IndexMap<String, Vec<String>>,
+    /// The marks of the declared names.
+    pub names: &'a DeclaredNames,
+    /// Whether an identifier may stand for several paths.
+    pub allow_ambiguous: bool,
+    /// The place of the text, which the places of uses are counted from.
+    pub offset: usize,
+    /// Whether the text is written. If not, uses are only recorded.
+    pub writes: bool,
 }
 
 impl Substitution<'_> {
-    // Writes a text, if any is written.
+    // Writes a text, if anything is to be written.
     fn write(&self, output: &mut String, text: &str) -> Result<(), AllocError>
-        ensures { let written = string_bytes output.old ++ text.now in
+        ensures text { let written = string_bytes output.old ++ text.now in
             IsTrue self.now.writes → OnOk result (string_bytes output.new ≡ written) }
+        ensures unwritten { let unwritten = string_bytes output.old in
+            self.now.writes ≡ false → OnOk result (string_bytes output.new ≡ unwritten) }
     {
         if self.writes {
             output.push_str(text)
@@ -194,6 +202,8 @@ impl Substitution<'_> {
         ensures text { let more = path_text identifier.now path.now in
             let written = string_bytes output.old ++ more in
             IsTrue self.now.writes → OnOk result (string_bytes output.new ≡ written) }
+        ensures unwritten { let unwritten = string_bytes output.old in
+            self.now.writes ≡ false → OnOk result (string_bytes output.new ≡ unwritten) }
         ensures used { let more = mentions_at place path.now in
             OnOk result (uses_of used_imports.new ≡ with_mentions (uses_of used_imports.old) more) }
         ensures begun { let more = mentions_at place path.now in
@@ -212,7 +222,8 @@ impl Substitution<'_> {
         self.write(output, path)
     }
 
-    // Writes the paths that an identifier stands for one after another, each with what follows, and records their uses.
+    // Writes the paths that an identifier stands for one after another, each with the rest of the
+    // identifier, and records their uses.
     fn write_paths(
         &self,
         identifier: &str,
@@ -226,6 +237,8 @@ impl Substitution<'_> {
             let more = flat_map (path_text identifier.now) whole in
             let written = string_bytes output.old ++ more in
             IsTrue self.now.writes → OnOk result (string_bytes output.new ≡ written) }
+        ensures unwritten { let unwritten = string_bytes output.old in
+            self.now.writes ≡ false → OnOk result (string_bytes output.new ≡ unwritten) }
         ensures used { let whole = longer_paths (map string_bytes paths.now) behind.now in
             let more = flat_map (mentions_at place) whole in
             OnOk result (uses_of used_imports.new ≡ with_mentions (uses_of used_imports.old) more) }
@@ -256,7 +269,7 @@ impl Substitution<'_> {
         }
     }
 
-    // Whether there are too many paths for one identifier.
+    // Whether one identifier has more paths than allowed.
     fn is_refused(&self, paths: &[String]) -> bool
         ensures { result ≡ (not self.now.allow_ambiguous && nat_lt 1 (length paths.now)) }
     {
@@ -276,6 +289,8 @@ impl Substitution<'_> {
             let more = flat_map (path_text identifier.now) (paths_for declared identifier.now) in
             let written = string_bytes output.old ++ more in
             IsTrue self.now.writes → OnOk result (string_bytes output.new ≡ written) }
+        ensures unwritten { let unwritten = string_bytes output.old in
+            self.now.writes ≡ false → OnOk result (string_bytes output.new ≡ unwritten) }
         ensures used { let declared = declared_of self.now.declared_imports.now in
             let site : Site = record { name = identifier.now; place = place } in
             let more = mentions_in declared (site ∷ []) in
@@ -307,16 +322,18 @@ impl Substitution<'_> {
     #[inline]
     fn is_own(&self, site: SiteText<'_>) -> bool
         requires covers { Covers self.now.names.now (declared_of self.now.declared_imports.now) }
-        requires word { IsTrue site.is_word → list_any (λ b. b == 58) site.name.now ≡ false }
+        requires word { IsTrue site.is_word → list_any (λ b. b == colon) site.name.now ≡ false }
         ensures { result ≡ is_own (declared_of self.now.declared_imports.now) site.entry.name.now }
     {
         (site.is_word || !site.name.as_bytes().contains(&b':'))
             && self.declared_paths(site.name).is_empty()
     }
 
-    // Writes a text with what its identifiers stand for, and records their uses.
+    /// Appends a text to `output`, if `writes` is set, with its identifiers substituted as by
+    /// `substitute_identifiers`, and records their uses in `used_imports` likewise. `names` must mark
+    /// each declared name. After an error the content of `output` is unspecified.
     #[inline(always)]
-    fn walk(
+    pub fn walk(
         &self,
         input: &str,
         used_imports: &mut IndexMap<String, ImportDefWithOffset>,
@@ -327,6 +344,8 @@ impl Substitution<'_> {
             let more = substituted declared (lexemes 0 0 (chars input.now)) in
             let written = string_bytes output.old ++ more in
             IsTrue self.now.writes → OnOk result (string_bytes output.new ≡ written) }
+        ensures unwritten { let unwritten = string_bytes output.old in
+            self.now.writes ≡ false → OnOk result (string_bytes output.new ≡ unwritten) }
         ensures used { let tokens = lexemes 0 0 (chars input.now) in
             let found = usize_sites (sites self.now.offset tokens) in
             let more = mentions_in (declared_of self.now.declared_imports.now) found in
@@ -363,53 +382,17 @@ impl Substitution<'_> {
 // Whether the text has no `::`. Most texts have no `:` at all.
 fn lacks_colons(text: &str) -> bool
     ensures { IsTrue result →
-        (i : ℕ) → i ≤ length text.now → LacksTextAt (58 ∷ 58 ∷ []) text.now i }
+        (i : ℕ) → i ≤ length text.now → LacksTextAt (colon ∷ colon ∷ []) text.now i }
 {
     !text.as_bytes().contains(&b':') || !text.contains("::")
 }
 
-/// Writes a text behind what stands in `output`, its identifiers substituted as by `substitute_identifiers`, and records
-/// their uses alike. `names` marks each declared name. What `output` holds after a refusal is not promised.
-pub fn push_substituted(
-    alloc: Global,
-    output: &mut String,
-    input: &str,
-    offset: usize,
-    declared_imports: &IndexMap<String, Vec<String>>,
-    names: &DeclaredNames,
-    used_imports: &mut IndexMap<String, ImportDefWithOffset>,
-    allow_ambiguous: bool,
-) -> Result<(), SubstituteFault>
-    requires { Covers names.now (declared_of declared_imports.now) }
-    ensures text { let given = lexemes 0 0 (chars input.now) in
-        let more = substituted (declared_of declared_imports.now) given in
-        OnOk result (string_bytes output.new ≡ string_bytes output.old ++ more) }
-    ensures used { let found = usize_sites (sites offset (lexemes 0 0 (chars input.now))) in
-        let more = mentions_in (declared_of declared_imports.now) found in
-        OnOk result (uses_of used_imports.new ≡ with_mentions (uses_of used_imports.old) more) }
-    ensures allowed { let found = usize_sites (sites offset (lexemes 0 0 (chars input.now))) in
-        let first = first_ambiguous (declared_of declared_imports.now) allow_ambiguous found in
-        OnOk result (first ≡ None) }
-    ensures fault { let found = usize_sites (sites offset (lexemes 0 0 (chars input.now))) in
-        let refuses = RefusesUses (declared_of declared_imports.now) allow_ambiguous found in
-        IfErr result (λ e. refuses (uses_of used_imports.old) (uses_of used_imports.new) e) }
-{
-    let substitution = Substitution {
-        alloc,
-        declared_imports,
-        names,
-        allow_ambiguous,
-        offset,
-        writes: true,
-    };
-    substitution.walk(input, used_imports, output)
-}
-
-/// Writes a text with what its identifiers stand for by the declared imports, and records in `used_imports` what they
-/// use, at their places, in bytes, counted from the offset; a place past the greatest `usize` is that. Behind `.` or `@`
-/// an identifier is kept. An identifier with several paths is refused, or these are written one after another.
-///
-/// After a refusal `used_imports` holds a beginning of the uses, and after `Ambiguous` those before its place.
+/// Returns a text with each identifier replaced by what it stands for under the declared imports,
+/// and records in `used_imports` what the identifiers use, at their places: in bytes, counted from
+/// `offset`, and at most the greatest `usize`. An identifier after `.` or `@` is kept. An
+/// identifier with several paths is an error, or, where `allow_ambiguous` is set, all its paths are
+/// written. After an error `used_imports` holds the first of the uses; after `Ambiguous`, those
+/// before its place.
 pub fn substitute_identifiers(
     alloc: Global,
     input: &str,
@@ -419,8 +402,8 @@ pub fn substitute_identifiers(
     allow_ambiguous: bool,
 ) -> Result<String, SubstituteFault>
     ensures text { let given = lexemes 0 0 (chars input.now) in
-        let told = substituted (declared_of declared_imports.now) given in
-        IfOk result (λ t. string_bytes t ≡ told) }
+        let expected = substituted (declared_of declared_imports.now) given in
+        IfOk result (λ t. string_bytes t ≡ expected) }
     ensures used { let found = usize_sites (sites offset (lexemes 0 0 (chars input.now))) in
         let more = mentions_in (declared_of declared_imports.now) found in
         OnOk result (uses_of used_imports.new ≡ with_mentions (uses_of used_imports.old) more) }
@@ -434,53 +417,20 @@ pub fn substitute_identifiers(
     let mut names = DeclaredNames::new();
     names.mark_from(declared_imports, 0);
     let mut output = String::with_capacity(alloc, input.len())?;
-    push_substituted(
-        alloc,
-        &mut output,
-        input,
-        offset,
-        declared_imports,
-        &names,
-        used_imports,
-        allow_ambiguous,
-    )?;
-    Ok(output)
-}
-
-/// Records in `used_imports` what the identifiers of a text use, as `substitute_identifiers` does, and writes nothing.
-/// `names` marks each declared name.
-pub fn record_identifiers(
-    alloc: Global,
-    input: &str,
-    offset: usize,
-    declared_imports: &IndexMap<String, Vec<String>>,
-    names: &DeclaredNames,
-    used_imports: &mut IndexMap<String, ImportDefWithOffset>,
-    allow_ambiguous: bool,
-) -> Result<(), SubstituteFault>
-    requires { Covers names.now (declared_of declared_imports.now) }
-    ensures used { let found = usize_sites (sites offset (lexemes 0 0 (chars input.now))) in
-        let more = mentions_in (declared_of declared_imports.now) found in
-        OnOk result (uses_of used_imports.new ≡ with_mentions (uses_of used_imports.old) more) }
-    ensures allowed { let found = usize_sites (sites offset (lexemes 0 0 (chars input.now))) in
-        let first = first_ambiguous (declared_of declared_imports.now) allow_ambiguous found in
-        OnOk result (first ≡ None) }
-    ensures fault { let found = usize_sites (sites offset (lexemes 0 0 (chars input.now))) in
-        let refuses = RefusesUses (declared_of declared_imports.now) allow_ambiguous found in
-        IfErr result (λ e. refuses (uses_of used_imports.old) (uses_of used_imports.new) e) }
-{
     let substitution = Substitution {
         alloc,
         declared_imports,
-        names,
+        names: &names,
         allow_ambiguous,
         offset,
-        writes: false,
+        writes: true,
     };
-    substitution.walk(input, used_imports, &mut String::new(alloc))
+    substitution.walk(input, used_imports, &mut output)?;
+    Ok(output)
 }
 
-/// The place of a use is the sum of the offset and its place in the text wherever a `usize` holds the text's end.
+/// The place of a use is the offset plus its place in the text, wherever a `usize` can hold the
+/// place of the text's end.
 pub fn exact_places()
     ensures { (offset : ℕ) (text : List ℕ) → IsUtf8 text → offset + length text < 2 ^ 64 →
         let found = sites offset (lexemes 0 0 (chars text)) in

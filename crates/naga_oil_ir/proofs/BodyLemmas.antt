@@ -18,7 +18,7 @@ flat_map-map f g (x ∷ xs) = ap (λ t. f (g x) ++ t) (flat_map-map f g xs)
 pub block_tokens-out : (b : Block) → block_tokens b ≡ flat_map spanned_tokens (out-Block b).body.items
 block_tokens-out b = fold_out-Block Tokens Tokens Tokens statement_step block_step case_step b ∙ flat_map-map (λ p. At p.1 ∷ p.0) (λ p. (statement_tokens p.0, p.1)) (out-Block b).body.items
 
--- a body that is made of statements
+-- the tokens of a body that is built from statements
 pub block_tokens-roll : (d : Block-F Statement Block SwitchCase) → block_tokens (roll-Block d) ≡ flat_map spanned_tokens d.body.items
 block_tokens-roll d =
     fold-roll-Block Tokens Tokens Tokens statement_step block_step case_step d ∙ flat_map-map (λ p. At p.1 ∷ p.0) (λ p. (statement_tokens p.0, p.1)) d.body.items
@@ -28,7 +28,7 @@ pub switch_tokens : (h : ℕ) (cases : Vec SwitchCase Global) → statement_toke
 switch_tokens h cases =
     ap statement_tokens (sym (rolls-Switch h cases)) ∙ fold-roll-Statement Tokens Tokens Tokens statement_step block_step case_step (open_.Switch h cases) ∙ ap (λ t. (Head 3 ∷ Use h ∷ []) ++ t) (flat_map-map (λ c. c) case_tokens cases.items)
 
--- what is in front stays in front of what is pushed behind it
+-- a prefix stays a prefix when more is pushed after it
 pub front_pushed : {A : Type 0} (x y a : List A) → y ≡ x ++ a → take (length x) y ≡ x
 front_pushed x y a e = ap (λ t. take (length x) t) e ∙ take-append_seam x a
 

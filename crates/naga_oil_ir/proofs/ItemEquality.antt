@@ -150,7 +150,7 @@ type_back : (n m : Text) (i j : TypeInner) → inner_row n i ≡ inner_row m j �
 type_back n m i j h =
     (sym (inner_row-name n i) ∙ ap (λ (r : Row). r.label.name) h ∙ inner_row-name m j, inner_row-unnamed n i ∙ ap (named_row None) h ∙ sym (inner_row-unnamed m j))
 
--- the derived test of two types decides whether they read alike
+-- the derived equality of two types decides whether their rows are equal
 pub type_decides : (a b : TypeOfShader) → Decides (type_ghosts.eq a b) (type_row a ≡ type_row b)
 type_decides a b = same_fact _ (and_decides _ _ (text_decides a.name b.name) (inner_decides a.inner b.inner)) (type_same _ _ a.inner b.inner) (type_back _ _ a.inner b.inner)
 

@@ -3,7 +3,7 @@ use Rattle.std.specs.Map.{keys_of}
 use Rattle.std.specs.List.{position_or_len}
 use Rattle.naga_oil_ir.specs.Places.{place_of, with_element}
 
--- to look among the entries for a key is to look among the keys
+-- the place of a key among the entries is its place among the keys
 first-keys : {K X : Type 0} (p : K → Bool) (es : List (K × X)) → position_or_len (λ e. p e.0) es ≡ position_or_len p (keys_of es)
 first-keys p [] = refl
 first-keys p (e ∷ es) = ap (λ n. cond (not (p e.0)) (1 + n) 0) (first-keys p es)
@@ -28,7 +28,7 @@ with_element-found p xs x i h = ap (λ o. if is_some o then xs else xs ++ x ∷ 
 pub with_element-absent : {A : Type 0} (p : A → Bool) (xs : List A) (x : A) → position p xs ≡ None → with_element p xs x ≡ xs ++ x ∷ []
 with_element-absent p xs x h = ap (λ o. if is_some o then xs else xs ++ x ∷ []) h
 
--- of two options that are there together, with one the other lacks
+-- two options that are present together: if one is absent, so is the other
 pub none_both : {A B : Type 0} (r : Option A) (s : Option B) → is_some r ≡ is_some s → r ≡ None → s ≡ None
 none_both r None h n = refl
 none_both r (Some x) h n = absurd (true≢false (sym h ∙ ap is_some n))

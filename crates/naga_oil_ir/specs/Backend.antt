@@ -1,4 +1,4 @@
--- What a front end answers.
+-- What a front end returns.
 use Rattle.std.specs.Prelude.{◌≡◌, ℕ, List, map, Result, Ok, Err, String, Vec, string_bytes}
 use Rattle.std.specs.declared.alloc.Global.{Global}
 use Rattle.naga_oil_ir.specs.ModuleValue.{ModuleValue}
@@ -11,13 +11,13 @@ use Rattle.naga_oil_ir.specs.declared.backend.BackendRefusal.TheVariants.{Fault,
 use Rattle.naga_oil_ir.specs.declared.language.ShaderLanguage.{ShaderLanguage}
 use Rattle.naga_oil_ir.specs.declared.span.Span.{Span}
 
--- why an input is refused: what is said, of which places what, and what is added
+-- why an input is refused: a message, messages of places, and notes
 pub record FaultValue : Type 0 where
   pub message : List ℕ
   pub spans : List (Span × List ℕ)
   pub notes : List (List ℕ)
 
--- places with what is said of them
+-- places with their messages
 abbrev pub labels : List (Span × String Global) → List (Span × List ℕ)
 labels spans = map (λ s. (s.0, string_bytes s.1)) spans
 
@@ -39,7 +39,7 @@ valid_fault f = fault_value f.message f.spans f.notes
 abbrev pub text : String Global → List ℕ
 text s = string_bytes s
 
--- an answer that holds nothing
+-- a result that holds nothing
 abbrev pub nothing : Unit {0} → Unit {0}
 nothing x = x
 
@@ -49,7 +49,7 @@ pub record FrontEnd : Type 0 where
   pub write : ModuleValue → ShaderLanguage → Capabilities → Result (List ℕ) FaultValue
   pub valid : ModuleValue → Capabilities → Result (Unit {0}) FaultValue
 
--- a call answers the value, seen as plain data, or want of memory
+-- a call returns the value, seen as plain data, or an error if out of memory
 abbrev pub Answers : {X Y F : Type 0} → (X → Y) → (F → FaultValue) → Result X (BackendRefusal F) → Result Y FaultValue → Type 0
 Answers view told (Ok x) value = value ≡ Ok (view x)
 Answers view told (Err (Fault f)) value = value ≡ Err (told f)

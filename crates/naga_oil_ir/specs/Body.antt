@@ -30,11 +30,11 @@ abbrev pub given_by : ℕ → Option ℕ → Token
 given_by f None = Absent
 given_by f (Some h) = GiveCall f h
 
--- a block that stands in a statement
+-- a block inside a statement
 abbrev pub inside : Tokens → Tokens
 inside b = (Open ∷ b) ++ Close ∷ []
 
--- what is done with a ray query
+-- an operation on a ray query
 abbrev pub ray_query_tokens : RayQueryFunction → Tokens
 ray_query_tokens (Initialize structure descriptor) = Plain 0 ∷ Use structure ∷ Use descriptor ∷ []
 ray_query_tokens (Proceed result) = Plain 1 ∷ Give result ∷ []
@@ -42,7 +42,7 @@ ray_query_tokens Terminate = Plain 2 ∷ []
 ray_query_tokens (GenerateIntersection t) = Plain 3 ∷ Use t ∷ []
 ray_query_tokens ConfirmIntersection = Plain 4 ∷ []
 
--- the one list of the 21 kinds: a statement, where blocks and arms are given by their tokens
+-- the one list of the 21 kinds of statements; blocks and arms are given as their tokens
 abbrev pub statement_step : Statement-F Tokens Tokens Tokens → Tokens
 statement_step (Emit r) = Head 0 ∷ Emitted r ∷ []
 statement_step (Block b) = (Head 1 ∷ []) ++ inside b

@@ -1,5 +1,6 @@
 pub mod Places
 pub mod Spans
+pub mod Kinds
 pub mod Parts
 pub mod Rows
 pub mod Body

@@ -1,4 +1,4 @@
--- A module as plain data: all that it says, without where it lies in memory.
+-- A module as plain data: all its items, without their addresses in memory.
 use Rattle.std.specs.Prelude.{ℕ, List, [], map, Option, None, option_map, string_bytes}
 use Rattle.naga_oil_ir.specs.Parts.{Parts, parts}
 use Rattle.naga_oil_ir.specs.Rows.{Row, Text, type_row, constant_row, override_row, global_row}
@@ -121,7 +121,7 @@ module_value m = record {
   doc_comments = option_map (λ v. v.items) m.doc_comments;
 }
 
--- the module of nothing
+-- the module without items
 abbrev pub no_items : ModuleValue
 no_items = record {
   types = [];

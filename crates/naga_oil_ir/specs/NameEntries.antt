@@ -1,4 +1,4 @@
--- What a contract sees of the names of a function's expressions.
+-- The names of a function's expressions, as contracts see them.
 use Rattle.std.specs.Prelude.{ℕ, List, String}
 use Rattle.std.specs.Global.{Global}
 

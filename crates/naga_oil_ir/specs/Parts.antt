@@ -1,4 +1,4 @@
--- An expression as its kind, its data, what it names and its operands.
+-- An expression as its kind, its plain values, the item that it names and its operands.
 use Rattle.std.specs.Prelude.{◌≡◌, ℕ, List, [], ◌∷◌, map, Option, Some, None}
 use Rattle.naga_oil_ir.specs.declared.expression.Expression.{Expression}
 use Rattle.naga_oil_ir.specs.declared.expression.Expression.TheVariants.{Literal, ZeroValue, Constant, Override, GlobalVariable, LocalVariable, FunctionArgument, CallResult, AtomicResult, WorkGroupUniformLoadResult, RayQueryProceedResult, SubgroupBallotResult, SubgroupOperationResult, Compose, Access, AccessIndex, Splat, Swizzle, Load, ImageSample, ImageLoad, ImageQuery, Unary, Binary, Select, Derivative, Relational, Math, As, ArrayLength, RayQueryGetIntersection, RayQueryVertexPositions}
@@ -13,8 +13,8 @@ use Rattle.naga_oil_ir.specs.declared.parts.Named.{Named}
 use Rattle.naga_oil_ir.specs.declared.parts.Named.TheVariants.{Nothing, TypeOf, ConstantAt, OverrideAt, GlobalAt, LocalAt, ArgumentAt, FunctionAt}
 use Rattle.naga_oil_ir.specs.declared.parts.ExpressionParts.{ExpressionParts}
 
--- the parts of an expression: its kind, its plain values, the item that it names, and its operands in the order of copying,
--- with nothing in the places of absent options
+-- the parts of an expression: its kind, its plain values, the item that it names, and its operands in the order of copying;
+-- absent ones are None
 pub record Parts : Type 0 where
   pub kind : ℕ
   pub plain : List ℕ
@@ -33,7 +33,7 @@ level_code (Exact e) = 2
 level_code (Bias e) = 3
 level_code (Gradient x y) = 4
 
--- a level's operand, or the first of a gradient
+-- the operand of a level, the first for a gradient
 abbrev pub level_x : SampleLevel → Option ℕ
 level_x Auto = None
 level_x Zero = None
@@ -69,7 +69,7 @@ load_parts l = expr 20 [] Nothing (Some l.image ∷ Some l.coordinate ∷ l.arra
 abbrev pub math_parts : Function → Parts
 math_parts m = expr 27 (m.fun ∷ []) Nothing (Some m.arg ∷ m.arg1 ∷ m.arg2 ∷ m.arg3 ∷ [])
 
--- the one list of the 32 kinds
+-- the one list of the 32 kinds of expressions
 abbrev pub parts : Expression → Parts
 parts (Literal kind bits) = expr 0 (kind ∷ bits ∷ []) Nothing []
 parts (ZeroValue ty) = expr 1 [] (TypeOf ty) []
@@ -104,6 +104,6 @@ parts (ArrayLength e) = expr 29 [] Nothing (Some e ∷ [])
 parts (RayQueryGetIntersection query committed) = expr 30 (committed ∷ []) Nothing (Some query ∷ [])
 parts (RayQueryVertexPositions query committed) = expr 31 (committed ∷ []) Nothing (Some query ∷ [])
 
--- what was read of an expression is its kind, what it names and its operands
+-- the parts that the code read of an expression are its kind, what it names and its operands
 abbrev pub ReadsAs : ExpressionParts → Parts → Type 0
 ReadsAs r p = (r.kind ≡ p.kind) × (r.named ≡ p.named) × (r.operands.items ≡ p.operands)

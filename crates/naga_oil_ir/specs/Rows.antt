@@ -16,13 +16,13 @@ use Rattle.naga_oil_ir.specs.declared.types.ArraySize.TheVariants.{Constant, Pen
 use Rattle.naga_oil_ir.specs.declared.names.ItemPlace.{ItemPlace}
 use Rattle.naga_oil_ir.specs.declared.names.ItemPlace.TheVariants.{TypeItem, ConstantItem, OverrideItem, GlobalItem, ExpressionItem}
 
--- what a member of a struct says beside its type
+-- a member of a struct, without its type
 pub record Member : Type 0 where
   pub name : Option (List ℕ)
   pub binding : Option ℕ
   pub offset : ℕ
 
--- what an item is: of a type its variant, of an expression its kind and what of a function it names
+-- the kind of an item: for a type its variant; for an expression its kind and the part of a function that it names
 pub data Kind : Type 0 where
   TypeKind : ℕ → Kind
   ConstantKind : Kind
@@ -30,14 +30,14 @@ pub data Kind : Type 0 where
   GlobalKind : Kind
   ExpressionKind : ℕ → Named → Kind
 
--- what an item says beside what it names
+-- an item without what it names
 pub record Label : Type 0 where
   pub kind : Kind
   pub name : Option (List ℕ)
   pub plain : List (Option ℕ)
   pub members : List Member
 
--- an item: its payloads, and the items that it names in the order of copying, with nothing in the places of absent options
+-- an item: its label, and the items that it names in the order of copying; absent ones are None
 pub record Row : Type 0 where
   pub label : Label
   pub names : List (Option ItemPlace)
@@ -50,7 +50,7 @@ Text = Option (List ℕ)
 abbrev pub row : Kind → Text → List (Option ℕ) → List Member → List (Option ItemPlace) → Row
 row k n p m names = record { label = record { kind = k; name = n; plain = p; members = m }; names = names }
 
--- what a size says by itself
+-- the variant of a size and its plain value
 abbrev pub size_plain : ArraySize → List (Option ℕ)
 size_plain (Constant n) = Some 0 ∷ Some n ∷ []
 size_plain (Pending o) = Some 1 ∷ []
@@ -62,7 +62,7 @@ size_name (Constant n) = None
 size_name (Pending o) = Some (OverrideItem o)
 size_name Dynamic = None
 
--- what a member of a struct says by itself
+-- the label of a member of a struct
 abbrev pub member_label : StructMember → Member
 member_label m = record { name = option_map string_bytes m.name; binding = m.binding; offset = m.offset }
 
@@ -70,7 +70,7 @@ member_label m = record { name = option_map string_bytes m.name; binding = m.bin
 abbrev pub member_type : StructMember → Option ItemPlace
 member_type m = Some (TypeItem m.ty)
 
--- the one list of the 13 kinds of types, under a name
+-- the one list of the 13 kinds of types, for a type with this name
 abbrev pub inner_row : Text → TypeInner → Row
 inner_row n (Scalar c) = row (TypeKind 0) n (Some c ∷ []) [] []
 inner_row n (Vector c) = row (TypeKind 1) n (Some c ∷ []) [] []
@@ -113,7 +113,7 @@ named_place (LocalAt h) = None
 named_place (ArgumentAt n) = None
 named_place (FunctionAt h) = None
 
--- what an expression names that is no item
+-- what an expression names, if it is no item
 abbrev pub named_rest : Named → Named
 named_rest Nothing = Nothing
 named_rest (TypeOf h) = Nothing

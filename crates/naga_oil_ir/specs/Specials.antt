@@ -1,4 +1,4 @@
--- The types that a front end keeps at hand.
+-- The special types of a module.
 use Rattle.std.specs.Prelude.{◌≡◌, [], None}
 use Rattle.naga_oil_ir.specs.declared.module.SpecialTypes.{SpecialTypes}
 

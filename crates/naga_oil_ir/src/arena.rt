@@ -54,14 +54,14 @@ impl<T: Item> Arena<T> {
         self.as_slice().len()
     }
 
-    /// The item at a place, or `None` behind the last.
+    /// The item at a place, or `None` after the last.
     pub fn try_get(&self, handle: Handle<T>) -> Option<&T>
         ensures { option_copied result ≡ option_map (λ e. e.0) (slice_get self.now handle) }
     {
         self.0.get(handle.index()).map(|entry| &entry.0)
     }
 
-    /// The span of the item at a place, undefined behind the last.
+    /// The span of the item at a place, undefined after the last.
     pub fn get_span(&self, handle: Handle<T>) -> Span
         ensures { result ≡ unwrap_or (option_map (λ e. e.1) (slice_get self.now handle)) undefined }
     {
@@ -146,14 +146,14 @@ impl<T: Item + Eq + Hash> UniqueArena<T> {
         self.0.len()
     }
 
-    /// The item at a place, or `None` behind the last.
+    /// The item at a place, or `None` after the last.
     pub fn get_handle(&self, handle: Handle<T>) -> Option<&T>
         ensures { option_copied result ≡ option_map (λ e. e.0) (slice_get self.now handle) }
     {
         self.0.get_index(handle.index()).map(|entry| entry.0)
     }
 
-    /// The span of the item at a place, undefined behind the last.
+    /// The span of the item at a place, undefined after the last.
     pub fn get_span(&self, handle: Handle<T>) -> Span
         ensures { result ≡ unwrap_or (option_map (λ e. e.1) (slice_get self.now handle)) undefined }
     {

@@ -1,19 +1,19 @@
-// What a front end answers: modules, texts, and why it gives none.
+// The trait of front ends, and their faults.
 ghost use Rattle.naga_oil_ir.specs.Backend.{FrontEnd, Answers, parse_fault, write_fault, valid_fault, text, nothing};
 ghost use Rattle.naga_oil_ir.specs.ModuleValue.{module_value};
 
 use super::*;
 use std::alloc::{AllocError, Global};
 
-/// What a device can do, as bits that a front end gives their meaning.
+/// The capabilities of a device, as bits whose meaning a front end defines.
 #[derive(Clone, Copy, Debug, PartialEq, Eq, Default)]
 pub struct Capabilities(pub u64);
 
-/// Why a text is no module.
+/// Why a text can't be parsed.
 #[derive(Debug, Drop)]
 pub struct ParseFault {
     pub message: String,
-    /// Places in the text, each with what is said of it.
+    /// Places in the text, each with its message.
     pub spans: Vec<(Span, String)>,
     pub notes: Vec<String>,
 }
@@ -22,7 +22,7 @@ pub struct ParseFault {
 #[derive(Debug, Drop)]
 pub struct WriteFault {
     pub message: String,
-    /// Places of the module's items, each with what is said of it.
+    /// Places of the module's items, each with its message.
     pub spans: Vec<(Span, String)>,
     pub notes: Vec<String>,
 }
@@ -31,12 +31,12 @@ pub struct WriteFault {
 #[derive(Debug, Drop)]
 pub struct ValidFault {
     pub message: String,
-    /// Places of the module's items, each with what is said of it.
+    /// Places of the module's items, each with its message.
     pub spans: Vec<(Span, String)>,
     pub notes: Vec<String>,
 }
 
-/// Why a front end gives no answer: the input has a fault, or there is no memory.
+/// Why a front end returns no result: the input has a fault, or memory has run out.
 #[derive(Debug, Drop)]
 pub enum BackendRefusal<F> {
     Fault(F),
@@ -54,13 +54,16 @@ impl<F> From<AllocError> for BackendRefusal<F> {
     }
 }
 
-/// A front end: it reads modules from texts, writes them and validates them. Each call answers the value of its own
-/// function of the inputs and of the front end, or `Memory`.
+/// A front end: it parses, writes and validates modules. Each call returns the value of one function of its inputs and of the
+/// front end, or `Memory`.
 pub trait Backend {
     /// The three functions.
     ghost front: { Self → FrontEnd };
 
-    /// The module that a text says.
+    /// Parses a text and returns its module.
+    ///
+    /// # Errors
+    /// `Fault` if the text has a fault, `Memory` if out of memory.
     fn parse(
         &self,
         alloc: Global,
@@ -70,7 +73,10 @@ pub trait Backend {
         ensures { let told = (front self.now).parse language text.now in
             Answers module_value parse_fault result told };
 
-    /// A text that says a module.
+    /// Returns a text of a module.
+    ///
+    /// # Errors
+    /// `Fault` if the module can't be written, `Memory` if out of memory.
     fn write(
         &self,
         alloc: Global,
@@ -81,7 +87,10 @@ pub trait Backend {
         ensures { let value = module_value module_.now in
             Answers text write_fault result ((front self.now).write value language capabilities) };
 
-    /// Whether a module may be used.
+    /// Validates a module for a device.
+    ///
+    /// # Errors
+    /// `Fault` if the module isn't valid, `Memory` if out of memory.
     fn validate(
         &self,
         alloc: Global,

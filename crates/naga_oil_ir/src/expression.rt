@@ -1,7 +1,7 @@
 // The expressions of functions and of a module.
 use super::*;
 
-/// A place of an expression that another one or a statement takes.
+/// The handle of an expression that another expression or a statement takes.
 pub type Operand = Handle<Expression>;
 
 /// The level of detail at which an image is sampled.
@@ -15,7 +15,7 @@ pub enum SampleLevel {
     Gradient { x: Operand, y: Operand },
 }
 
-/// What is asked of an image.
+/// A query of an image.
 #[derive(Clone, Copy, PartialEq)]
 pub enum ImageQuery {
     Size { level: Option<Operand> },
@@ -35,7 +35,7 @@ pub struct ImageSample {
     pub depth_ref: Option<Operand>,
 }
 
-/// A texel of an image.
+/// A load of a texel of an image.
 #[derive(PartialEq, Drop)]
 pub struct ImageLoad {
     pub image: Operand,
@@ -93,7 +93,7 @@ pub enum Expression {
     RayQueryVertexPositions { query: Operand, committed: u64 },
 }
 
-// the widest kinds stand in boxes, so that a list of expressions takes less room
+// the widest kinds are boxed, so that a list of expressions takes less memory
 const _: () = prove!(size_of::<Expression>() == 40);
 
 impl Item for Expression {

@@ -3,13 +3,13 @@ ghost use Rattle.std.specs.Prelude.{◌≡◌, ◌+◌, ◌-◌, ◌≤◌, ◌�
 
 use std::marker::{Model, PhantomData};
 
-/// A type whose values lie in arenas. `Kind` is a name for it alone, so that an item may hold handles of
-/// items of its own type and is yet no recursive type.
+/// A type whose values lie in arenas. `Kind` is a name for the type, so that an item may hold handles of its own type without
+/// being a recursive type.
 pub trait Item {
     type Kind;
 }
 
-/// A place in an arena of the items of a kind, from 0.
+/// A place in an arena of items of the kind `K`, from 0.
 #[derive_where(Clone, Copy, PartialEq, Eq, PartialOrd, Ord, Hash, Debug)]
 pub struct Index<K>(usize, PhantomData<K>);
 
@@ -27,14 +27,14 @@ impl<K> Model for Index<K> {
 }
 
 impl<K> Index<K> {
-    /// The handle of a place.
+    /// Returns the handle of a place.
     pub fn new(index: usize) -> Self
         ensures { result ≡ index }
     {
         Index(index, PhantomData)
     }
 
-    /// The place.
+    /// Returns the place.
     pub fn index(self) -> usize
         ensures { result ≡ self }
     {
@@ -42,14 +42,14 @@ impl<K> Index<K> {
     }
 }
 
-/// The places from `start` up to `end`, which is not one of them.
+/// The places from `start` up to, not including, `end`.
 #[derive_where(Clone, Copy, PartialEq, Eq)]
 pub struct Places<K> {
     start: Index<K>,
     end: Index<K>,
 }
 
-/// The places of an arena of `T` from one up to another.
+/// A range of places in an arena of `T`.
 pub type Range<T> = Places<<T as Item>::Kind>;
 
 impl<K> Model for Places<K> {
@@ -63,7 +63,7 @@ impl<K> Model for Places<K> {
 }
 
 impl<K> Places<K> {
-    /// The places from `start` up to `end`.
+    /// Returns the range from `start` up to `end`.
     pub fn new(start: usize, end: usize) -> Self
         ensures { result ≡ (start, end) }
     {
@@ -71,14 +71,14 @@ impl<K> Places<K> {
         Places { start, end }
     }
 
-    /// The first place.
+    /// Returns the first place.
     pub fn start(self) -> usize
         ensures { result ≡ self.0 }
     {
         self.start.index()
     }
 
-    /// The place behind the last.
+    /// Returns the place after the last.
     pub fn end(self) -> usize
         ensures { result ≡ self.1 }
     {

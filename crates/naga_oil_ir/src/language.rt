@@ -1,5 +1,5 @@
-// The languages of shaders.
-/// The language of a shader's text.
+// The languages of shader texts.
+/// The language of the text of a shader.
 #[derive(Clone, Copy, PartialEq, Eq, Debug, Default, Hash)]
 pub enum ShaderLanguage {
     #[default]

@@ -1,11 +1,11 @@
 //! The intermediate form of a shader: types, constants, overrides, global variables, functions and entry points in arenas.
 //!
-//! `arena` holds items with spans, as a list or found by their hash, and `handle` names their places. `types`, `expression`,
-//! `statement` and `module` are the items. `parts`, `names` and `tokens` read an expression, an item and a body by one list each.
-//! `room` says how much room is asked for ahead.
+//! `arena` holds items with spans, as a list or found by their hash; `handle` names their places. `types`, `expression`,
+//! `statement` and `module` define the items. `parts`, `names` and `tokens` read an expression, an item and a body by one list
+//! each. `room` rounds the capacity that is reserved ahead. `backend` is the trait of front ends.
 //!
-//! An item is found in a `UniqueArena` in expected constant time, if the hasher spreads the items, and in an `Arena` by a
-//! walk over it.
+//! A lookup in a `UniqueArena` takes expected constant time, if the hasher spreads the items; a lookup in an `Arena` visits its
+//! items one after the other.
 #![tactic(auto)]
 
 pub mod arena;
@@ -35,10 +35,13 @@ pub use module::{
 };
 pub use named_expressions::NamedExpressions;
 pub use names::{ItemPlace, NameList, Names};
-pub use parts::{ExpressionParts, Named};
+pub use parts::{
+    ExpressionParts, FIRST_OPERATION_KIND, FIRST_RESULT_KIND, GLOBAL_VARIABLE_KIND,
+    LAST_EXTERNAL_KIND, LAST_RESULT_KIND, Named,
+};
 pub use redirect_error::RedirectError;
 pub use room::rounded_room;
-pub use span::Span;
+pub use span::{MAX_MODULES, SPAN_SHIFT, Span};
 pub use statement::{Block, RayQueryFunction, Statement, SwitchCase};
 pub use tokens::{Token, push_block};
 pub use types::{

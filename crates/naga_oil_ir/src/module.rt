@@ -14,7 +14,7 @@ pub struct FunctionArgument {
     pub binding: Option<u64>,
 }
 
-/// What a function gives.
+/// The result of a function.
 #[derive(Clone, Copy)]
 pub struct FunctionResult {
     pub ty: Handle<Type>,
@@ -38,7 +38,7 @@ impl Item for Function {
     type Kind = kind::Function;
 }
 
-/// What a mesh shader puts out.
+/// The output of a mesh shader.
 #[derive(Clone, Copy)]
 pub struct MeshInfo {
     pub vertex_output_type: Handle<Type>,
@@ -49,7 +49,7 @@ pub struct MeshInfo {
     pub topology: u64,
 }
 
-/// Where a pipeline starts.
+/// An entry point: where a pipeline starts.
 #[derive(Drop)]
 pub struct EntryPoint {
     pub name: String,
@@ -62,7 +62,7 @@ pub struct EntryPoint {
     pub task_payload: Option<Handle<GlobalVariable>>,
 }
 
-/// The types that have a meaning of their own.
+/// The types with a meaning of their own.
 #[derive(Drop)]
 pub struct SpecialTypes {
     pub ray_desc: Option<Handle<Type>>,
@@ -88,7 +88,7 @@ pub struct Module {
 }
 
 impl Module {
-    /// The module of nothing.
+    /// Returns the module without items.
     pub fn new(alloc: Global) -> Self
         ensures special { LacksSpecialTypes result.special_types }
         ensures items { (result.types ≡ []) × (result.constants ≡ []) × (result.overrides ≡ [])

@@ -8,8 +8,8 @@ use indexmap::{IndexMap, map};
 use std::alloc::{AllocError, Global};
 use std::marker::Model;
 
-/// The names of the expressions of a function, in the order of their first naming. It takes two words while no expression has
-/// a name.
+/// The names of the expressions of a function, in the order of their first naming. The struct takes two words while no
+/// expression has a name.
 #[derive(Drop)]
 pub struct NamedExpressions(Option<Box<IndexMap<Handle<Expression>, String>>>);
 
@@ -24,14 +24,14 @@ impl Model for NamedExpressions {
 }
 
 impl NamedExpressions {
-    /// No names.
+    /// Returns the struct without names.
     pub fn new() -> Self
         ensures { result.entries ≡ [] }
     {
         NamedExpressions(None)
     }
 
-    /// The names, each with what it names, in order.
+    /// Returns the expressions that have names, each with its name, in order.
     pub fn as_slice(&self) -> map::Slice<'_, Handle<Expression>, String>
         ensures { result ≡ self.now.entries }
     {
@@ -41,28 +41,28 @@ impl NamedExpressions {
         names.as_slice()
     }
 
-    /// The names, each with what it names, in order.
+    /// Iterates over the expressions that have names, each with its name, in order.
     pub fn iter(&self) -> map::Iter<'_, Handle<Expression>, String>
         ensures { result ≡ self.now.entries }
     {
         self.as_slice().iter()
     }
 
-    /// How many expressions have names.
+    /// Returns the number of expressions that have names.
     pub fn len(&self) -> usize
         ensures { result ≡ length self.now.entries }
     {
         self.as_slice().len()
     }
 
-    /// Whether no expression has a name.
+    /// Returns whether no expression has a name.
     pub fn is_empty(&self) -> bool
         ensures { IsTrue result ↔ (self.now.entries ≡ []) }
     {
         self.as_slice().is_empty()
     }
 
-    /// The name of an expression.
+    /// Returns the name of an expression, if it has one.
     pub fn get(&self, handle: Handle<Expression>) -> Option<&String>
         ensures { option_copied result ≡ lookup (nat_eq handle) self.now.entries }
     {
@@ -72,7 +72,10 @@ impl NamedExpressions {
         }
     }
 
-    /// Names an expression, and answers the name that it had. It keeps its place, or comes last.
+    /// Names an expression and returns its old name. A renamed expression keeps its place; another comes last.
+    ///
+    /// # Errors
+    /// If out of memory.
     pub fn insert(
         &mut self,
         alloc: Global,

@@ -1,4 +1,4 @@
-// What an item names, in the order of copying.
+// The items that an item names, in the order of copying.
 ghost use Rattle.std.specs.Prelude.{◌≡◌, ◌∷◌, [], Some, IfOk, map, option_map};
 ghost use Rattle.naga_oil_ir.specs.Rows.{Row, size_name as size_name_of, member_type, named_place, type_row, constant_row, override_row, global_row, expression_row};
 
@@ -6,7 +6,7 @@ use super::*;
 use ItemPlace::{ConstantItem, ExpressionItem, GlobalItem, OverrideItem, TypeItem};
 use std::alloc::{AllocError, Global};
 
-/// A place of an item in the arena of its kind; an expression is a global one.
+/// The place of an item in the arena of its kind. An expression is a global one.
 #[derive(Clone, Copy)]
 pub enum ItemPlace {
     TypeItem(Handle<Type>),
@@ -16,14 +16,17 @@ pub enum ItemPlace {
     ExpressionItem(Handle<Expression>),
 }
 
-/// The items that an item names, in the order of copying, with none in the places of absent options.
+/// The items that an item names, in the order of copying; absent ones are `None`.
 pub type NameList = Vec<Option<ItemPlace>>;
 
 /// An item that may name others.
 pub trait Names {
     ghost row_of: { Self → Row };
 
-    /// What it names.
+    /// Returns the items that the item names.
+    ///
+    /// # Errors
+    /// If out of memory.
     fn names(&self, alloc: Global) -> Result<NameList, AllocError>
         ensures { IfOk result (λ v. v.items ≡ (row_of self.now).names) };
 }
@@ -94,7 +97,7 @@ impl Names for GlobalVariable {
     }
 }
 
-/// The item that an expression names, if it names one.
+/// Returns the item that an expression names, if it names one.
 pub fn named_item(named: Named) -> Option<ItemPlace>
     ensures { result ≡ named_place named }
 {
@@ -121,7 +124,7 @@ impl Names for Expression {
     }
 }
 
-/// An item names what it does without its span.
+/// An item with a span names what the item names.
 impl<T: Names> Names for (T, Span) {
     ghost row_of = { λ e. T.row_of e.0 };
 

@@ -1,9 +1,23 @@
-// An expression as its kind, its data, what it names and its operands.
+// An expression as its kind, the item that it names and its operands.
 ghost use Rattle.std.specs.Prelude.{◌≡◌, IfOk, length, map, Some};
 ghost use Rattle.naga_oil_ir.specs.Parts.{parts, ReadsAs, level_x, level_y};
 
 use super::*;
 use std::alloc::{AllocError, Global};
+
+// Kinds of expressions, by their places in the list of `Expression`, from 0: first the external kinds, then the results of
+// statements, then the operations, which have operands.
+
+/// The kind of a global variable: the first external kind that a global expression can't have.
+pub const GLOBAL_VARIABLE_KIND: u64 = 4;
+/// The kind of an argument of a function.
+pub const LAST_EXTERNAL_KIND: u64 = 6;
+/// The kind of the result of a call.
+pub const FIRST_RESULT_KIND: u64 = 7;
+/// The kind of the result of an operation of a subgroup.
+pub const LAST_RESULT_KIND: u64 = 12;
+/// The kind of a value composed of others.
+pub const FIRST_OPERATION_KIND: u64 = 13;
 
 /// The item that an expression names, if it names one.
 #[derive(Clone, Copy)]
@@ -20,17 +34,17 @@ pub enum Named {
 
 use Named::{ArgumentAt, ConstantAt, FunctionAt, GlobalAt, LocalAt, Nothing, OverrideAt, TypeOf};
 
-/// What an expression is made of, apart from its plain values.
+/// The parts of an expression, without its plain values.
 #[derive(Drop)]
 pub struct ExpressionParts {
-    /// Its place in the list of the kinds, from 0: below 7 external, below 13 a result.
+    /// The place of the expression in the list of `Expression`, from 0.
     pub kind: u64,
     pub named: Named,
-    /// The operands in the order of copying, with none in the places of absent options.
+    /// The operands in the order of copying; absent ones are `None`.
     pub operands: Vec<Option<Operand>>,
 }
 
-/// What is read of an expression, unless no memory is found.
+/// The parts of an expression, or an error if out of memory.
 pub type PartsRead = Result<ExpressionParts, AllocError>;
 
 fn read_parts(alloc: Global, kind: u64, named: Named, operands: &[Option<Operand>]) -> PartsRead
@@ -45,7 +59,7 @@ fn read_parts(alloc: Global, kind: u64, named: Named, operands: &[Option<Operand
     })
 }
 
-/// A level's operand, or the first of a gradient.
+/// Returns the operand of a level, the first for a gradient.
 fn level_x(level: &SampleLevel) -> Option<Operand>
     ensures { result ≡ level_x level.now }
 {
@@ -56,7 +70,7 @@ fn level_x(level: &SampleLevel) -> Option<Operand>
     }
 }
 
-/// The second operand of a gradient.
+/// Returns the second operand of a gradient.
 fn level_y(level: &SampleLevel) -> Option<Operand>
     ensures { result ≡ level_y level.now }
 {
@@ -67,7 +81,10 @@ fn level_y(level: &SampleLevel) -> Option<Operand>
 }
 
 impl Expression {
-    /// The kind of an expression, the item that it names and its operands.
+    /// Returns the kind of an expression, the item that it names and its operands.
+    ///
+    /// # Errors
+    /// If out of memory.
     #[rattlefmt::skip]
     pub fn parts(&self, alloc: Global) -> PartsRead
         ensures { IfOk result (λ r. ReadsAs r (parts self.now)) }

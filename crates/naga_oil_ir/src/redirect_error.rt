@@ -1,22 +1,22 @@
-// Why calls can't be redirected, or functions can't be put in order.
+// Why calls can't be redirected, or functions can't be sorted.
 use std::alloc::AllocError;
 use thiserror::Error;
 
-/// Why calls can't be redirected, or functions can't be put in order.
+/// Why calls can't be redirected, or functions can't be sorted.
 #[derive(Debug, Drop, Error)]
 pub enum RedirectError {
     #[error("can't find function {0} for redirection")]
     FunctionNotFound(String),
-    /// The replacement, and the function that it was to stand for.
+    /// The replacement, and the function that it was to replace.
     #[error("{0} cannot override {1} due to argument mismatch")]
     ArgumentMismatch(String, String),
-    /// The replacement, and the function that it was to stand for.
+    /// The replacement, and the function that it was to replace.
     #[error("{0} cannot override {1} due to return type mismatch")]
     ReturnTypeMismatch(String, String),
-    /// The names of the functions that call themselves or lead to some that do, joined by `, `.
+    /// The names of the functions that call themselves or reach a function that does, joined by `, `.
     #[error("circular reference; can't find an order for : {0}")]
     CircularReference(String),
-    /// A growth of memory was refused.
+    /// Out of memory.
     #[error("out of memory")]
     Memory,
 }

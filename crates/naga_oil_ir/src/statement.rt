@@ -17,7 +17,7 @@ pub struct SwitchCase {
     pub fall_through: bool,
 }
 
-/// What is done with a ray query.
+/// An operation on a ray query.
 #[derive(Clone, Copy)]
 #[rattlefmt::skip]
 pub enum RayQueryFunction {

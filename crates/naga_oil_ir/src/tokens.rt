@@ -6,7 +6,7 @@ use super::*;
 use Token::{Callee, Emitted, Flag, Give, Head, Plain, Use};
 use std::alloc::AllocError;
 
-/// A part of a body, which a list of them gives in order and without blocks inside blocks.
+/// A part of a body. A list of tokens gives the parts in order, without nested blocks.
 #[derive(Clone, Copy)]
 pub enum Token {
     /// The span of the statement that follows.
@@ -20,13 +20,13 @@ pub enum Token {
     Absent,
     /// An operand.
     Use(Handle<Expression>),
-    /// A result, but for that of a call.
+    /// The result of a statement that is no call.
     Give(Handle<Expression>),
-    /// The result of a call, with what it calls.
+    /// The result of a call, with the called function.
     GiveCall(Handle<Function>, Handle<Expression>),
     Emitted(Range<Expression>),
     Callee(Handle<Function>),
-    /// A block begins or ends.
+    /// The begin of a block, and its end.
     Open,
     Close,
 }
@@ -85,7 +85,10 @@ fn push_uses(handles: &[Operand], out: &mut Vec<Token>) -> Result<(), AllocError
     Ok(())
 }
 
-/// Pushes a block that stands in a statement.
+/// Pushes the tokens of a block inside a statement.
+///
+/// # Errors
+/// If out of memory.
 #[cycle(tokens)]
 fn push_inside(block: &Block, out: &mut Vec<Token>) -> Result<(), AllocError>
     ensures { let old = out.old.items in
@@ -99,7 +102,10 @@ fn push_inside(block: &Block, out: &mut Vec<Token>) -> Result<(), AllocError>
     Ok(())
 }
 
-/// Pushes the tokens of a body. After an error what stood in `out` stays in front.
+/// Pushes the tokens of a body.
+///
+/// # Errors
+/// If out of memory: `out` then begins with what it held before.
 #[cycle(tokens)]
 pub fn push_block(block: &Block, out: &mut Vec<Token>) -> Result<(), AllocError>
     ensures { let old = out.old.items in
@@ -114,8 +120,10 @@ pub fn push_block(block: &Block, out: &mut Vec<Token>) -> Result<(), AllocError>
     Ok(())
 }
 
-/// Pushes a statement, without its span: the kinds with blocks, lists or results in them at length, the others by their
-/// tokens.
+/// Pushes the tokens of a statement, without its span.
+///
+/// # Errors
+/// If out of memory.
 #[cycle(tokens)]
 #[rattlefmt::skip]
 fn push_statement(statement: &Statement, out: &mut Vec<Token>) -> Result<(), AllocError>

@@ -1,7 +1,7 @@
 // Types, constants, overrides and variables.
 use super::{Expression, Handle, Item, kind};
 
-/// How many elements an array has.
+/// The number of elements of an array.
 #[derive(Clone, Copy, PartialEq, Eq, Hash)]
 pub enum ArraySize {
     Constant(u32),
@@ -18,7 +18,7 @@ pub struct StructMember {
     pub offset: u32,
 }
 
-/// What a type is made of.
+/// The structure of a type, without its name.
 #[derive(PartialEq, Eq, Hash, Drop)]
 #[rattlefmt::skip]
 pub enum TypeInner {
@@ -60,7 +60,7 @@ impl Item for Constant {
     type Kind = kind::Constant;
 }
 
-/// A constant that a pipeline may override.
+/// A constant whose value a pipeline may override.
 #[derive(PartialEq, Drop)]
 pub struct Override {
     pub name: Option<String>,
@@ -73,7 +73,7 @@ impl Item for Override {
     type Kind = kind::Override;
 }
 
-/// A variable outside functions.
+/// A global variable.
 #[derive(PartialEq, Drop)]
 pub struct GlobalVariable {
     pub name: Option<String>,
@@ -87,7 +87,7 @@ impl Item for GlobalVariable {
     type Kind = kind::GlobalVariable;
 }
 
-/// A variable of a function.
+/// A local variable of a function.
 #[derive(Drop)]
 pub struct LocalVariable {
     pub name: Option<String>,

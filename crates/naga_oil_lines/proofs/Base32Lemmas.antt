@@ -19,7 +19,7 @@ letters_step n v more =
     simp halved (five_bits (v / 2 ^ n)) in
     rw five (ap (λ k. letter k ∷ letters (bits n v ++ more)) group)
 
--- a byte put behind a number puts its bits behind
+-- appending a byte to a number appends its bits
 low_bits : (a b : ℕ) → bits 8 (a * 256 + b) ≡ bits 8 b
 low_bits a b =
     let e7 : (a * 256 + b) / 128 % 2 ≡ b / 128 % 2 = omega arith in
@@ -106,7 +106,7 @@ no_byte (suc (suc (suc (suc (suc (suc zero)))))) v few = refl
 no_byte (suc (suc (suc (suc (suc (suc (suc zero))))))) v few = refl
 no_byte (suc (suc (suc (suc (suc (suc (suc (suc n)))))))) v few = absurd (omega arith)
 
--- a letter put behind a number puts its bits behind
+-- appending a letter to a number appends its bits
 module _ (p v : ℕ) where
   letter_bits : bits 5 (p % 256 * 32 + v % 32) ≡ bits 5 v
   letter_bits =

@@ -1,4 +1,4 @@
--- The table of classes is held against a test at each of the 256 bytes, by computing.
+-- The table of classes agrees with a test at each of the 256 bytes, by computing.
 use Rattle.std.proofs.Common.{List, [], ◌∷◌, length, ◌≤◌, refl, ◌≡◌, ℕ, ◌<◌, Bool, false, not, nat_eq, bit_and, map, get_or, sym, ap, ◌∙◌, arith}
 use Rattle.std.specs.List.{range_with_len}
 use Rattle.std.proofs.lemmas.List.FromFn.{get_or-map-range_with_len}
@@ -13,7 +13,7 @@ from_table flag test b h e =
     sym (get_or-map-range_with_len (has_flag flag) 0 256 b b false h (omega arith)) ∙ ap (λ l. get_or l b false) e
     ∙ get_or-map-range_with_len test 0 256 b b false h (omega arith)
 
--- the first byte of a text tells whether an identifier ends before it
+-- the first byte of a text decides whether an identifier ends before it
 pub ends_by_class : (bs : List ℕ) → 1 ≤ length bs → get_or bs 0 0 < 256 → has_flag 4 (get_or bs 0 0) ≡ ends_identifier bs
 ends_by_class [] some lt = absurd (omega arith)
 ends_by_class (b ∷ bs) some lt = from_table 4 (λ b. ends_identifier (b ∷ [])) b lt refl

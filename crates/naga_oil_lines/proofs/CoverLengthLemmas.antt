@@ -15,7 +15,7 @@ length-plain Code bs = refl
 length-plain (Block depth) bs = length-replicate (length bs) 32
 length-plain Quote bs = refl
 
--- what comes at the front, by the mark there
+-- the covered front, by the mark there
 length-at : (s : CommentState) (a b : ℕ) (bs : List ℕ) (o : Option Mark) → ((t : CommentState) → length (cover t (b ∷ bs)).0 ≡ length (b ∷ bs)) → ((t : CommentState) → length (cover t bs).0 ≡ length bs)
     → (let c : Covered = elim o [
       | None ↦ with_front (plain s (a ∷ [])) (cover s (b ∷ bs))

@@ -1,4 +1,4 @@
--- A decorated name tells its item and its module, and a code its text.
+-- A decorated name determines its item and its module, and a code its text.
 use Rattle.std.proofs.Common.{◌≡◌, ◌≢◌, ℕ, ◌+◌, ◌/◌, ◌%◌, ◌<◌, ◌&&◌, Bool, true, false, cond, Some, None, List, [], ◌∷◌, ◌++◌, length, refl, sym, ap, subst, lit<, ◌∙◌, arith, append_assoc, ⊎_elim}
 use lib.Utf8.{scalar, scalar_cases, next}
 use Rattle.std.specs.Prelude.{All, nat_lt, codes, bytes_eq}
@@ -12,7 +12,7 @@ use Rattle.std.proofs.lemmas.List.Elements.{All-nil, All-cons, All-head, All-tai
 use Rattle.std.proofs.lemmas.Slice.Eq.{bytes_eq-Decides}
 use Rattle.std.proofs.lemmas.Str.{IsUtf8-from_is_utf8, is_utf8-from_IsUtf8}
 use Rattle.naga_oil_lines.specs.Decorate.{bits, number, letter, letters, base32, value_of, bytes_of, decoded, decorated_name}
-use Rattle.naga_oil_marks.specs.Marks.{module_mark}
+use Rattle.naga_oil_words.specs.Marks.{module_mark}
 
 -- ---- the bits of letters
 abbrev AreBits : List ℕ → Type 0
@@ -47,7 +47,7 @@ bits_of code = flat_map (λ c. bits 5 (value_of c)) code
 zero_bit : 0 < 2
 zero_bit = lit< tt
 
--- the letters give the bits back, and fewer than five more
+-- the letters give the bits, and fewer than five more
 letters_back : (bs : List ℕ) → AreBits bs → (pad : List ℕ) × (length pad < 5) × (bits_of (letters bs) ≡ bs ++ pad)
 unfolding letters bits_of
 letters_back [] h = ([], omega arith, refl)
@@ -136,7 +136,7 @@ unfolding decoded bytes_of_code bits_of
 decoded-base32 m u =
     rw (bytes_of_code-base32 m (text_fits m u), (bytes_eq-Decides (base32 m) (base32 m)).1 refl, is_utf8-from_IsUtf8 m u) refl
 
--- and a code that stands for a text is its base32
+-- a code that gives a text is the base32 of the text
 pub coded_text : (code m : List ℕ) → decoded code ≡ Some m → (base32 m ≡ code) × IsUtf8 m
 unfolding decoded
 coded_text code m e =
@@ -150,7 +150,7 @@ coded_text code m e =
     go bytes true false hx hy e = cc
     go bytes false y hx hy e = cc
 
--- what a reader finds of a code: its bytes, and the base32 of these
+-- what the reader computes of a code: its bytes, and the base32 of these
 pub read_code : (code bytes again : List ℕ) → bytes ≡ bytes_of (flat_map (λ c. bits 5 (value_of c)) code) → again ≡ base32 bytes → cond (bytes_eq again code && is_utf8 bytes) (Some bytes) None ≡ decoded code
 unfolding decoded
 read_code code bytes again e f = rw (f, e) refl
@@ -203,7 +203,7 @@ split_name m f =
     append_assoc (f ++ module_mark) (base32 m) (88 ∷ []) ∙ append_assoc f module_mark (base32 m ++ 88 ∷ [])
     ∙ sym (append_assoc f (codes "X_naga_oil_mod") (95 ∷ 88 ∷ (base32 m ++ 88 ∷ [])))
 
--- what follows the last underscore
+-- the text after the last underscore
 plain_end : (m : List ℕ) → HasNoUnderscore (88 ∷ (base32 m ++ 88 ∷ []))
 unfolding HasNoUnderscore
 plain_end m = All-cons (λ c. c ≢ 95) 88 (base32 m ++ 88 ∷ []) (λ e. omega arith) (plain_code (flat_map (bits 8) m) (are_bits m))

@@ -1,4 +1,4 @@
--- Directives: copies, names in byte order, and their text.
+-- Directives: copies, names in byte order, and texts.
 use Rattle.std.proofs.Common.{◌≡◌, ◌↔◌, ℕ, ◌+◌, ◌<◌, List, [], ◌∷◌, ◌++◌, length, get_or, map, take, String, string_bytes, Vec, Bor, codes, cond, Result, Ok, Err, OnOk, is_ok, refl, sym, ap, ◌∙◌, append_assoc, append-nil, arith}
 use Rattle.std.specs.declared.alloc.AllocError.{AllocError}
 use Rattle.std.specs.declared.alloc.Global.{Global}
@@ -14,9 +14,10 @@ use Rattle.naga_oil_lines.specs.declared.wgsl_directives.EnableDirective.{Enable
 use Rattle.naga_oil_lines.specs.declared.wgsl_directives.RequiresDirective.{RequiresDirective}
 use Rattle.naga_oil_lines.specs.declared.wgsl_directives.DiagnosticDirective.{DiagnosticDirective}
 use Rattle.naga_oil_lines.specs.Directives.{Diagnostic, Directives, enable_of, requires_of, diagnostic_of}
-use Rattle.naga_oil_lines.specs.DirectivesText.{with_name, in_order, names_of, names_line, diagnostic_line, with_empty_line, directive_lines, directives_text, SaysNothing}
+use Rattle.naga_oil_words.specs.Texts.{with_name, in_order}
+use Rattle.naga_oil_lines.specs.DirectivesText.{names_of, names_line, diagnostic_line, with_empty_line, directive_lines, directives_text, SaysNothing}
 
--- texts that are the same one by one
+-- lists of texts that are equal one by one
 pub texts_again : (xs ys : List (String Global)) → AllZip (λ x y. string_bytes y ≡ string_bytes x) xs ys → map string_bytes ys ≡ map string_bytes xs
 texts_again [] [] h = refl
 texts_again [] (y ∷ ys) h = absurd h
@@ -42,7 +43,7 @@ map_insert (x ∷ xs) k =
       | Greater ↦ ap (λ l. x.now ∷ l) (map_insert xs k)
     ]
 
--- one name more is in the set
+-- one more name is in the set
 pub names_more : (old : List (List ℕ)) (more : List (String Global)) (i : ℕ) (x : String Global) (name : Bor (List ℕ)) (before after : List (Bor (List ℕ))) → i < length more → x ≡ get_or more i x → name.now ≡ string_bytes x
     → map (λ n. n.now) before ≡ fold with_name old (map string_bytes (take i more)) → after ≡ insert_key (λ x y. slice_cmp nat_cmp x.now y.now) before name
     → map (λ n. n.now) after ≡ fold with_name old (map string_bytes (take (i + 1) more))
@@ -53,7 +54,7 @@ names_more old more i x name before after h e text was is =
     ∙ ap (λ l. fold with_name old (map string_bytes l)) (sym (take_more more i x h ∙ ap (λ y. take i more ++ y ∷ []) (sym e)))
 
 -- ---- lines
--- a line of one diagnostic more
+-- the lines of one more diagnostic
 pub diagnostics_more : (xs : List DiagnosticDirective) (i : ℕ) (x : DiagnosticDirective) (old before after : List ℕ) → i < length xs → x ≡ get_or xs i x
     → before ≡ old ++ flat_map diagnostic_line (map diagnostic_of (take i xs)) → after ≡ before ++ diagnostic_line (diagnostic_of x)
     → after ≡ old ++ flat_map diagnostic_line (map diagnostic_of (take (i + 1) xs))
@@ -66,7 +67,7 @@ diagnostics_more xs i x old before after h e was is =
     ∙ ap (λ l. lines (take i xs) ++ l) (append-nil (diagnostic_line (diagnostic_of x))) in
     is ∙ ap (λ l. l ++ diagnostic_line (diagnostic_of x)) was ∙ append_assoc old (lines (take i xs)) (diagnostic_line (diagnostic_of x)) ∙ ap (λ l. old ++ l) (sym parts)
 
--- pieces that are pushed one after another, where the last call is the answer
+-- texts that are appended one after another, where the last call is the result
 pub last_piece : (r : Result (Unit {0}) AllocError) (old piece whole new : List ℕ) → new ≡ cond (is_ok r) (old ++ piece) old → old ++ piece ≡ whole → OnOk r (new ≡ whole)
 last_piece (Ok u) old piece whole new e f = e ∙ f
 last_piece (Err x) old piece whole new e f = tt
@@ -77,7 +78,7 @@ four_pieces old a b c d t u v f g h = rw (h, g, f) (simp append_assoc)
 pub five_pieces : (old a b c d e t u v w : List ℕ) → t ≡ old ++ a → u ≡ t ++ b → v ≡ u ++ c → w ≡ v ++ d → w ++ e ≡ old ++ ((((a ++ b) ++ c) ++ d) ++ e)
 five_pieces old a b c d e t u v w f g h i = rw (i, h, g, f) (simp append_assoc)
 
--- the join of names that are borrowed
+-- the join of borrowed names
 joined_more : (sep : List ℕ) (ks : List (Bor (List ℕ))) → flat_map (λ y. sep ++ y.now) ks ≡ flat_map (λ y. sep ++ y) (map (λ n. n.now) ks)
 joined_more sep [] = refl
 joined_more sep (k ∷ ks) = ap (λ l. (sep ++ k.now) ++ l) (joined_more sep ks)
@@ -162,6 +163,6 @@ nothing_written d h =
     ap with_empty_line (λ i. names_line (codes "enable") (in_order (h.0 i)) ++ names_line (codes "requires") (in_order (h.1 i)) ++ flat_map diagnostic_line (h.2 i))
     ∙ ap with_empty_line (λ i. names_line (codes "enable") (in_order-nil i) ++ names_line (codes "requires") (in_order-nil i) ++ [])
 
--- a text is empty exactly if nothing is said
+-- a text is empty exactly if the directives say nothing
 pub empty_text : (d : Directives) (text : List ℕ) → text ≡ directives_text d → (text ≡ []) ↔ SaysNothing d
 empty_text d text e = (λ h. says_nothing d (sym e ∙ h), λ h. e ∙ nothing_written d h)

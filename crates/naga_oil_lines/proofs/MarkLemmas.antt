@@ -1,4 +1,4 @@
--- Marks and their codes, and the last mark of a run: their grammar says what the reader gives.
+-- Marks and their codes, and the last mark of a run: the reader agrees with the grammar.
 use Rattle.std.proofs.Common.{◌≡◌, ◌≢◌, ℕ, ◌-◌, ◌<◌, Bool, true, false, cond, eqb, eq-eqb, Option, Some, None, List, [], ◌∷◌, ◌++◌, length, take, drop, refl, sym, ap, subst, ◌∙◌, inl, inr, ◌⊎◌, arith, rules, length-append}
 use borrow.Author.Tests.{eqb-true, ne_eqb}
 use Rattle.std.specs.Prelude.{All, codes}
@@ -10,7 +10,7 @@ use Rattle.std.proofs.lemmas.List.Elements.{All-cons, All-nil, All-head, All-tai
 use Rattle.std.proofs.lemmas.Option.{some_pair_parts}
 use Rattle.std.proofs.lemmas.Str.{encode_ascii}
 use Rattle.naga_oil_lines.specs.Decorate.{decoded}
-use Rattle.naga_oil_marks.specs.Marks.{module_mark, override_mark}
+use Rattle.naga_oil_words.specs.Marks.{module_mark, override_mark}
 use Rattle.naga_oil_lines.specs.Text.{past_word}
 use Rattle.naga_oil_lines.specs.Undecorate.{is_code_char, from_last_x, mark_code, from_last_mark, split_at_mark, override_at}
 use Rattle.naga_oil_lines.specs.UndecorateGrammar.{EndsCode, BeginsWithCode, BeginsWithMark, HasLastMark, BeginsWithOverride}
@@ -77,7 +77,7 @@ no_x_cut (c ∷ cs) e = go (is_code_char c) (eqb c 88) (from_last_x cs) refl ref
         let other : c ≢ 88 = λ same. let is = eq-eqb c 88 same in cc in
         record { tail = c ∷ n.tail; after = n.after; whole = ap (λ l. c ∷ l) n.whole; run = All-cons IsCodeChar c n.tail k n.run; last = All-cons IsNoX c n.tail other n.last; longest = n.longest }
 
--- the last `X` of such a run, and what stands around it
+-- the last `X` of such a run, and the text around it
 record CutAtX (cs end : List ℕ) : Type 0 where
   code : List ℕ
   tail : List ℕ
@@ -153,7 +153,7 @@ mark_is_read mark text code rest m =
     sym (ap encode_utf8_all (take_front m.behind code (88 ∷ rest) h.whole) ∙ ascii_code code (front_is_code code (88 ∷ h.tail) h.run)) in
     sym (a_mark mark text m.behind (88 ∷ rest) rest code (sym (ap (past_word mark) m.whole ∙ past_word-append mark m.behind)) (sym at_x) (sym (past_word-append (codes "X") rest)) spelled)
 
--- no mark with a code is there where the reader finds none
+-- no mark with a code is where the reader finds none
 none_read : (mark text code rest : List ℕ) → mark_code mark text ≡ None → ¬ (BeginsWithMark mark text code rest)
 none_read mark text code rest none m = let found = mark_is_read mark text code rest m in cc
 

@@ -1,4 +1,4 @@
--- Names in byte order: they rise strictly, and each is one of those that were given.
+-- Names in byte order: they are strictly sorted, and each is one of the given names.
 use Rattle.std.proofs.Common.{◌≡◌, ℕ, zero, suc, ◌<◌, List, [], ◌∷◌, length, get_or, ◌⊎◌, inl, inr, refl, sym, ap, ◌∙◌, arith}
 use Rattle.std.specs.declared.cmp.Ordering.{Ordering}
 use Rattle.std.specs.declared.cmp.Ordering.TheVariants.{Less, Equal, Greater}
@@ -7,7 +7,7 @@ use Rattle.std.specs.List.{fold, AllByRecursion, Contains}
 use Rattle.std.specs.List.Sorted.{IsStrictlySortedBy}
 use Rattle.std.specs.Ordering.{nat_cmp, match_ordering, ordering_reverse}
 use Rattle.std.proofs.lemmas.Map.Lookups.{exact_bytes}
-use Rattle.naga_oil_lines.specs.DirectivesText.{with_name, in_order}
+use Rattle.naga_oil_words.specs.Texts.{with_name, in_order}
 
 abbrev order : List ℕ → List ℕ → Ordering
 order a b = slice_cmp nat_cmp a b

@@ -1,4 +1,4 @@
--- A text has one list of tokens.
+-- A text has exactly one list of tokens.
 use Rattle.std.proofs.Common.{◌≡◌, ◌≢◌, ◌⊎◌, ℕ, ◌+◌, true, false, ◌||◌, List, [], ◌∷◌, ◌++◌, length, take, drop, refl, sym, ap, subst, ◌∙◌, inl, inr, arith, append-nil, take-append-drop}
 use borrow.Author.Tests.{ne_eqb, eq-eqb}
 use Rattle.std.specs.Char.{is_whitespace, len_utf8}

@@ -1,4 +1,5 @@
--- Characters of a text from its front.
+-- The characters of a text, from its front.
+use Rattle.std.specs.Prelude.{option_copied}
 use Rattle.std.proofs.Common.{◌≡◌, ℕ, suc, ◌+◌, ◌-◌, Bool, true, false, cond, eqb, eq-eqb, Option, Some, None, MatchOption, List, [], ◌∷◌, ◌++◌, length, take, drop, refl, sym, ap, subst, ◌∙◌, arith, length-append, ◌≤◌, get_or, replicate, append_assoc}
 use borrow.Author.Tests.{eqb-true}
 use denote.Ref.{Bor}
@@ -27,7 +28,7 @@ skip_is_drop (c ∷ cs) =
       | false ↦ refl
     ]
 
--- what is left of a text that is trimmed at its start
+-- the text after the white space at its start
 pub chars_trimmed : (bs r : List ℕ) → IsUtf8 r → r ≡ trim_start bs → chars r ≡ drop (prefix_len is_whitespace (chars bs)) (chars bs)
 unfolding trim_start
 chars_trimmed bs r u e = sym (chars_from_encodes (skip_leading_whitespace (chars bs)) r u (sym e)) ∙ skip_is_drop (chars bs)
@@ -57,7 +58,7 @@ pub none_unless : (o : Option (List ℕ)) → ((rest : List ℕ) → o ≡ Some 
 none_unless None h = refl
 none_unless (Some rest) h = absurd (h rest refl)
 
--- what `strip_prefix` says of the characters
+-- the characters by the result of `strip_prefix`
 pub past_word_text : (word text : List ℕ) (r : Option (Bor (List ℕ))) → IsUtf8 word → IsUtf8 text → MatchOption r (FindsTextPrefix word text None) (λ x. StripsPrefix (FindsTextPrefix word) text x.now)
     → option_map (λ x. chars x.now) r ≡ past_word (chars word) (chars text)
 past_word_text word text None u v h =
@@ -67,7 +68,15 @@ past_word_text word text (Some x) u v h =
     let e : text ≡ word ++ x.now = h.1.1 ∙ ap (λ l. word ++ l) (sym h.2) in
     rw (e, chars-append word x.now u) (sym (past_word-append (chars word) (chars x.now)))
 
--- ---- a run of characters that pass
+-- the bytes by the result of `strip_prefix`
+pub past_word_bytes : (word text : List ℕ) (r : Option (Bor (List ℕ))) → MatchOption r (FindsTextPrefix word text None) (λ x. StripsPrefix (FindsTextPrefix word) text x.now)
+    → option_copied r ≡ past_word word text
+past_word_bytes word text None h = none_unless (past_word word text) (λ rest e. h rest (past_word-some word text rest e))
+past_word_bytes word text (Some x) h =
+    let e : text ≡ word ++ x.now = h.1.1 ∙ ap (λ l. word ++ l) (sym h.2) in
+    rw e (sym (past_word-append word x.now))
+
+-- ---- a run of characters of a class
 abbrev pub after_run : (ℕ → Bool) → List ℕ → List ℕ
 after_run p cs = drop (prefix_len p cs) cs
 

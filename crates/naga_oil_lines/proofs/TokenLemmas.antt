@@ -57,7 +57,7 @@ pub suffix_more : (bs front rest enc more : List ℕ) → bs ≡ front ++ rest �
 suffix_more bs front rest enc more e h = (front ++ enc, e ∙ ap (λ l. front ++ l) h ∙ sym (append_assoc front enc more))
 
 -- ---- the tokens
--- the rest of a token that has been told is passed over
+-- the rest of a token already read is skipped
 lexemes_told : (told at : ℕ) (cs : List ℕ) → lexemes told at cs ≡ lexemes 0 (at + length (encode_utf8_all (take told cs))) (drop told cs)
 unfolding lexemes
 lexemes_told zero at [] = refl
@@ -72,7 +72,7 @@ lexemes-cons : (at c : ℕ) (cs : List ℕ) → lexemes 0 at (c ∷ cs) ≡ lexe
 unfolding lexemes
 lexemes-cons at c cs = refl
 
--- the first token of characters, and those of the rest
+-- the first token of characters, and the other tokens
 pub lexemes_step : (at c : ℕ) (cs : List ℕ) → (let text = encode_utf8_all (c ∷ take (more_in_token c cs) cs) in
     lexemes 0 at (c ∷ cs) ≡ lexeme_at at c text ∷ lexemes 0 (at + length text) (drop (more_in_token c cs) cs))
 lexemes_step at c cs =
@@ -85,7 +85,7 @@ pub lexemes-nil : (at : ℕ) → lexemes 0 at [] ≡ []
 unfolding lexemes
 lexemes-nil at = refl
 
--- the first token of a text, and what is left
+-- the first token of a text, and the rest
 pub lexemes_first : (at c : ℕ) (bs more text left : List ℕ) → BeginsWithChar bs c more → bs ≡ text ++ left → IsUtf8 left
     → chars left ≡ drop (more_in_token c (chars more)) (chars more) → lexemes 0 at (chars bs) ≡ lexeme_at at c text ∷ lexemes 0 (at + length text) (chars left)
 lexemes_first at c bs more text left first cut v rest =
@@ -115,7 +115,7 @@ pub more_in_other : (c : ℕ) (cs : List ℕ) → starts_identifier c ≡ false 
 unfolding more_in_token
 more_in_other c cs e f = rw (e, f)
 
--- ---- what is shown
+-- ---- the tokens returned
 shown_kept : (asked : Bool) (us : List Lexeme) (l : Lexeme) → is_whitespace_lexeme l ≡ false → emit asked (l ∷ us) ≡ l ∷ emit asked us
 shown_kept true us l e = refl
 shown_kept false us l e = rw e
@@ -129,7 +129,7 @@ lexeme_whitespace at c text e f = rw (e, f)
 pub lexeme_other : (at c : ℕ) (text : List ℕ) → starts_identifier c ≡ false → is_whitespace c ≡ false → lexeme_at at c text ≡ other c at
 lexeme_other at c text e f = rw (e, f)
 
--- ---- a call of `next`: from s to t it takes the text off, which begins with the character c
+-- ---- a call of `next`: from s to t it takes the text, which begins with the character c
 module _ (s t : Tokenizer) (c : ℕ) (more text left : List ℕ) (first : BeginsWithChar s.rest.now c more) (cut : s.rest.now ≡ text ++ left) (utf8 : IsUtf8 left)
     (rest : t.rest.now ≡ left) (place : t.at ≡ s.at + length text) (same : t.emit_whitespace ≡ s.emit_whitespace) where
   first_lexeme : (l : Lexeme) → chars left ≡ drop (more_in_token c (chars more)) (chars more) → lexeme_at s.at c text ≡ l → tokens_left s ≡ emit s.emit_whitespace (l ∷ lexemes 0 t.at (chars t.rest.now))

@@ -11,12 +11,12 @@ use Rattle.std.proofs.lemmas.Option.{some_pair_parts}
 use Rattle.std.proofs.lemmas.Str.{chars-append, encodes-chars}
 use Rattle.ucd_perl.specs.Perl.{is_word_char}
 use Rattle.naga_oil_lines.specs.Decorate.{decoded}
-use Rattle.naga_oil_marks.specs.Marks.{module_mark, override_mark}
+use Rattle.naga_oil_words.specs.Marks.{module_mark, override_mark}
 use Rattle.naga_oil_lines.specs.Text.{past_word}
 use Rattle.naga_oil_lines.proofs.TextLemmas.{past_word-some, chars_before}
 use Rattle.naga_oil_lines.specs.Undecorate.{is_code_char, from_last_x, mark_code, from_last_mark, split_at_mark, with_module, run_shown, with_modules, override_at, with_overrides}
 
--- ---- a value that a later one stands before
+-- ---- a value that a later one takes precedence over
 or_some : {A : Type 0} (o p : Option A) (x : A) → option_or (option_or o (Some x)) p ≡ option_or o (Some x)
 or_some None p x = refl
 or_some (Some y) p x = refl
@@ -51,7 +51,7 @@ pub from_last_x-first : (text : List ℕ) → option_or (from_last_x text) None 
 from_last_x-first text = or_last (from_last_x text)
 
 -- ---- a code
--- what stands before the rest of a text, by its characters
+-- the text before a rest, by its characters
 pub text_before_rest : (text front rest : List ℕ) → text ≡ front ++ rest → IsUtf8 front → front ≡ encode_utf8_all (take (length (chars text) - length (chars rest)) (chars text))
 text_before_rest text front rest e u =
     let spelled : chars text ≡ chars front ++ chars rest = ap chars e ∙ chars-append front rest u in
@@ -88,7 +88,7 @@ module _ (mark text : List ℕ) where
   unfolding mark_code
   a_mark rest end behind code e f g h = rw (← e, ← f, ← g, h) refl
 
--- ---- what follows a mark
+-- ---- the text after a mark
 from_last_x-suffix : (cs end : List ℕ) → from_last_x cs ≡ Some end → (front : List ℕ) × (cs ≡ front ++ end)
 unfolding from_last_x
 from_last_x-suffix [] end e = cc
@@ -124,7 +124,7 @@ mark_code-suffix mark cs code behind e = go (past_word mark cs) refl e
     go (Some rest) p e = at_end_x rest (from_last_x rest) p refl e
     go None p e = cc
 
--- behind the first character of a mark of an override
+-- after the first character of a mark of an override
 behind_mark : (c : ℕ) (cs code behind : List ℕ) → (let found : Option (List ℕ × List ℕ) = Some (code, behind) in mark_code override_mark (c ∷ cs) ≡ found) → (front : List ℕ) × (cs ≡ front ++ behind)
 behind_mark c cs code behind e =
     let cut = mark_code-suffix override_mark (c ∷ cs) code behind e in
@@ -176,7 +176,7 @@ module _ (run : List ℕ) where
   unfolding with_module
   named before code behind module_name e f = rw (← e, ← f) refl
 
--- ---- what has been told already
+-- ---- characters already read
 pub told_modules : (n : ℕ) (cs : List ℕ) → with_modules n cs ≡ with_modules 0 (drop n cs)
 unfolding with_modules
 told_modules zero cs = refl
@@ -189,7 +189,7 @@ told_overrides zero cs = refl
 told_overrides (suc n) [] = refl
 told_overrides (suc n) (c ∷ cs) = told_overrides n cs
 
--- what is written where a mark of an override may stand
+-- the text written where a mark of an override may be
 abbrev shown_front : ℕ → List ℕ → Option (List ℕ × List ℕ) → List ℕ
 shown_front c cs (Some found) = codes "override fn " ++ found.0 ++ codes "::" ++ with_overrides (length cs - length found.1) cs
 shown_front c cs None = encode_utf8 c ++ with_overrides 0 cs
@@ -247,14 +247,14 @@ pub no_overrides : (all : List ℕ) → all ≡ [] → with_overrides 0 all ≡ 
 unfolding with_overrides
 no_overrides all e = rw e refl
 
--- a run of word characters, by its first one and what follows it
+-- a run of word characters, by its first one and the rest
 pub run_before : (bs front rest more : List ℕ) (c : ℕ) → chars bs ≡ c ∷ chars more → bs ≡ front ++ rest → IsUtf8 front → chars rest ≡ drop (prefix_len is_word_char (chars more)) (chars more)
     → chars front ≡ c ∷ take (prefix_len is_word_char (chars more)) (chars more)
 run_before bs front rest more c spelled e u d =
     let n = prefix_len is_word_char (chars more) in
     chars_before bs front rest (suc n) e u (d ∙ sym (ap (drop (suc n)) spelled)) ∙ ap (take (suc n)) spelled
 
--- whether there is one stays when it is read otherwise
+-- whether a value is there doesn't depend on how it is read
 pub read_is_some : {A B : Type 0} (f : A → B) (o : Option A) (p : Option B) → option_map f o ≡ p → is_some p ≡ is_some o
 read_is_some f None p e = ap is_some (sym e)
 read_is_some f (Some x) p e = ap is_some (sym e)

@@ -53,7 +53,7 @@ gap_ascii b e = grind (arith, nat_tests, e)
 not_quote : (b : ℕ) → is_word_byte b ≡ true → b ≢ 34
 not_quote b e q = let w : false ≡ true = subst (λ k. is_word_byte k ≡ true) q e in cc
 
--- a word goes on an identifier
+-- a word continues an identifier
 after_run : (bs : List ℕ) (cs : List ℕ) → after false (take (prefix_len is_word_byte bs) bs ++ cs) ≡ after false cs
 after_run [] cs = refl
 after_run (b ∷ bs) cs =
@@ -92,7 +92,7 @@ word_lacks_colon (b ∷ bs) =
       | false ↦ λ e. refl
     ] refl
 
--- nor has a character that begins an identifier
+-- a character that begins an identifier is no `:`
 start_lacks_colon : (c : ℕ) → starts_identifier c ≡ true → list_any (λ b. eqb b 58) (encode_utf8 c) ≡ false
 start_lacks_colon c starts =
     list_any_none (λ b. eqb b 58) (encode_utf8 c) (All-from_get_or (λ b. eqb b 58 ≡ false) (encode_utf8 c) 0 (λ i l.

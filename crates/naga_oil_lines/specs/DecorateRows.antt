@@ -1,7 +1,7 @@
--- Names and base32 texts, computed.
+-- Rows of decorated names and base32 texts, computed.
 use Rattle.std.specs.Prelude.{◌≡◌, refl, Some, None, codes, length}
 use Rattle.naga_oil_lines.specs.Decorate.{letters, base32, decorated_name}
-use Rattle.naga_oil_marks.specs.Marks.{module_mark, override_mark}
+use Rattle.naga_oil_words.specs.Marks.{module_mark, override_mark}
 
 of_one_byte : decorated_name (Some (codes "a")) (codes "f") ≡ codes "fX_naga_oil_mod_XMEX"
 unfolding letters

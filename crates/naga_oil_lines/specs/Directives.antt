@@ -1,4 +1,4 @@
--- The directives that a text may begin with.
+-- The directives at the start of a text.
 use Rattle.std.specs.Prelude.{ℕ, List, [], map, string_bytes}
 use Rattle.naga_oil_lines.specs.declared.wgsl_directives.EnableDirective.{EnableDirective}
 use Rattle.naga_oil_lines.specs.declared.wgsl_directives.RequiresDirective.{RequiresDirective}
@@ -10,7 +10,7 @@ pub record Extensions : Type 0 where
   pub names : List (List ℕ)
   pub line : ℕ
 
--- how a rule is treated, and the line's number from 0
+-- the severity of a rule, and the line's number from 0
 pub record Diagnostic : Type 0 where
   pub severity : List ℕ
   pub rule : List ℕ
@@ -25,7 +25,7 @@ pub record Directives : Type 0 where
 abbrev pub no_directives : Directives
 no_directives = record { enables = []; requires = []; diagnostics = [] }
 
--- what the code's values stand for
+-- the code's values as records
 abbrev pub enable_of : EnableDirective → Extensions
 enable_of d = record { names = map string_bytes d.extensions.items; line = d.source_location }
 

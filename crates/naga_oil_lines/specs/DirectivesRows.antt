@@ -1,7 +1,8 @@
--- Directives and what is written for them.
+-- Rows of directives and their texts, computed.
 use Rattle.std.specs.Prelude.{◌≡◌, [], ◌∷◌, codes, refl}
 use Rattle.naga_oil_lines.specs.Directives.{Directives, no_directives}
-use Rattle.naga_oil_lines.specs.DirectivesText.{in_order, directives_text}
+use Rattle.naga_oil_words.specs.Texts.{in_order}
+use Rattle.naga_oil_lines.specs.DirectivesText.{directives_text}
 
 abbrev row_1 : Directives
 row_1 = record {

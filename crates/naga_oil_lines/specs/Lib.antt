@@ -1,4 +1,4 @@
--- What the crate's contracts say.
+-- What the crate's contracts cite.
 pub mod Text
 pub mod Cover
 pub mod CoveredLines

@@ -1,4 +1,4 @@
--- Codes and undecorated texts, computed.
+-- Rows of codes and undecorated texts, computed.
 use lib.Utf8.{encode}
 use Rattle.std.specs.Prelude.{◌≡◌, refl, Some, None, ◌++◌, ◌∷◌, [], codes}
 use Rattle.std.specs.Str.{chars, is_utf8}
@@ -56,12 +56,12 @@ in_a_text : undecoration (codes "of gX_naga_oil_mod_XNUX, h") ≡ codes "of m::g
 unfolding undecorating
 in_a_text = refl
 
--- a mark with nothing before it stays
+-- a mark with nothing before it is unchanged
 first_in_its_run : undecoration (codes "-X_naga_oil_mod_XMEX") ≡ codes "-X_naga_oil_mod_XMEX"
 unfolding undecorating
 first_in_its_run = refl
 
--- the code of the last mark alone is looked at
+-- only the code of the last mark is read
 last_mark : undecoration (codes "fX_naga_oil_mod_XMEXX_naga_oil_mod_X1X") ≡ codes "fX_naga_oil_mod_XMEXX_naga_oil_mod_X1X"
 unfolding undecorating
 last_mark = refl
@@ -71,7 +71,7 @@ in_two_bytes : undecoration (195 ∷ 169 ∷ codes "X_naga_oil_mod_XMEX") ≡ co
 unfolding undecorating
 in_two_bytes = refl
 
--- a mark that can't be decoded stays, and the scan goes on behind its first character
+-- a mark that can't be decoded is unchanged, and the scan continues after its first character
 overlapping : undecoration (codes "X_naga_oil_vrt_X1X_naga_oil_vrt_XMEX") ≡ codes "X_naga_oil_vrt_X1override fn a::"
 unfolding undecorating
 overlapping = refl

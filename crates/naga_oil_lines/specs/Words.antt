@@ -1,16 +1,18 @@
--- Bytes of ASCII, as names and what stands between them have them.
+-- Classes of ASCII bytes: those of names, and those between names.
 use Rattle.std.specs.Prelude.{ℕ, Bool, true, not, ◌&&◌, ◌||◌, ◌==◌, nat_lt, List, [], ◌∷◌}
 use Rattle.std.specs.Char.{is_ascii_alphabetic, is_ascii_alphanumeric}
+use Rattle.naga_oil_words.specs.Bytes.{double_quote, colon, underscore, ascii_count}
 
--- a byte that may go on a name: a letter, a digit or `_`
+-- a byte that may continue a name: a letter, a digit or `_`
 abbrev pub is_word_byte : ℕ → Bool
-is_word_byte b = is_ascii_alphanumeric b || (b == 95)
+is_word_byte b = is_ascii_alphanumeric b || (b == underscore)
 
--- a byte that begins no identifier
+-- an ASCII byte that begins no identifier
 abbrev pub is_gap_byte : ℕ → Bool
-is_gap_byte b = nat_lt b 128 && not (is_ascii_alphabetic b || (b == 34))
+is_gap_byte b = nat_lt b ascii_count && not (is_ascii_alphabetic b || (b == double_quote))
 
--- no identifier goes on at the front: nothing is there, or a byte of ASCII that is no part of one
+-- no identifier continues here: the text is empty or begins with an ASCII byte that is no part of
+-- one
 abbrev pub ends_identifier : List ℕ → Bool
 ends_identifier [] = true
-ends_identifier (b ∷ bs) = nat_lt b 128 && not (is_word_byte b || ((b == 34) || (b == 58)))
+ends_identifier (b ∷ bs) = nat_lt b ascii_count && not (is_word_byte b || ((b == double_quote) || (b == colon)))

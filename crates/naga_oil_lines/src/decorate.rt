@@ -1,4 +1,4 @@
-//! Names of the items of modules, as they stand in the one shader, and as a reader knows them.
+//! The names of modules' items, in the composed shader and as a reader knows them.
 ghost use Rattle.std.specs.Prelude.{◌≡◌, ◌↔◌, ℕ, ◌+◌, ◌<◌, ◌≤◌, ◌++◌, List, length, drop, All, Some, option_map, IfSome, IfOk, OnOk};
 ghost use Rattle.std.specs.List.{flat_map, prefix_len};
 ghost use Rattle.std.specs.Str.{chars, encode_utf8_all, IsUtf8};
@@ -10,9 +10,12 @@ ghost use Rattle.naga_oil_lines.specs.Undecorate.{is_code_char, from_last_x, mar
 ghost use Rattle.naga_oil_lines.specs.UndecorateGrammar.{reading, reading_behind, BeginsWithMark, HasLastMark, BeginsWithOverride};
 
 use crate::text::{past_word, split_first_char, text_before};
-pub use naga_oil_marks::{DECORATION_OVERRIDE_PRE, DECORATION_POST, DECORATION_PRE};
+pub use naga_oil_words::{DECORATION_OVERRIDE_PRE, DECORATION_POST, DECORATION_PRE};
 use std::alloc::{AllocError, Global};
 use ucd_perl::is_word_code;
+
+// The number of letters from A to Z, which come before the digits of base32.
+const LETTER_COUNT: u8 = 26;
 
 // The letter of five bits.
 fn letter(group: u8) -> char
@@ -20,14 +23,14 @@ fn letter(group: u8) -> char
     ensures value { result ≡ letter group }
     ensures ascii { result < 128 }
 {
-    if group < 26 {
+    if group < LETTER_COUNT {
         (b'A' + group) as char
     } else {
-        (b'2' + (group - 26)) as char
+        (b'2' + (group - LETTER_COUNT)) as char
     }
 }
 
-// Pushes a letter for each five of the lowest bits of a number. Gives how many of the bits are left.
+// Writes a letter for each five of the lowest bits of a number. Returns the number of bits left.
 fn push_groups(out: &mut String, number: u16, count: u32) -> Result<u32, AllocError>
     requires { count ≤ 16 }
     ensures pushed { let old = string_bytes out.old in
@@ -44,7 +47,7 @@ fn push_groups(out: &mut String, number: u16, count: u32) -> Result<u32, AllocEr
     Ok(left)
 }
 
-// Pushes the bytes in base32, without padding.
+// Writes the bytes in base32, without padding.
 fn push_base32(out: &mut String, bytes: &[u8]) -> Result<(), AllocError>
     ensures { OnOk result (string_bytes out.new ≡ string_bytes out.old ++ base32 bytes.now) }
 {
@@ -60,7 +63,7 @@ fn push_base32(out: &mut String, bytes: &[u8]) -> Result<(), AllocError>
     Ok(())
 }
 
-// How many bytes the name of an item takes.
+// The number of bytes in the name of an item.
 fn decorated_len(module_name: &str, item: &str) -> usize {
     let code = (module_name.len() / 5 * 8).saturating_add((module_name.len() % 5 * 8).div_ceil(5));
     item.len()
@@ -68,7 +71,7 @@ fn decorated_len(module_name: &str, item: &str) -> usize {
         .saturating_add(DECORATION_PRE.len() + DECORATION_POST.len())
 }
 
-// Pushes the name of an item of a module.
+// Writes the name of a module's item.
 pub fn push_decorated(out: &mut String, module_name: &str, item: &str) -> Result<(), AllocError>
     ensures { let name = decorated_name (Some module_name.now) item.now in
         OnOk result (string_bytes out.new ≡ string_bytes out.old ++ name) }
@@ -79,8 +82,8 @@ pub fn push_decorated(out: &mut String, module_name: &str, item: &str) -> Result
     out.push_str(DECORATION_POST)
 }
 
-/// The name of an item of a module: the item, `X_naga_oil_mod_X`, the module in base32 (RFC 4648 section 6) without
-/// padding, and `X`. With no module it is the item.
+/// Returns the name of a module's item: the item, `X_naga_oil_mod_X`, the module in base32 (RFC
+/// 4648 section 6) without padding, and `X`. An item of no module keeps its name.
 pub fn decorated_name(
     alloc: Global,
     module_name: Option<&str>,
@@ -97,14 +100,19 @@ pub fn decorated_name(
     Ok(name)
 }
 
-// The five bits of a letter, and of another byte any number.
+// The five bits of a letter; for any other byte, an arbitrary number.
 fn value_of(letter: u8) -> u16
     ensures { result ≡ value_of letter }
 {
-    u16::from(letter.saturating_sub(if letter < b'A' { 24 } else { b'A' }))
+    u16::from(letter.saturating_sub(if letter < b'A' {
+        b'2' - LETTER_COUNT
+    } else {
+        b'A'
+    }))
 }
 
-// Pushes the eight highest of the lowest bits of a number, if there are as many. Gives how many of the bits are left.
+// Writes the byte of the eight highest of the lowest bits of a number, if there are eight. Returns
+// the number of bits left.
 fn push_byte(bytes: &mut Vec<u8>, number: u16, count: u32) -> Result<u32, AllocError>
     requires { count < 13 }
     ensures pushed { let old = bytes.old.items in
@@ -135,7 +143,8 @@ fn base32_bytes(alloc: Global, code: &[u8]) -> Result<Vec<u8>, AllocError>
     Ok(bytes)
 }
 
-/// The module of a code: the text that has the code in base32 without padding, or none where the code is of no text.
+/// Returns the module of a code: the text whose base32 without padding is the code, or `None` if
+/// the code is of no text.
 pub fn decode(alloc: Global, code: &str) -> Result<Option<String>, AllocError>
     ensures { IfOk result (λ name. option_map string_bytes name ≡ decoded code.now) }
 {
@@ -148,20 +157,22 @@ pub fn decode(alloc: Global, code: &str) -> Result<Option<String>, AllocError>
     Ok(String::from_utf8(bytes).ok())
 }
 
-/// The code of a module in base32 gives the module, and a code that gives a module is its base32.
+/// The base32 of a module is a code of that module, and a code that gives a module is the base32 of
+/// that module.
 pub fn one_code()
     ensures coded { (m : List ℕ) → IsUtf8 m → decoded (base32 m) ≡ Some m }
     ensures decoded { (code m : List ℕ) → decoded code ≡ Some m → (base32 m ≡ code) × IsUtf8 m }
 {}
 
-// Whether the character may stand in a code or between it and its mark's end.
+// Whether the character may occur in a code, or between the code and the end of its mark.
 fn is_code_char(c: char) -> bool
     ensures { result ≡ is_code_char c }
 {
     c.is_ascii_uppercase() || c.is_ascii_digit()
 }
 
-// The text from the last `X` of the capital letters and digits that it begins with on.
+// Of the capital letters and digits that the text begins with, the last `X`; returns the text from
+// there on.
 fn from_last_x(text: &str) -> Option<&str>
     ensures chars { option_map (λ r. chars r.now) result ≡ from_last_x (chars text.now) }
     ensures suffix { IfSome result (λ r. (front : List ℕ) × (text.now ≡ front ++ r.now)) }
@@ -182,7 +193,7 @@ fn from_last_x(text: &str) -> Option<&str>
     found
 }
 
-// The code behind a mark that the text begins with, and what follows its `X`.
+// The code after a mark that the text begins with, and the text after the code's `X`.
 fn mark_code<'a>(text: &'a str, mark: &str) -> Option<(&'a str, &'a str)>
     ensures found { let found = mark_code (chars mark.now) (chars text.now) in
         option_map (λ r. (r.0.now, chars r.1.now)) result ≡ found }
@@ -195,7 +206,7 @@ fn mark_code<'a>(text: &'a str, mark: &str) -> Option<(&'a str, &'a str)>
     Some((text_before(rest, end), behind))
 }
 
-// The run from the last mark of a module on that has a code and stands behind some character.
+// The run from its last mark of a module on, where that mark has a code and follows some character.
 fn from_last_mark(run: &str) -> Option<&str>
     ensures chars { option_map (λ r. chars r.now) result ≡ from_last_mark (chars run.now) }
     ensures suffix { IfSome result (λ r. (front : List ℕ) × (run.now ≡ front ++ r.now)) }
@@ -212,7 +223,8 @@ fn from_last_mark(run: &str) -> Option<&str>
     found
 }
 
-// What a run of word characters is where it has such a mark: what is before the mark, its code and what follows.
+// The parts of a run of word characters that has such a mark: the text before the mark, the code
+// and the rest.
 fn split_at_mark(run: &str) -> Option<(&str, &str, &str)>
     ensures parts { let parts = split_at_mark (chars run.now) in
         option_map (λ r. (r.0.now, r.1.now, chars r.2.now)) result ≡ parts }
@@ -237,7 +249,7 @@ fn push_run(alloc: Global, out: &mut String, run: &str) -> Result<(), AllocError
     }
 }
 
-// What is left of a text behind the word characters that it begins with.
+// The text after the word characters that it begins with.
 fn after_run(text: &str) -> &str
     ensures chars { let count = prefix_len is_word_char (chars text.now) in
         chars result.now ≡ drop count (chars text.now) }
@@ -253,7 +265,7 @@ fn after_run(text: &str) -> &str
     rest
 }
 
-// The text with the module of each run of word characters before the run.
+// The text with the module of each run of word characters written before the run.
 fn with_modules(alloc: Global, text: &str) -> Result<String, AllocError>
     ensures { IfOk result (λ t. string_bytes t ≡ with_modules 0 (chars text.now)) }
 {
@@ -272,8 +284,8 @@ fn with_modules(alloc: Global, text: &str) -> Result<String, AllocError>
     Ok(out)
 }
 
-// Writes what a text begins with: a mark of an override as `override fn` and its module, or else its first character.
-// Gives what is left.
+// Writes the front of a text: a mark of an override as `override fn` and its module, or else the
+// first character. Returns the rest.
 fn push_front<'a>(
     alloc: Global,
     out: &mut String,
@@ -299,9 +311,9 @@ fn push_front<'a>(
     Ok(behind)
 }
 
-/// The text with its decorated names as a reader knows them: the module and `::` before the item, and `override fn`
-/// before the module of an item that is overridden. A code that is of no module leaves its mark as it is.
-/// Takes time and memory linear in the text.
+/// Returns the text with its decorated names as a reader knows them: the module and `::` before the
+/// item, and `override fn` before the module of an overridden item. A code that is of no module
+/// leaves its mark unchanged. Takes time and memory linear in the text.
 pub fn undecorate(alloc: Global, text: &str) -> Result<String, AllocError>
     ensures { IfOk result (λ t. string_bytes t ≡ undecoration text.now) }
 {
@@ -314,25 +326,26 @@ pub fn undecorate(alloc: Global, text: &str) -> Result<String, AllocError>
     Ok(out)
 }
 
-/// A name that was decorated with a module tells the item and the module.
+/// A decorated name determines its item and its module.
 pub fn one_decoration()
     ensures { (f g m n : List ℕ) → All (λ b. b < 256) m → All (λ b. b < 256) n →
         decorated_name (Some m) f ≡ decorated_name (Some n) g → (f ≡ g) × (m ≡ n) }
 {}
 
-/// A mark at the front of a text has one code, and so one rest behind it.
+/// A mark at the front of a text has one code, and so one rest after the code.
 pub fn one_mark()
     ensures { (mark text code rest : List ℕ) →
         (mark_code mark text ≡ reading code rest) ↔ BeginsWithMark mark text code rest }
 {}
 
-/// A run of word characters has one reading: its last mark of a module that has a code and a character before it.
+/// A run of word characters has one reading: by its last mark of a module that has a code and a
+/// character before it.
 pub fn one_last_mark()
     ensures { (run text code rest : List ℕ) → (split_at_mark run ≡ reading_behind text code rest)
         ↔ ((before : List ℕ) × (text ≡ encode_utf8_all before) × HasLastMark run before code rest) }
 {}
 
-/// A mark of an override tells one module.
+/// A mark of an override determines one module.
 pub fn one_override()
     ensures { (text module_name rest : List ℕ) →
         (override_at text ≡ reading module_name rest) ↔ BeginsWithOverride text module_name rest }

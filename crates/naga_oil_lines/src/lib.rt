@@ -1,4 +1,5 @@
-//! Lines of a shader's text with their comments covered, the tokens of a text, names of items, and directives as text.
+//! The lines of a shader's text with their comments covered, the tokens of a text, the names of
+//! items, and directives as text.
 #![tactic(auto)]
 
 pub mod comment_strip_iter;

@@ -1,8 +1,9 @@
-// Cuts a text into identifiers, white space and single characters.
+// Splits a text into identifiers, white space and single characters.
 ghost use Rattle.std.specs.Prelude.{◌≡◌, ◌↔◌, ℕ, ◌+◌, ◌<◌, ◌≤◌, ◌^◌, ◌++◌, ◌∷◌, ◌==◌, List, length, take, drop, MatchOption, true, false, Bool, IsTrue};
 ghost use Rattle.std.specs.Char.{encode_utf8, is_whitespace};
 ghost use Rattle.std.specs.Str.{chars, IsUtf8};
 ghost use Rattle.std.specs.List.{prefix_len, list_any};
+ghost use Rattle.naga_oil_words.specs.Bytes.{double_quote, colon};
 ghost use Rattle.naga_oil_lines.specs.Tokens.{Lexeme, tail_len, lexemes, starts_identifier};
 ghost use Rattle.naga_oil_lines.specs.Words.{is_word_byte, is_gap_byte, ends_identifier};
 ghost use Rattle.naga_oil_lines.specs.TokenGrammar.{AreTokens};
@@ -11,7 +12,7 @@ ghost use Rattle.unicode_ident.specs.Ident.{is_xid_start, is_xid_continue};
 use crate::text::{after_whitespace, split_first_char};
 use unicode_ident::{is_xid_continue, is_xid_start};
 
-/// A piece of a text, with the place of its first byte.
+/// A token of a text, with the place of its first byte.
 #[derive(Clone, Copy, PartialEq, Eq, PartialOrd, Ord, Hash, Debug)]
 pub enum Token<'a> {
     Identifier(&'a str, usize),
@@ -24,7 +25,7 @@ impl Token<'_> {
     ghost use Rattle.naga_oil_lines.specs.Tokens.{place_of, identifier_text};
     ghost use Rattle.naga_oil_lines.specs.Tokenizer.{lexeme_of};
 
-    /// The place of its first byte.
+    /// The place of the token's first byte.
     pub fn pos(&self) -> usize
         ensures { result ≡ place_of (lexeme_of self.now) }
     {
@@ -44,7 +45,7 @@ impl Token<'_> {
     }
 }
 
-// Whether a character may begin a name. Those of ASCII need no table, here and below.
+// Whether a character may begin a name. For ASCII characters no table is read, here and below.
 fn starts_name(c: char) -> bool
     ensures { result ≡ is_xid_start c }
 {
@@ -61,7 +62,7 @@ pub fn starts_identifier(first: char) -> bool
     starts_name(first) || first == '"'
 }
 
-// Whether a character may go on a name.
+// Whether a character may continue a name.
 fn goes_on_name(c: char) -> bool
     ensures { result ≡ is_xid_continue c }
 {
@@ -78,7 +79,7 @@ const WORD: u8 = 2;
 
 const END: u8 = 4;
 
-// For each byte a digit, whose low three bits are the flags above.
+// For each byte a digit, whose three lowest bits are the flags above.
 static CLASS: [u8; 256] = *b"\
     55555555555555555555555555555555\
     55055555555555553333333333155555\
@@ -89,14 +90,14 @@ static CLASS: [u8; 256] = *b"\
     00000000000000000000000000000000\
     00000000000000000000000000000000";
 
-// Whether a byte goes on a name.
+// Whether a byte continues a name.
 fn is_word_byte(byte: u8) -> bool
     ensures { result ≡ is_word_byte byte }
 {
     CLASS[byte as usize] & WORD != 0
 }
 
-// How many bytes of names are at the front.
+// The number of bytes of a name at the front.
 fn word_len(bytes: &[u8]) -> usize
     ensures { result ≡ prefix_len is_word_byte bytes.now }
 {
@@ -108,7 +109,7 @@ fn word_len(bytes: &[u8]) -> usize
     bytes.len()
 }
 
-// What is left of a text behind them.
+// The text after the bytes of a name at its front.
 fn after_word(text: &str) -> &str
     ensures { result.now ≡ drop (prefix_len is_word_byte text.now) text.now }
 {
@@ -116,14 +117,14 @@ fn after_word(text: &str) -> &str
     rest
 }
 
-// Whether a byte is of ASCII and begins no identifier.
+// Whether a byte is ASCII and begins no identifier.
 fn is_gap_byte(byte: u8) -> bool
     ensures { result ≡ is_gap_byte byte }
 {
     CLASS[byte as usize] & GAP != 0
 }
 
-// How many bytes of that kind are at the front.
+// The number of such bytes at the front.
 fn gap_len(bytes: &[u8]) -> usize
     ensures { result ≡ prefix_len is_gap_byte bytes.now }
 {
@@ -135,7 +136,7 @@ fn gap_len(bytes: &[u8]) -> usize
     bytes.len()
 }
 
-// The front of a text where bytes of ASCII begin no identifier, and what follows it.
+// The front of a text, of ASCII bytes that begin no identifier, and the rest.
 pub fn split_gap(text: &str) -> (&str, &str)
     ensures gap { result.0.now ≡ take (prefix_len is_gap_byte text.now) text.now }
     ensures rest { result.1.now ≡ drop (prefix_len is_gap_byte text.now) text.now }
@@ -143,7 +144,7 @@ pub fn split_gap(text: &str) -> (&str, &str)
     text.split_at(gap_len(text.as_bytes()))
 }
 
-// What is left of a text behind the characters that go on an identifier.
+// The text after the characters that continue an identifier.
 fn after_identifier(text: &str, begins_quoted: bool) -> &str
     ensures chars { let count = tail_len begins_quoted (chars text.now) in
         chars result.now ≡ drop count (chars text.now) }
@@ -176,7 +177,8 @@ fn after_identifier(text: &str, begins_quoted: bool) -> &str
     rest
 }
 
-// Whether no identifier goes on: nothing is there, or a byte of ASCII that is no part of one.
+// Whether no identifier continues here: the text is empty or begins with an ASCII byte that is no
+// part of one.
 fn ends_identifier(text: &str) -> bool
     ensures { result ≡ ends_identifier text.now }
 {
@@ -186,12 +188,13 @@ fn ends_identifier(text: &str) -> bool
     }
 }
 
-// What is left of a text behind an identifier that begins with a character before it, and whether this is one word, which has no `:`.
+// The text after an identifier whose first character is given, and whether the identifier is one
+// word, without `:`.
 pub fn behind_identifier(first: char, text: &str) -> (&str, bool)
-    ensures chars { let count = tail_len (first == 34) (chars text.now) in
+    ensures chars { let count = tail_len (first == double_quote) (chars text.now) in
         chars result.0.now ≡ drop count (chars text.now) }
     ensures suffix { (front : List ℕ) × (text.now ≡ front ++ result.0.now)
-        × (IsTrue result.1 → list_any (λ b. b == 58) front ≡ false) }
+        × (IsTrue result.1 → list_any (λ b. b == colon) front ≡ false) }
     ensures utf8 { IsUtf8 result.0.now }
 {
     if first == '"' {
@@ -230,7 +233,7 @@ impl<'a> Tokenizer<'a> {
         }
     }
 
-    // Moves on to the rest, and gives the text before it.
+    // Moves on to the rest. Returns the text before it.
     fn advance(&mut self, rest: &'a str) -> &'a str
         requires { (front : List ℕ) × (self.old.rest.now ≡ front ++ rest.now) }
         ensures text { self.old.rest.now ≡ result.now ++ rest.now }
@@ -275,7 +278,7 @@ impl<'a> Iterator for Tokenizer<'a> {
     }
 }
 
-/// A text has one list of tokens.
+/// A text has exactly one list of tokens.
 pub fn one_token_list()
     ensures { (at : ℕ) (cs : List ℕ) (ts : List Lexeme) →
         AreTokens at cs ts ↔ (ts ≡ lexemes 0 at cs) }

@@ -1,4 +1,4 @@
-// The directives that a WGSL text may begin with.
+// The directives at the start of a WGSL text.
 ghost use Rattle.std.specs.Prelude.{◌≡◌, ◌↔◌, ℕ, ◌++◌, List, [], IsTrue, IfOk, OnOk, codes, fold, map};
 ghost use Rattle.std.specs.Cmp.Lexicographic.{slice_cmp};
 ghost use Rattle.std.specs.List.{Contains, flat_map, join_by};
@@ -6,26 +6,27 @@ ghost use Rattle.std.specs.List.Sorted.{IsStrictlySortedBy};
 ghost use Rattle.std.specs.Ordering.{nat_cmp};
 ghost use Rattle.std.specs.String.{string_bytes};
 ghost use Rattle.naga_oil_lines.specs.Directives.{enable_of, requires_of, diagnostic_of, directives_of, no_directives};
-ghost use Rattle.naga_oil_lines.specs.DirectivesText.{with_name, in_order, names_of, names_line, diagnostic_line, with_empty_line, directives_text, SaysNothing};
+ghost use Rattle.naga_oil_words.specs.Texts.{with_name, in_order};
+ghost use Rattle.naga_oil_lines.specs.DirectivesText.{names_of, names_line, diagnostic_line, with_empty_line, directives_text, SaysNothing};
 
 use std::alloc::{AllocError, Global};
 use std::collections::BTreeSet;
 
-/// Extensions that a text enables. The place is the directive's line, from 0.
+/// Extensions that a text enables. The location is the directive's line, from 0.
 #[derive(Debug, Drop, PartialEq, Eq, Hash)]
 pub struct EnableDirective {
     pub extensions: Vec<String>,
     pub source_location: usize,
 }
 
-/// Extensions that a text requires. The place is the directive's line, from 0.
+/// Extensions that a text requires. The location is the directive's line, from 0.
 #[derive(Debug, Drop, PartialEq, Eq, Hash)]
 pub struct RequiresDirective {
     pub extensions: Vec<String>,
     pub source_location: usize,
 }
 
-/// How a diagnostic rule is treated. The place is the directive's line, from 0.
+/// The severity of a diagnostic rule. The location is the directive's line, from 0.
 #[derive(Debug, Drop, PartialEq, Eq, Hash)]
 pub struct DiagnosticDirective {
     pub severity: String,
@@ -42,7 +43,7 @@ pub struct WgslDirectives {
 }
 
 impl EnableDirective {
-    /// An equal directive.
+    /// Returns an equal directive.
     pub fn try_clone(&self) -> Result<EnableDirective, AllocError>
         ensures { IfOk result (λ copy. enable_of copy ≡ enable_of self.now) }
     {
@@ -54,7 +55,7 @@ impl EnableDirective {
 }
 
 impl RequiresDirective {
-    /// An equal directive.
+    /// Returns an equal directive.
     pub fn try_clone(&self) -> Result<RequiresDirective, AllocError>
         ensures { IfOk result (λ copy. requires_of copy ≡ requires_of self.now) }
     {
@@ -66,7 +67,7 @@ impl RequiresDirective {
 }
 
 impl DiagnosticDirective {
-    /// An equal directive.
+    /// Returns an equal directive.
     pub fn try_clone(&self) -> Result<DiagnosticDirective, AllocError>
         ensures { IfOk result (λ copy. diagnostic_of copy ≡ diagnostic_of self.now) }
     {
@@ -82,7 +83,7 @@ impl DiagnosticDirective {
         })
     }
 
-    // Writes its line.
+    // Writes the line of the directive.
     fn push_line(&self, text: &mut String) -> Result<(), AllocError>
         ensures { let line = diagnostic_line (diagnostic_of self.now) in
             OnOk result (string_bytes text.new ≡ string_bytes text.old ++ line) }
@@ -125,8 +126,8 @@ fn clone_diagnostics(
     alloc: Global,
     directives: &[DiagnosticDirective],
 ) -> Result<Vec<DiagnosticDirective>, AllocError>
-    ensures { let told = map diagnostic_of directives.now in
-        IfOk result (λ copy. map diagnostic_of copy.items ≡ told) }
+    ensures { let expected = map diagnostic_of directives.now in
+        IfOk result (λ copy. map diagnostic_of copy.items ≡ expected) }
 {
     let mut copy = Vec::with_capacity(alloc, directives.len())?;
     for directive in directives {
@@ -147,7 +148,7 @@ fn insert_names<'a>(names: &mut BTreeSet<&'a str>, more: &'a [String]) -> Result
     Ok(())
 }
 
-// The extensions that are enabled.
+// The enabled extensions.
 fn enabled_names<'a>(
     alloc: Global,
     enables: &'a [EnableDirective],
@@ -162,7 +163,7 @@ fn enabled_names<'a>(
     Ok(names)
 }
 
-// The extensions that are required.
+// The required extensions.
 fn required_names<'a>(
     alloc: Global,
     requires_: &'a [RequiresDirective],
@@ -177,7 +178,7 @@ fn required_names<'a>(
     Ok(names)
 }
 
-// The names with commas between them.
+// The names, separated by commas.
 fn joined(alloc: Global, names: BTreeSet<&str>) -> Result<String, AllocError>
     ensures { let named = map (λ n. n.now) names.entry.keys in
         IfOk result (λ text. string_bytes text ≡ join_by (λ n. n) (codes ", ") named) }
@@ -186,7 +187,7 @@ fn joined(alloc: Global, names: BTreeSet<&str>) -> Result<String, AllocError>
     names.join(alloc, ", ")
 }
 
-// Writes a line of a word and names, if there are any.
+// Writes a line of a word and names. Without names it writes nothing.
 fn push_names(
     alloc: Global,
     word: &str,
@@ -206,7 +207,7 @@ fn push_names(
     text.push_str(";\n")
 }
 
-// Writes a line of each diagnostic.
+// Writes the line of each diagnostic.
 fn push_diagnostics(
     diagnostics: &[DiagnosticDirective],
     text: &mut String,
@@ -220,7 +221,7 @@ fn push_diagnostics(
     Ok(())
 }
 
-// Writes an empty line behind what is written, if anything is.
+// Writes an empty line after the text, unless the text is empty.
 fn push_empty_line(text: &mut String) -> Result<(), AllocError>
     ensures { OnOk result (string_bytes text.new ≡ with_empty_line (string_bytes text.old)) }
 {
@@ -249,7 +250,7 @@ impl WgslDirectives {
         self.enables.is_empty() && self.requires_.is_empty() && self.diagnostics.is_empty()
     }
 
-    /// Equal directives.
+    /// Returns equal directives.
     pub fn try_clone(&self) -> Result<WgslDirectives, AllocError>
         ensures { IfOk result (λ copy. directives_of copy ≡ directives_of self.now) }
     {
@@ -261,9 +262,10 @@ impl WgslDirectives {
         })
     }
 
-    /// The text of the directives: a line of the extensions that are enabled and one of those that are required, each
-    /// named once, in byte order, then a line of each diagnostic, and an empty line. Lines that would name nothing are
-    /// left out, and so is the empty line where nothing comes before it.
+    /// Returns the text of the directives: one line of the enabled and one of the required
+    /// extensions, each named once and in byte order, then a line for each diagnostic, then an
+    /// empty line. A line that would name nothing is left out, and so is the empty line if it would
+    /// be the only one.
     pub fn to_wgsl_string(&self, alloc: Global) -> Result<String, AllocError>
         ensures text { let directives = directives_of self.now in
             IfOk result (λ text. string_bytes text ≡ directives_text directives) }
@@ -281,7 +283,8 @@ impl WgslDirectives {
     }
 }
 
-/// The extensions of a line rise strictly in byte order, and they are those that the directives name.
+/// The extensions of a line are strictly sorted in byte order, and they are those that the
+/// directives name.
 pub fn names_in_order()
     ensures rise { (names : List (List ℕ)) →
         IsStrictlySortedBy (slice_cmp nat_cmp) (in_order names) }

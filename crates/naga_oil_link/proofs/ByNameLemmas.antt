@@ -24,8 +24,7 @@ use Rattle.naga_oil_ir.specs.Rows.{Text}
 use Rattle.naga_oil_ir.specs.declared.module.Module.{Module}
 use Rattle.naga_oil_ir.specs.declared.names.ItemPlace.{ItemPlace}
 use Rattle.naga_oil_ir.specs.declared.names.ItemPlace.TheVariants.{TypeItem, ConstantItem, OverrideItem, GlobalItem}
-use Rattle.naga_oil_lines.specs.DirectivesText.{in_order}
-use Rattle.naga_oil_lines.specs.Text.{is_among}
+use Rattle.naga_oil_words.specs.Texts.{in_order, is_among}
 use Rattle.naga_oil_link.specs.BuiltModule.{BuiltModule}
 use Rattle.naga_oil_link.specs.ByName.{text_at, with_places, places_where, places_named, is_name}
 use Rattle.naga_oil_link.specs.Linked.{Asked, is_wanted, is_wanted_function, passes, overriding_names}
@@ -102,7 +101,7 @@ has-below p n q = any-filter_same (is_at (nat_cmp q)) p (p q) (same_test p q) (r
 pub sorted_below : (p : ℕ → Bool) (n : ℕ) → IsStrictlySortedBy nat_cmp (below p n)
 sorted_below p n = sorted_from_strictly_increasing (below p n) (IsStrictlyIncreasing-filter p (range_with_len 0 n) (range_rises 0 n))
 
--- numbers in order are told by which are among them
+-- sorted numbers are determined by which numbers are among them
 same_numbers : (ks js : List ℕ) → IsStrictlySortedBy nat_cmp ks → IsStrictlySortedBy nat_cmp js → ((q : ℕ) → has ks q ≡ has js q) → ks ≡ js
 same_numbers ks js s t h = btree_set_from_contains nat_cmp_total (record { keys = ks }) (record { keys = js }) s t h exact_unsigned
 
@@ -121,7 +120,7 @@ has-each : {X : Type 0} (p : X → ℕ → Bool) (n q : ℕ) (xs : List X) → h
 has-each p n q [] = refl
 has-each p n q (x ∷ xs) = has-append (below (p x) n) (flat_map (λ x. below (p x) n) xs) q ∙ (λ i. has-below (p x) n q i || has-each p n q xs i) ∙ or_and (p x q) (list_any (λ x. p x q) xs) (has (range_with_len 0 n) q)
 
--- numbers that pass a test, with those that pass one of others
+-- numbers that pass a test, with those that pass another
 pub below_each : {X : Type 0} (t : ℕ → Bool) (p : X → ℕ → Bool) (n : ℕ) (xs : List X) → with_places (below t n) (flat_map (λ x. below (p x) n) xs) ≡ below (λ q. t q || list_any (λ x. p x q) xs) n
 below_each t p n xs =
     same_numbers (with_places (below t n) (flat_map (λ x. below (p x) n) xs)) (below (λ q. t q || list_any (λ x. p x q) xs) n) (sorted_with (below t n) (flat_map (λ x. below (p x) n) xs) (sorted_below t n)) (sorted_below (λ q. t q || list_any (λ x. p x q) xs) n)
@@ -155,7 +154,7 @@ none_pass : (ks : List ℕ) → filter (λ k. false) ks ≡ []
 none_pass [] = refl
 none_pass (k ∷ ks) = none_pass ks
 
--- the places that an index has for some
+-- the places that an index has for some names
 pub only_named : (names : List Text) (index : List ℕ → List ℕ) (asked : List (List ℕ)) → ((q : List ℕ) → index q ≡ places_where (is_name q) names) → with_places [] (flat_map index asked) ≡ places_where (passes (is_among asked)) names
 only_named names index asked h = ap (λ ks. with_places ks (flat_map index asked)) (sym (none_pass (range_with_len 0 (length names)))) ∙ with_named names index (λ n. false) asked h
 
@@ -171,9 +170,9 @@ pub place_more : (p : ℕ → Bool) (n : ℕ) → below p (n + 1) ≡ below p n 
 place_more p n =
     ap (filter p) (sym (map-id (range_with_len 0 (n + 1)))) ∙ filter_of_map_range_with_len_more p (λ k. k) 0 n n (omega arith) ∙ ap (λ ks. filter p ks ++ (if p n then n ∷ [] else [])) (map-id (range_with_len 0 n))
 
--- ---- places that are put in one after another
+-- ---- places that are added one after another
 
--- one above others goes last
+-- a place above the others is added at the end
 put_last : (p : ℕ → Bool) (a n k : ℕ) → a + n ≡ k → insert_key nat_cmp (filter p (range_with_len a n)) k ≡ filter p (range_with_len a n) ++ k ∷ []
 put_last p a zero k e = refl
 put_last p a (suc n) k e = by (p a) (put_last p (a + 1) n k (omega arith)) (nat_cmp_is k a Greater (omega arith))
@@ -182,11 +181,11 @@ put_last p a (suc n) k e = by (p a) (put_last p (a + 1) n k (omega arith)) (nat_
     by true rest above = sym (ap (λ o. match_ordering o (k ∷ a ∷ filter p (range_with_len (a + 1) n)) (a ∷ filter p (range_with_len (a + 1) n)) (a ∷ insert_key nat_cmp (filter p (range_with_len (a + 1) n)) k)) above) ∙ ap (λ ks. a ∷ ks) rest
     by false rest above = rest
 
--- those before an end whose names pass a test
+-- the places before an end whose names pass a test
 abbrev pub places_before : (Text → Bool) → List Text → ℕ → List ℕ
 places_before test names n = below (λ k. test (text_at names k)) n
 
--- a place whose name passes is put in, and another is left out
+-- a place is added if its name passes, and else not
 pub place_put : (test : Text → Bool) (names : List Text) (n : ℕ) (before : List ℕ) → test (text_at names n) ≡ true → before ≡ places_before test names n → insert_key nat_cmp before n ≡ places_before test names (n + 1)
 place_put test names n before h e =
     let p = λ (k : ℕ). test (text_at names k) in
@@ -201,16 +200,16 @@ place_left test names n before h e =
 pub text_there : {X : Type 0} (name : X → Text) (xs : List X) (k : ℕ) (x : X) → slice_get xs k ≡ Some x → text_at (map name xs) k ≡ name x
 text_there name xs k x at = ap option_flatten (slice_get-map name xs k ∙ ap (option_map name) at)
 
--- and past its end
+-- the name past the end of a list
 pub text_past : {X : Type 0} (name : X → Text) (xs : List X) (k : ℕ) → slice_get xs k ≡ None → text_at (map name xs) k ≡ None
 text_past name xs k past = ap option_flatten (slice_get-map name xs k ∙ ap (option_map name) past)
 
--- ---- what is asked for
+-- ---- requested names
 
 pub some_wanted : (names : List Text) (asked : List (List ℕ)) → with_places [] (flat_map (places_named names) asked) ≡ places_where (is_wanted (Some (in_order asked))) names
 some_wanted names asked = only_named names (places_named names) asked (λ q. refl) ∙ (λ i. places_where (passes (λ n. sym (among-in_order asked n) i)) names)
 
--- with the functions that override others
+-- requested names, and those of the functions that override others
 pub functions_wanted : (b : BuiltModule) (asked : Asked) (names : List Text) (others : List (List ℕ)) → others ≡ in_order (overriding_names b) → with_places (places_where (is_wanted asked) names) (flat_map (places_named names) others) ≡ places_where (is_wanted_function b asked) names
 functions_wanted b asked names others same =
     (λ i. with_places (places_where (is_wanted asked) names) (flat_map (places_named names) (same i)))

@@ -19,16 +19,16 @@ module _ {X V D : Type 0} (v : X → V) (f : D → V → D) (a : D) (xs : List X
   one_value : map v (take (i + 1) xs) ≡ map v (take i xs) ++ v x ∷ []
   one_value = ap (map v) (take_more xs i x l ∙ ap (λ y. take i xs ++ y ∷ []) (sym is)) ∙ map-append v (take i xs) (x ∷ [])
 
-  -- one value more
+  -- one more value
   pub value_more : (d e : D) → d ≡ fold f a (map v (take i xs)) → e ≡ f d (v x) → e ≡ fold f a (map v (take (i + 1) xs))
   value_more d e before now = now ∙ ap (λ y. f y (v x)) before ∙ sym (ap (fold f a) one_value ∙ fold-append f a (map v (take i xs)) (v x ∷ []))
 
 module _ {X D : Type 0} (f : D → X → D) (a : D) (xs : List X) (i : ℕ) (x : X) (l : i < length xs) (is : x ≡ get_or xs i x) where
-  -- one more
+  -- one more item
   pub one_more : (d e : D) → d ≡ fold f a (take i xs) → e ≡ f d x → e ≡ fold f a (take (i + 1) xs)
   one_more d e before now = now ∙ ap (λ y. f y x) before ∙ sym (ap (fold f a) (take_more xs i x l ∙ ap (λ y. take i xs ++ y ∷ []) (sym is)) ∙ fold-append f a (take i xs) (x ∷ []))
 
--- ---- those that pass a test
+-- ---- items that pass a test
 
 module _ {X V : Type 0} (v : X → V) (p : V → Bool) (xs : List X) (i : ℕ) (x : X) (l : i < length xs) (is : x ≡ get_or xs i x) where
   abbrev passing : ℕ → List V
@@ -37,16 +37,16 @@ module _ {X V : Type 0} (v : X → V) (p : V → Bool) (xs : List X) (i : ℕ) (
   passing_last : (b : Bool) → p (v x) ≡ b → passing (i + 1) ≡ passing i ++ cond b (v x ∷ []) []
   passing_last b e = ap (filter p) (one_value v (λ (d : V) (y : V). d) (v x) xs i x l is) ∙ filter-append p (map v (take i xs)) (v x ∷ []) ∙ ap (λ c. passing i ++ cond c (v x ∷ []) []) e
 
-  -- one that passes comes last
+  -- an item that passes comes last
   pub passing_more : (before after : List V) → p (v x) ≡ true → before ≡ passing i → after ≡ before ++ v x ∷ [] → after ≡ passing (i + 1)
   passing_more before after e h pushed = pushed ∙ ap (λ vs. vs ++ v x ∷ []) h ∙ sym (passing_last true e)
 
-  -- another doesn't
+  -- an item that doesn't pass is left out
   pub passing_left : (before : List V) → p (v x) ≡ false → before ≡ passing i → before ≡ passing (i + 1)
   passing_left before e h = h ∙ sym (append-nil (passing i)) ∙ sym (passing_last false e)
 
 module _ {X D : Type 0} (p : X → Bool) (f : D → X → D) where
-  -- a walk over those that pass, and one over all that leaves out others
+  -- a walk over the items that pass, and one over all items that skips the others
   fold_passing : (xs : List X) (d : D) → fold f d (filter p xs) ≡ fold (λ e x. if p x then f e x else e) d xs
   fold_passing [] d = refl
   fold_passing (x ∷ xs) d = by (p x) (λ e. fold_passing xs e)
@@ -55,7 +55,7 @@ module _ {X D : Type 0} (p : X → Bool) (f : D → X → D) where
       by true h = h (f d x)
       by false h = h d
 
--- ---- copies behind others
+-- ---- copies after others
 
 pub copies_then : (c e : CodeCopies) (p : OwnCopies) (f : Derived → Derived) → copies_of c ≡ p → e.derived ≡ f c.derived → e.own ≡ c.own → copies_of e ≡ record p { derived = f p.derived }
 copies_then c e p f is derived own = (λ i. record { derived = derived i; own = own_of (own i) }) ∙ ap (λ (q : OwnCopies). record q { derived = f q.derived }) is
@@ -66,13 +66,13 @@ module _ (m : ModuleValue) (own : OwnPlaces) (d e : List ℕ) (names : List (Lis
   abbrev named : FunctionValue × Span → Bool
   named f = has_name_among names f.0.name
 
-  -- copies with the stubs of the functions of some names are the header
+  -- copies with the stubs of the functions with some names are the header
   pub header_is : c ≡ with_stubs fs (copy_places false m own d) → c ≡ copy_header m own e names
   header_is h =
       h ∙ (λ i. with_stubs (among i) (copy_places false m own (same i)))
       ∙ ap (λ x. record (copy_places false m own e) { derived = x }) (fold_passing named with_stub m.functions (copy_places false m own e).derived)
 
-  -- and with these functions the module
+  -- copies with these functions are the module
   pub whole_is : c ≡ with_functions fs (copy_places true m own d) → c ≡ copy_whole m own e names
   whole_is h =
       h ∙ (λ i. with_functions (among i) (copy_places true m own (same i)))

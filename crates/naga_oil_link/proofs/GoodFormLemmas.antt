@@ -1,4 +1,4 @@
--- What is copied and linked of modules of good form is of good form.
+-- Copies and linked modules of modules of good form are of good form.
 use Rattle.std.proofs.Common.{◌≡◌, ℕ, zero, suc, ◌<◌, ◌+◌, ◌*◌, Bool, true, false, List, [], ◌∷◌, ◌++◌, length, map, fold, Some, None, Result, Ok, Err, IfOk, option_map, if◌then◌else◌, refl, sym, ap, ◌∙◌, subst, arith, All}
 use Rattle.std.specs.List.{filter, range_with_len}
 use Rattle.std.proofs.lemmas.List.Elements.{All-nil, All-cons, All-append, All-filter, All-head, All-tail}
@@ -28,6 +28,7 @@ use Rattle.naga_oil_link.specs.Linked.{Asked, links_place, links_function, link_
 use Rattle.naga_oil_link.specs.LinkView.{IsLinkFormed}
 use Rattle.naga_oil_link.specs.OwnPlaces.{OwnPlaces, is_own}
 use Rattle.naga_oil_link.specs.Places.{places_from_first, places_of}
+use Rattle.naga_oil_ir.specs.Spans.{span_stride}
 
 -- ---- the places of a module's items
 
@@ -38,7 +39,7 @@ each_place m place (suc n) a h = All-cons (HasAt m) (place a) (map place (range_
 kind_places : (m : ModuleValue) (place : ℕ → ItemPlace) (n : ℕ) → ((k : ℕ) → k < n → HasAt m (place k)) → All (HasAt m) (places_from_first place n)
 kind_places m place n h = each_place m place n 0 (λ k l. h k (omega (arith, l)))
 
--- an item stands at each
+-- an item stands at each of these places
 pub has_places : (m : ModuleValue) → All (HasAt m) (places_of m)
 has_places m =
     let P = HasAt m in
@@ -85,7 +86,7 @@ module _ (first : Kept) (m : ModuleValue) where
       let e = copy_at all m own n c p in
       behind c.derived e.derived (fold (copy_at all m own n) e ps).derived one (all_keep all own n ps e (All-tail (HasAt m) p ps h) one.formed)
 
--- what nothing was kept for
+-- for a module for which nothing was kept
 abbrev begun : ModuleValue → Kept
 begun m = kept_of m.special_types nothing.target.special_types
 
@@ -155,20 +156,20 @@ pub nothing_formed_yet : IsLinkFormed nothing
 unfolding IsLinkFormed
 nothing_formed_yet = nothing_is
 
--- behind what is linked of a module of good form
+-- after what is linked of a module of good form
 pub source_formed : (b : BuiltModule) (own : OwnPlaces) (m : ModuleValue) (asked : Asked) (d : Derived) → IsModuleFormed m → IsLinkFormed d → IsLinkFormed (link_source b own m asked d)
 unfolding IsLinkFormed
 source_formed b own m asked d f l first =
     let kept = kept_of m.special_types d.target.special_types in
-    let set = source_of kept d m (b.index * 2097152) (l kept) f in
+    let set = source_of kept d m (b.index * span_stride) (l kept) f in
     let ps = filter (links_place own m asked) (places_of m) in
-    let items = items_in_turn kept m (set_source d m (b.index * 2097152)) ps set.formed (All-filter (links_place own m asked) (HasAt m) (places_of m) (has_places m)) in
+    let items = items_in_turn kept m (set_source d m (b.index * span_stride)) ps set.formed (All-filter (links_place own m asked) (HasAt m) (places_of m) (has_places m)) in
     let Comes = λ (v : FunctionValue × Span). (c : ℕ) × MayCome m c v.0 v.1 in
     let comes : All Comes m.functions = from_at Comes m.functions (λ k v at. (k, each_comes m k v f.functions at)) in
     let functions = new_in_turn kept m _ (filter (links_function b asked) m.functions) items (All-filter (links_function b asked) Comes m.functions comes) in
     source_cleared kept first _ functions.formed
 
--- what was linked with the entry points of a module of good form, and without
+-- what was linked, with the entry points of a module of good form and without
 pub linked_made : (m : ModuleValue) (shift : ℕ) (d : Derived) → IsModuleFormed m → IsLinkFormed d → IsModuleFormed (make_module (set_source d m shift))
 unfolding IsLinkFormed
 linked_made m shift d f l =

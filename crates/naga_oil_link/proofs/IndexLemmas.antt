@@ -1,4 +1,4 @@
--- Places by the names that stand at them: what a sort gives, and what is found.
+-- Places sorted by their names: what a sort returns, and what a search finds.
 use Rattle.std.proofs.Common.{◌≡◌, ℕ, zero, suc, ◌+◌, ◌-◌, ◌<◌, ◌≤◌, List, [], ◌∷◌, length, drop, Bool, true, false, not, ◌&&◌, ◌++◌, if◌then◌else◌, is_some, Option, Some, None, option_map, get_or, refl, sym, ap, ◌∙◌, Ordering, Less, Equal, Greater, arith}
 use Rattle.std.proofs.lemmas.Bool.{false≢true, true≢false}
 use Rattle.std.proofs.lemmas.List.MinMax.{ranks_by}
@@ -30,7 +30,7 @@ texts_rank = ranks_by names_total (λ x. x)
 pub places_rank : (names : List Text) → IsStrictWeakOrder (stands_before names)
 places_rank names = ranks_by names_total (text_at names)
 
--- a name is told by the order
+-- a name is determined by the order
 pub same_name : (q : List ℕ) (x : Text) → is_eq (compare_names x (Some q)) ≡ is_name q x
 same_name q None = refl
 same_name q (Some n) = is_eq-slice_cmp n q ∙ flipped n q
@@ -44,11 +44,11 @@ one_ties Less = refl
 one_ties Equal = refl
 one_ties Greater = refl
 
--- those that tie with a name are this name
+-- names that tie with a name are this name
 tied : (q : List ℕ) (x : Text) → (not (is_lt (compare_names (Some q) x)) && not (is_lt (compare_names x (Some q)))) ≡ is_name q x
 tied q x = ap (λ o. not (is_lt o) && not (is_lt (compare_names x (Some q)))) (names_total.antisymm (Some q) x) ∙ one_ties (compare_names x (Some q)) ∙ same_name q x
 
--- ---- what a sort gives
+-- ---- what a sort returns
 
 first_passes : {X : Type 0} (p : X → Bool) (xs : List X) (k : X) (rest : List X) → filter p xs ≡ k ∷ rest → p k ≡ true
 first_passes p [] k rest e =
@@ -60,7 +60,7 @@ first_passes p (x ∷ xs) k rest e = by (p x) refl e (first_passes p xs k rest)
     by true h f more = ap p (sym (ap (λ ys. get_or ys 0 k) f)) ∙ h
     by false h f more = more f
 
--- a test behind one that it implies
+-- a test after one that it implies
 filter_twice : {X : Type 0} (s p : X → Bool) → ((x : X) → p x ≡ true → s x ≡ true) → (xs : List X) → filter p (filter s xs) ≡ filter p xs
 filter_twice s p h [] = refl
 filter_twice s p h (x ∷ xs) = by (s x) (p x) refl refl (filter_twice s p h xs)
@@ -71,14 +71,14 @@ filter_twice s p h (x ∷ xs) = by (s x) (p x) refl refl (filter_twice s p h xs)
     by false true e f rest = absurd (false≢true (sym e ∙ h x f))
     by false false e f rest = rest
 
--- the places of a name stay in their order, if it stands at one
+-- the places of a name stay in their order, if the name is at a place
 kept : (names : List Text) (places index : List ℕ) (q : List ℕ) (k : ℕ) → IsStableBy (stands_before names) places index → is_name q (text_at names k) ≡ true → filter (λ j. is_name q (text_at names j)) index ≡ filter (λ j. is_name q (text_at names j)) places
 kept names places index q k stable e =
     let is : text_at names k ≡ Some q = name_is q (text_at names k) e in
     let passes : (j : ℕ) → (not (stands_before names k j) && not (stands_before names j k)) ≡ is_name q (text_at names j) = λ j. ap (λ x. not (is_lt (compare_names x (text_at names j))) && not (is_lt (compare_names (text_at names j) x))) is ∙ tied q (text_at names j) in
     (λ i. filter (λ j. sym (passes j) i) index) ∙ stable k ∙ (λ i. filter (λ j. passes j i) places)
 
--- and so do they of any name
+-- the places of any name stay in their order
 same_places : (names : List Text) (places index : List ℕ) (q : List ℕ) → IsStableBy (stands_before names) places index → filter (λ j. is_name q (text_at names j)) index ≡ filter (λ j. is_name q (text_at names j)) places
 same_places names places index q stable = by (filter p index) (filter p places) refl refl
   where
@@ -115,9 +115,9 @@ index_sorted names places index are sorted stable = record {
       ∙ filter_twice (λ k. is_some (text_at names k)) (λ k. is_name q (text_at names k)) (λ k. named_passes q (text_at names k)) (range_with_len 0 (length names));
 }
 
--- ---- what is found
+-- ---- what a search finds
 
--- names that stand before one, then the others
+-- names that are less than one, then the others
 pub before_partitioned : (names : List Text) (places : List ℕ) (q : List ℕ) → IsSortedBy (stands_before names) places → IsPartitionedBy (λ k. is_lt (compare_names (text_at names k) (Some q))) places
 before_partitioned names places q sorted i j d le below before =
     by (is_lt (compare_names (text_at names (get_or places i d)) (Some q))) refl
@@ -126,7 +126,7 @@ before_partitioned names places q sorted i j d le below before =
     by true e = refl
     by false e = sym (texts_rank.chain (text_at names (get_or places j d)) (text_at names (get_or places i d)) (Some q) (sorted_far (stands_before names) (places_rank names) places sorted i j d le below) e) ∙ before
 
--- no name stands before itself
+-- no name is less than itself
 irreflexive : (q : List ℕ) → is_lt (compare_names (Some q) (Some q)) ≡ false
 irreflexive q = by (is_lt (compare_names (Some q) (Some q))) refl
   where
@@ -134,7 +134,7 @@ irreflexive q = by (is_lt (compare_names (Some q) (Some q))) refl
     by false e = refl
     by true e = sym e ∙ texts_rank.one_way (Some q) (Some q) e
 
--- one that stands before a name isn't it
+-- a name that is less than another isn't the other
 pub before_fails : (q : List ℕ) (x : Text) → is_lt (compare_names x (Some q)) ≡ true → is_name q x ≡ false
 before_fails q x e = sym (same_name q x) ∙ by (compare_names x (Some q)) e
   where
@@ -143,7 +143,7 @@ before_fails q x e = sym (same_name q x) ∙ by (compare_names x (Some q)) e
     by Equal h = absurd (false≢true h)
     by Greater h = refl
 
--- one that isn't before a greater name than another isn't the other
+-- a name that isn't less than a greater name than another isn't the other
 after_fails : (q : List ℕ) (x y : Text) → is_lt (compare_names x (Some q)) ≡ false → is_eq (compare_names x (Some q)) ≡ false → is_lt (compare_names y x) ≡ false → is_name q y ≡ false
 after_fails q x y a b c = by (is_name q y) refl
   where
@@ -160,7 +160,7 @@ after_fails q x y a b c = by (is_name q y) refl
         ∙ ap (λ t. is_lt (compare_names t x)) (sym (name_is q y e))
         ∙ c
 
--- what fails a test is left out
+-- names that fail a test are left out
 pub skip : {X : Type 0} (p : X → Bool) (xs : List X) (n : ℕ) → ((k : ℕ) (d : X) → k < n → k < length xs → p (get_or xs k d) ≡ false) → filter p (drop n xs) ≡ filter p xs
 skip p [] zero h = refl
 skip p [] (suc n) h = refl
@@ -177,7 +177,7 @@ none_pass_from p (x ∷ xs) zero h =
     ap (λ b. if b then x ∷ filter p xs else filter p xs) (h 0 x (omega arith) (omega arith))
     ∙ none_pass_from p xs zero (λ k d a b. h (suc k) d (omega arith) (omega arith))
 
--- where those of a name start: those before it stand before the name, and the others don't
+-- the first place of a name: names before it are less, and the others aren't
 pub start_there : (names : List Text) (index : ByName) (q : List ℕ) (n : ℕ) → n ≤ length index.items → IsIndexOf names index → ((k : ℕ) (d : ℕ) → k < n → k < length index.items → is_lt (compare_names (text_at names (get_or index.items k d)) (Some q)) ≡ true) → ((k : ℕ) (d : ℕ) → n ≤ k → k < length index.items → is_lt (compare_names (text_at names (get_or index.items k d)) (Some q)) ≡ false) → IsStart names q index.items n
 start_there names index q n le is before after =
     let long : length (drop n index.items) ≡ length index.items - n = length-drop n index.items in
@@ -190,7 +190,7 @@ start_there names index q n le is before after =
       named = skip (λ k. is_name q (text_at names k)) index.items n (λ k d a b. before_fails q (text_at names (get_or index.items k d)) (before k d a b)) ∙ is.each q;
     }
 
--- a place of a name behind one that stands before it
+-- a place of a name after one with a lesser name
 pub start_found : (names : List Text) (index : ByName) (q : List ℕ) (n : ℕ) → n < length index.items → IsIndexOf names index → is_eq (compare_names (text_at names (get_or index.items n 0)) (Some q)) ≡ true → ((k : ℕ) → k + 1 ≡ n → is_lt (compare_names (text_at names (get_or index.items k 0)) (Some q)) ≡ true) → IsStart names q index.items n
 start_found names index q n below is same before =
     let xs = index.items in
@@ -204,13 +204,13 @@ start_found names index q n below is same before =
     ∙ ap (λ t. is_lt (compare_names (text_at names (get_or xs k 0)) t)) (sym here)
     ∙ sorted_far (stands_before names) (places_rank names) xs is.sorted n k 0 a b)
 
--- those of a name start where one stands and a name may start
+-- the places of a name start where the name is and may start
 pub start_there_is : (names : List Text) (index : ByName) (q : List ℕ) (n : ℕ) → n < length index.items → IsIndexOf names index → MayStart names index.items n → is_name q (text_at names (get_or index.items n 0)) ≡ true → IsStart names q index.items n
 start_there_is names index q n below is may named =
     let here : text_at names (get_or index.items n 0) ≡ Some q = name_is q (text_at names (get_or index.items n 0)) named in
     start_found names index q n below is (same_name q (text_at names (get_or index.items n 0)) ∙ named) (λ k e. ap (λ t. is_lt (compare_names (text_at names (get_or index.items k 0)) t)) (sym here) ∙ may k e below)
 
--- from one on that is no more the name, none is
+-- after the last place of a name, the name is at no place
 pub past_name : (names : List Text) (index : ByName) (q : List ℕ) (n i : ℕ) → IsIndexOf names index → IsReached names q index.items n → n ≤ i → i < length index.items → is_eq (compare_names (text_at names (get_or index.items i 0)) (Some q)) ≡ false → filter (λ k. is_name q (text_at names k)) (drop i index.items) ≡ []
 past_name names index q n i is start le below other =
     let xs = index.items in
@@ -222,7 +222,7 @@ past_name names index q n i is start le below other =
     ap (λ j. is_name q (text_at names j)) (get_or_default_zero xs k d b)
     ∙ after_fails q (text_at names (get_or xs i 0)) (text_at names (get_or xs k 0)) later other (sorted_far (stands_before names) (places_rank names) xs is.sorted i k 0 a b))
 
--- a name reached where another stands ends there: what stands before isn't behind the name, and the other is
+-- where a name is reached and another name stands, its places end: names before aren't greater, and that name is
 pub ends_there : (names : List Text) (places : List ℕ) (q : List ℕ) (i : ℕ) → IsReached names q places i → (i < length places → is_eq (compare_names (text_at names (get_or places i 0)) (Some q)) ≡ false) → MayStart names places i
 ends_there names places q i reached other k e below = by (is_lt (compare_names before here)) refl
   where
@@ -251,7 +251,7 @@ ends_there names places q i reached other k e below = by (is_lt (compare_names b
     by true f = refl
     by false f = sym (texts_rank.chain (Some q) before here (reached.before k e) f) ∙ behind
 
--- a name is reached behind a place of it
+-- a name is reached after one of its places
 pub reached_more : (names : List Text) (places : List ℕ) (q : List ℕ) (i : ℕ) → i < length places → IsReached names q places i → is_eq (compare_names (text_at names (get_or places i 0)) (Some q)) ≡ true → IsReached names q places (i + 1)
 reached_more names places q i below reached same =
     let here : text_at names (get_or places i 0) ≡ Some q = name_is q (text_at names (get_or places i 0)) (sym (same_name q (text_at names (get_or places i 0))) ∙ same) in

@@ -1,10 +1,5 @@
 pub mod ByNameLemmas
 pub mod CopiedLemmas
-pub mod DecisionLemmas
-pub mod FormGivenLemmas
-pub mod FormItemsLemmas
-pub mod FormLawLemmas
-pub mod FormPartsLemmas
 pub mod GoodFormLemmas
 pub mod IndexLemmas
 pub mod LinkedLemmas

@@ -27,7 +27,7 @@ use Rattle.naga_oil_derive.specs.Derived.{Derived, nothing}
 use Rattle.naga_oil_derive.specs.DerivedValue.{set_source}
 use Rattle.naga_oil_derive.specs.World.{value_of}
 use Rattle.naga_oil_form_laws.specs.EntryForm.{IsModuleFormed}
-use Rattle.naga_oil_lines.specs.Text.{texts, is_among}
+use Rattle.naga_oil_words.specs.Texts.{texts, is_among}
 use Rattle.naga_oil_imports.specs.Uses.{Import, import_of}
 use Rattle.naga_oil_imports.specs.declared.import_definition.ImportDefinition.{ImportDefinition}
 use Rattle.naga_oil_link.specs.BuiltModule.{BuiltModule, Builds, built_of, builds_of}
@@ -40,11 +40,11 @@ use Rattle.naga_oil_link.specs.declared.link.Linker.{Linker}
 use Rattle.naga_oil_link.specs.declared.module.ComposableModule.{ComposableModule}
 use Rattle.naga_oil_link.proofs.ByNameLemmas.{text_there}
 
--- what a walk over a list has before it
+-- what precedes a step of a walk over a list
 pub next_item : {X : Type 0} (xs : List X) (i : ℕ) (x : X) → i < length xs → x ≡ get_or xs i x → drop i xs ≡ x ∷ drop (i + 1) xs
 next_item xs i x within is = drop_more xs i x within ∙ ap (λ y. y ∷ drop (i + 1) xs) (sym is)
 
--- what it has behind it, one step on
+-- what follows, one step further
 pub one_more : {X : Type 0} (xs : List X) (i : ℕ) (x : X) → i < length xs → x ≡ get_or xs i x → take (i + 1) xs ≡ take i xs ++ x ∷ []
 one_more xs i x within is = take_more xs i x within ∙ ap (λ y. take i xs ++ y ∷ []) (sym is)
 
@@ -61,7 +61,7 @@ names_by_entry (e ∷ es) = ap (λ ns. texts e.1.items ++ ns) (names_by_entry es
 pub fold_step : {X Y : Type 0} (f : Y → X → Y) (d e : Y) (x : X) (xs ys : List X) (all : Y) → ys ≡ x ∷ xs → e ≡ f d x → fold f d ys ≡ all → fold f e xs ≡ all
 fold_step f d e x xs ys all next step h = ap (λ y. fold f y xs) step ∙ ap (fold f d) (sym next) ∙ h
 
--- its end
+-- the end of a walk
 pub fold_end : {X Y : Type 0} (f : Y → X → Y) (d : Y) (ys : List X) (all : Y) → ys ≡ [] → fold f d ys ≡ all → d ≡ all
 fold_end f d ys all none h = ap (fold f d) (sym none) ∙ h
 
@@ -71,11 +71,11 @@ module _ {X : Type 0} (test : X → Bool) (step : Derived → X → Derived) (d 
   none_there none = ap (step_if test step d) (sym none)
 
   module _ (x : X) (there : o ≡ Some x) where
-    -- it doesn't pass
+    -- the item doesn't pass
     pub left_there : test x ≡ false → d ≡ step_if test step d o
     left_there fails = sym (ap (step_if test step d) there ∙ ap (λ (b : Bool). if b then step d x else d) fails)
 
-    -- it passes
+    -- the item passes
     pub made_there : test x ≡ true → (e : Derived) → e ≡ step d x → e ≡ step_if test step d o
     made_there passes e is = is ∙ sym (ap (step_if test step d) there ∙ ap (λ (b : Bool). if b then step d x else d) passes)
 
@@ -101,7 +101,7 @@ module _ {X : Type 0} (own : X → Bool) (step : Derived → X → Derived) wher
         let later : (k : ℕ) → slice_get fs (a + 1 + k) ≡ slice_get xs k = λ k. ap (slice_get fs) (omega arith) ∙ same (suc k) in
         step_here a x (filter test (range_with_len (a + 1) (length xs))) (filter links xs) d there (folded_from xs (a + 1) later h) (test a) (own x) (links x) refl (h a x there)
 
-  -- a walk over the places of the names that pass a test makes the steps of the items that pass it and are own
+  -- a walk over the places of the names that pass a test makes the steps of the own items that pass the test
   pub folded_where : (name : X → Text) (test : Text → Bool) (xs : List X) (d : Derived) → fold (at xs) d (places_where test (map name xs)) ≡ fold step d (filter (λ x. test (name x) && own x) xs)
   folded_where name test xs d =
       ap (λ n. fold (at xs) d (filter (λ k. test (text_at (map name xs) k)) (range_with_len 0 n))) (length-map xs name)
@@ -117,13 +117,13 @@ set_copies m shift d e form is = record { form = form; source = _; set = ap (λ 
 -- ---- one build
 
 module _ {T E : Type 0} (r : Result T E) (b : BuiltModule) (asked : Asked) (v : ModuleValue) (d e : Derived) where
-  -- its header is linked
+  -- the header of the build is linked
   pub header_linked : (of_headers : Bool) → of_headers ≡ true → v ≡ b.header → OnOk r (e ≡ link_source b b.own_in_header v asked d) → OnOk r (e ≡ link_items of_headers b asked d)
   unfolding link_items
   header_linked of_headers is same h =
       subst (λ (x : Derived). OnOk r (e ≡ x)) (ap (λ (w : ModuleValue). link_source b b.own_in_header w asked d) same ∙ ap (λ (x : Bool). if x then link_source b b.own_in_header b.header asked d else link_source b b.own_in_value b.value asked d) (sym is)) h
 
-  -- its whole is
+  -- the whole of the build is linked
   pub value_linked : (of_headers : Bool) → of_headers ≡ false → v ≡ b.value → OnOk r (e ≡ link_source b b.own_in_value v asked d) → OnOk r (e ≡ link_items of_headers b asked d)
   unfolding link_items
   value_linked of_headers is same h =
@@ -153,7 +153,7 @@ named name e = bytes_eq name e.0
 same_position : (es : Entries) (name : List ℕ) → position (named name) (map entry_of es) ≡ position (λ k. bytes_eq name (string_bytes k)) (keys_of es)
 same_position es name = position-map (named name) entry_of es ∙ sym (position-map (λ k. bytes_eq name (string_bytes k)) (λ e. e.0) es)
 
--- no two builds have one name
+-- the names of builds are distinct
 abbrev pub AreApart : Builds → Type 0
 AreApart bs = (j k : ℕ) (e f : List ℕ × BuiltModule) → slice_get bs j ≡ Some e → slice_get bs k ≡ Some f → bytes_eq e.0 f.0 ≡ nat_eq j k
 
@@ -191,7 +191,7 @@ entries_apart (x ∷ xs) u (suc j) (suc k) e f p q =
     let same : nat_eq j k ≡ nat_eq (suc j) (suc k) = grind (arith, nat_tests) in
     entries_apart xs (IsDistinct-tail _ _ _ u) j k e f p q ∙ same
 
--- ---- numbers, one more of them
+-- ---- one more number
 
 same_number : (k x : ℕ) → is_eq (nat_cmp k x) ≡ nat_eq k x
 same_number k x = grind (arith, nat_tests)
@@ -220,14 +220,14 @@ among-insert (x ∷ xs) k q = by (nat_cmp k x) refl (among-insert xs k q)
         or_again (nat_eq q x) (list_any (nat_eq q) xs) ∙ ap (λ y. nat_eq q y || list_any (nat_eq q) (x ∷ xs)) (sym same)
     by Greater e rest = ap (λ b. nat_eq q x || b) rest ∙ or_swapped (nat_eq q x) (nat_eq q k) (list_any (nat_eq q) xs)
 
--- ---- an import out of builds, the newest first
+-- ---- an import from builds, the newest first
 
 or_neither : (a b : Bool) → (a || b) ≡ false → (a ≡ false) × (b ≡ false)
 or_neither true b h = absurd cc
 or_neither false b h = (refl, h)
 
 module _ (of_headers : Bool) (s : LinkState) (i : Import) where
-  -- builds of other names are passed over
+  -- builds with other names are skipped
   passed : (xs ys : Builds) → list_any (named i.import) xs ≡ false → link_import of_headers (xs ++ ys) s i ≡ link_import of_headers ys s i
   unfolding link_import
   passed [] ys h = refl
@@ -235,7 +235,7 @@ module _ (of_headers : Bool) (s : LinkState) (i : Import) where
       let both = or_neither (bytes_eq i.import x.0) (list_any (named i.import) xs) h in
       ap (λ (b : Bool). if b then link_asked of_headers i x.1 (link_within (link_import of_headers (xs ++ ys)) x s) else link_import of_headers (xs ++ ys) s i) both.0 ∙ passed xs ys both.1
 
-  -- of these none has its name
+  -- no build has the name of the import
   pub import_missing : (bs : Builds) → list_any (named i.import) bs ≡ false → link_import of_headers (reverse bs) s i ≡ s
   unfolding link_import
   import_missing bs h =
@@ -246,25 +246,25 @@ module _ (of_headers : Bool) (s : LinkState) (i : Import) where
   unfolding link_import
   newest e bs h = ap (λ (b : Bool). if b then link_asked of_headers i e.1 (link_within (link_import of_headers bs) e s) else link_import of_headers bs s i) h
 
-  -- the last of its name is e
+  -- the last build with the name is e
   last : (xs ys : Builds) (e : List ℕ × BuiltModule) → bytes_eq i.import e.0 ≡ true → list_any (named i.import) ys ≡ false → link_import of_headers (reverse (xs ++ (e ∷ ys))) s i ≡ link_asked of_headers i e.1 (link_within (link_import of_headers (reverse xs)) e s)
   last xs ys e h none =
       let turned : reverse (xs ++ (e ∷ ys)) ≡ reverse ys ++ (e ∷ reverse xs) = reverse-append xs (e ∷ ys) ∙ ap (λ zs. zs ++ reverse xs) (reverse-append (e ∷ []) ys) ∙ append_assoc (reverse ys) (e ∷ []) (reverse xs) in
       let others : list_any (named i.import) (reverse ys) ≡ false = sym (list_any-IsPermutation (named i.import) ys (reverse ys) (IsPermutation-reverse ys)) ∙ none in
       ap (λ zs. link_import of_headers zs s i) turned ∙ passed (reverse ys) (e ∷ reverse xs) others ∙ newest e (reverse xs) h
 
--- ---- where the build of a name stands
+-- ---- the place of the build with a name
 
 module _ (bs : Builds) (name : List ℕ) where
   module _ (k : ℕ) (e : List ℕ × BuiltModule) (at : position (named name) bs ≡ Some k) (is : slice_get bs k ≡ Some e) where
-    -- it has that name, and none before it has
+    -- the build at the place has the name, and none before does
     at_place : (k < length bs) × (bytes_eq name e.0 ≡ true) × ((j : ℕ) → j < k → bytes_eq name (get_or bs j e).0 ≡ false)
     at_place =
         let p = position-Some (named name) bs k e at in
         let same : get_or bs k e ≡ e = get_or_from_slice_get bs k e e is in
         (p.0, ap (λ (x : List ℕ × BuiltModule). bytes_eq name x.0) (sym same) ∙ p.1, p.2)
 
-    -- and none before an end that isn't behind it
+    -- none before an earlier end has the name
     pub none_before : (end : ℕ) → end ≤ k → list_any (named name) (take end bs) ≡ false
     none_before end l =
         let long : length (take end bs) ≡ end = length-take-le end bs (omega (arith, at_place.0)) in
@@ -272,7 +272,7 @@ module _ (bs : Builds) (name : List ℕ) where
         let within : j < end = omega (arith, long, h) in
         ap (named name) (get_or-take end bs j e within) ∙ at_place.2 j (omega arith)))
 
-    -- nor one behind it
+    -- no build after the place has the name
     pub none_behind : AreApart bs → (end : ℕ) → list_any (named name) (drop (k + 1) (take end bs)) ≡ false
     none_behind apart end =
         let long : length (take end bs) ≡ min end (length bs) = length-take end bs in
@@ -287,7 +287,7 @@ module _ (bs : Builds) (name : List ℕ) where
         ∙ apart k (k + 1 + j) e (get_or bs (k + 1 + j) e) is (slice_get-get_or bs (k + 1 + j) e within)
         ∙ other))
 
-    -- where the builds before an end are it, those before it and those behind it
+    -- the builds before an end are those before the build, the build, and those after it
     pub around : (end : ℕ) → k < end → take end bs ≡ take k bs ++ (e ∷ drop (k + 1) (take end bs))
     around end l =
         let long : length (take end bs) ≡ min end (length bs) = length-take end bs in
@@ -311,7 +311,7 @@ pub not_false : (b : Bool) → not b ≡ false → b ≡ true
 not_false true h = refl
 not_false false h = absurd cc
 
--- none has the name
+-- no build has the name
 pub none_has : (bs : Builds) (name : List ℕ) → position (named name) bs ≡ None → list_any (named name) bs ≡ false
 none_has [] name at = refl
 none_has (x ∷ xs) name at =
@@ -319,7 +319,7 @@ none_has (x ∷ xs) name at =
     list_any_none (named name) (x ∷ xs) (All-from_get_or (λ y. named name y ≡ false) (x ∷ xs) x (λ j h.
     not_true (named name (get_or (x ∷ xs) j x)) (prefix_len_passes (λ y. not (named name y)) (x ∷ xs) j x (omega (arith, past, h)))))
 
--- ---- what is linked, and the places of those whose imports are
+-- ---- the linked module, and the places of the builds whose imports are linked
 
 module _ (bs : Builds) where
   -- a name is entered, and the place of its build
@@ -329,7 +329,7 @@ module _ (bs : Builds) where
     entered = λ j f at. (λ i. apart j k f e at is i || h.entered j f at i) ∙ sym (among-insert places k j);
   }
 
--- an import is linked out of the builds before a place
+-- an import is linked from the builds before a place
 abbrev pub LinksImport : (of_headers : Bool) → Builds → (end : ℕ) → Import → Derived → List ℕ → Derived → List ℕ → Type 0
 LinksImport of_headers bs end i d places e after = (s : LinkState) → IsState bs s d places → IsState bs (link_import of_headers (reverse (take end bs)) s i) e after
 
@@ -337,13 +337,13 @@ module _ (of_headers : Bool) (bs : Builds) (end : ℕ) where
   pub imports_none : (d : Derived) (places : List ℕ) → LinksImports of_headers bs end [] d places d places
   imports_none d places s h = h
 
-  -- one import more
+  -- one more import
   pub imports_more : (is : List Import) (i : Import) (d e f : Derived) (p q r : List ℕ) → LinksImports of_headers bs end is d p e q → LinksImport of_headers bs end i e q f r → LinksImports of_headers bs end (is ++ i ∷ []) d p f r
   imports_more is i d e f p q r before one s h =
       let step = link_import of_headers (reverse (take end bs)) in
       subst (λ (t : LinkState). IsState bs t f r) (sym (fold-append step s is (i ∷ []))) (one (fold step s is) (before s h))
 
-  -- none of the builds has its name
+  -- no build has the name of the import
   pub links_nothing : (i : Import) (d : Derived) (p : List ℕ) → list_any (named i.import) (take end bs) ≡ false → LinksImport of_headers bs end i d p d p
   links_nothing i d p none s h = subst (λ (t : LinkState). IsState bs t d p) (sym (import_missing of_headers s i (take end bs) none)) h
 
@@ -353,20 +353,20 @@ module _ (of_headers : Bool) (bs : Builds) (end : ℕ) where
         ap (λ xs. link_import of_headers (reverse xs) s i) (around bs i.import k e at is end before)
         ∙ last of_headers s i (take k bs) (drop (k + 1) (take end bs)) e (at_place bs i.import k e at is).1 (none_behind bs i.import k e at is apart end)
 
-    -- its imports are linked
+    -- the imports of the build are linked
     pub links_known : (d f : Derived) (p : List ℕ) → list_any (nat_eq k) p ≡ true → f ≡ link_items of_headers e.1 (asked_of i e.1) d → LinksImport of_headers bs end i d p f p
     links_known d f p known linked s h =
         let skipped : link_within (link_import of_headers (reverse (take k bs))) e s ≡ s = ap (λ (b : Bool). if b then s else fold (link_import of_headers (reverse (take k bs))) (enter e.0 s) e.1.imports) (h.entered k e is ∙ known) in
         subst (λ (t : LinkState). IsState bs t f p) (sym (found s ∙ ap (link_asked of_headers i e.1) skipped)) (record { derived = linked ∙ ap (link_items of_headers e.1 (asked_of i e.1)) h.derived; entered = h.entered })
 
-    -- they are linked first
+    -- the imports of the build are linked first
     pub links_behind : (d g f : Derived) (p q : List ℕ) → list_any (nat_eq k) p ≡ false → LinksImports of_headers bs k e.1.imports d (insert_key nat_cmp p k) g q → f ≡ link_items of_headers e.1 (asked_of i e.1) g → LinksImport of_headers bs end i d p f q
     links_behind d g f p q new imports linked s h =
         let entered : link_within (link_import of_headers (reverse (take k bs))) e s ≡ link_imports of_headers (take k bs) e.1.imports (enter e.0 s) = ap (λ (b : Bool). if b then s else fold (link_import of_headers (reverse (take k bs))) (enter e.0 s) e.1.imports) (h.entered k e is ∙ new) in
         let after = imports (enter e.0 s) (entering bs apart k e is s d p h) in
         subst (λ (t : LinkState). IsState bs t f q) (sym (found s ∙ ap (link_asked of_headers i e.1) entered)) (record { derived = linked ∙ ap (link_items of_headers e.1 (asked_of i e.1)) after.derived; entered = after.entered })
 
--- ---- the same of the code's imports and builds
+-- ---- the same for the code's imports and builds
 
 none_front : {X : Type 0} (p : X → Bool) (n : ℕ) (xs : List X) → list_any p xs ≡ false → list_any p (take n xs) ≡ false
 none_front p zero xs h = refl
@@ -380,11 +380,11 @@ module _ (of_headers : Bool) (bs : Builds) (end : ℕ) (is : List ImportDefiniti
       let more : map import_of (take (at + 1) is) ≡ map import_of (take at is) ++ import_of x ∷ [] = ap (map import_of) (one_more is at x within here) ∙ map-append import_of (take at is) (x ∷ []) in
       subst (λ (js : List Import). LinksImports of_headers bs end js d p f r) (sym more) (imports_more of_headers bs end (map import_of (take at is)) (import_of x) d e f p q r before one)
 
-  -- it has no build before the end
+  -- the next import has no build before the end
   pub import_left : list_any (named (import_of x).import) (take end bs) ≡ false → LinksImports of_headers bs end (map import_of (take (at + 1) is)) d p e q
   import_left none = import_linked e q (links_nothing of_headers bs end (import_of x) e q none)
 
-  -- it has no build
+  -- the next import has no build
   pub import_unknown : list_any (named (import_of x).import) bs ≡ false → LinksImports of_headers bs end (map import_of (take (at + 1) is)) d p e q
   import_unknown none = import_left (none_front (named (import_of x).import) end bs none)
 
@@ -398,13 +398,13 @@ module _ (es : Entries) (name : List ℕ) where
   pub missing_at : position (λ (n : String Global). bytes_eq name (string_bytes n)) (keys_of es) ≡ None → list_any (named name) (map entry_of es) ≡ false
   missing_at at = none_has (map entry_of es) name (same_position es name ∙ at)
 
--- ---- what is made of builds
+-- ---- what is linked of builds
 
 -- nothing is linked, and no imports are
 pub from_nothing : (bs : Builds) → IsState bs nothing_linked nothing []
 from_nothing bs = record { derived = refl; entered = λ k e at. refl }
 
--- what was linked of all builds by a linker of which nothing was linked
+-- what a new linker links of all builds
 pub linked_all : (start : Linker) (of_headers : Bool) (bs : Builds) (end : ℕ) (imports : List Import) (e : Derived) (after : List ℕ) → start.of_headers ≡ of_headers → builds_of start.builds.now ≡ bs → start.derived ≡ nothing → start.descended.keys ≡ [] → length bs ≤ end → LinksImports start.of_headers (builds_of start.builds.now) end imports start.derived start.descended.keys e after → e ≡ (link_imports of_headers bs imports nothing_linked).derived
 linked_all start of_headers bs end imports e after headers same none keys all h =
     let linked : LinksImports of_headers bs end imports nothing [] e after = transport (λ i. LinksImports (headers i) (same i) end imports (none i) (keys i) e after) h in

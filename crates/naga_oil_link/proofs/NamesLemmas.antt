@@ -1,4 +1,4 @@
--- Names in byte order: which are among them.
+-- Names in byte order: which names are among them.
 use Rattle.std.proofs.Common.{◌≡◌, ℕ, nat_eq, List, [], ◌∷◌, Bool, true, false, ◌||◌, All, Option, Some, None, Bor, subst, refl, sym, ap, ◌∙◌, String, Global, string_bytes, Ordering, Less, Equal, Greater}
 use Rattle.std.proofs.lemmas.Map.Lookups.{exact_bytes}
 use Rattle.std.proofs.lemmas.Map.Text.{is_eq-slice_cmp}
@@ -12,8 +12,7 @@ use Rattle.std.specs.List.{list_any, fold, ends_with}
 use Rattle.std.specs.Ordering.{nat_cmp, match_ordering}
 use Rattle.std.specs.Str.{bytes_eq}
 use Rattle.std.specs.String.{string_cmp}
-use Rattle.naga_oil_lines.specs.DirectivesText.{with_name, in_order}
-use Rattle.naga_oil_lines.specs.Text.{is_among, texts}
+use Rattle.naga_oil_words.specs.Texts.{with_name, in_order, is_among, texts}
 use Rattle.naga_oil_link.specs.CopiedBuild.{AreAmong, EndWith}
 use Rattle.std.specs.Map.Iter.{TakesFirst}
 
@@ -50,7 +49,7 @@ pub among-in_order : (names : List (List ℕ)) (n : List ℕ) → is_among (in_o
 unfolding in_order
 among-in_order names n = among-fold [] names n
 
--- a name that ends in another way than all of some names isn't among them
+-- a name that doesn't end as all of these names do isn't among them
 pub ends_apart : (names : List (List ℕ)) (ending n : List ℕ) → EndWith names ending → ends_with nat_eq n ending ≡ false → is_among names n ≡ false
 ends_apart [] ending n all other = refl
 ends_apart (x ∷ names) ending n all other = by (bytes_eq n x) refl (ends_apart names ending n (All-tail (λ (y : List ℕ). ends_with nat_eq y ending ≡ true) x names all) other)
@@ -62,7 +61,7 @@ ends_apart (x ∷ names) ending n all other = by (bytes_eq n x) refl (ends_apart
     by true e rest = absurd (false≢true (sym other ∙ ap (λ y. ends_with nat_eq y ending) ((bytes_eq-Decides n x).0 e) ∙ All-head Ends x names all))
     by false e rest = rest
 
--- what is left of names that are among others is among them
+-- the rest of names that are among others is among them
 pub left_among : (ks : List (List ℕ)) (s t : List (String Global)) (r : Option (Bor (String Global))) → TakesFirst (λ x. x.now) s r t → AreAmong ks (texts s) → AreAmong ks (texts t)
 left_among ks s t None e all = subst (λ (xs : List (String Global)). AreAmong ks (texts xs)) (sym e.1) (All-nil (λ (n : List ℕ). is_among ks n ≡ true))
 left_among ks s t (Some x) e all = All-tail (λ (n : List ℕ). is_among ks n ≡ true) (string_bytes x.now) (texts t) (subst (λ (xs : List (String Global)). AreAmong ks (texts xs)) e all)
@@ -71,7 +70,7 @@ left_among ks s t (Some x) e all = All-tail (λ (n : List ℕ). is_among ks n �
 pub first_among : (ks : List (List ℕ)) (s t : List (String Global)) (name : String Global) → s ≡ name ∷ t → AreAmong ks (texts s) → is_among ks (string_bytes name) ≡ true
 first_among ks s t name e all = All-head (λ (n : List ℕ). is_among ks n ≡ true) (string_bytes name) (texts t) (subst (λ (xs : List (String Global)). AreAmong ks (texts xs)) e all)
 
--- what a set of names is asked
+-- what is asked of a set of names
 pub among_texts : (ks : List (String Global)) (n : List ℕ) → list_any (is_at (λ k. slice_cmp nat_cmp n (string_bytes k))) ks ≡ is_among (texts ks) n
 among_texts [] n = refl
 among_texts (k ∷ ks) n = ap (λ b. b || list_any (is_at (λ k. slice_cmp nat_cmp n (string_bytes k))) ks) (is_eq-slice_cmp n (string_bytes k)) ∙ ap (λ b. bytes_eq n (string_bytes k) || b) (among_texts ks n)

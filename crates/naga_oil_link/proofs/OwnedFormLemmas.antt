@@ -5,7 +5,7 @@ use Rattle.std.proofs.lemmas.Bool.{false≢true}
 use Rattle.std.proofs.lemmas.List.{append_cancel_right}
 use Rattle.std.proofs.lemmas.Option.{same_Some}
 use Rattle.std.proofs.lemmas.Slice.Eq.{bytes_eq-Decides}
-use Rattle.naga_oil_marks.specs.Marks.{with_decoration}
+use Rattle.naga_oil_words.specs.Marks.{with_decoration}
 use Rattle.naga_oil_form.specs.BodyForm.{IsSpanFine}
 use Rattle.naga_oil_ir.specs.ModuleValue.{ModuleValue, FunctionValue, EntryValue, module_value}
 use Rattle.naga_oil_ir.specs.Rows.{Text}
@@ -13,7 +13,7 @@ use Rattle.naga_oil_ir.specs.Spans.{undefined}
 use Rattle.naga_oil_form.specs.WellFormed.{WellFormed}
 use Rattle.naga_oil_ir.specs.declared.module.Module.{Module}
 use Rattle.naga_oil_ir.specs.declared.span.Span.{Span}
-use Rattle.naga_oil_lines.specs.Text.{is_among}
+use Rattle.naga_oil_words.specs.Texts.{is_among}
 use Rattle.naga_oil_derive.specs.World.{value_of}
 use Rattle.naga_oil_form_laws.specs.EntryForm.{IsEntryFormed, entry_name, IsModuleFormed, ParsedLaw}
 use Rattle.naga_oil_form_laws.specs.FunctionForm.{IsFunctionFormed}
@@ -55,7 +55,7 @@ module _ (d : List ℕ) (names : List (List ℕ)) where
   abbrev become : List EntryValue → Functions
   become es = flat_map (demoted d names) es
 
-  -- a function was an entry point, whose name as a function is none of these
+  -- a function that was an entry point, whose name as a function is none of these
   record From (es : List EntryValue) (e : FunctionValue × Span) : Type 0 where
     place : ℕ
     entry : EntryValue
@@ -75,7 +75,7 @@ module _ (d : List ℕ) (names : List (List ℕ)) where
   from [] e j h = absurd cc
   from (x ∷ xs) e j h = from_by x xs e (from xs e) (is_among names (demoted_name d x)) refl j h
 
-  -- entry points whose names are distinct become functions whose names are
+  -- entry points with distinct names become functions with distinct names
   abbrev Apart : List EntryValue → Type 0
   Apart es = (i k : ℕ) (x y : EntryValue) → slice_get es i ≡ Some x → slice_get es k ≡ Some y → entry_name x ≡ entry_name y → i ≡ k
 
@@ -102,7 +102,7 @@ module _ (d : List ℕ) (names : List (List ℕ)) where
   all_distinct [] a = λ j k e f p q s. absurd (let n : None ≡ Some e = p in cc)
   all_distinct (x ∷ xs) a = distinct_by x xs a (all_distinct xs (λ i k y z p q s. let n = a (suc i) (suc k) y z p q s in omega (arith, n))) (is_among names (demoted_name d x))
 
--- ---- behind the functions of a module
+-- ---- after the functions of a module
 
 module _ (m : ModuleValue) (d : List ℕ) (f : IsModuleFormed m) where
   abbrev names : List (List ℕ)
@@ -136,7 +136,7 @@ module _ (m : ModuleValue) (d : List ℕ) (f : IsModuleFormed m) where
         (in_append m.functions more j e p);
   }
 
--- what a build owns of a module is of good form where the module is with its items decorated
+-- what a build owns of a module is of good form, if the module with its items decorated is
 pub owned_by : (m : ModuleValue) (d : List ℕ) → IsModuleFormed (decorated_items d m) → (b : Bool) → IsModuleFormed (if b then with_demoted (demotable d (decorated_items d m)) (decorated_items d m) else decorated_items d m)
 owned_by m d f true = functions_appended (decorated_items d m) (demotable d (decorated_items d m)) (may_be_appended (decorated_items d m) d f) f
 owned_by m d f false = f

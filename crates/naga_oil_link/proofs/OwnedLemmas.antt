@@ -17,13 +17,12 @@ use Rattle.naga_oil_ir.specs.declared.span.Span.{Span}
 use Rattle.naga_oil_ir.specs.declared.types.Constant.{Constant}
 use Rattle.naga_oil_ir.specs.declared.types.GlobalVariable.{GlobalVariable}
 use Rattle.naga_oil_ir.specs.declared.types.Override.{Override}
-use Rattle.naga_oil_marks.specs.Marks.{has_module_mark, with_decoration}
-use Rattle.naga_oil_lines.specs.DirectivesText.{with_name, in_order}
-use Rattle.naga_oil_lines.specs.Text.{is_among, texts}
+use Rattle.naga_oil_words.specs.Marks.{has_module_mark, with_decoration}
+use Rattle.naga_oil_words.specs.Texts.{with_name, in_order, is_among, texts}
 use Rattle.naga_oil_link.specs.Owned.{special_names, is_own_type, with_owned_name, owned_item, owned_function, with_text, function_names, demoted_name, demoted_function, demoted}
 use Rattle.naga_oil_link.proofs.NamesLemmas.{among-in_order, among_texts, bytes-insert}
 
--- what is told of a name without a mark
+-- the result for a name without a mark
 pub of_not : (b c : Bool) → c ≡ not b → c ≡ true → b ≡ false
 of_not true c e h = absurd (false≢true (sym e ∙ h))
 of_not false c e h = refl
@@ -32,7 +31,7 @@ of_not false c e h = refl
 pub owned-noted : (d n : List ℕ) (keys more : List (String Global)) (s : String Global) → has_module_mark n ≡ false → string_bytes s ≡ n ++ d → more ≡ insert_key string_cmp keys s → texts more ≡ with_owned_name d (texts keys) n
 owned-noted d n keys more s u e k = rw u (ap texts k ∙ bytes-insert keys s ∙ ap (with_name (texts keys)) e)
 
--- whether a type of a name is owned, by what is asked
+-- whether a type with this name is owned, as the code asks
 pub type-own : (m : ModuleValue) (special : List (List ℕ)) (n : List ℕ) (b : Bool) → special ≡ in_order (special_names m) → (is_among special n || has_module_mark n) ≡ b → is_own_type m (Some n) ≡ not b
 type-own m special n b h e = sym (ap (λ a. not (a || has_module_mark n)) (ap (λ ns. is_among ns n) h ∙ among-in_order (special_names m) n)) ∙ ap not e
 
@@ -44,11 +43,11 @@ module _ {T V : Type 0} (v : T → V) (g : V → V) where
   changed-at (x ∷ xs) zero d y l e = ap (λ z. z ∷ map g (map v xs)) e
   changed-at (x ∷ xs) (suc i) d y l e = ap (λ zs. v x ∷ zs) (changed-at xs i d y (omega arith) e)
 
-  -- as far as a walk came, an item more
+  -- one more item of a walk
   pub changed-more : (xs : List T) (i : ℕ) (d y : T) → i < length xs → v y ≡ g (v (get_or xs i d)) → map v (take (i + 1) (set xs i y)) ++ map g (map v (drop (i + 1) (set xs i y))) ≡ map v (take i xs) ++ map g (map v (drop i xs))
   changed-more xs i d y l e = rw add-one (changed-at xs i d y l e)
 
--- a fold over what is left, behind one more
+-- a fold over the rest, after one more
 module _ {T V N A : Type 0} (v : T → V) (n : V → N) (f : A → N → A) where
   folded-at : (xs : List T) (i : ℕ) (d y : T) (a b : A) → i < length xs → b ≡ f a (n (v (get_or xs i d))) → fold f b (map n (map v (drop (suc i) (set xs i y)))) ≡ fold f a (map n (map v (drop i xs)))
   folded-at [] i d y a b l e = absurd (omega arith)
@@ -77,7 +76,7 @@ function_owned d x n e = ap (λ t. (record (function_value x.0) { name = t }, x.
 
 -- ---- the names of functions
 
--- the names of those that are left, behind one more
+-- the names of the rest, after one more
 module _ {T : Type 0} (v : T → FunctionValue × Span) where
   named-at : (xs : List T) (i : ℕ) (d : T) (a b : List (List ℕ)) → i < length xs → b ≡ with_text a (v (get_or xs i d)).0.name → fold with_name b (function_names (map v (drop (suc i) xs))) ≡ fold with_name a (function_names (map v (drop i xs)))
   named-at [] i d a b l e = absurd (omega arith)
@@ -95,7 +94,7 @@ pub names-begin : (names : List (List ℕ)) → fold with_name [] names ≡ in_o
 unfolding in_order
 names-begin names = refl
 
--- a set of names is asked for one
+-- whether a set of names has a name
 pub is_known : (keys : List (String Global)) (asked n : List ℕ) (r : Bool) → r ≡ list_any (is_at (λ k. slice_cmp nat_cmp asked (string_bytes k))) keys → asked ≡ n → is_among (texts keys) n ≡ r
 is_known keys asked n r e same = ap (is_among (texts keys)) (sym same) ∙ sym (e ∙ among_texts keys asked)
 
@@ -107,14 +106,14 @@ demoted-none d names e h = rw h refl
 pub demoted-one : (d : List ℕ) (names : List (List ℕ)) (e : EntryValue) → is_among names (demoted_name d e) ≡ false → demoted d names e ≡ (demoted_function d e, undefined) ∷ []
 demoted-one d names e h = rw h refl
 
--- names in order are the same names
+-- sorted names are the same names
 pub demoted-in_order : (d : List ℕ) (names : List (List ℕ)) (es : List EntryValue) → flat_map (demoted d (in_order names)) es ≡ flat_map (demoted d names) es
 demoted-in_order d names [] = refl
 demoted-in_order d names (e ∷ es) =
     ap (λ b. cond b [] ((demoted_function d e, undefined) ∷ []) ++ flat_map (demoted d (in_order names)) es) (among-in_order names (demoted_name d e))
     ∙ ap (λ fs. demoted d names e ++ fs) (demoted-in_order d names es)
 
--- one entry point more
+-- one more entry point
 pub demoted-more : {X : Type 0} (f : X → List (FunctionValue × Span)) (before more : List (FunctionValue × Span)) (left rest : List X) (x : X) → left ≡ x ∷ rest → more ≡ before ++ f x → more ++ flat_map f rest ≡ before ++ flat_map f left
 demoted-more f before more left rest x e h = ap (λ fs. fs ++ flat_map f rest) h ∙ append_assoc before (f x) (flat_map f rest) ∙ ap (λ xs. before ++ flat_map f xs) (sym e)
 
@@ -125,6 +124,6 @@ demoted-noted f before more left rest x e h =
     ∙ ap (fold with_name before) (sym (filter_map-append (λ (g : FunctionValue × Span). g.0.name) (f x) (flat_map f rest)))
     ∙ ap (λ xs. fold with_name before (function_names (flat_map f xs))) (sym e)
 
--- none is left
+-- no entry point is left
 pub demoted-last : {X : Type 0} (f : X → List (FunctionValue × Span)) (all : List (FunctionValue × Span)) (left : List X) → left ≡ [] → all ≡ all ++ flat_map f left
 demoted-last f all left e = sym (append-nil all) ∙ ap (λ xs. all ++ flat_map f xs) (sym e)

@@ -16,7 +16,7 @@ use Rattle.naga_oil_link.specs.ByName.{places_where, text_at}
 use Rattle.naga_oil_link.specs.Owned.{item_names}
 use Rattle.naga_oil_link.proofs.ByNameLemmas.{places_before, place_put, place_left, text_there}
 
--- an item that a walk comes to, of a list whose items before it may have changed, is the one that stood there
+-- the item at a step of a walk is the one that stood there, even if items before it have changed
 there : {T : Type 0} (all items : List T) (i : ℕ) (d : T) → i < length items → drop i items ≡ drop i all → slice_get all i ≡ Some (get_or items i d)
 there all items i d l e =
     let x = get_or items i d in
@@ -32,7 +32,7 @@ module _ {T V : Type 0} (v : T → V) (name : V → Text) (test : Text → Bool)
   named_there : (all items : List T) (i : ℕ) (d : T) → i < length items → drop i items ≡ drop i all → text_at (names all) i ≡ name (v (get_or items i d))
   named_there all items i d l e = text_there name (map v all) i (v (get_or items i d)) (slice_get-map v all i ∙ ap (option_map v) (there all items i d l e))
 
-  -- its place is put in, or left out
+  -- the item's place is added, or not
   pub item_put : (all items : List T) (i : ℕ) (d : T) (before after : List ℕ) → i < length items → drop i items ≡ drop i all → test (name (v (get_or items i d))) ≡ true → before ≡ places_before test (names all) i → after ≡ insert_key nat_cmp before i → after ≡ places_before test (names all) (i + 1)
   item_put all items i d before after l e own h put = put ∙ place_put test (names all) i before (ap test (named_there all items i d l e) ∙ own) h
 
@@ -70,7 +70,7 @@ type_there m ts i t e at = ap (λ ns. slice_get ns i) (types_named m.types) ∙ 
 pub type_named : (m : Module) (ts : List TypeOfShader) (i : ℕ) (t : TypeOfShader) → ts ≡ map (λ (e : TypeOfShader × Span). e.0) m.types → slice_get ts i ≡ Some t → text_at (item_names (module_value m).types) i ≡ option_map string_bytes t.name
 type_named m ts i t e at = ap option_flatten (type_there m ts i t e at)
 
--- and the next one
+-- the names after a type's
 pub types_left : (m : Module) (ts : List TypeOfShader) (i : ℕ) (t : TypeOfShader) → ts ≡ map (λ (e : TypeOfShader × Span). e.0) m.types → slice_get ts i ≡ Some t → drop i (item_names (module_value m).types) ≡ option_map string_bytes t.name ∷ drop (i + 1) (item_names (module_value m).types)
 types_left m ts i t e at =
     let names = item_names (module_value m).types in
@@ -79,6 +79,6 @@ types_left m ts i t e at =
     let here : get_or names i n ≡ n = sym (unwrap_or-slice_get names i n) ∙ ap (λ o. unwrap_or o n) there in
     drop_more names i n (slice_get_within names i n there) ∙ ap (λ x. x ∷ drop (i + 1) names) here
 
--- as many types as names
+-- the number of types is the number of names
 pub types_counted : (m : Module) (ts : List TypeOfShader) → ts ≡ map (λ (e : TypeOfShader × Span). e.0) m.types → length ts ≡ length (item_names (module_value m).types)
 types_counted m ts e = ap length e ∙ sym (length-map (map (λ (u : TypeOfShader × Span). u.0) m.types) (λ (u : TypeOfShader). option_map string_bytes u.name)) ∙ ap length (sym (types_named m.types))

@@ -1,4 +1,4 @@
--- What copies ask of their source, which passes the test of form.
+-- What copies require of their source, which passes the test of form.
 use Rattle.std.proofs.Common.{◌≡◌, inr, ℕ, zero, suc, ◌<◌, ◌≤◌, List, [], ◌∷◌, ◌++◌, length, slice_get, Option, Some, None, IsSome, option_map, false, IfSome, refl, ap, sym, ◌∙◌, subst, All, get_or, append-nil, arith}
 use Rattle.std.proofs.lemmas.List.Elements.{All-nil, All-cons, All-head, All-tail, All-same, All-weaker}
 use Rattle.std.proofs.lemmas.Option.{slice_get_within, slice_get-get_or}
@@ -30,7 +30,7 @@ use Rattle.naga_oil_link.specs.CopySources.{CopiesFrom, IsFunctionOf, stub_of}
 
 -- ---- the source stays
 
--- a source that was set, by what is made
+-- the source that was set, in the copies
 pub from_set_source : (m : Module) (shift : ℕ) (d e : Derived) → IsModuleFormed (module_value m) → e ≡ set_source d (value_of m) shift → CopiesFrom m e
 unfolding CopiesFrom value_of
 from_set_source m shift d e w h = record { form = w; source = record { value = value_of m; offset = shift; places = (copy_special d (value_of m) shift).places }; set = ap (λ (x : Derived). x.source) h; value = refl }
@@ -53,7 +53,7 @@ from_keeps_functions m d e c k = from_kept m d e c k.source
 
 -- ---- what is there
 
--- what holds of each source of this value holds of the one that is set
+-- what holds of each source with this value holds of the one that is set
 pub at_source : (m : Module) (d : Derived) → CopiesFrom m d → (Q : Source → Type 0) → ((s : Source) → s.value ≡ value_of m → Q s) → IsSome d.source × IfSome d.source Q
 unfolding CopiesFrom
 at_source m d c Q h = (subst (λ (o : Option Source). IsSome o) (sym c.set) refl, subst (λ (o : Option Source). IfSome o Q) (sym c.set) (h c.source c.value))
@@ -76,7 +76,7 @@ front : {X : Type 0} (P : X → Type 0) (xs ys : List X) → All P (xs ++ ys) �
 front P [] ys h = All-nil P
 front P (x ∷ xs) ys h = All-cons P x xs (All-head P x (xs ++ ys) h) (front P xs ys (All-tail P x (xs ++ ys) h))
 
--- what a function's name, arguments and result alone name
+-- what a function with its name, arguments and result only names
 stub_requests : (P : Request → Type 0) (f : FunctionValue) → All P (requests_of f) → All P (requests_of (stub_of f))
 stub_requests P f h =
     let own : All P (signature_requests f) = front P (signature_requests f) _ (front P _ _ h) in
@@ -92,18 +92,18 @@ form_at : (m : Module) (k : ℕ) (e : Function × Span) → slice_get m.function
 unfolding FunctionsForm
 form_at m k e at h = h k e at
 
--- the function that a walk over them is at
+-- the function at a step of a walk
 pub function_at : (m : Module) (k : ℕ) (e : Function × Span) → k < length m.functions → e ≡ get_or m.functions k e → IsFunctionOf m e
 function_at m k e l is = (k, slice_get-get_or m.functions k e l ∙ ap (λ x. Some x) (sym is))
 
 pub item_at : (m : Module) (fs : List (Function × Span)) (k : ℕ) (e : Function × Span) → fs ≡ m.functions → k < length fs → e ≡ get_or fs k e → IsFunctionOf m e
 item_at m fs k e same l is = function_at m k e (subst (λ (xs : List (Function × Span)). k < length xs) same l) (is ∙ ap (λ (xs : List (Function × Span)). get_or xs k e) same)
 
--- the place that a walk over places is at
+-- the place at a step of a walk over places
 pub place_at : (m : Module) (ps qs : List ItemPlace) (k : ℕ) (p : ItemPlace) → All (IsThere m) ps → qs ≡ ps → k < length qs → p ≡ get_or qs k p → IsThere m p
 place_at m ps qs k p h e l is = subst (IsThere m) (sym is) (subst (λ (xs : List ItemPlace). All (IsThere m) xs) (sym e) h k p l)
 
--- what is called stands before a place
+-- the functions that are called stand before a place
 call_before : (m : Module) (P : ℕ → Type 0) (c n : ℕ) → c ≤ length m.functions → ((g : ℕ) → g < c → P g) → (t : Token) → IsTokenFine c n t → CallsIn m P t
 call_before m P c n l w (Callee g) h = (omega (arith, l, h), w g h)
 call_before m P c n l w _ h = tt
@@ -144,11 +144,11 @@ module _ (m : Module) (d : Derived) (c : CopiesFrom m d) where
   can_import e stands =
       (source_copy m d (function_value e.0) has_source (function_copy e stands), function_named m stands.0 e stands.1 (form_of m d c).names.named)
 
-  -- also without its body
+  -- each function can also be imported without its body
   pub can_import_stub : (e : Function × Span) (v : FunctionValue) → IsFunctionOf m e → v ≡ stub_of (function_value e.0) → CanImport d v
   can_import_stub e v stands is =
       subst (CanImport d) (sym is) (source_copy m d (stub_of (function_value e.0)) has_source (stub_copied (value_of m) _ (function_value e.0) (function_copy e stands)), (can_import e stands).1)
 
-  -- and so can all entry points
+  -- all entry points can be imported
   pub can_copy_entries : CanCopyEntries d
   can_copy_entries = entries_can m d 4294967295 has_source (λ f h. source_copy m d (function_value f) has_source (may_copy (length m.functions) f (omega arith) h)) (form_of m d c).entry_points

@@ -1,16 +1,16 @@
--- A module that was built under some definitions, without where it lies in memory.
+-- A module that was built under some definitions, as a value.
 use Rattle.std.specs.Prelude.{ℕ, List, [], map, String, Vec, string_bytes}
 use Rattle.std.specs.Arc.{arc_value}
 use Rattle.std.specs.declared.alloc.Global.{Global}
 use Rattle.std.specs.declared.sync.Arc.{Arc}
 use Rattle.indexmap.specs.IndexMap.{IndexMap}
 use Rattle.naga_oil_ir.specs.ModuleValue.{ModuleValue, no_items}
-use Rattle.naga_oil_lines.specs.Text.{texts}
+use Rattle.naga_oil_words.specs.Texts.{texts}
 use Rattle.naga_oil_imports.specs.Uses.{Import, import_of}
 use Rattle.naga_oil_link.specs.OwnPlaces.{OwnPlaces, own_of, nothing_own}
 use Rattle.naga_oil_link.specs.declared.module.ComposableModule.{ComposableModule}
 
--- functions, each with those that override it
+-- overridden functions, each with those that override it
 abbrev pub Overriding : Type 0
 Overriding = List (List ℕ × List (List ℕ))
 
@@ -18,10 +18,10 @@ abbrev pub overriding_of : {S : Type 0} → IndexMap (String Global) (Vec (Strin
 overriding_of m = map (λ e. (string_bytes e.0, texts e.1.items)) m.entries
 
 pub record BuiltModule : Type 0 where
-  -- what stands behind the names of its items
+  -- what the names of the module's items end with
   pub decoration : List ℕ
   pub imports : List Import
-  -- the names of its own items, decorated, in byte order
+  -- the decorated names of the module's own items, in byte order
   pub types : List (List ℕ)
   pub constants : List (List ℕ)
   pub pipeline_overrides : List (List ℕ)
@@ -31,14 +31,14 @@ pub record BuiltModule : Type 0 where
   pub virtuals : List (List ℕ)
   pub overriding : Overriding
   pub value : ModuleValue
-  -- its own items without bodies
+  -- the module's own items, without bodies
   pub header : ModuleValue
-  -- where its own items stand in each
+  -- the places of the own items in the module and in the header
   pub own_in_value : OwnPlaces
   pub own_in_header : OwnPlaces
-  -- where its source begins in the text that was parsed
+  -- where the module's source begins in the text that was parsed
   pub offset : ℕ
-  -- its index in the registry; 0 is the shader's
+  -- the module's index in the registry; index 0 is the shader's
   pub index : ℕ
 
 abbrev pub built_of : ComposableModule → BuiltModule
@@ -80,7 +80,7 @@ nothing_built decoration index = record {
   index = index;
 }
 
--- the builds of a make by their names, in the order of building
+-- builds by their names, in the order of building
 abbrev pub Builds : Type 0
 Builds = List (List ℕ × BuiltModule)
 

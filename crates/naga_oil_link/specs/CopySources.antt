@@ -1,4 +1,4 @@
--- What modules are copied from.
+-- The modules that are copied from.
 use Rattle.std.specs.Prelude.{◌≡◌, ℕ, List, [], map, slice_get, Some, None}
 use Rattle.std.specs.Borrow.{Bor}
 use Rattle.naga_oil_ir.specs.ModuleValue.{FunctionValue, function_value}
@@ -30,7 +30,7 @@ shown_function e = (function_value e.0, e.1)
 abbrev pub shown_functions : List (Bor (Function × Span)) → List (FunctionValue × Span)
 shown_functions es = map (λ e. shown_function e.now) es
 
--- a function's name, arguments and result alone
+-- a function with its name, arguments and result only
 abbrev pub stub_of : FunctionValue → FunctionValue
 stub_of f = record {
   name = f.name;

@@ -3,11 +3,6 @@ pub mod BuiltModule
 pub mod ByName
 pub mod CopiedBuild
 pub mod CopySources
-pub mod Form
-pub mod FormItems
-pub mod FormParts
-mod FormRows
-pub mod FormView
 pub mod LinkView
 pub mod Linked
 pub mod LinkedRows

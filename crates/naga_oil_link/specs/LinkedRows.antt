@@ -1,4 +1,4 @@
--- Worked rows: what is linked of a build, and whose imports.
+-- Worked rows: which items of a build are linked, and whose imports.
 use Rattle.std.specs.Prelude.{◌≡◌, refl, ℕ, Bool, Some, None, List, [], ◌∷◌, codes}
 use Rattle.std.specs.List.{filter}
 use Rattle.naga_oil_ir.specs.ModuleValue.{ModuleValue, FunctionValue, no_items}
@@ -6,14 +6,14 @@ use Rattle.naga_oil_ir.specs.Rows.{Row, ConstantKind, row}
 use Rattle.naga_oil_ir.specs.declared.names.ItemPlace.TheVariants.{ConstantItem}
 use Rattle.naga_oil_ir.specs.declared.span.Span.{Span}
 use Rattle.naga_oil_derive.specs.Derived.{Derived}
-use Rattle.naga_oil_lines.specs.DirectivesText.{in_order}
+use Rattle.naga_oil_words.specs.Texts.{in_order}
 use Rattle.naga_oil_imports.specs.Uses.{Import}
 use Rattle.naga_oil_link.specs.BuiltModule.{BuiltModule}
 use Rattle.naga_oil_link.specs.Linked.{LinkState, asked_of, links_place, links_function, link_within, link_import}
 use Rattle.naga_oil_link.specs.OwnPlaces.{OwnPlaces, nothing_own}
 use Rattle.naga_oil_link.specs.Places.{places_of}
 
--- the span of what stands in no text
+-- the span of an item that has no place in a text
 abbrev no_span : Span
 no_span = record { start = 0; end = 0 }
 
@@ -35,7 +35,7 @@ function name = (
   no_span,
 )
 
--- a foreign constant, two of its own, a foreign function, and two of its own
+-- a foreign constant, two own ones, a foreign function, and two own ones
 abbrev value : ModuleValue
 value = record no_items {
   constants = constant (codes "c") ∷ constant (codes "aM") ∷ constant (codes "bM") ∷ [];
@@ -45,7 +45,7 @@ value = record no_items {
 abbrev own : OwnPlaces
 own = record nothing_own { constants = 1 ∷ 2 ∷ [] }
 
--- the build of a module of index 2, whose function f overrides another
+-- the build of a module with index 2, whose function f overrides another
 abbrev build : BuiltModule
 build = record {
   decoration = codes "M";
@@ -70,7 +70,7 @@ import = record { import = codes "m"; items = codes "c" ∷ codes "b" ∷ [] }
 
 -- ---- one build
 
--- what is asked for
+-- the requested items
 asked_items : filter (links_place own value (asked_of import build)) (places_of value) ≡ ConstantItem 2 ∷ []
 unfolding in_order
 asked_items = refl
@@ -80,7 +80,7 @@ asked_functions : filter (links_function build (asked_of import build)) value.fu
 unfolding in_order
 asked_functions = refl
 
--- all that is owned
+-- all owned items
 all_items : filter (links_place own value None) (places_of value) ≡ ConstantItem 1 ∷ ConstantItem 2 ∷ []
 all_items = refl
 
@@ -89,7 +89,7 @@ all_functions = refl
 
 -- ---- imports
 
--- nothing is linked but by the imports of some modules
+-- states: what is linked, and the modules whose imports are
 abbrev entered : Derived → List (List ℕ) → LinkState
 entered d names = record { derived = d; entered = names }
 

@@ -20,7 +20,7 @@ own_of o = record { types = o.types.keys; constants = o.constants.keys; override
 abbrev pub nothing_own : OwnPlaces
 nothing_own = record { types = []; constants = []; overrides = []; globals = [] }
 
--- whether the item at a place is one of them
+-- whether the item at a place is own
 abbrev pub is_own : OwnPlaces → ItemPlace → Bool
 is_own o (TypeItem k) = list_any (nat_eq k) o.types
 is_own o (ConstantItem k) = list_any (nat_eq k) o.constants
@@ -28,7 +28,7 @@ is_own o (OverrideItem k) = list_any (nat_eq k) o.overrides
 is_own o (GlobalItem k) = list_any (nat_eq k) o.globals
 is_own o (ExpressionItem k) = false
 
--- places with one more
+-- the places with one more
 abbrev pub with_place : List ℕ → ℕ → List ℕ
 with_place places k = insert_key nat_cmp places k
 

@@ -10,9 +10,8 @@ use Rattle.naga_oil_ir.specs.declared.span.Span.{Span}
 use Rattle.naga_oil_ir.specs.declared.types.Constant.{Constant}
 use Rattle.naga_oil_ir.specs.declared.types.GlobalVariable.{GlobalVariable}
 use Rattle.naga_oil_ir.specs.declared.types.Override.{Override}
-use Rattle.naga_oil_marks.specs.Marks.{has_module_mark, with_decoration}
-use Rattle.naga_oil_lines.specs.DirectivesText.{with_name}
-use Rattle.naga_oil_lines.specs.Text.{is_among}
+use Rattle.naga_oil_words.specs.Marks.{has_module_mark, with_decoration}
+use Rattle.naga_oil_words.specs.Texts.{with_name, is_among}
 use Rattle.naga_oil_derive.specs.World.{special_entries}
 use Rattle.naga_oil_link.specs.BuiltModule.{BuiltModule}
 use Rattle.naga_oil_link.specs.ByName.{places_where}
@@ -25,7 +24,7 @@ use Rattle.naga_oil_link.specs.Places.{name_in}
 abbrev pub with_owned_name : (decoration : List ℕ) → List (List ℕ) → List ℕ → List (List ℕ)
 with_owned_name d names n = if has_module_mark n then names else with_name names (n ++ d)
 
--- the same of a name that may be absent
+-- names with one more, decorated, if there is a name and it is owned
 abbrev pub with_owned : (decoration : List ℕ) → List (List ℕ) → Text → List (List ℕ)
 with_owned d names None = names
 with_owned d names (Some n) = with_owned_name d names n
@@ -80,17 +79,17 @@ decorated_items d m = record m {
 abbrev pub special_names : ModuleValue → List (List ℕ)
 special_names m = filter_map (λ e. name_in m.types e.1) (special_entries m.special_types)
 
--- whether an item of this name, if it has one, is own: the name has no mark
+-- whether an item with this name, if there is one, is own: the name has no mark
 abbrev pub is_own_name : Text → Bool
 is_own_name None = false
 is_own_name (Some n) = not (has_module_mark n)
 
--- whether a type of this name is: no special type has it either
+-- whether a type with this name, if there is one, is own: the name has no mark, and is not that of a special type
 abbrev pub is_own_type : ModuleValue → Text → Bool
 is_own_type m None = false
 is_own_type m (Some n) = not (is_among (special_names m) n || has_module_mark n)
 
--- the types, constants, overrides and globals that are own
+-- the places of the own types, constants, overrides and globals
 abbrev pub own_places : ModuleValue → OwnPlaces
 own_places m = record {
   types = places_where (is_own_type m) (item_names m.types);
@@ -99,7 +98,7 @@ own_places m = record {
   globals = places_where is_own_name (item_names m.global_variables);
 }
 
--- names with that of a type, decorated, if it is own
+-- names with that of a type, decorated, if the type is own
 abbrev pub with_own_type : ModuleValue → (decoration : List ℕ) → List (List ℕ) → Text → List (List ℕ)
 with_own_type m d names n = if is_own_type m n then with_text names (option_map (λ t. t ++ d) n) else names
 
@@ -138,7 +137,7 @@ demoted_function d e = record e.function {
   result = option_map unbound_result e.function.result;
 }
 
--- the names that functions have
+-- the names of functions, of those that have one
 abbrev pub function_names : List (FunctionValue × Span) → List (List ℕ)
 function_names fs = filter_map (λ e. e.0.name) fs
 
@@ -146,24 +145,24 @@ function_names fs = filter_map (λ e. e.0.name) fs
 abbrev pub demoted : (decoration : List ℕ) → (names : List (List ℕ)) → EntryValue → List (FunctionValue × Span)
 demoted d names e = if is_among names (demoted_name d e) then [] else (demoted_function d e, undefined) ∷ []
 
--- the functions that the entry points of a module become: those whose names no function of it has
+-- the functions that the entry points of a module become, except those whose names a function of the module has
 abbrev pub demotable : (decoration : List ℕ) → ModuleValue → List (FunctionValue × Span)
 demotable d m = flat_map (demoted d (function_names m.functions)) m.entry_points
 
--- a module with these behind its functions, and no entry points left
+-- a module with these functions after its own, and without entry points
 abbrev pub with_demoted : List (FunctionValue × Span) → ModuleValue → ModuleValue
 with_demoted fs m = record m { functions = m.functions ++ fs; entry_points = [] }
 
--- a build that owns these functions too
+-- a build that also owns these functions
 abbrev pub owning_demoted : List (FunctionValue × Span) → BuiltModule → BuiltModule
 owning_demoted fs b = record b { functions = fold with_name b.functions (function_names fs) }
 
 -- ---- all of it
 
--- a module with its own items decorated; where it isn't the shader, whose index is 0, its entry points are functions
+-- a module with its own items decorated; if the module isn't the shader, whose index is 0, its entry points become functions
 abbrev pub owned_module : (index : ℕ) → (decoration : List ℕ) → ModuleValue → ModuleValue
 owned_module index d m = if nat_lt 0 index then with_demoted (demotable d (decorated_items d m)) (decorated_items d m) else decorated_items d m
 
--- a build that owns them
+-- a build that owns those items
 abbrev pub owned_build : (index : ℕ) → ModuleValue → BuiltModule → BuiltModule
 owned_build index m b = if nat_lt 0 index then owning_demoted (demotable b.decoration (decorated_items b.decoration m)) (owning m b) else owning m b

@@ -8,7 +8,7 @@ use Rattle.naga_oil_ir.specs.declared.names.ItemPlace.{ItemPlace}
 use Rattle.naga_oil_ir.specs.declared.names.ItemPlace.TheVariants.{TypeItem, ConstantItem, OverrideItem, GlobalItem, ExpressionItem}
 use Rattle.naga_oil_ir.specs.declared.span.Span.{Span}
 
--- so many places of one kind, from the first on
+-- the first places of one kind, as many as the count
 abbrev pub places_from_first : (ℕ → ItemPlace) → ℕ → List ItemPlace
 places_from_first place n = map place (range_with_len 0 n)
 

@@ -4,46 +4,47 @@ ghost use Rattle.std.specs.List.{filter, flat_map, range_with_len};
 ghost use Rattle.std.specs.Ordering.{is_lt};
 ghost use Rattle.naga_oil_ir.specs.ModuleValue.{module_value};
 ghost use Rattle.naga_oil_link.specs.ByName.{text_at, compare_names, is_name, places_named, places_where, with_places, named_from, listed_names, IsStart, IsReached, MayStart, IsIndexOf, HasItems};
-ghost use Rattle.naga_oil_lines.specs.Text.{texts};
+ghost use Rattle.naga_oil_words.specs.Texts.{texts};
 ghost use Rattle.naga_oil_link.specs.Linked.{decorated_names, asked_names, is_wanted};
 
 use super::items::{name_at, named, places_of};
 use super::*;
 use std::cmp::Ordering;
 
-/// The items that are asked for, and what stands behind their names.
+/// The requested items, and the decoration of their names.
 #[derive(Clone, Copy)]
 pub struct AskedItems<'a> {
     pub items: &'a [String],
     pub decoration: &'a str,
 }
 
-/// What is asked for; by none all is.
+/// The requested items; `None` requests all.
 pub type Asked<'a> = Option<AskedItems<'a>>;
 
-/// What has names: the functions of a module, or its items at places.
+/// A list of things with names: the functions of a module, or its items at some places.
 #[derive(Clone, Copy)]
 pub enum Listed<'m> {
     Functions(&'m Module),
     Items(&'m Module, &'m [ItemPlace]),
 }
 
-/// The places in a list of those that have names, by their names, and those of one name in order. The names stay in the module.
+/// The places in a list of the elements that have names, sorted by name, then by place. The names
+/// stay in the module.
 pub type ByName = Vec<usize>;
 
 /// The items of a module by their names.
 #[derive(Drop)]
 pub struct NamedItems {
-    /// The places of its types, constants, overrides and globals.
+    /// The places of the module's types, constants, overrides and globals.
     pub places: Vec<ItemPlace>,
-    /// The places among these.
+    /// Indices into `places`, by the names of the items.
     pub by_name: ByName,
-    /// The places among its functions.
+    /// Places of functions, by their names.
     pub functions: ByName,
 }
 
 impl<'m> Listed<'m> {
-    // How many there are.
+    // The length of the list.
     fn len(self) -> usize
         ensures { result ≡ length (listed_names self.entry) }
     {
@@ -53,7 +54,7 @@ impl<'m> Listed<'m> {
         }
     }
 
-    // The name of the one at a place, if it has one.
+    // The name of the element at a place, if it has one.
     fn name(self, at: usize) -> Option<&'m str>
         ensures { option_map (λ n. n.now) result ≡ text_at (listed_names self.entry) at }
     {
@@ -63,7 +64,7 @@ impl<'m> Listed<'m> {
         }
     }
 
-    // How the name at a place stands to another.
+    // Compares the name at a place with another.
     fn compare(self, at: usize, name: Option<&str>) -> Ordering
         ensures { let names = listed_names self.entry in
             result ≡ compare_names (text_at names at) (option_map (λ n. n.now) name.entry) }
@@ -72,8 +73,8 @@ impl<'m> Listed<'m> {
     }
 }
 
-// The places of those that have names.
-fn named_places(alloc: Global, of: Listed<'_>) -> Tried<Vec<usize>>
+// The places of the elements that have names.
+fn named_places(alloc: Global, of: Listed<'_>) -> AllocResult<Vec<usize>>
     ensures { IfOk result (λ places. places.items ≡ places_where is_some (listed_names of.entry)) }
 {
     let end = of.len();
@@ -88,8 +89,8 @@ fn named_places(alloc: Global, of: Listed<'_>) -> Tried<Vec<usize>>
     Ok(places)
 }
 
-// The places of those that have names, by their names.
-fn index_by_name(alloc: Global, of: Listed<'_>) -> Tried<ByName>
+// The places of the elements that have names, sorted by name.
+fn index_by_name(alloc: Global, of: Listed<'_>) -> AllocResult<ByName>
     ensures { IfOk result (IsIndexOf (listed_names of.entry)) }
 {
     let mut index = named_places(alloc, of)?;
@@ -104,7 +105,7 @@ fn index_by_name(alloc: Global, of: Listed<'_>) -> Tried<ByName>
 
 impl NamedItems {
     /// The items of a module.
-    pub fn new(alloc: Global, of: &Module) -> Tried<NamedItems>
+    pub fn new(alloc: Global, of: &Module) -> AllocResult<NamedItems>
         ensures { IfOk result (HasItems (module_value of.now)) }
     {
         let places = places_of(alloc, of)?;
@@ -115,7 +116,7 @@ impl NamedItems {
     }
 }
 
-// The place of an index at which those of a name start.
+// The first place of an index with a name, or where that name would be.
 fn start_of(index: &ByName, of: Listed<'_>, name: &str) -> usize
     requires { IsIndexOf (listed_names of) index.now }
     ensures { IsStart (listed_names of.entry) name.now index.now.items result }
@@ -128,7 +129,7 @@ fn start_of(index: &ByName, of: Listed<'_>, name: &str) -> usize
     )
 }
 
-// Whether one of a name stands at a place of an index.
+// Whether a place of an index has a name.
 fn is_named_at(index: &ByName, of: Listed<'_>, at: usize, name: &str) -> bool
     ensures { let there = text_at (listed_names of.entry) (get_or index.now.items at 0) in
         IsTrue result ↔ (at < length index.now.items) × (is_name name.now there ≡ true) }
@@ -136,14 +137,15 @@ fn is_named_at(index: &ByName, of: Listed<'_>, at: usize, name: &str) -> bool
     at < index.len() && of.compare(index[at], Some(name)).is_eq()
 }
 
-// Adds the places of a name from one of the index on, and tells the one behind them.
+// Adds the places that have a name, from a place of the index on. Returns the place of the index
+// after them.
 fn add_from(
     places: &mut Places,
     index: &ByName,
     of: Listed<'_>,
     start: usize,
     name: &str,
-) -> Tried<usize>
+) -> AllocResult<usize>
     requires index { IsIndexOf (listed_names of) index.now }
     requires start { IsReached (listed_names of) name.now index.now.items start }
     ensures added { let names = listed_names of.entry in
@@ -160,14 +162,15 @@ fn add_from(
     Ok(index.len())
 }
 
-// Adds the places of a name, which are looked for first where a name may start, and tells the place of the index behind them.
+// Adds the places that have a name, which are looked for at a guessed place of the index first.
+// Returns the place of the index after them.
 fn add_places(
     places: &mut Places,
     index: &ByName,
     of: Listed<'_>,
     guess: usize,
     name: &str,
-) -> Tried<usize>
+) -> AllocResult<usize>
     requires index { IsIndexOf (listed_names of) index.now }
     requires guess { MayStart (listed_names of) index.now.items guess }
     ensures added { let more = places_named (listed_names of.entry) name.now in
@@ -183,7 +186,7 @@ fn add_places(
 }
 
 /// Adds the places of the items that have these names.
-pub fn add_named(places: &mut Places, index: &ByName, of: Listed<'_>, names: &Names) -> Tried
+pub fn add_named(places: &mut Places, index: &ByName, of: Listed<'_>, names: &Names) -> AllocResult
     requires { IsIndexOf (listed_names of) index.now }
     ensures { let more = flat_map (places_named (listed_names of.entry)) (texts names.now.keys) in
         OnOk result (places.new.keys ≡ with_places places.old.keys more) }
@@ -195,8 +198,8 @@ pub fn add_named(places: &mut Places, index: &ByName, of: Listed<'_>, names: &Na
     Ok(())
 }
 
-// Writes a decorated name in place of another text.
-fn decorate(text: &mut String, name: &str, decoration: &str) -> Tried
+// Replaces a text by a decorated name.
+fn decorate(text: &mut String, name: &str, decoration: &str) -> AllocResult
     ensures { OnOk result (string_bytes text.new ≡ name.now ++ decoration.now) }
 {
     text.clear();
@@ -204,14 +207,14 @@ fn decorate(text: &mut String, name: &str, decoration: &str) -> Tried
     text.push_str(decoration)
 }
 
-// Adds the places of the items that are asked for.
+// Adds the places of the requested items.
 fn add_asked(
     alloc: Global,
     places: &mut Places,
     index: &ByName,
     of: Listed<'_>,
     asked: AskedItems<'_>,
-) -> Tried
+) -> AllocResult
     requires { IsIndexOf (listed_names of) index.now }
     ensures { let names = decorated_names asked.entry in
         let more = flat_map (places_named (listed_names of.entry)) names in
@@ -230,7 +233,7 @@ fn add_asked(
 }
 
 // The places before an end.
-fn all_places(alloc: Global, end: usize) -> Tried<Places>
+fn all_places(alloc: Global, end: usize) -> AllocResult<Places>
     ensures { IfOk result (λ places. places.keys ≡ with_places [] (range_with_len 0 end)) }
 {
     let mut places = Places::new(alloc);
@@ -240,8 +243,8 @@ fn all_places(alloc: Global, end: usize) -> Tried<Places>
     Ok(places)
 }
 
-/// The places of the items that are asked for.
-pub fn wanted(alloc: Global, index: &ByName, of: Listed<'_>, asked: Asked) -> Tried<Places>
+/// The places of the requested items.
+pub fn wanted(alloc: Global, index: &ByName, of: Listed<'_>, asked: Asked) -> AllocResult<Places>
     requires { IsIndexOf (listed_names of) index.now }
     ensures { let is_asked = is_wanted (asked_names asked.entry) in
         IfOk result (λ places. places.keys ≡ places_where is_asked (listed_names of.entry)) }

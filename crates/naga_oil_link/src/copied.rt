@@ -1,4 +1,4 @@
-//! The module that a build holds and its header, copied from what was parsed.
+//! The module that a build holds and its header, copied from the parsed module.
 ghost use Rattle.std.specs.Prelude.{◌≡◌, [], true, false, All, IfOk, IsSome, OnOk, fold, map, option_map, string_bytes};
 ghost use Rattle.naga_oil_form.specs.ItemForm.{IsThere};
 ghost use Rattle.naga_oil_ir.specs.ModuleValue.{argument_value, function_value, module_value};
@@ -7,7 +7,7 @@ ghost use Rattle.naga_oil_derive.specs.Derived.{HasItem, Keeps};
 ghost use Rattle.naga_oil_derive.specs.DerivedEntries.{CanCopyEntries};
 ghost use Rattle.naga_oil_derive.specs.DerivedValue.{import_item};
 ghost use Rattle.naga_oil_form_laws.specs.EntryForm.{IsModuleFormed};
-ghost use Rattle.naga_oil_lines.specs.Text.{texts};
+ghost use Rattle.naga_oil_words.specs.Texts.{texts};
 ghost use Rattle.naga_oil_link.specs.BuiltModule.{built_of};
 ghost use Rattle.naga_oil_link.specs.CopiedBuild.{copies_of, nothing_copied, decorated_type, went_to, import_own, copy_own, copy_other, copy_at, copy_places, with_function, with_stub, functions_among, with_stubs, with_functions, have_special, put_header, put_whole, copy_build, copies_special, has_name_among, EndWith, ending_of, AreAmong};
 ghost use Rattle.naga_oil_link.specs.CopySources.{CopiesFrom, IsFunctionOf, stub_of, shown_function, shown_functions};
@@ -19,8 +19,8 @@ use super::*;
 use naga_oil_derive::no_body;
 use naga_oil_rename::copied_name;
 
-/// Copies an item of the source, and answers where it went.
-pub fn import_item(into: &mut DerivedModule<'_>, place: ItemPlace) -> Tried<ItemPlace>
+/// Copies an item of the source. Returns the place of the copy.
+pub fn import_item(into: &mut DerivedModule<'_>, place: ItemPlace) -> AllocResult<ItemPlace>
     requires { HasItem into.old place }
     ensures keeps { Keeps into.old into.new }
     ensures value { OnOk result (into.new ≡ import_item into.old place) }
@@ -41,8 +41,8 @@ pub fn import_item(into: &mut DerivedModule<'_>, place: ItemPlace) -> Tried<Item
     }
 }
 
-/// Whether a function has one of these names. The next of them is compared first, which it often has where functions are asked
-/// in the order of names.
+/// Whether a function has one of these names. The next name is compared first: it is likely the
+/// function's where functions are visited in the order of names.
 pub fn has_name_next(function: &Function, names: &Names, next: &mut NamesIter<'_>) -> bool
     requires { AreAmong (texts names.now.keys) (texts next.old) }
     ensures next { AreAmong (texts names.now.keys) (texts next.new) }
@@ -60,7 +60,7 @@ pub fn has_name_next(function: &Function, names: &Names, next: &mut NamesIter<'_
     names.contains(name)
 }
 
-/// The decoration, if all of these names end with it, or else nothing.
+/// The decoration if all of these names end with it, or else the empty text.
 pub fn ending_of<'a>(names: &Names, decoration: &'a str) -> &'a str
     ensures { result.now ≡ ending_of (texts names.now.keys) decoration.now }
 {
@@ -72,7 +72,8 @@ pub fn ending_of<'a>(names: &Names, decoration: &'a str) -> &'a str
     decoration
 }
 
-/// Whether a function has one of these names, all of which end so. Most others are told by their ends.
+/// Whether a function has one of these names, all of which end with `ending`. The ending rules out
+/// most other functions.
 pub fn has_name_ending(function: &Function, names: &Names, ending: &str) -> bool
     requires { EndWith (texts names.now.keys) ending.now }
     ensures { result ≡ has_name_among (texts names.now.keys) (function_value function.now).name }
@@ -84,7 +85,7 @@ pub fn has_name_ending(function: &Function, names: &Names, ending: &str) -> bool
 }
 
 // The arguments of a function.
-fn arguments_of(alloc: Global, arguments: &[FunctionArgument]) -> Tried<Vec<FunctionArgument>>
+fn arguments_of(alloc: Global, arguments: &[FunctionArgument]) -> AllocResult<Vec<FunctionArgument>>
     ensures { let given = map argument_value arguments.now in
         IfOk result (λ copies. map argument_value copies.items ≡ given) }
 {
@@ -96,8 +97,8 @@ fn arguments_of(alloc: Global, arguments: &[FunctionArgument]) -> Tried<Vec<Func
     Ok(copies)
 }
 
-// A function's name, arguments and result alone.
-fn stub(alloc: Global, function: &Function) -> Tried<Function>
+// A function with its name, arguments and result only.
+fn stub(alloc: Global, function: &Function) -> AllocResult<Function>
     ensures { IfOk result (λ s. function_value s ≡ stub_of (function_value function.now)) }
 {
     let name = copied_name(&function.name)?;
@@ -124,7 +125,7 @@ fn decorated_type(
     of: &Module,
     place: ItemPlace,
     decoration: &str,
-) -> Tried<Option<String>>
+) -> AllocResult<Option<String>>
     ensures { let decorated = decorated_type (module_value of.now) decoration.now place in
         IfOk result (λ name. option_map string_bytes name ≡ decorated) }
 {
@@ -134,14 +135,14 @@ fn decorated_type(
     Ok(Some(format!(in alloc; "{name}{decoration}")?))
 }
 
-// Copies an own item of the source, a type under its decorated name, and answers where it went.
+// Copies an own item of the source, a type under its decorated name. Returns the place of the copy.
 fn import_own(
     alloc: Global,
     source: &Module,
     decoration: &str,
     place: ItemPlace,
     into: &mut DerivedModule<'_>,
-) -> Tried<ItemPlace>
+) -> AllocResult<ItemPlace>
     requires { HasItem into.old place }
     ensures keeps { Keeps into.old into.new }
     ensures value { let parsed = module_value source.now in
@@ -157,7 +158,7 @@ fn import_own(
     }
 }
 
-// What is copied of a source, and where the copies of its own items stand.
+// The copies of items of a source, and the places of the copies of its own items.
 #[derive(Drop)]
 struct OwnCopies<'m> {
     derived: DerivedModule<'m>,
@@ -165,8 +166,8 @@ struct OwnCopies<'m> {
 }
 
 impl<'m> OwnCopies<'m> {
-    // Nothing is copied yet but the special types of the source.
-    fn new(alloc: Global, source: &'m Module) -> Tried<OwnCopies<'m>>
+    // Only the special types of the source are copied.
+    fn new(alloc: Global, source: &'m Module) -> AllocResult<OwnCopies<'m>>
         requires { IsModuleFormed (module_value source.now) }
         ensures source { IfOk result (λ c. CopiesFrom source.now c.derived) }
         ensures value { IfOk result (λ c. copies_of c ≡ nothing_copied (module_value source.now)) }
@@ -184,7 +185,7 @@ impl<'m> OwnCopies<'m> {
         source: &Module,
         decoration: &str,
         place: ItemPlace,
-    ) -> Tried
+    ) -> AllocResult
         requires there { IsThere source.now place }
         requires source { CopiesFrom source.now self.old.derived }
         ensures source { CopiesFrom source.now self.new.derived }
@@ -197,7 +198,7 @@ impl<'m> OwnCopies<'m> {
     }
 
     // Copies an item that isn't own, if it is a type and all types are copied.
-    fn copy_other(&mut self, source: &Module, place: ItemPlace, all_types: bool) -> Tried
+    fn copy_other(&mut self, source: &Module, place: ItemPlace, all_types: bool) -> AllocResult
         requires there { IsThere source.now place }
         requires source { CopiesFrom source.now self.old.derived }
         ensures source { CopiesFrom source.now self.new.derived }
@@ -213,7 +214,7 @@ impl<'m> OwnCopies<'m> {
         }
     }
 
-    // Copies an own item, and of others the types, where all types are copied.
+    // Copies an own item; of the others only types, where all types are copied.
     fn copy_at(
         &mut self,
         alloc: Global,
@@ -222,7 +223,7 @@ impl<'m> OwnCopies<'m> {
         decoration: &str,
         place: &ItemPlace,
         all_types: bool,
-    ) -> Tried
+    ) -> AllocResult
         requires there { IsThere source.now place.now }
         requires source { CopiesFrom source.now self.old.derived }
         ensures source { CopiesFrom source.now self.new.derived }
@@ -237,8 +238,8 @@ impl<'m> OwnCopies<'m> {
         }
     }
 
-    // Copies a function with what it calls.
-    fn copy_function(&mut self, source: &Module, item: &(Function, Span)) -> Tried
+    // Copies a function with the functions that it calls.
+    fn copy_function(&mut self, source: &Module, item: &(Function, Span)) -> AllocResult
         requires function { IsFunctionOf source.now item.now }
         requires source { CopiesFrom source.now self.old.derived }
         ensures source { CopiesFrom source.now self.new.derived }
@@ -251,8 +252,8 @@ impl<'m> OwnCopies<'m> {
         Ok(())
     }
 
-    // The same of some functions.
-    fn copy_functions(&mut self, source: &Module, functions: &[&(Function, Span)]) -> Tried
+    // Copies some functions with the functions that they call.
+    fn copy_functions(&mut self, source: &Module, functions: &[&(Function, Span)]) -> AllocResult
         requires functions { All (λ f. IsFunctionOf source.now f.now) functions.now }
         requires source { CopiesFrom source.now self.old.derived }
         ensures source { CopiesFrom source.now self.new.derived }
@@ -267,7 +268,7 @@ impl<'m> OwnCopies<'m> {
     }
 
     // Copies a function without its body.
-    fn copy_stub(&mut self, alloc: Global, source: &Module, item: &(Function, Span)) -> Tried
+    fn copy_stub(&mut self, alloc: Global, source: &Module, item: &(Function, Span)) -> AllocResult
         requires function { IsFunctionOf source.now item.now }
         requires source { CopiesFrom source.now self.old.derived }
         ensures source { CopiesFrom source.now self.new.derived }
@@ -281,13 +282,13 @@ impl<'m> OwnCopies<'m> {
         Ok(())
     }
 
-    // The same of some functions.
+    // Copies some functions without their bodies.
     fn copy_stubs(
         &mut self,
         alloc: Global,
         source: &Module,
         functions: &[&(Function, Span)],
-    ) -> Tried
+    ) -> AllocResult
         requires functions { All (λ f. IsFunctionOf source.now f.now) functions.now }
         requires source { CopiesFrom source.now self.old.derived }
         ensures source { CopiesFrom source.now self.new.derived }
@@ -308,7 +309,7 @@ fn functions_among<'m>(
     source: &'m Module,
     names: &Names,
     decoration: &str,
-) -> Tried<Vec<&'m (Function, Span)>>
+) -> AllocResult<Vec<&'m (Function, Span)>>
     ensures there { IfOk result (λ fs. All (λ f. IsFunctionOf source.now f.now) fs.items) }
     ensures functions { let functions = (module_value source.now).functions in
         let among = functions_among (texts names.now.keys) functions in
@@ -324,14 +325,14 @@ fn functions_among<'m>(
     Ok(functions)
 }
 
-// The own items of a source, and maybe all its types.
+// Copies of the own items of a source, and of all its types where `all_types` is set.
 fn copy_places<'m>(
     alloc: Global,
     source: &'m Module,
     own: &OwnItems,
     decoration: &str,
     all_types: bool,
-) -> Tried<OwnCopies<'m>>
+) -> AllocResult<OwnCopies<'m>>
     requires { IsModuleFormed (module_value source.now) }
     ensures source { IfOk result (λ c. CopiesFrom source.now c.derived) }
     ensures value { let parsed = module_value source.now in
@@ -346,14 +347,14 @@ fn copy_places<'m>(
     Ok(copies)
 }
 
-// The header: the own items, and some functions without their bodies.
+// Copies for the header: the own items, and some functions without their bodies.
 fn copy_header<'m>(
     alloc: Global,
     source: &'m Module,
     own: &OwnItems,
     decoration: &str,
     functions: &[&(Function, Span)],
-) -> Tried<OwnCopies<'m>>
+) -> AllocResult<OwnCopies<'m>>
     requires form { IsModuleFormed (module_value source.now) }
     requires functions { All (λ f. IsFunctionOf source.now f.now) functions.now }
     ensures { let copies = copy_places false (module_value source.now) (own_of own.now) in
@@ -365,14 +366,14 @@ fn copy_header<'m>(
     Ok(copies)
 }
 
-// The module: all types, the own items, and some functions with what they call.
+// Copies for the module: all types, the own items, and some functions with those that they call.
 fn copy_whole<'m>(
     alloc: Global,
     source: &'m Module,
     own: &OwnItems,
     decoration: &str,
     functions: &[&(Function, Span)],
-) -> Tried<OwnCopies<'m>>
+) -> AllocResult<OwnCopies<'m>>
     requires form { IsModuleFormed (module_value source.now) }
     requires functions { All (λ f. IsFunctionOf source.now f.now) functions.now }
     ensures source { IfOk result (λ c. CopiesFrom source.now c.derived) }
@@ -386,7 +387,7 @@ fn copy_whole<'m>(
 }
 
 // Puts copies into a build as its header.
-fn put_header(alloc: Global, header: OwnCopies<'_>, built: &mut Build) -> Tried
+fn put_header(alloc: Global, header: OwnCopies<'_>, built: &mut Build) -> AllocResult
     requires { IsModuleFormed header.derived.target }
     ensures { let put = put_header (copies_of header.entry) (built_of built.old) in
         OnOk result (built_of built.new ≡ put) }
@@ -396,8 +397,9 @@ fn put_header(alloc: Global, header: OwnCopies<'_>, built: &mut Build) -> Tried
     Ok(())
 }
 
-// Puts copies into a build as its module, with the entry points of their source. Says whether there are special types.
-fn put_whole(alloc: Global, whole: OwnCopies<'_>, built: &mut Build) -> Tried<bool>
+// Puts copies into a build as its module, with the entry points of their source. Returns whether
+// there are special types.
+fn put_whole(alloc: Global, whole: OwnCopies<'_>, built: &mut Build) -> AllocResult<bool>
     requires set { IsSome whole.derived.source }
     requires entries { CanCopyEntries whole.derived }
     requires form { IsModuleFormed (make_module whole.derived) }
@@ -412,11 +414,16 @@ fn put_whole(alloc: Global, whole: OwnCopies<'_>, built: &mut Build) -> Tried<bo
     Ok(has_special_types)
 }
 
-/// Copies into a build, of a parsed module, all types, and of the other items and the functions those that are its own, with what
-/// these name and call, and the module's entry points; the names of own types are decorated. What a text takes over from the header
-/// before it and doesn't call stays out. The build's header has its own items, functions without bodies.
-/// Says whether there are special types.
-pub fn copy_build(alloc: Global, source: &Module, own: &OwnItems, built: &mut Build) -> Tried<bool>
+/// Copies a parsed module into a build: all types, its own other items and functions with what
+/// these name and call, and its entry points. The names of own types are decorated. What the text
+/// takes over from the header before it and doesn't call is left out. The build's header gets the
+/// own items, functions without bodies. Returns whether there are special types.
+pub fn copy_build(
+    alloc: Global,
+    source: &Module,
+    own: &OwnItems,
+    built: &mut Build,
+) -> AllocResult<bool>
     requires { IsModuleFormed (module_value source.now) }
     ensures special { let b = built_of built.old in
         let of = copies_special (module_value source.now) (own_of own.now) in

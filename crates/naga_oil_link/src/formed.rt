@@ -1,26 +1,14 @@
 //! Modules that pass the test of form.
-ghost use Rattle.std.specs.Prelude.{◌≡◌, [], IfOk, OnOk, Some, None, if◌then◌else◌};
+ghost use Rattle.std.specs.Prelude.{◌≡◌, [], IfOk};
 ghost use Rattle.naga_oil_ir.specs.ModuleValue.{module_value, no_items};
-ghost use Rattle.naga_oil_form.specs.WellFormed.{WellFormed};
 ghost use Rattle.naga_oil_form_laws.specs.EntryForm.{IsModuleFormed};
 ghost use Rattle.naga_oil_link.specs.ByName.{HasItems};
-ghost use Rattle.naga_oil_link.specs.Form.{is_formed};
-ghost use Rattle.naga_oil_link.specs.FormView.{GivesFormed};
 
 use super::by_name::NamedItems;
 use super::*;
 use std::marker::Model;
 
-/// Tests the form of a module, whose functions' names get a decoration, over a text of so many bytes.
-pub fn check_form(alloc: Global, of: &Module, decoration: &str, len: usize) -> Formed
-    ensures form { OnOk result (WellFormed of.now decoration.now len) }
-    ensures value { let passes = is_formed (module_value of.now) decoration.now len in
-        GivesFormed (λ done. done) result (if passes then Some tt else None) }
-{
-    naga_oil_form::check_form::check_form(of, alloc, decoration, len)
-}
-
-// Gives back the room of an arena that its items don't need.
+// Releases the room of an arena that its items don't need.
 fn trim<T: Item + Drop>(alloc: Global, arena: &mut Arena<T>)
     ensures { arena.new ≡ arena.old }
 {
@@ -43,8 +31,8 @@ fn trimmed(alloc: Global, module_: Module) -> Module
     module_
 }
 
-/// A module that passes the test of form, but that two of its special types may be one, over the texts of all modules, one
-/// behind another.
+/// A module that passes the test of form over the texts of all modules, one after another, but that
+/// two of its special types may be one.
 #[derive(Drop)]
 pub struct FormedModule {
     module_: Module,
@@ -62,7 +50,7 @@ impl Model for FormedModule {
 }
 
 impl FormedModule {
-    /// The module of nothing.
+    /// An empty module.
     pub fn nothing(alloc: Global) -> FormedModule
         ensures { result ≡ no_items }
     {
@@ -87,7 +75,7 @@ impl FormedModule {
     }
 }
 
-/// A module that passes it, with its items by their names.
+/// A formed module, with its items by their names.
 #[derive(Drop)]
 pub struct Header {
     formed: FormedModule,
@@ -106,7 +94,7 @@ impl Model for Header {
 }
 
 impl Header {
-    /// The module of nothing.
+    /// An empty module.
     pub fn nothing(alloc: Global) -> Header
         ensures { result ≡ no_items }
     {
@@ -118,7 +106,7 @@ impl Header {
     }
 
     /// The module, with no more room than its items need.
-    pub fn new(alloc: Global, module_: Module) -> Tried<Header>
+    pub fn new(alloc: Global, module_: Module) -> AllocResult<Header>
         requires { IsModuleFormed (module_value module_) }
         ensures { IfOk result (λ header. header ≡ module_value module_) }
     {

@@ -1,13 +1,13 @@
-//! The items of a parsed module: those whose names have no mark of a module are its own and get its decoration.
+//! The items of a parsed module: those whose names have no mark of a module are its own and get its
+//! decoration.
 ghost use Rattle.std.specs.Prelude.{◌≡◌, ◌≤◌, ◌++◌, ◌||◌, ℕ, All, IfOk, OnOk, fold, length, map, not, option_map, string_bytes};
 ghost use Rattle.std.specs.List.{flat_map};
 ghost use Rattle.naga_oil_form.specs.ItemForm.{IsThere};
 ghost use Rattle.naga_oil_ir.specs.ModuleValue.{ModuleValue, argument_value, entry_value, function_value, module_value};
 ghost use Rattle.naga_oil_form.specs.WellFormed.{WellFormed};
 ghost use Rattle.naga_oil_form_laws.specs.EntryForm.{IsModuleFormed};
-ghost use Rattle.naga_oil_lines.specs.DirectivesText.{in_order, with_name};
-ghost use Rattle.naga_oil_lines.specs.Text.{texts, is_among};
-ghost use Rattle.naga_oil_marks.specs.Marks.{has_module_mark, with_decoration};
+ghost use Rattle.naga_oil_words.specs.Texts.{in_order, with_name, texts, is_among};
+ghost use Rattle.naga_oil_words.specs.Marks.{has_module_mark, with_decoration};
 ghost use Rattle.naga_oil_link.specs.BuiltModule.{built_of};
 ghost use Rattle.naga_oil_link.specs.ByName.{places_where};
 ghost use Rattle.naga_oil_link.specs.OwnPlaces.{own_of};
@@ -26,7 +26,7 @@ pub fn named(name: &Option<String>) -> Option<&str>
 }
 
 /// The places of the types, constants, overrides and globals of a module, in this order.
-pub fn places_of(alloc: Global, of: &Module) -> Tried<Vec<ItemPlace>>
+pub fn places_of(alloc: Global, of: &Module) -> AllocResult<Vec<ItemPlace>>
     ensures there { IfOk result (λ places. All (IsThere of.now) places.items) }
     ensures places { IfOk result (λ places. places.items ≡ places_of (module_value of.now)) }
 {
@@ -60,7 +60,7 @@ pub fn name_at(of: &Module, place: ItemPlace) -> Option<&str>
 }
 
 // The names of the special types.
-fn special_names(alloc: Global, of: &Module) -> Tried<Names>
+fn special_names(alloc: Global, of: &Module) -> AllocResult<Names>
     ensures { let special = special_names (module_value of.now) in
         IfOk result (λ names. texts names.keys ≡ in_order special) }
 {
@@ -72,21 +72,21 @@ fn special_names(alloc: Global, of: &Module) -> Tried<Names>
     Ok(names)
 }
 
-// Whether a type of a name isn't owned: it has a mark, or a special type has it.
+// Whether a type with this name isn't owned: the name has a mark, or is that of a special type.
 fn is_kept(special: &Names, name: &str) -> bool
     ensures { result ≡ (is_among (texts special.now.keys) name.now || has_module_mark name.now) }
 {
     special.contains(name) | has_module_mark(name)
 }
 
-// Notes the decorated name of a type if it is owned. Says whether it is.
+// Notes the decorated name of a type if it is owned. Returns whether it is.
 fn own_type(
     alloc: Global,
     ty: &Type,
     special: &Names,
     suffix: &str,
     owned: &mut Names,
-) -> Tried<bool>
+) -> AllocResult<bool>
     ensures own { let name = option_map string_bytes ty.now.name in
         IfOk result (λ own. (m : ModuleValue) →
         texts special.now.keys ≡ in_order (special_names m) → own ≡ is_own_type m name) }
@@ -104,8 +104,8 @@ fn own_type(
     Ok(true)
 }
 
-// The types that are owned, whose decorated names are noted.
-fn own_types(alloc: Global, of: &Module, suffix: &str, owned: &mut Names) -> Tried<Places>
+// The places of the owned types; notes their decorated names.
+fn own_types(alloc: Global, of: &Module, suffix: &str, owned: &mut Names) -> AllocResult<Places>
     ensures places { let m = module_value of.now in
         IfOk result (λ places. places.keys ≡ places_where (is_own_type m) (item_names m.types)) }
     ensures owned { let m = module_value of.now in
@@ -122,8 +122,8 @@ fn own_types(alloc: Global, of: &Module, suffix: &str, owned: &mut Names) -> Tri
     Ok(places)
 }
 
-// Decorates a name if it is owned, and notes it. Says whether it is.
-fn own_name(name: &mut String, suffix: &str, owned: &mut Names) -> Tried<bool>
+// Decorates a name and notes it, if it is owned. Returns whether it is.
+fn own_name(name: &mut String, suffix: &str, owned: &mut Names) -> AllocResult<bool>
     ensures own { IfOk result (λ own. own ≡ not (has_module_mark (string_bytes name.old))) }
     ensures name { let old = string_bytes name.old in
         OnOk result (string_bytes name.new ≡ with_decoration suffix.now old) }
@@ -138,8 +138,8 @@ fn own_name(name: &mut String, suffix: &str, owned: &mut Names) -> Tried<bool>
     Ok(own)
 }
 
-// The same of a name that may be absent.
-fn own_text(name: &mut Option<String>, suffix: &str, owned: &mut Names) -> Tried<bool>
+// Decorates a name and notes it, if there is one and it is owned. Returns whether it is.
+fn own_text(name: &mut Option<String>, suffix: &str, owned: &mut Names) -> AllocResult<bool>
     ensures own { IfOk result (λ own. own ≡ is_own_name (option_map string_bytes name.old)) }
     ensures name { let old = option_map string_bytes name.old in
         let decorated = option_map (with_decoration suffix.now) old in
@@ -154,13 +154,13 @@ fn own_text(name: &mut Option<String>, suffix: &str, owned: &mut Names) -> Tried
     }
 }
 
-// Decorates the constants that are owned, and gives their places.
+// Decorates the owned constants. Returns their places.
 fn own_constants(
     alloc: Global,
     of: &mut Arena<Constant>,
     suffix: &str,
     owned: &mut Names,
-) -> Tried<Places>
+) -> AllocResult<Places>
     ensures items { let old = constant_rows of.old in
         OnOk result (constant_rows of.new ≡ map (owned_item suffix.now) old) }
     ensures owned { let names = item_names (constant_rows of.old) in
@@ -180,13 +180,13 @@ fn own_constants(
     Ok(places)
 }
 
-// Decorates the overrides that are owned, and gives their places.
+// Decorates the owned overrides. Returns their places.
 fn own_overrides(
     alloc: Global,
     of: &mut Arena<Override>,
     suffix: &str,
     owned: &mut Names,
-) -> Tried<Places>
+) -> AllocResult<Places>
     ensures items { let old = override_rows of.old in
         OnOk result (override_rows of.new ≡ map (owned_item suffix.now) old) }
     ensures owned { let names = item_names (override_rows of.old) in
@@ -206,13 +206,13 @@ fn own_overrides(
     Ok(places)
 }
 
-// Decorates the globals that are owned, and gives their places.
+// Decorates the owned globals. Returns their places.
 fn own_vars(
     alloc: Global,
     of: &mut Arena<GlobalVariable>,
     suffix: &str,
     owned: &mut Names,
-) -> Tried<Places>
+) -> AllocResult<Places>
     ensures items { let old = global_rows of.old in
         OnOk result (global_rows of.new ≡ map (owned_item suffix.now) old) }
     ensures owned { let names = item_names (global_rows of.old) in
@@ -232,8 +232,13 @@ fn own_vars(
     Ok(places)
 }
 
-// Decorates the functions that are owned.
-fn own_functions(alloc: Global, of: &mut Arena<Function>, suffix: &str, owned: &mut Names) -> Tried
+// Decorates the owned functions.
+fn own_functions(
+    alloc: Global,
+    of: &mut Arena<Function>,
+    suffix: &str,
+    owned: &mut Names,
+) -> AllocResult
     ensures items { let old = function_values of.old in
         OnOk result (function_values of.new ≡ map (owned_function suffix.now) old) }
     ensures owned { let names = function_texts (function_values of.old) in
@@ -248,8 +253,9 @@ fn own_functions(alloc: Global, of: &mut Arena<Function>, suffix: &str, owned: &
     Ok(())
 }
 
-// Decorates what a parsed module owns, but for its types, which are decorated as they are copied; gives the places of all of it.
-fn own_items(alloc: Global, of: &mut Module, built: &mut Build) -> Tried<OwnItems>
+// Decorates the items that a parsed module owns, except types, which are decorated as they are
+// copied. Returns the places of all owned items.
+fn own_items(alloc: Global, of: &mut Module, built: &mut Build) -> AllocResult<OwnItems>
     ensures items { let m = module_value of.old in
         let decoration = string_bytes built.old.decorated_name in
         OnOk result (module_value of.new ≡ decorated_items decoration m) }
@@ -272,7 +278,7 @@ fn own_items(alloc: Global, of: &mut Module, built: &mut Build) -> Tried<OwnItem
 }
 
 // A function's name, or `main`.
-fn name_or_main(alloc: Global, name: Option<String>) -> Tried<String>
+fn name_or_main(alloc: Global, name: Option<String>) -> AllocResult<String>
     ensures { IfOk result (λ n. string_bytes n ≡ name_or_main (option_map string_bytes name)) }
 {
     match name {
@@ -281,7 +287,7 @@ fn name_or_main(alloc: Global, name: Option<String>) -> Tried<String>
     }
 }
 
-// Takes the bindings of arguments away.
+// Removes the bindings of arguments.
 fn unbind(arguments: &mut [FunctionArgument])
     ensures { let old = map argument_value arguments.old in
         map argument_value arguments.new ≡ map unbound_argument old }
@@ -299,8 +305,8 @@ fn unbound(of: Option<FunctionResult>) -> Option<FunctionResult>
     of.map(|FunctionResult { ty, .. }| FunctionResult { ty, binding })
 }
 
-// The function of an entry point, decorated and without bindings, and its name.
-fn demoted(alloc: Global, of: EntryPoint, decoration: &str) -> Tried<(String, Function)>
+// The name of an entry point as a function, and the function: decorated and without bindings.
+fn demoted(alloc: Global, of: EntryPoint, decoration: &str) -> AllocResult<(String, Function)>
     ensures name { let name = demoted_name decoration.now (entry_value of) in
         IfOk result (λ r. string_bytes r.0 ≡ name) }
     ensures function { let function = demoted_function decoration.now (entry_value of) in
@@ -316,7 +322,7 @@ fn demoted(alloc: Global, of: EntryPoint, decoration: &str) -> Tried<(String, Fu
 }
 
 /// Notes a name, if there is one.
-pub fn note(alloc: Global, names: &mut Names, name: Option<&str>) -> Tried
+pub fn note(alloc: Global, names: &mut Names, name: Option<&str>) -> AllocResult
     ensures { let text = option_map (λ n. n.now) name.entry in
         OnOk result (texts names.new.keys ≡ with_text (texts names.old.keys) text) }
 {
@@ -327,7 +333,7 @@ pub fn note(alloc: Global, names: &mut Names, name: Option<&str>) -> Tried
 }
 
 // The names of functions.
-fn function_names(alloc: Global, functions: &Arena<Function>) -> Tried<Names>
+fn function_names(alloc: Global, functions: &Arena<Function>) -> AllocResult<Names>
     ensures { let values = function_values functions.now in
         IfOk result (λ names. texts names.keys ≡ in_order (function_names values)) }
 {
@@ -338,7 +344,8 @@ fn function_names(alloc: Global, functions: &Arena<Function>) -> Tried<Names>
     Ok(names)
 }
 
-// Puts the function of an entry point last and notes its name, unless it is one of the names.
+// Adds the function of an entry point at the end and notes its name, unless that is one of the
+// names.
 fn demote_one(
     alloc: Global,
     entry_point: EntryPoint,
@@ -346,7 +353,7 @@ fn demote_one(
     names: &Names,
     functions: &mut Arena<Function>,
     owned: &mut Names,
-) -> Tried
+) -> AllocResult
     ensures functions { let taken = texts names.now.keys in
         let more = demoted decoration.now taken (entry_value entry_point) in
         OnOk result (function_values functions.new ≡ function_values functions.old ++ more) }
@@ -364,14 +371,15 @@ fn demote_one(
     Ok(())
 }
 
-// Puts the functions of entry points behind others and notes their names, but for those whose names these have.
+// Adds the functions of entry points at the end and notes their names, except those whose names are
+// taken.
 fn demote_all(
     alloc: Global,
     entry_points: Vec<EntryPoint>,
     decoration: &str,
     functions: &mut Arena<Function>,
     owned: &mut Names,
-) -> Tried
+) -> AllocResult
     ensures functions { let before = function_values functions.old in
         let values = map entry_value entry_points.items in
         let more = flat_map (demoted decoration.now (function_names before)) values in
@@ -392,9 +400,9 @@ fn demote_all(
     Ok(())
 }
 
-// Makes the entry points functions behind the others, decorated, without bindings and with no span. One whose function has
-// the name of another function is left out.
-fn demote(alloc: Global, of: &mut Module, built: &mut Build) -> Tried
+// Turns the entry points into functions after the others, decorated, without bindings and without
+// spans. An entry point is left out if another function has its name.
+fn demote(alloc: Global, of: &mut Module, built: &mut Build) -> AllocResult
     ensures items { let m = module_value of.old in
         let fs = demotable (string_bytes built.old.decorated_name) m in
         OnOk result (module_value of.new ≡ with_demoted fs m) }
@@ -408,10 +416,11 @@ fn demote(alloc: Global, of: &mut Module, built: &mut Build) -> Tried
     demote_all(alloc, entry_points, decoration, functions, owned)
 }
 
-/// Decorates what a build owns of a parsed module, entry points too where it isn't the shader, whose index is 0; types get their
-/// decoration as they are copied. Gives the places of its own items, and how many functions there were before. A module that passed the
-/// test of form under the decoration is of good form then.
-pub fn own(alloc: Global, source: &mut Module, built: &mut Build) -> Tried<(OwnItems, usize)>
+/// Decorates what a build owns of a parsed module. Entry points of all but the shader, whose index
+/// is 0, are decorated as functions; types are decorated as they are copied. Returns the places of
+/// the owned items, and the number of functions before. A module that passed the test of form under
+/// the decoration is of good form afterwards.
+pub fn own(alloc: Global, source: &mut Module, built: &mut Build) -> AllocResult<(OwnItems, usize)>
     ensures own { IfOk result (λ r. own_of r.0 ≡ own_places (module_value source.old)) }
     ensures functions { IfOk result (λ r. r.1 ≡ length (module_value source.old).functions) }
     ensures items { let decoration = string_bytes built.old.decorated_name in

@@ -1,20 +1,17 @@
-//! Builds, what they own, and one module out of several of them.
+//! Builds, what they own, and one module linked of several of them.
 //!
-//! - `module`: a build of a module, and what other stages read of it: `reads`.
-//! - `items`: the items of a parsed module, and which of them are its own: `own_items`.
+//! - `module`: a build of a module; `reads`: what other stages read of a build, and set.
+//! - `items`: the items of a parsed module; `own_items`: which of them are its own.
 //! - `copied`: the module and the header that a build holds.
 //! - `by_name`: the items of a module by their names.
-//! - `link`: one module out of builds, each behind what it imports.
-//! - `ahead`: what is read before it is linked.
-//! - `formed`: modules that pass the test of form; `laws` say what it tests.
+//! - `link`: one module linked of builds, each after what it imports.
+//! - `formed`: modules that pass the test of form.
 #![tactic(auto)]
 
-mod ahead;
 pub mod by_name;
 pub mod copied;
 pub mod formed;
 pub mod items;
-pub mod laws;
 pub mod link;
 pub mod module;
 pub mod own_items;
@@ -24,14 +21,13 @@ pub use formed::{FormedModule, Header};
 use indexmap::IndexMap;
 pub use link::Builds;
 pub use module::{Build, ComposableModule, Overrides};
-use naga_oil_derive::{DerivedModule, Tried};
-use naga_oil_form::FormFault;
+use naga_oil_derive::DerivedModule;
 use naga_oil_imports::ImportDefinition;
 use naga_oil_ir::{
     Arena, Constant, EntryPoint, Function, FunctionArgument, FunctionResult, GlobalVariable,
-    Handle, Index, Item, ItemPlace, Module, NamedExpressions, Override, Span, Type,
+    Handle, Index, Item, ItemPlace, Module, NamedExpressions, Override, SPAN_SHIFT, Span, Type,
 };
-use naga_oil_marks::{add_decoration, has_module_mark};
+use naga_oil_words::{AllocResult, add_decoration, has_module_mark};
 pub use own_items::OwnItems;
 use std::alloc::Global;
 use std::collections::{BTreeSet, btree_set};
@@ -41,11 +37,8 @@ use std::sync::Arc;
 /// Names, in byte order.
 pub type Names = BTreeSet<String>;
 
-/// Names in byte order, one by one.
+/// An iterator over names, in byte order.
 pub type NamesIter<'n> = btree_set::Iter<'n, String>;
 
 /// Places in a list of items, in order.
 pub type Places = BTreeSet<usize>;
-
-/// An answer, or that a module has the wrong form, or want of memory.
-pub type Formed<T = ()> = Result<T, FormFault>;

@@ -1,10 +1,9 @@
-//! One module out of builds: what is asked for of each, behind what that imports.
+//! One module linked of builds: the requested items of each, after what that build imports.
 ghost use Rattle.std.specs.Prelude.{◌≡◌, [], IfOk, OnOk, fold, map, slice_get};
 ghost use Rattle.naga_oil_ir.specs.ModuleValue.{module_value};
 ghost use Rattle.naga_oil_derive.specs.Derived.{nothing};
 ghost use Rattle.naga_oil_form_laws.specs.EntryForm.{IsModuleFormed};
-ghost use Rattle.naga_oil_lines.specs.DirectivesText.{with_name, in_order};
-ghost use Rattle.naga_oil_lines.specs.Text.{texts};
+ghost use Rattle.naga_oil_words.specs.Texts.{with_name, in_order, texts};
 ghost use Rattle.naga_oil_imports.specs.Uses.{import_of};
 ghost use Rattle.naga_oil_link.specs.BuiltModule.{built_of, builds_of};
 ghost use Rattle.naga_oil_link.specs.ByName.{HasItems};
@@ -14,17 +13,16 @@ ghost use Rattle.naga_oil_link.specs.Linked.{asked_names, asked_of, overriding_n
 ghost use Rattle.naga_oil_link.specs.LinkView.{IsLinkFormed, link_own_function, LinksImports};
 ghost use Rattle.naga_oil_link.specs.OwnPlaces.{own_of};
 
-use super::ahead::read_ahead;
 use super::by_name::{Asked, AskedItems, Listed, NamedItems, add_named, wanted};
 use super::copied::{has_name_next, import_item};
 use super::*;
 use naga_oil_imports::ImportDefinition as Import;
 
-/// The builds of a make by their names, each behind those that it imports. Each may be shared.
+/// Builds by their names, each after those that it imports. A build may be shared.
 pub type Builds = IndexMap<String, Arc<Build>>;
 
 // Adds names.
-fn add_names(names: &mut Names, others: &[String]) -> Tried
+fn add_names(names: &mut Names, others: &[String]) -> AllocResult
     ensures { let more = texts others.now in
         OnOk result (texts names.new.keys ≡ fold with_name (texts names.old.keys) more) }
 {
@@ -34,8 +32,8 @@ fn add_names(names: &mut Names, others: &[String]) -> Tried
     Ok(())
 }
 
-// The functions that override others.
-fn overriding(alloc: Global, of: &Build) -> Tried<Names>
+// The names of the functions that override others.
+fn overriding(alloc: Global, of: &Build) -> AllocResult<Names>
     ensures { let overriding = overriding_names (built_of of.now) in
         IfOk result (λ names. texts names.keys ≡ in_order overriding) }
 {
@@ -46,14 +44,15 @@ fn overriding(alloc: Global, of: &Build) -> Tried<Names>
     Ok(names)
 }
 
-// Links the function at a place, if the build owns it, unless one of its name was linked. The next of the owned names is likely its.
+// Links the function at a place, if the build owns it, unless a function with its name was linked.
+// The next of the owned names is likely the function's.
 fn link_function<'b>(
     into: &mut DerivedModule<'b>,
     of: &Build,
     source: &'b Module,
     at: usize,
     next: &mut NamesIter<'_>,
-) -> Tried
+) -> AllocResult
     requires copies { CopiesFrom source.now into.old }
     requires among { AreAmong (texts of.now.owned_functions.keys) (texts next.old) }
     ensures among { AreAmong (texts of.now.owned_functions.keys) (texts next.new) }
@@ -71,7 +70,8 @@ fn link_function<'b>(
     Ok(())
 }
 
-// What is linked of a build: a module of it, its items by their names, and which of them are its own.
+// A source to link: a build, a module of it, that module's items by their names, and which of them
+// are its own.
 #[derive(Clone, Copy)]
 struct Linked<'b, 'n> {
     of: &'b Build,
@@ -80,7 +80,7 @@ struct Linked<'b, 'n> {
     own: &'b OwnItems,
 }
 
-// A module that is linked of builds, of their headers or whole.
+// A module that is linked of builds, of their headers or of the whole of each.
 #[derive(Drop)]
 struct Linker<'b> {
     alloc: Global,
@@ -89,12 +89,10 @@ struct Linker<'b> {
     derived: DerivedModule<'b>,
     // The places of the builds whose imports were linked.
     descended: BTreeSet<usize>,
-    // What was read ahead. It has no meaning.
-    read: usize,
 }
 
-// How many functions the header of imports is likely to have: as many as all the texts that their builds were parsed of, and at
-// most twice as many as the largest of these, since what they import may be the same.
+// The likely number of functions in the header of imports: the sum over the texts that their builds
+// were parsed from, but at most twice the largest, since builds may import the same modules.
 fn likely_functions(builds: &Builds, imports: &[Import]) -> usize {
     let mut most = 0usize;
     let mut all = 0usize;
@@ -108,24 +106,24 @@ fn likely_functions(builds: &Builds, imports: &[Import]) -> usize {
 }
 
 impl<'b> Linker<'b> {
-    // Nothing is linked yet. There is room for so many functions.
+    // Nothing is linked yet. The capacity is for `functions` functions.
     fn new(
         alloc: Global,
         builds: &'b Builds,
         of_headers: bool,
         functions: usize,
-    ) -> Tried<Linker<'b>>
+    ) -> AllocResult<Linker<'b>>
         ensures given { IfOk result (λ l. (l.builds ≡ builds.entry) × (l.of_headers ≡ of_headers)) }
         ensures linked { IfOk result (λ l. (l.derived ≡ nothing) × (l.descended.keys ≡ [])) }
     {
         let derived = DerivedModule::with_functions(alloc, functions)?;
         let descended = BTreeSet::new(alloc);
         #[rattlefmt::skip]
-        Ok(Linker { alloc, builds, of_headers, derived, descended, read: 0 })
+        Ok(Linker { alloc, builds, of_headers, derived, descended })
     }
 
-    // Links the types, constants, overrides and globals of a build that are asked for.
-    fn link_places(&mut self, of: Linked<'b, '_>, asked: Asked) -> Tried
+    // Links the requested types, constants, overrides and globals of a build.
+    fn link_places(&mut self, of: Linked<'b, '_>, asked: Asked) -> AllocResult
         requires items { HasItems (module_value of.from.now) of.by.now }
         requires source { CopiesFrom of.from.now self.old.derived }
         ensures source { CopiesFrom of.entry.from.now self.new.derived }
@@ -148,8 +146,8 @@ impl<'b> Linker<'b> {
         Ok(())
     }
 
-    // Links the functions of a build that are asked for, and all that override others.
-    fn link_functions(&mut self, of: Linked<'b, '_>, asked: Asked) -> Tried
+    // Links the requested functions of a build, and all that override others.
+    fn link_functions(&mut self, of: Linked<'b, '_>, asked: Asked) -> AllocResult
         requires items { HasItems (module_value of.from.now) of.by.now }
         requires source { CopiesFrom of.from.now self.old.derived }
         ensures value { let b = built_of of.entry.of.now in
@@ -168,8 +166,8 @@ impl<'b> Linker<'b> {
         Ok(())
     }
 
-    // Links what is asked for of a module of a build, which has items of these names.
-    fn link_source(&mut self, of: Linked<'b, '_>, asked: Asked) -> Tried
+    // Links the requested items of a module of a build.
+    fn link_source(&mut self, of: Linked<'b, '_>, asked: Asked) -> AllocResult
         requires form { IsModuleFormed (module_value of.from.now) }
         requires items { HasItems (module_value of.from.now) of.by.now }
         requires formed { IsLinkFormed self.old.derived }
@@ -180,7 +178,7 @@ impl<'b> Linker<'b> {
         ensures formed { OnOk result (IsLinkFormed self.new.derived) }
         ensures rest { self.new ≡ record self.old { derived = self.new.derived } }
     {
-        let shift = of.of.index * 2_097_152;
+        let shift = of.of.index * (1 << SPAN_SHIFT);
         self.derived.set_shader_source(of.from, shift)?;
         self.link_places(of, asked)?;
         self.link_functions(of, asked)?;
@@ -188,8 +186,8 @@ impl<'b> Linker<'b> {
         Ok(())
     }
 
-    // Links the items of a build that are asked for; by none all that it owns.
-    fn link_items(&mut self, of: &'b Build, asked: Asked<'_>) -> Tried
+    // Links the requested items of a build; `None` requests all that it owns.
+    fn link_items(&mut self, of: &'b Build, asked: Asked<'_>) -> AllocResult
         requires { IsLinkFormed self.old.derived }
         ensures value { let link = link_items self.old.of_headers (built_of of.now) in
             OnOk result (self.new.derived ≡ link (asked_names asked.entry) self.old.derived) }
@@ -207,8 +205,8 @@ impl<'b> Linker<'b> {
         self.link_source(Linked { of, from, by, own }, asked)
     }
 
-    // Links what an import asks for of a build.
-    fn link_asked(&mut self, import: &Import, build: &'b Build) -> Tried
+    // Links what an import requests from a build.
+    fn link_asked(&mut self, import: &Import, build: &'b Build) -> AllocResult
         requires { IsLinkFormed self.old.derived }
         ensures value { let b = built_of build.now in
             let link = link_items self.old.of_headers b (asked_of (import_of import.now) b) in
@@ -223,8 +221,9 @@ impl<'b> Linker<'b> {
         self.link_items(build, Some(asked))
     }
 
-    // Links what imports ask for of the builds before a place, behind what those import, into which it descends once.
-    fn link_imports(&mut self, imports: &[Import], end: usize) -> Tried
+    // Links what imports request from the builds before a place. The imports of a build are linked
+    // once, before its items.
+    fn link_imports(&mut self, imports: &[Import], end: usize) -> AllocResult
         requires { IsLinkFormed self.old.derived }
         ensures value { let builds = builds_of self.old.builds.now in
             let links = LinksImports self.old.of_headers builds end (map import_of imports.now) in
@@ -234,7 +233,7 @@ impl<'b> Linker<'b> {
         ensures rest { (self.new.builds ≡ self.old.builds)
             × (self.new.of_headers ≡ self.old.of_headers) }
     {
-        // With the length it is known that no two builds have one name.
+        // With the length it is known that the names of builds are distinct.
         let _unique = self.builds.len();
         for import in imports {
             let Some((place, _, build)) = self.builds.get_full(import.import.as_str()) else {
@@ -246,15 +245,15 @@ impl<'b> Linker<'b> {
             if self.descended.insert(place)? {
                 self.link_imports(&build.imports, place)?;
             }
-            self.read = self.read.wrapping_add(read_ahead(build, &import.items));
             self.link_asked(import, build)?;
         }
         Ok(())
     }
 }
 
-/// The header of imports: what they ask for of the headers of their builds, behind what those import; it is of good form.
-pub fn link_header(alloc: Global, builds: &Builds, imports: &[Import]) -> Tried<Module>
+/// The header of imports: what they request from the headers of their builds, each after what its
+/// build imports. The header is of good form.
+pub fn link_header(alloc: Global, builds: &Builds, imports: &[Import]) -> AllocResult<Module>
     ensures form { IfOk result (λ header. IsModuleFormed (module_value header)) }
     ensures value { let made = link_header (builds_of builds.now) (map import_of imports.now) in
         IfOk result (λ header. module_value header ≡ made) }
@@ -265,8 +264,9 @@ pub fn link_header(alloc: Global, builds: &Builds, imports: &[Import]) -> Tried<
     Ok(Module::from(linker.derived))
 }
 
-/// The whole of a build: all that it owns, behind what it imports, with its entry points; it is of good form.
-pub fn link_whole<'b>(alloc: Global, builds: &'b Builds, of: &'b Build) -> Tried<Module>
+/// The whole of a build: all that it owns, after what it imports, with its entry points. The whole
+/// is of good form.
+pub fn link_whole<'b>(alloc: Global, builds: &'b Builds, of: &'b Build) -> AllocResult<Module>
     ensures form { IfOk result (λ whole. IsModuleFormed (module_value whole)) }
     ensures value { let made = link_whole (builds_of builds.now) (built_of of.now) in
         IfOk result (λ whole. module_value whole ≡ made) }

@@ -1,43 +1,45 @@
-//! A module that was built.
+//! A build of a module.
 ghost use Rattle.std.specs.Prelude.{◌≤◌};
+ghost use Rattle.naga_oil_ir.specs.Spans.{max_modules};
 
 use super::*;
 
-/// A module that was built.
+/// A build of a module.
 pub type Build = ComposableModule;
 
-/// Functions, each with those that override it.
+/// Overridden functions, each with those that override it.
 pub type Overrides = IndexMap<String, Vec<String>>;
 
 /// A module that was built under some definitions.
 #[derive(Drop)]
 pub struct ComposableModule {
-    /// What stands behind the names of its items.
+    /// What the names of the module's items end with.
     pub decorated_name: String,
-    /// What it imports under these definitions.
+    /// What the module imports under these definitions.
     pub imports: Vec<ImportDefinition>,
-    /// The names of its own items, decorated.
+    /// The decorated names of the module's own items.
     pub owned_types: Names,
     pub owned_constants: Names,
     pub owned_pipeline_overrides: Names,
     pub owned_vars: Names,
     pub owned_functions: Names,
-    /// The functions that other modules may override, without decoration.
+    /// The functions that other modules may override, undecorated.
     pub virtual_functions: Names,
-    /// The functions that are overridden here or in what it imports, each with those that override it.
+    /// The functions that are overridden in the module or in what it imports, each with those that
+    /// override it.
     pub override_functions: Overrides,
     pub(crate) module_ir: FormedModule,
-    /// Its own items without bodies.
+    /// The module's own items, without bodies.
     pub(crate) header_ir: Header,
-    /// Where its own items stand in each.
+    /// The places of the own items in the module and in the header.
     pub(crate) own_in_module: OwnItems,
     pub(crate) own_in_header: OwnItems,
-    /// Where its source begins in the text that was parsed, in bytes.
+    /// Where the module's source begins in the text that was parsed, in bytes.
     pub(crate) start_offset: usize,
-    /// How many functions the text that was parsed has, with those of its heading: a header of what imports this is likely to
-    /// have as many.
+    /// The number of functions in the text that was parsed, with those of its heading: the header
+    /// of what imports this module likely has as many.
     pub(crate) text_functions: usize,
-    /// Its index in the registry; 0 is the shader's.
+    /// The module's index in the registry; index 0 is the shader's.
     pub(crate) index: usize,
-    ghost small: { index ≤ 2047 },
+    ghost small: { index ≤ max_modules },
 }

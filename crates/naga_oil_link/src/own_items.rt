@@ -14,7 +14,7 @@ pub struct OwnItems {
 }
 
 impl OwnItems {
-    /// No places.
+    /// An empty set of places.
     pub fn new(alloc: Global) -> OwnItems
         ensures { own_of result ≡ nothing_own }
     {
@@ -26,7 +26,7 @@ impl OwnItems {
         }
     }
 
-    /// Whether the item at a place is one of them.
+    /// Whether the item at a place is own.
     pub fn contains(&self, place: ItemPlace) -> bool
         ensures { result ≡ is_own (own_of self.now) place }
     {
@@ -40,7 +40,7 @@ impl OwnItems {
     }
 
     /// Adds the place of an item.
-    pub fn insert(&mut self, place: ItemPlace) -> Tried
+    pub fn insert(&mut self, place: ItemPlace) -> AllocResult
         ensures { OnOk result (own_of self.new ≡ with_own (own_of self.old) place) }
     {
         match place {

@@ -2,12 +2,13 @@
 ghost use Rattle.std.specs.Prelude.{◌≡◌, ◌≤◌, string_bytes};
 ghost use Rattle.naga_oil_ir.specs.ModuleValue.{module_value};
 ghost use Rattle.naga_oil_link.specs.BuiltModule.{built_of, nothing_built};
+ghost use Rattle.naga_oil_ir.specs.Spans.{max_modules};
 
 use super::*;
 
-/// A build of nothing, whose items will be named so.
+/// A build of nothing, with this decoration for the names of its items.
 pub fn empty_build(alloc: Global, decorated_name: String, index: usize) -> Build
-    requires { index ≤ 2047 }
+    requires { index ≤ max_modules }
     ensures { built_of result ≡ nothing_built (string_bytes decorated_name) index }
 {
     ComposableModule {
@@ -37,21 +38,21 @@ pub fn offset_of(build: &Build) -> usize
     build.start_offset
 }
 
-/// Sets it.
+/// Sets where the source of a build begins in the text that was parsed, in bytes.
 pub fn set_offset(build: &mut Build, offset: usize)
     ensures { built_of build.new ≡ record (built_of build.old) { offset = offset } }
 {
     build.start_offset = offset;
 }
 
-/// Notes how many functions the text that was parsed has, which changes nothing of what is built.
+/// Notes the number of functions in the parsed text, which changes nothing of what is built.
 pub fn note_functions(build: &mut Build, count: usize)
     ensures { built_of build.new ≡ built_of build.old }
 {
     build.text_functions = count;
 }
 
-/// The index of a build's module in the registry; 0 is the shader's.
+/// The index of a build's module in the registry; index 0 is the shader's.
 pub fn index_of(build: &Build) -> usize
     ensures { result ≡ (built_of build.now).index }
 {

@@ -1,7 +1,7 @@
 // A function that many others override, one module after another.
 use super::composing::{adds, shown};
 use naga_oil::compose::{Composer, ImportDefinition, NagaModuleDescriptor};
-use naga_oil_front::Mini;
+use naga_oil_mini_front::Mini;
 use std::alloc::{AllocError, Global};
 use std::process::Abort;
 use std::test::Fail;

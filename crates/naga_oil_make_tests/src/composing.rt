@@ -1,10 +1,10 @@
-// Modules added, removed and made over Mini.
+// Modules that are added and removed, and shaders that are built, over Mini.
 use naga_oil::compose::{
     Capabilities, Command, ComposableModuleDescriptor, Composer, ComposerError,
     NagaModuleDescriptor, Reply, ShaderDefValue, ShaderLanguage, run,
 };
-use naga_oil_front::Mini;
 use naga_oil_ir::{Backend, BackendRefusal, Function, Module, Statement};
+use naga_oil_mini_front::Mini;
 use std::alloc::{AllocError, Global};
 use std::collections::BTreeMap;
 use std::process::Abort;
@@ -22,7 +22,7 @@ fn defs_of(alloc: Global, values: &[Value<'_>]) -> Result<Defs, AllocError> {
     Ok(defs)
 }
 
-// Adds a module under a name; what is told of a refusal.
+// Adds a module under a name, and returns the report of a refusal.
 fn add<'a>(
     alloc: Global,
     composer: &mut Composer<Mini>,
@@ -42,7 +42,7 @@ fn add<'a>(
     }
 }
 
-// A shader as Mini writes it, or what is told of a refusal.
+// A shader as Mini writes it, or the report of a refusal.
 pub(super) fn shown(
     alloc: Global,
     composer: &Composer<Mini>,
@@ -76,7 +76,7 @@ fn make(
     shown(alloc, composer, &made)
 }
 
-// Modules are added, and a shader is made so.
+// Adds modules, and expects this shader.
 fn makes(
     rt: &(impl Abort + AllocGlobal),
     composer: &mut Composer<Mini>,
@@ -257,7 +257,7 @@ fn differing_values(
     )
 }
 
-// A function, and a comment of so many characters.
+// A function, and a comment with this number of characters.
 fn commented(alloc: Global, len: usize) -> Result<String, AllocError> {
     let comment = "x".repeat(alloc, len)?;
     format!(in alloc; "fn g() = 1\n//{comment}")
@@ -327,7 +327,7 @@ fn is_merged(function: &Function) -> bool {
         )
 }
 
-// A sum of ten thousand terms initialises a local: it is reached, copied and written without the machine's stack.
+// A sum of ten thousand terms initialises a local. The sum is visited, copied and written without the machine's stack.
 #[test]
 fn makes_a_long_initialiser(rt: HostRuntime) -> Result<(), Fail> {
     let alloc = rt.alloc();
@@ -400,7 +400,7 @@ fn shared_imports(
     Ok(())
 }
 
-// What a reply tells.
+// A reply as a text.
 fn told(alloc: Global, composer: &Composer<Mini>, reply: &Reply) -> Result<String, AllocError> {
     match reply {
         Reply::Added(Ok(index)) => format!(in alloc; "added as {index}"),

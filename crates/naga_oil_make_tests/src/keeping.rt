@@ -1,10 +1,10 @@
-// Builds are kept between makes: how often a front end parses, how many builds are counted, and which are kept.
+// Builds are kept between shaders: the number of parses, the number of builds, and the builds that are kept.
 use naga_oil::compose::{
     ComposableModuleDescriptor, Composer, ComposerError, ImportDefinition, NagaModuleDescriptor,
     ShaderDefValue,
 };
-use naga_oil_front::Mini;
 use naga_oil_ir::{Backend, BackendRefusal, Capabilities, Module, ShaderLanguage};
+use naga_oil_mini_front::Mini;
 use naga_oil_projects::Counting;
 use std::alloc::{AllocError, Global};
 use std::cell::Cell;
@@ -16,15 +16,15 @@ type Values = &'static [(&'static str, i32)];
 
 type Defs = BTreeMap<String, ShaderDefValue>;
 
-// What is asked of a composer, and what has to come of it.
+// The calls of a composer, and their expected results.
 enum Step {
     // A module under a name, with its definitions.
     Add(&'static str, &'static str, Values),
     Remove(&'static str),
-    // From now on the front end finds memory for so many texts of a make.
+    // From now on the front end has memory for this number of texts of a shader.
     Limit(usize),
-    // A shader under definitions, with imports besides: the first line of what is made of it or told, how often the front end
-    // parsed for it, and how many builds were kept in all by then.
+    // A shader under definitions, with additional imports: the first line of its text or report, the number of parses for it,
+    // and the number of all builds that were kept by then.
     Make(&'static str, Values, &'static [&'static str], &'static str, usize, u64),
     // Whether the build of a module under definitions is kept.
     Has(&'static str, Values, bool),
@@ -32,7 +32,7 @@ enum Step {
 
 use Step::{Add, Has, Limit, Make, Remove};
 
-// Two values of one name.
+// Two values of the same name.
 static TWO_VALUES: [Step; 18] = [
     Add("b1", "fn f() = #K", &[("K", 1)]),
     Add("b2", "fn f() = #K", &[("K", 2)]),
@@ -180,7 +180,7 @@ static OVERRIDES: [Step; 11] = [
     ),
 ];
 
-// A make that is refused by a named fault keeps what it built before.
+// A shader that is refused by a named error keeps the builds before.
 static REFUSED: [Step; 4] = [
     Add("m", "#define_import_path m\nfn g() = 1", &[]),
     Make(
@@ -202,7 +202,7 @@ static REFUSED: [Step; 4] = [
     ),
 ];
 
-// A make that is refused for memory keeps what it built before, and the next answers as if nothing had been refused.
+// A shader that is refused for memory keeps the builds before, and the next is built as if nothing had been refused.
 static MEMORY: [Step; 8] = [
     Add("b1", "fn f() = #K", &[("K", 1)]),
     Add("b2", "fn f() = #K", &[("K", 2)]),
@@ -265,7 +265,7 @@ fn imports_of(
     Ok(imports)
 }
 
-// The first line of a shader as Mini writes it, or of what is told of a refusal.
+// The first line of a shader as Mini writes it, or of the report of a refusal.
 fn first_line(
     alloc: Global,
     composer: &Composer<Counting<'_>>,

@@ -1,4 +1,4 @@
-// What makes cost in a tree of 500 modules of 8 functions each, in which module n imports modules 2n and 2n + 1.
+// The costs of shaders in a tree of 500 modules of 8 functions each, in which module n imports modules 2n and 2n + 1.
 //
 // A build parses its whole text, and where it is validated its header again; a shader is parsed once. So a make that builds
 // k modules parses 2k + 1 texts, or k + 1 without validation.
@@ -7,7 +7,7 @@ use std::cell::Cell;
 use std::process::Abort;
 use std::test::Fail;
 
-// The last modules record the name: so many of them.
+// The last `recording` modules record the name.
 fn tree(recording: usize) -> Tree {
     Tree {
         modules: 500,
@@ -17,7 +17,7 @@ fn tree(recording: usize) -> Tree {
     }
 }
 
-// A make costs so much.
+// A shader has this cost.
 fn costs(
     rt: &impl Abort,
     project: &mut Project<'_>,
@@ -30,7 +30,7 @@ fn costs(
 }
 
 // Nothing but the shader is parsed again. What reaches module 500 by imports are 250, 125, 62, 31, 15, 7, 3 and 1: with it 9
-// modules, which go when it is added again.
+// modules, which are removed when module 500 is added again.
 #[test]
 fn builds_what_reaches_a_leaf(rt: HostRuntime) -> Result<(), Fail> {
     let (parses, limit) = (Cell::new(0), Cell::new(usize::MAX));
@@ -45,7 +45,7 @@ fn builds_what_reaches_a_leaf(rt: HostRuntime) -> Result<(), Fail> {
     Ok(())
 }
 
-// Memory runs out behind 500 texts, those of 250 modules.
+// Memory runs out after 500 texts, those of 250 modules.
 #[test]
 fn builds_what_was_not_built_before_memory_ran_out(rt: HostRuntime) -> Result<(), Fail> {
     let (parses, limit) = (Cell::new(0), Cell::new(500));

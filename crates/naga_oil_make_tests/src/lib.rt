@@ -1,7 +1,7 @@
 //! Tests of makes over the language Mini: what is `composing` one shader, `chains` of functions that override one, faults that are
 //! `pointing` at modules, and `keeping` builds, also of many modules. `library` is the README's example.
 //!
-//! They stand here since a check of tests proves the whole crate again, and beside others.
+//! The tests are in a crate of their own, since the check of a crate with tests proves that crate twice.
 #![tactic(auto)]
 
 #[cfg(test)]

@@ -3,8 +3,8 @@ use naga_oil::compose::{
     Capabilities, ComposableModuleDescriptor, Composer, ComposerErrorInner, NagaModuleDescriptor,
     ShaderDefValue, ShaderLanguage,
 };
-use naga_oil_front::Mini;
 use naga_oil_ir::{Backend, BackendRefusal, Module};
+use naga_oil_mini_front::Mini;
 use std::alloc::{AllocError, Global};
 use std::collections::BTreeMap;
 use std::process::Abort;
@@ -27,7 +27,7 @@ fn written(alloc: Global, made: &Module) -> Result<String, AllocError> {
     }
 }
 
-// Adds a module, or tells why it isn't added.
+// Adds a module, or returns the report of a refusal.
 fn add<'a>(
     alloc: Global,
     composer: &mut Composer<Mini>,
@@ -43,7 +43,7 @@ fn add<'a>(
     }
 }
 
-// Makes a shader, or tells why it isn't made.
+// Builds a shader, or returns the report of a refusal.
 fn make(
     alloc: Global,
     composer: &mut Composer<Mini>,
@@ -65,7 +65,7 @@ fn make(
     }
 }
 
-// Makes a shader for each of three values, and tells which of them need the module built.
+// Builds a shader for each of three values, and returns which of them need the module built.
 fn variants(
     alloc: Global,
     composer: &mut Composer<Mini>,
@@ -91,7 +91,7 @@ fn example(alloc: Global) -> Result<String, AllocError> {
     told.push_str(&make(alloc, &mut composer, top, steps(alloc, 2)?)?)?;
     told.push_str(&variants(alloc, &mut composer, top)?)?;
 
-    // The file has changed: it is added again, and what was built of it goes.
+    // The file has changed: it is added again, and its builds are removed.
     let light = "#define_import_path light\nfn shade(x, y) = x + y + #STEPS\n";
     told.push_str(&add(alloc, &mut composer, "light.txt", light)?)?;
     told.push_str(&make(alloc, &mut composer, top, steps(alloc, 2)?)?)?;

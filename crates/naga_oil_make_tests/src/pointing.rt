@@ -1,20 +1,20 @@
-// A fault of a validator lies in the module of its last span, if the make reached that.
+// The error of a validator is in the module of its last span, if that module is reachable.
 ghost use Rattle.std.specs.Prelude.{◌≡◌, [], ◌∷◌, IfOk, option_map, unwrap_or};
 ghost use Rattle.naga_oil_ir.specs.Backend.{valid_fault};
 
 use naga_oil::compose::{
     ComposableModuleDescriptor, Composer, NagaModuleDescriptor, ShaderDefValue,
 };
-use naga_oil_front::Mini;
 use naga_oil_ir::{
     Backend, BackendRefusal, Capabilities, Module, ParseFault, ShaderLanguage, Span, ValidFault,
     WriteFault,
 };
+use naga_oil_mini_front::Mini;
 use std::alloc::{AllocError, Global};
 use std::process::Abort;
 use std::test::Fail;
 
-// Mini, but a module with entry points isn't valid, for a fault at this span.
+// Mini, except that a module with entry points is invalid, with an error at this span.
 #[derive(Drop)]
 struct Pointing {
     span: Option<Span>,
@@ -40,7 +40,7 @@ fn pointed(alloc: Global, span: Option<Span>) -> Result<ValidFault, AllocError>
 
 impl Backend for Pointing {
     ghost use Rattle.std.specs.Prelude.{[], ◌∷◌, ◌==◌, if◌then◌else◌, length, Ok, Err, option_map, unwrap_or};
-    ghost use Rattle.naga_oil_front.specs.Front.{mini};
+    ghost use Rattle.naga_oil_mini_front.specs.Front.{mini};
 
     ghost front = { λ p. record {
       parse = mini.parse;
@@ -87,7 +87,7 @@ impl Backend for Pointing {
     }
 }
 
-// Adds a module, bound to K if that is asked for.
+// Adds a module, bound to K if requested.
 fn adds<'a>(
     rt: &(impl Abort + AllocGlobal),
     composer: &mut Composer<Pointing>,
@@ -108,7 +108,7 @@ fn adds<'a>(
     Ok(())
 }
 
-// What is told of a shader that isn't made.
+// The report of a shader that isn't built.
 fn told(
     alloc: Global,
     composer: &mut Composer<Pointing>,

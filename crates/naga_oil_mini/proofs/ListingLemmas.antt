@@ -1,4 +1,4 @@
--- What is listed of metadata, as the code has it.
+-- The lines of metadata, as the code has them.
 use Rattle.std.proofs.Common.{◌≡◌, ℕ, Bool, cond, List, [], ◌∷◌, ◌++◌, map, refl, sym, ap, ◌∙◌, Some, option_map, string_bytes, String}
 use Rattle.std.specs.Prelude.{bytes_eq}
 use Rattle.std.specs.BTreeMap.{BTreeMap, get_by_text, IsOrdered as MapIsOrdered}
@@ -10,13 +10,13 @@ use Rattle.std.specs.Ordering.{nat_cmp, eq_by_cmp}
 use Rattle.std.specs.String.{string_cmp}
 use Rattle.std.specs.declared.alloc.Global.{Global}
 use Rattle.std.proofs.lemmas.Map.Text.{is_eq-slice_cmp}
-use Rattle.naga_oil_lines.specs.Text.{texts}
+use Rattle.naga_oil_words.specs.Texts.{texts}
 use Rattle.naga_oil_imports.specs.Uses.{use_of}
 use Rattle.naga_oil_imports.specs.declared.import_definition.ImportDefWithOffset.{ImportDefWithOffset}
 use Rattle.naga_oil_pre.specs.MetadataView.{metadata_of}
 use Rattle.naga_oil_pre.specs.declared.metadata.PreprocessorMetaData.{PreprocessorMetaData}
 use Rattle.naga_oil_registry.proofs.NamesLemmas.{sorted_texts, among_texts}
-use Rattle.naga_oil_registry.specs.Definition.{defs_of}
+use Rattle.naga_oil_registry.specs.Registered.{defs_of}
 use Rattle.naga_oil_mini.specs.Listing.{Listed, Tells, IsListing, listing, path_lines, import_line, define_lines, name_lines}
 use Rattle.naga_oil_mini.proofs.OverwriteLemmas.{Entries, named, sorted_named}
 
@@ -27,7 +27,7 @@ lookup_text name (e ∷ es) =
     ap (λ b. cond b (Some e.1) (lookup (bytes_eq name) (named es))) (sym (is_eq-slice_cmp name (string_bytes e.0)))
     ∙ ap (λ o. cond (eq_by_cmp (slice_cmp nat_cmp) name (string_bytes e.0)) (Some e.1) o) (lookup_text name es)
 
--- what the code holds of metadata
+-- metadata, as the code has it
 abbrev listed_of : PreprocessorMetaData → Listed
 listed_of m = record {
   path = option_map string_bytes m.name;
@@ -46,7 +46,7 @@ tells m defines names = record {
   names_in_order = sorted_texts m.effective_defs.keys names;
 }
 
--- what was written in turn is the listing
+-- the lines that were pushed one after the other are the listing
 pub listing_of : (m : PreprocessorMetaData) (start paths imports defines names : List ℕ) (uses : List ImportDefWithOffset) → MapIsOrdered string_cmp m.defines → SetIsOrdered string_cmp m.effective_defs
     → start ≡ [] → paths ≡ start ++ path_lines (option_map string_bytes m.name)
     → uses ≡ m.imports.items → imports ≡ paths ++ flat_map import_line (map (λ u. u.import) (map use_of uses))

@@ -25,7 +25,7 @@ Entries = List (String Global × ShaderDefValue)
 abbrev pub named : Entries → List (List ℕ × ShaderDefValue)
 named es = map (λ e. (string_bytes e.0, e.1)) es
 
--- the definitions, with the entries in turn
+-- the definitions, with the entries added one after the other
 abbrev pub defined_in_turn : Definitions → Entries → Definitions
 defined_in_turn defs es = update_all bytes_eq defs (named es)
 

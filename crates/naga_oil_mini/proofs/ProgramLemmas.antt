@@ -1,4 +1,4 @@
--- What the program does beside `oil`.
+-- The requests that `oil` itself doesn't take.
 use Rattle.std.proofs.Common.{◌≡◌, ℕ, suc, zero, Bool, true, false, cond, List, [], ◌∷◌, length, refl, sym, ap, subst, Option, Some, None, arith}
 use Rattle.std.specs.Prelude.{◌&&◌, Contains, IsSome, codes, bytes_eq}
 use Rattle.std.proofs.lemmas.Bool.{false≢true}
@@ -11,7 +11,7 @@ use Rattle.naga_oil_mini.specs.declared.mini.words.Task.TheVariants.{Preprocess}
 use Rattle.naga_oil_mini.specs.declared.mini.refusal.Refusal.{Refusal}
 use Rattle.naga_oil_mini.specs.declared.mini.refusal.Refusal.TheVariants.{Usage, BadDefinition, CannotRead, Fault, Memory, NotInMini, Write}
 
--- what is told of a file's text
+-- the refusal of a file's text
 pub refused_text : (file source : List ℕ) (e : Refusal) → Reports file source (metadata true source) e → RefusesExtra (metadata_of_file file) e
 refused_text file source (Fault report) h = (source, h)
 refused_text file source Memory h = h
@@ -21,12 +21,12 @@ refused_text file source (CannotRead read) h = absurd h
 refused_text file source NotInMini h = absurd h
 refused_text file source Write h = absurd h
 
--- among one file stands that file
+-- the one file among one file
 one_file : (file read : List ℕ) → Contains (file ∷ []) read → read ≡ file
 one_file file read (zero, below, is) = sym is
 one_file file read (suc n, below, is) = absurd (omega (arith, below))
 
--- why the one file isn't read
+-- the errors of reading the one file
 pub refused_file : (file : List ℕ) (e : Refusal) → RefusesFiles (file ∷ []) e → RefusesExtra (metadata_of_file file) e
 refused_file file (CannotRead read) h = one_file file read.now h
 refused_file file Memory h = h
@@ -36,14 +36,14 @@ refused_file file (Fault report) h = absurd h
 refused_file file NotInMini h = absurd h
 refused_file file Write h = absurd h
 
--- what is asked for decides what is written, and why it isn't
+-- the request decides the text that is written, and the errors
 pub writes_any : (words : List (List ℕ)) (o : Option Extra) (old new : Option (List ℕ)) → o ≡ extra words → WritesBy o words old new → WritesAny words old new
 writes_any words o old new e h = subst (λ o. WritesBy o words old new) e h
 
 pub refuses_any : (words : List (List ℕ)) (o : Option Extra) (r : Refusal) → o ≡ extra words → RefusesBy o words r → RefusesAny words r
 refuses_any words o r e h = subst (λ o. RefusesBy o words r) e h
 
--- ---- what is asked for beside `oil` asks `oil` for nothing
+-- ---- `oil` doesn't take these requests
 
 is_text : (word text : List ℕ) → bytes_eq word text ≡ true → word ≡ text
 is_text word text same = (bytes_eq-Decides word text).0 same

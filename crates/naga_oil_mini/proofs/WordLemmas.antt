@@ -1,4 +1,4 @@
--- What `strip_prefix` says of a word.
+-- `strip_prefix` of a word.
 use Rattle.std.proofs.Common.{◌≡◌, ◌≢◌, ℕ, false, cond, eqb, List, [], ◌∷◌, refl, sym, ap, Option, Some, None, option_map, MatchOption, arith, Bor}
 use Rattle.std.proofs.lemmas.Bool.Decides.{nat_tests}
 use Rattle.naga_oil_mini.specs.Words.{import_of}

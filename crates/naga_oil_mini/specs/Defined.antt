@@ -1,4 +1,4 @@
--- What words define.
+-- The definitions of a command line.
 use Rattle.std.specs.Prelude.{ℕ, Bool, true, ◌==◌, if◌then◌else◌, nat_lt, List, [], ◌∷◌, length, slice_index, Option, Some, None, option_map, Result, Ok, Err}
 use Rattle.std.specs.List.{before_first, after_first, position_or_len}
 use Rattle.naga_oil_conditions.specs.DefineValue.{defined_value}
@@ -9,7 +9,7 @@ use Rattle.naga_oil_conditions.specs.declared.shader_def.ShaderDefValue.{ShaderD
 use Rattle.naga_oil_conditions.specs.declared.shader_def.ShaderDefValue.TheVariants as def
 use Rattle.naga_oil_mini.specs.Words.{is_definition}
 
--- the value that a word gives: that of a define, but with no sign `+`, and true for the empty text
+-- the value in a word: that of a define, but without the sign `+`, and true for the empty text
 abbrev pub given_value : List ℕ → Option ShaderDefValue
 given_value text = if length text == 0 then Some (def.Bool true) else (if slice_index text 0 == 43 then None else defined_value (Some text))
 
@@ -17,12 +17,12 @@ given_value text = if length text == 0 then Some (def.Bool true) else (if slice_
 abbrev pub is_equals : ℕ → Bool
 is_equals b = b == 61
 
--- the name before the first `=`, where it is one, and the value behind
+-- the name before the first `=`, where that is a name, and the value after it
 abbrev pub definition_word : List ℕ → Option (List ℕ × ShaderDefValue)
 definition_word word =
     if nat_lt (position_or_len is_equals word) (length word) then (if is_name (before_first is_equals word) then option_map (λ value. (before_first is_equals word, value)) (given_value (after_first is_equals word)) else None) else None
 
--- what the definitions among the words make of these, of one name the last; or the first that is no good one
+-- these definitions with those among the words, the last with a name; or the first word that isn't a valid definition
 abbrev pub defined_by : Definitions → List (List ℕ) → Result Definitions (List ℕ)
 defined_by defs [] = Ok defs
 defined_by defs (word ∷ more) = if is_definition word then (elim (definition_word word) [ None ↦ Err word | Some d ↦ defined_by (with_definition defs d.0 d.1) more ]) else defined_by defs more

@@ -1,4 +1,4 @@
--- What the program does beside `oil`: words that ask `oil` for nothing.
+-- The requests that `oil` itself doesn't take.
 use Rattle.std.specs.Prelude.{◌≡◌, ℕ, ◌&&◌, if◌then◌else◌, List, [], ◌∷◌, codes, bytes_eq, Option, Some, None, true, ⊤}
 use Rattle.std.specs.Io.KnownBytes.{Appends}
 use Rattle.naga_oil_pre.specs.Metadata.{metadata}
@@ -28,19 +28,19 @@ extra_of_file command option file =
     if bytes_eq command (codes "pre") && bytes_eq option (codes "--metadata") && is_file file
     then Some (metadata_of_file file) else None
 
--- what is asked for beside `oil`
+-- the request that `oil` itself doesn't take
 abbrev pub extra : List (List ℕ) → Option Extra
 extra (word ∷ []) = extra_of_word word
 extra (command ∷ option ∷ file ∷ []) = extra_of_file command option file
 extra words = None
 
--- what is shown: a fixed text, or the lines of the metadata of some text
+-- the text that is shown: a fixed text, or the lines of the metadata of some text
 abbrev pub ShowsExtra : Extra → List ℕ → Type 0
 ShowsExtra help shown = shown ≡ text.help
 ShowsExtra version shown = shown ≡ text.version
 ShowsExtra (metadata_of_file file) shown = (source : List ℕ) × IsListed source shown
 
--- why nothing is shown: a write fails, or the file can't be read, or a text has a fault, or there is no memory
+-- the errors: a write fails, or the file can't be read, or a text has an error, or memory runs out
 abbrev pub RefusesExtra : Extra → Refusal → Type 0
 RefusesExtra asked Write = ⊤
 RefusesExtra (metadata_of_file file) (CannotRead read) = read.now ≡ file
@@ -48,25 +48,25 @@ RefusesExtra (metadata_of_file file) (Fault report) = (source : List ℕ) × Rep
 RefusesExtra (metadata_of_file file) Memory = ⊤
 RefusesExtra asked e = ⊥
 
--- what is asked for is written
+-- the text that is requested is written
 abbrev pub WritesExtra : Extra → (old new : Option (List ℕ)) → Type 0
 WritesExtra asked old new = (shown : List ℕ) × ShowsExtra asked shown × Appends old new shown
 
--- what is asked for beside `oil`, or else of `oil`, is written
+-- the text of a request that `oil` doesn't take, or else of `oil`, is written
 abbrev pub WritesBy : Option Extra → List (List ℕ) → (old new : Option (List ℕ)) → Type 0
 WritesBy None words old new = Writes words old new
 WritesBy (Some asked) words old new = WritesExtra asked old new
 
--- what the words ask the program for is written
+-- the text that the words request of the program is written
 abbrev pub WritesAny : List (List ℕ) → (old new : Option (List ℕ)) → Type 0
 WritesAny words old new = WritesBy (extra words) words old new
 
--- why what is asked for beside `oil`, or else of `oil`, is refused
+-- the errors of a request that `oil` doesn't take, or else of `oil`
 abbrev pub RefusesBy : Option Extra → List (List ℕ) → Refusal → Type 0
 RefusesBy None words e = Refuses words e
 RefusesBy (Some asked) words e = RefusesExtra asked e
 
--- why the program refuses the words
+-- the errors of the program
 abbrev pub RefusesAny : List (List ℕ) → Refusal → Type 0
 RefusesAny words e = RefusesBy (extra words) words e
 

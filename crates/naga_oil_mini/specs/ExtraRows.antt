@@ -1,4 +1,4 @@
--- Worked rows: the words of the program beside those of `oil`, and what is listed.
+-- Worked rows: the words that `oil` itself doesn't take, and the lines of metadata.
 use Rattle.std.specs.Prelude.{◌≡◌, refl, true, false, Some, None, [], ◌∷◌, codes}
 use Rattle.naga_oil_mini.specs.Extra.{extra, help, version, metadata_of_file}
 use Rattle.naga_oil_mini.specs.Listing.{listing}
@@ -19,7 +19,7 @@ metadata_asked = refl
 pub help_of_a_command : extra (codes "pre" ∷ codes "--help" ∷ []) ≡ None
 help_of_a_command = refl
 
--- alone, and beside definitions, it is the name of a file
+-- alone, and with definitions, `--metadata` is the name of a file
 pub option_alone : extra (codes "pre" ∷ codes "--metadata" ∷ []) ≡ None
 option_alone = refl
 

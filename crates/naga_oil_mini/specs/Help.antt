@@ -1,7 +1,7 @@
--- What the program says of itself.
+-- The help text and the version of the program.
 use Rattle.std.specs.Prelude.{ℕ, List, ◌++◌, codes}
 
--- what the commands do, with their options, the statuses and an example
+-- the commands with their options, the statuses and an example
 abbrev pub help : List ℕ
 help =
     codes "oil preprocesses a shader's text, or makes one shader out of several files.\n\n"

@@ -1,20 +1,20 @@
--- What is listed of a text before any build.
-use Rattle.std.specs.Prelude.{◌≡◌, ℕ, Bool, true, ◌==◌, if◌then◌else◌, List, [], ◌∷◌, ◌++◌, map, codes, bytes_eq, Option, Some, None, Result, Ok}
+-- The lines of a text's metadata.
+use Rattle.std.specs.Prelude.{◌≡◌, ℕ, true, ◌==◌, if◌then◌else◌, List, [], ◌∷◌, ◌++◌, map, codes, bytes_eq, Option, Some, None, Ok}
 use Rattle.std.specs.Cmp.Lexicographic.{slice_cmp}
 use Rattle.std.specs.List.{flat_map}
 use Rattle.std.specs.List.Sorted.{IsStrictlySortedBy}
 use Rattle.std.specs.Map.{keys_of, lookup}
 use Rattle.std.specs.Ordering.{nat_cmp}
-use Rattle.naga_oil_lines.specs.Text.{is_among}
+use Rattle.naga_oil_words.specs.Texts.{is_among}
 use Rattle.naga_oil_imports.specs.Uses.{Import}
 use Rattle.naga_oil_pre.specs.Metadata.{Metadata, metadata}
 use Rattle.naga_oil_conditions.specs.Replaced.{value_text}
 use Rattle.naga_oil_conditions.specs.declared.shader_def.ShaderDefValue.{ShaderDefValue}
-use Rattle.naga_oil_registry.specs.Definition.{Defs}
+use Rattle.naga_oil_registry.specs.Registered.{Defs}
 
 -- ---- lines
 
--- a byte of a field: a tab, a line end and a backslash are written as a backslash and a character
+-- a byte of a field: a tab, a line end and a backslash become a backslash and a character
 abbrev pub escaped_byte : ℕ → List ℕ
 escaped_byte b =
     if b == 9 then codes "\\t"
@@ -22,7 +22,7 @@ escaped_byte b =
     else (if b == 13 then codes "\\r"
     else (if b == 92 then codes "\\\\" else b ∷ [])))
 
--- a field, behind a tab
+-- a tab and a field
 abbrev pub field : List ℕ → List ℕ
 field text = 9 ∷ flat_map escaped_byte text
 
@@ -34,7 +34,7 @@ abbrev pub path_lines : Option (List ℕ) → List ℕ
 path_lines None = []
 path_lines (Some name) = line (codes "path") (name ∷ [])
 
--- a module and the items that are used of it
+-- a module and its items that are used
 abbrev pub import_line : Import → List ℕ
 import_line i = line (codes "import") (i.import ∷ i.items)
 
@@ -50,9 +50,9 @@ define_lines ds = flat_map define_line ds
 abbrev pub name_lines : List (List ℕ) → List ℕ
 name_lines names = flat_map name_line names
 
--- ---- what they tell
+-- ---- metadata
 
--- an import path, what is used of modules in order of first use, defines, and names
+-- an import path, the modules that are used with their items, in order of first use, defines, and names
 pub record Listed : Type 0 where
   pub path : Option (List ℕ)
   pub imports : List Import
@@ -62,11 +62,11 @@ pub record Listed : Type 0 where
 unfoldable pub listing : Listed → List ℕ
 listing l = path_lines l.path ++ flat_map import_line l.imports ++ define_lines l.defines ++ name_lines l.names
 
--- names stand in byte order, each once
+-- names are in byte order, each once
 abbrev pub AreInOrder : List (List ℕ) → Type 0
 AreInOrder names = IsStrictlySortedBy (slice_cmp nat_cmp) names
 
--- metadata has just these, its defines and its recorded names in byte order
+-- metadata has exactly these, its defines and its recorded names in byte order
 pub record Tells (m : Metadata) (l : Listed) : Type 0 where
   pub path : l.path ≡ m.name
   pub imports : l.imports ≡ map (λ u. u.import) m.uses

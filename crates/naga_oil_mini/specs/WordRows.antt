@@ -12,7 +12,7 @@ use Rattle.naga_oil_mini.specs.Defined.{definition_word, defined_by}
 use Rattle.naga_oil_mini.specs.Words.{added_import, asked}
 use Rattle.naga_oil_mini.specs.declared.mini.words.Task.TheVariants.{Preprocess, Make}
 
--- `unfolding words_unfold` lets `refl` compute what words define
+-- `unfolding words_unfold` lets `refl` compute the definitions of words
 unfoldable words_unfold : Unit {0}
 unfolding is_name defined_value read_u32 read_i32 read_bool chars encode ucd_perl
 words_unfold = tt
@@ -36,7 +36,7 @@ make_of_no_file = refl
 pub make_with_the_option : asked (codes "make" ∷ codes "--override-any" ∷ codes "top.txt" ∷ []) ≡ Some (record { task = Make; override_any = true; files = codes "top.txt" ∷ []; imports = [] })
 make_with_the_option = refl
 
--- elsewhere it is the name of a file
+-- elsewhere the option is the name of a file
 pub option_behind_a_file : asked (codes "make" ∷ codes "top.txt" ∷ codes "--override-any" ∷ []) ≡ Some (record { task = Make; override_any = false; files = codes "top.txt" ∷ codes "--override-any" ∷ []; imports = [] })
 option_behind_a_file = refl
 

@@ -1,9 +1,8 @@
--- What the words behind the program's name ask for.
-use Rattle.std.specs.Prelude.{ℕ, Bool, true, false, not, ◌==◌, ◌&&◌, if◌then◌else◌, Option, Some, None, is_none, List, [], ◌∷◌, bytes_eq, codes, filter, length, map, string_bytes, String}
+-- The request of a command line.
+use Rattle.std.specs.Prelude.{ℕ, Bool, true, false, not, ◌==◌, ◌&&◌, if◌then◌else◌, Option, Some, None, is_none, List, [], ◌∷◌, bytes_eq, codes, filter, length}
 use Rattle.std.specs.List.{list_any, filter_map}
-use Rattle.std.specs.declared.alloc.Global.{Global}
-use Rattle.naga_oil_front_writer.specs.Items.{◌>>=◌}
-use Rattle.naga_oil_symbols.specs.Names.{texts_of}
+use Rattle.naga_oil_words.specs.OptionSteps.{◌>>=◌}
+use Rattle.naga_oil_mini_symbols.specs.Names.{texts_of}
 use Rattle.naga_oil_mini.specs.declared.mini.words.Task.{Task}
 use Rattle.naga_oil_mini.specs.declared.mini.words.Task.TheVariants.{Preprocess, Make}
 use Rattle.naga_oil_mini.specs.declared.mini.words.Request.{Request}
@@ -12,7 +11,7 @@ use Rattle.naga_oil_mini.specs.declared.mini.words.Request.{Request}
 abbrev pub is_definition : List ℕ → Bool
 is_definition word = list_any (λ b. b == 61) word
 
--- the name behind `+`
+-- the name after `+`
 abbrev pub import_of : List ℕ → Option (List ℕ)
 import_of [] = None
 import_of (b ∷ name) = if b == 43 then Some name else None
@@ -37,36 +36,36 @@ imports words = filter_map added_import words
 abbrev pub task_of : List ℕ → Option Task
 task_of command = if bytes_eq command (codes "pre") then Some Preprocess else (if bytes_eq command (codes "make") then Some Make else None)
 
--- `pre` takes one file, and `make` one or more and imports: so many of them
+-- `pre` takes one file, and `make` one or more and imports
 abbrev pub takes : Task → (files imports : ℕ) → Bool
 takes Preprocess files imports = (files == 1) && (imports == 0)
 takes Make files imports = not (files == 0)
 
--- whether words begin with the option of `make` that lets any function be overridden, and the words behind it
+-- whether words begin with the option of `make` that lets any function be overridden, and the words after the option
 abbrev pub with_option : Task → List (List ℕ) → Bool × List (List ℕ)
 with_option Preprocess words = (false, words)
 with_option Make [] = (false, [])
 with_option Make (word ∷ words) = if bytes_eq word (codes "--override-any") then (true, words) else (false, word ∷ words)
 
--- what is asked for: a task, whether any function may be overridden, files, of which the first is the shader's, and imports
+-- a request: a task, whether any function may be overridden, files, of which the first is the shader's, and imports
 pub record Asked : Type 0 where
   pub task : Task
   pub override_any : Bool
   pub files : List (List ℕ)
   pub imports : List (List ℕ)
 
--- what a task asks for with an option, if it is given, and the words behind it
+-- the request of a task, by its option and the words after it
 abbrev pub asked_with : Task → Bool × List (List ℕ) → Option Asked
 asked_with task given =
     if takes task (length (files given.1)) (length (imports given.1))
     then Some (record { task = task; override_any = given.0; files = files given.1; imports = imports given.1 })
     else None
 
--- what a task asks for with the words behind its command
+-- the request of a task, by the words after its command
 abbrev pub task_asked : List (List ℕ) → Task → Option Asked
 task_asked words task = asked_with task (with_option task words)
 
--- what the words ask for
+-- the request of the words
 abbrev pub asked : List (List ℕ) → Option Asked
 asked [] = None
 asked (command ∷ words) = task_of command >>= task_asked words

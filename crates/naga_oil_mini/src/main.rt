@@ -1,4 +1,4 @@
-//! The program `oil`: prints a shader's text as it stands behind preprocessing, or a shader made of files.
+//! The program `oil`: prints a shader's text after preprocessing, or a shader that is built from files.
 #![tactic(auto)]
 
 pub mod mini;
@@ -8,14 +8,14 @@ use std::io::{BufWriter, ErrorKind, Read};
 use std::process::ExitCode;
 use std::{env, fs, io};
 
-// What standard input gives up to its end.
+// The bytes of standard input.
 fn read_input(rt: &HostRuntime) -> io::Result<Vec<u8>> {
     let mut bytes = Vec::new(rt.alloc());
     rt.stdin().read_to_end(&mut bytes)?;
     Ok(bytes)
 }
 
-// The bytes of a file, if it can be read, and for `-` those of standard input, if they weren't read before.
+// The bytes of a file, if it can be read. For `-` these are the bytes of standard input, if they weren't read before.
 fn read_file(
     rt: &HostRuntime,
     path: &str,

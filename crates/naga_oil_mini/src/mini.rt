@@ -1,10 +1,10 @@
-// What `oil` does with its words, its files and its streams.
+// `oil` by its command line, its files and its streams.
 ghost use Rattle.std.specs.Prelude.{◌≡◌, ◌≤◌, None, map, OnOk, IfOk, IfErr};
 ghost use Rattle.std.specs.Io.KnownBytes.{Appends};
 ghost use Rattle.naga_oil_mini.specs.declared.mini.refusal.Refusal.{Refusal};
-ghost use Rattle.naga_oil_symbols.specs.Names.{texts_of};
+ghost use Rattle.naga_oil_mini_symbols.specs.Names.{texts_of};
 ghost use Rattle.naga_oil_mini.specs.Words.{asked};
-ghost use Rattle.naga_oil_lines.specs.Text.{texts};
+ghost use Rattle.naga_oil_words.specs.Texts.{texts};
 ghost use Rattle.naga_oil_mini.specs.Told.{AppendsFront, IsAsked, Refuses, RefusesFiles, LeavesOut, Tells, TellsFront, Writes, status_of};
 
 mod definitions;
@@ -24,7 +24,7 @@ use std::alloc::{AllocError, Global};
 use std::io::{self, ErrorKind, Write};
 use words::Task;
 
-// Writes what the words ask for.
+// Writes the text that the words request.
 fn answer<'a, F: FnMut(&str) -> Result<Option<Vec<u8>>, AllocError> + Drop, O: Write>(
     alloc: Global,
     words: &'a [String],
@@ -52,7 +52,7 @@ fn answer<'a, F: FnMut(&str) -> Result<Option<Vec<u8>>, AllocError> + Drop, O: W
     }
 }
 
-// The texts of files, each with its file.
+// The texts of files, each with its path.
 fn read_files<'a, F: FnMut(&str) -> Result<Option<Vec<u8>>, AllocError> + Drop>(
     alloc: Global,
     files: &[&'a str],
@@ -72,7 +72,7 @@ fn read_files<'a, F: FnMut(&str) -> Result<Option<Vec<u8>>, AllocError> + Drop>(
     Ok(texts)
 }
 
-// Writes the bytes. Of a write that fails a front of them stays.
+// Writes the bytes. A failed write may have written a front of them.
 fn put<W: Write>(to: &mut W, bytes: &[u8]) -> io::Result<()>
     ensures all { OnOk result (Appends (W.contents to.old) (W.contents to.new) bytes.now) }
     ensures front { AppendsFront (W.contents to.old) (W.contents to.new) bytes.now }
@@ -92,7 +92,7 @@ fn put<W: Write>(to: &mut W, bytes: &[u8]) -> io::Result<()>
     Err(io::Error::from(ErrorKind::Interrupted))
 }
 
-// Writes the bytes and hands them on.
+// Writes the bytes and flushes.
 fn show<O: Write>(out: &mut O, bytes: &[u8]) -> io::Result<()>
     ensures { OnOk result (Appends (O.contents out.old) (O.contents out.new) bytes.now) }
 {
@@ -100,7 +100,7 @@ fn show<O: Write>(out: &mut O, bytes: &[u8]) -> io::Result<()>
     out.flush()
 }
 
-// Tells why nothing is written.
+// Writes the message of a refusal.
 fn tell<E: Write>(refusal: Refusal<'_>, err: &mut E) -> io::Result<()>
     ensures all { OnOk result (Tells refusal.entry (E.contents err.old) (E.contents err.new)) }
     ensures front { TellsFront refusal.entry (E.contents err.old) (E.contents err.new) }
@@ -112,11 +112,11 @@ fn tell<E: Write>(refusal: Refusal<'_>, err: &mut E) -> io::Result<()>
     err.flush()
 }
 
-/// What `oil` does with the words behind its name, and its status:
-/// 0 where the text was written, 1 for a fault of the text, for want of memory and for a write that fails,
-/// and 2 for words that it doesn't understand and a file that can't be read.
-/// `read` gives a file's bytes, or `None` where it can't be read.
-/// What went wrong is a line on `err`, except for a write.
+/// Runs `oil` with the words of its command line, and returns its status:
+/// 0 where the text was written, 1 for an error in a text, out of memory and a failed write,
+/// and 2 for a wrong command line and for a file that can't be read.
+/// `read` returns the bytes of a file, or `None` for a file that can't be read.
+/// An error is a line on `err`, except for a failed write.
 pub fn oil<F: FnMut(&str) -> Result<Option<Vec<u8>>, AllocError> + Drop, O: Write, E: Write>(
     alloc: Global,
     words: &[String],
@@ -129,11 +129,11 @@ pub fn oil<F: FnMut(&str) -> Result<Option<Vec<u8>>, AllocError> + Drop, O: Writ
     ensures asked { result ≡ 0 → IsAsked (texts words.now) }
     ensures written { let said = texts words.now in
         result ≡ 0 → Writes said (O.contents out.old) (O.contents out.new) × (err.new ≡ err.old) }
-    // Nothing stands on `out` but what a write that failed left there.
+    // Only a failed write may have left a part of the text on `out`.
     ensures refused { let said = texts words.now in
         1 ≤ result → (e : Refusal) × Refuses said e × LeavesOut e out.old out.new
         × TellsFront e (E.contents err.old) (E.contents err.new) }
-    // The words and the files are refused by a line.
+    // A wrong command line and a file that can't be read are reported by a line.
     ensures told { let said = texts words.now in
         result ≡ 2 → (e : Refusal) × Refuses said e × (status_of e ≡ 2)
         × Tells e (E.contents err.old) (E.contents err.new) × LeavesOut e out.old out.new }

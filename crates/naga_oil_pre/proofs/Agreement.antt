@@ -1,4 +1,4 @@
--- What a text becomes depends on the definitions through the names that it records alone.
+-- The result of preprocessing depends only on the names that the text records.
 use Rattle.std.proofs.Common.{◌≡◌, ℕ, zero, suc, Bool, true, false, ◌||◌, List, [], ◌∷◌, ◌++◌, refl, ap, sym, ◌∙◌, Option, Some, None, Result, Ok, Err, cond}
 use Rattle.std.specs.Prelude.{is_some, not, length, codes, bytes_eq}
 use Rattle.std.specs.List.{flat_map}
@@ -7,7 +7,8 @@ use Rattle.std.proofs.lemmas.Slice.Eq.{bytes_eq-Decides}
 use Rattle.std.proofs.lemmas.List.Folds.{list_any-append}
 use Rattle.naga_oil_conditions.specs.declared.scope.ScopeLevel.{ScopeLevel}
 use Rattle.naga_oil_conditions.specs.Line.{Line, source_lines, end_place}
-use Rattle.naga_oil_lines.specs.Text.{◌>>=◌, is_among}
+use Rattle.naga_oil_words.specs.Texts.{is_among}
+use Rattle.naga_oil_words.specs.OptionSteps.{◌>>=◌}
 use Rattle.naga_oil_conditions.specs.LineKinds as grammar
 use Rattle.naga_oil_conditions.specs.Kind.{LineKind, version, condition, endif, imports, import_path, define, other, kind_of, unversioned_kind_of, read_as, ◌or_else◌, Condition, defined, undefined, compares, otherwise}
 use Rattle.naga_oil_conditions.specs.Fault.{Fault, invalid_version, invalid_import, Definitions, evaluated, comparison, is_met}
@@ -104,7 +105,7 @@ same_step d e levels l (import_path name) more h = refl
 same_step d e levels l (define name value) more h = refl
 same_step d e levels l other more h = refl
 
--- what a shown line becomes, by its two replaced texts
+-- the text that a shown line becomes, by its two replaced texts
 abbrev shown_of : Known → Line → (text covered : List ℕ) → (ambiguous : Option ℕ) → Result becomes.Passage Fault
 shown_of k l text covered (Some place) = Err (invalid_import (codes "Ambiguous import path for item") place)
 shown_of k l text covered None = Ok (end_line (padded (length l.text) (substituted k.declared (tokens_of text))), record k { uses = used_by k.declared l.at (tokens_of covered) k.uses })
@@ -149,7 +150,7 @@ same_piece d e k levels l (define name value) more h = refl
 same_piece d e k levels l other more h =
     elim (is_active levels) as (λ b. passage d k (cond b (shown l) (blanked l)) ≡ passage e k (cond b (shown l) (blanked l))) [ true ↦ same_shown d e k l h | false ↦ refl ]
 
--- ---- line after line
+-- ---- line by line
 same_joined : (d e : Definitions) (p : Result becomes.Passage Fault) (ss ts : List Status) → ((k : Known) → written d k ss ≡ written e k ts) → prepend_passage p (λ k. written d k ss) ≡ prepend_passage p (λ k. written e k ts)
 same_joined d e (Ok p) ss ts h = ap (prepend p.0) (h p.1)
 same_joined d e (Err f) ss ts h = refl

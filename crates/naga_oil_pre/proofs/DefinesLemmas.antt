@@ -1,4 +1,5 @@
--- What lines define depends on what was defined before them, and on nothing else that was found.
+-- The defines of lines depend on earlier defines, and on no other findings.
+use Rattle.std.specs.Prelude.{IsOk}
 use Rattle.std.proofs.Common.{◌≡◌, ℕ, zero, suc, Bool, ◌∷◌, [], List, Option, Some, None, MatchOption, Result, Ok, Err, refl, sym, ap, ◌∙◌}
 use Rattle.naga_oil_conditions.specs.declared.fault.ComposerErrorInner.{ComposerErrorInner}
 use Rattle.naga_oil_conditions.specs.Fault.{Fault, Definitions}
@@ -9,8 +10,6 @@ use Rattle.naga_oil_conditions.specs.declared.line_kind.LineKind as code
 use Rattle.naga_oil_conditions.specs.declared.line_kind.LineKind.TheVariants as kinds
 use denote.Ref.{Bor}
 use Rattle.naga_oil_conditions.specs.View.{Fails, fault_of}
-use Rattle.naga_oil_imports.specs.Declarations.{Declared}
-use Rattle.naga_oil_imports.specs.Leaves as declaring
 use Rattle.naga_oil_imports.specs.Leaves.{Leaf, SyntaxFault, import_leaves}
 use Rattle.naga_oil_lines.specs.Directives.{Directives}
 use Rattle.naga_oil_pre.specs.Extracted.{extracted}
@@ -58,7 +57,7 @@ alike allow f g zero (l ∷ ls) e =
     (behind_alike allow f g l (unversioned_kind_of l.covered) ls e)
 alike allow f g (suc n) (l ∷ ls) e = alike allow f g (braces_after (suc n) l.covered) ls e
 
--- a line that defines so much, with the lines that it takes
+-- a line with its defines, and the lines that it takes
 pub line_read : (allow : Bool) (old new : Definitions) (l : Line) (k : LineKind) (left after : List Line) → k ≡ unversioned_kind_of l.covered → after ≡ behind_taken (left_open l k) left
     → defines_of (found_behind allow (defining old) l k left) ≡ Ok new → own_defines allow new after ≡ own_defines allow old (l ∷ left)
 line_read allow old new l k left after kind is e =
@@ -86,10 +85,9 @@ refused_defines None r h = tt
 refused_defines (Some f) r h = ap defines_of h
 
 -- ---- imports
-pub import_parsed : (declared new : Declared) (found : Found) (at : ℕ) (r : Result (List Leaf) SyntaxFault) → declaring.with_import declared r ≡ Ok new
-    → defines_of (with_import found at r) ≡ Ok found.defines
-import_parsed declared new found at (Ok leaves) e = refl
-import_parsed declared new found at (Err f) e = cc
+pub import_checked : (found : Found) (at : ℕ) (r : Result (List Leaf) SyntaxFault) → IsOk r → defines_of (with_import found at r) ≡ Ok found.defines
+import_checked found at (Ok leaves) ok = refl
+import_checked found at (Err f) ok = cc
 
 pub import_refuses : (e : ComposerErrorInner) (allow : Bool) (old : Definitions) (l : Line) (left : List Line) → Fails e (found_behind allow (defining old) l imports left)
     → Fails e (defines_of (found_behind allow (defining old) l imports left))

@@ -1,4 +1,4 @@
--- The reader of directives reads what the grammar says, and nothing else.
+-- The reader of directives reads exactly what the grammar says.
 use Rattle.std.proofs.Common.{◌≡◌, ◌≢◌, ◌⊎◌, inl, inr, ℕ, ◌+◌, ◌==◌, ◌||◌, not, Bool, true, false, cond, Option, Some, None, List, [], ◌∷◌, ◌++◌, length, take, drop, codes, refl, sym, ap, ◌∙◌, subst, arith, length-append, length-drop, append_assoc}
 use Rattle.std.specs.Prelude.{◌↔◌}
 use borrow.Author.Tests.{eqb-true, ne_eqb}
@@ -10,7 +10,8 @@ use Rattle.std.proofs.lemmas.List.{nil_from_length}
 use Rattle.std.proofs.lemmas.List.Sums.{prefix_len-le-length}
 use Rattle.std.proofs.lemmas.List.Folds.{length-prefix_len}
 use Rattle.std.proofs.lemmas.Bool.{and_parts}
-use Rattle.naga_oil_lines.specs.Text.{◌>>=◌, past_word}
+use Rattle.naga_oil_words.specs.OptionSteps.{◌>>=◌}
+use Rattle.naga_oil_lines.specs.Text.{past_word}
 use Rattle.naga_oil_lines.proofs.TextLemmas.{past_word-append, past_word-some}
 use Rattle.naga_oil_conditions.specs.LineGrammar.{IsRun}
 use Rattle.naga_oil_pre.specs.DirectiveLines.{Directive, enabling, requiring, treating, wrong, passing, ending, cut_at, begins_list, listed, treated, extensions, is_severity, unknown_severity, is_between, named, graded, directive_of}
@@ -147,7 +148,7 @@ diagnostic-is severity rule line h =
           rule_is = sym (ap (λ x. x.1) both);
         }
 
--- ---- one of them at most
+-- ---- at most one of them
 none_without : {A : Type 0} (o : Option A) → ((x : A) → o ≡ Some x → ⊥) → o ≡ None
 none_without None h = refl
 none_without (Some x) h = absurd (h x refl)
@@ -219,7 +220,7 @@ only_directive (wrong reason) line (inr h) =
 only_directive passing line h = sym (none_read line h.0 ∙ ap (λ b. cond b passing ending) h.1)
 only_directive ending line h = sym (none_read line h.0 ∙ ap (λ b. cond b passing ending) h.1)
 
--- ---- one of them at least
+-- ---- at least one of them
 naming_is : (word line list : List ℕ) → HasList word line list → (names : List (List ℕ)) → extensions list ≡ names → (kind : List (List ℕ) → Directive) → ((some : List (List ℕ)) → IsNaming word some line → IsDirective (kind some) line) → (IsNameless line → IsDirective (named kind []) line)
     → (extensions list ≡ [] → IsNameless line) → IsDirective (named kind names) line
 naming_is word line list has [] e kind make none nameless = none (nameless e)

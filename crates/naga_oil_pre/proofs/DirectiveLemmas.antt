@@ -1,30 +1,19 @@
--- What a line is among directives, by its bytes.
-use Rattle.std.specs.Prelude.{option_copied}
-use Rattle.std.proofs.Common.{◌≡◌, ◌≢◌, ℕ, ◌<◌, ◌==◌, not, Bool, true, false, Option, Some, None, List, [], ◌∷◌, ◌++◌, map, length, codes, string_bytes, String, Global, refl, sym, ap, ◌∙◌, arith, eq-eqb}
+-- The kind of a line among directives, by its bytes.
+use Rattle.std.proofs.Common.{◌≡◌, ◌≢◌, ℕ, ◌<◌, ◌==◌, not, Bool, true, false, Option, Some, None, List, [], ◌∷◌, map, length, codes, string_bytes, String, Global, refl, sym, ap, ◌∙◌, arith, eq-eqb}
 use borrow.Author.Tests.{ne_eqb}
 use denote.Ref.{Bor}
 use Rattle.std.specs.Option.{option_map, MatchOption}
 use Rattle.std.specs.List.{position_or_len, before_first, after_first}
 use Rattle.std.specs.Char.{is_whitespace}
 use Rattle.std.specs.Str.{IsUtf8, chars}
-use Rattle.std.specs.Str.Pattern.{FindsTextPrefix, StripsPrefix}
 use Rattle.std.proofs.lemmas.Str.{chars-nil}
 use Rattle.std.proofs.lemmas.List.{nil_from_length}
 use Rattle.naga_oil_lines.specs.Text.{BeginsWithChar}
 use Rattle.naga_oil_lines.specs.Text.{past_word}
 use Rattle.naga_oil_pre.specs.DirectiveLines.{Directive, enabling, requiring, wrong, cut_at, begins_list, listed, extensions, named, directive_of}
-use Rattle.naga_oil_lines.proofs.TextLemmas.{past_word-append, past_word-some, none_unless}
 use Rattle.naga_oil_conditions.proofs.LineKindLemmas.{chars-none}
 
--- what `strip_prefix` says of the bytes
-pub past_word_bytes : (word text : List ℕ) (r : Option (Bor (List ℕ))) → MatchOption r (FindsTextPrefix word text None) (λ x. StripsPrefix (FindsTextPrefix word) text x.now)
-    → option_copied r ≡ past_word word text
-past_word_bytes word text None h = none_unless (past_word word text) (λ rest e. h rest (past_word-some word text rest e))
-past_word_bytes word text (Some x) h =
-    let e : text ≡ word ++ x.now = h.1.1 ∙ ap (λ l. word ++ l) (sym h.2) in
-    rw e (sym (past_word-append word x.now))
-
--- what `split_once` says of the first such byte
+-- the first such byte by the result of `split_once`
 pub cut_is : (c : ℕ) (text : List ℕ) (r : Option (Bor (List ℕ) × Bor (List ℕ)))
     → MatchOption r (position_or_len (λ b. b == c) text ≡ length text) (λ x. (x.0.now ≡ before_first (λ b. b == c) text) × (x.1.now ≡ after_first (λ b. b == c) text) × (position_or_len (λ b. b == c) text < length text))
     → option_map (λ x. (x.0.now, x.1.now)) r ≡ cut_at c text

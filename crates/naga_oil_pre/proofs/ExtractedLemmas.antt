@@ -1,4 +1,4 @@
--- A text taken apart line by line.
+-- Directives are removed from a text line by line.
 use Rattle.std.proofs.Common.{◌≡◌, ℕ, ◌+◌, ◌<◌, ◌==◌, if◌then◌else◌, Bool, true, false, List, [], ◌∷◌, ◌++◌, length, flat_map, refl, sym, ap, ◌∙◌, append_assoc, append-nil, ⊎_elim, Result, Ok, Err, Some, None, MatchOption, arith, length-append, length-drop}
 use borrow.Author.Tests.{ne_eqb}
 use Rattle.std.specs.List.{join_with_byte}
@@ -16,15 +16,15 @@ use Rattle.naga_oil_conditions.specs.View.{Fails, fault_of}
 use Rattle.naga_oil_pre.specs.DirectiveLines.{Directive, enabling, requiring, treating, wrong, passing, ending, directive_of}
 use Rattle.naga_oil_pre.specs.Extracted.{Extracted, kept, found, goes_on, ◌and◌, onto, taken_out, join_lines, extracted}
 
--- further lines, each behind a line end
+-- further lines, each after a line end
 abbrev pub followed : List (List ℕ) → List ℕ
 followed ls = flat_map (λ line. 10 ∷ line) ls
 
--- what stands before a line of this number
+-- the line end before a line with this number
 abbrev pub apart : ℕ → List ℕ
 apart index = if index == 0 then [] else 10 ∷ []
 
--- lines from this number on, behind those before them
+-- lines from this number on, after those before them
 abbrev pub glued : ℕ → List (List ℕ) → List ℕ
 glued index ls = if index == 0 then join_with_byte 10 ls else followed ls
 
@@ -46,7 +46,7 @@ glued_none index = elim (index == 0) as (λ b. (if b then join_with_byte 10 [] e
 glued_on : (index : ℕ) (more : List (List ℕ)) → glued (index + 1) more ≡ followed more
 glued_on index more = ap (λ b. if b then join_with_byte 10 more else followed more) (ne_eqb (index + 1) 0 (λ z. omega (arith, z)))
 
--- what a text becomes, of which the lines before this number have become text and own
+-- the result for a text whose lines before this number have become text and own
 abbrev pub behind : (text : List ℕ) (own : Directives) (index : ℕ) → Result Extracted Fault → Result (List ℕ × Directives) Fault
 behind text own index (Ok e) = Ok (text ++ glued index e.lines, own and e.directives)
 behind text own index (Err f) = Err f
@@ -70,7 +70,7 @@ pub first_behind : (source rest text : List ℕ) (own : Directives) → text ≡
 unfolding extracted
 first_behind source rest text own e1 e2 e3 = (λ i. behind (e1 i) (e2 i) 0 (taken_out 0 (lines (e3 i)))) ∙ behind_nothing (taken_out 0 (lines source))
 
--- ---- behind the last line
+-- ---- after the last line
 pub last_behind : (index : ℕ) (rest text : List ℕ) (own : Directives) (r : Result (List ℕ × Directives) Fault) → length rest ≡ 0 → behind text own index (taken_out index (lines rest)) ≡ r → r ≡ Ok (text, own)
 unfolding taken_out
 last_behind index rest text own r none e =
@@ -145,7 +145,7 @@ module _ (index : ℕ) (w x rest text : List ℕ) (before : Directives) (r : Res
   fails_behind error h =
       elim (fault_of error) as (λ o. MatchOption o (Unit {0}) (λ f. goes_on index (trim x) (directive_of (trim x)) ≡ Err f) → MatchOption o (Unit {0}) (λ f. r ≡ Err f)) [ None ↦ λ _. tt | Some f ↦ wrong_behind f ] h
 
--- fewer bytes are left behind a line
+-- fewer bytes are left after a line
 pub line_shorter : (w x rest : List ℕ) → 0 < length w → IsFirstLine w x rest → length rest < length w
 line_shorter w x rest some h =
     let n : ℕ = h.0 in

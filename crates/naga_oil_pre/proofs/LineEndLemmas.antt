@@ -56,7 +56,7 @@ each_one_line : (cs : List ℕ) → scalars cs ≡ true → AllByRecursion (λ c
 each_one_line [] s = tt
 each_one_line (c ∷ cs) s = let each = and_parts (scalar c) (scalars cs) s in ((λ e. (IsUtf8-encode c each.0, no_ends_in_character c e)), each_one_line cs each.1)
 
--- no line of a text holds a line end
+-- no line of a text has a line end
 lines_are_lines : (text : List ℕ) → IsUtf8 text → All IsOneLine (lines text)
 lines_are_lines text u =
     subst (λ t. All IsOneLine (lines t)) u.1.1
@@ -120,7 +120,7 @@ replaced_is_one_line : (defs : Definitions) (line : List ℕ) → IsOneLine line
 unfolding replaced replaced_from
 replaced_is_one_line defs line h = (pieces_utf8 defs 0 (chars line) (scalars-chars line h.0), replaced_holds_no_newline defs line h.0 h.1)
 
--- ---- what a shown line becomes
+-- ---- the text that a shown line becomes
 abbrev HoldsNoEnd : List ℕ → Type 0
 HoldsNoEnd text = count_by is_end text ≡ 0
 
@@ -132,7 +132,7 @@ none_in_right : (xs ys : List (List ℕ)) → All HoldsNoEnd (xs ++ ys) → All 
 none_in_right [] ys h = h
 none_in_right (x ∷ xs) ys h = none_in_right xs ys (All-tail HoldsNoEnd x (xs ++ ys) h)
 
--- no declared path holds a line end
+-- no declared path has a line end
 abbrev DeclaresNoEnd : Declared → Type 0
 DeclaresNoEnd declared = All (λ e. All HoldsNoEnd e.1) declared
 
@@ -149,7 +149,7 @@ no_ends_shown defs known l h d =
     let text : List ℕ = substituted known.declared (tokens_of (replaced defs l.text)) in
     no_ends_in_both text (replicate (length l.text - length text) 32) (substituted_holds_no_newline known.declared (replaced defs l.text) r.0 r.1 d) (no_ends_in_spaces (length l.text - length text))
 
--- ---- what an import declares
+-- ---- the declarations of an import
 path_declared : (declared : Declared) (key path : List ℕ) → DeclaresNoEnd declared → HoldsNoEnd path → DeclaresNoEnd (with_path declared key path)
 path_declared [] key path d h = All-cons (λ e. All HoldsNoEnd e.1) (key, path ∷ []) [] (All-cons HoldsNoEnd path [] h (All-nil HoldsNoEnd)) (All-nil (λ e. All HoldsNoEnd e.1))
 path_declared ((k, paths) ∷ more) key path d h =
@@ -165,8 +165,8 @@ leaves_declared declared [] d h = d
 leaves_declared declared ((key, path) ∷ more) d h =
     leaves_declared (with_path declared key path) more (path_declared declared key path d (All-head HoldsNoEnd path _ h)) (All-tail HoldsNoEnd path _ h)
 
--- ---- what a line becomes
--- a piece is one line, and behind it no declared path holds a line end
+-- ---- the text that a line becomes
+-- a passage is one line, and after it no declared path has a line end
 record Made (p : Passage) : Type 0 where
   one : count_by is_end p.0 ≡ 1
   declares : DeclaresNoEnd p.1.declared
@@ -192,7 +192,7 @@ piece_made defs known (imported l taken) h p d =
     ] p
 piece_made defs known (noted f) h p d = tt
 
--- ---- what the lines become
+-- ---- the text that the lines become
 abbrev HasEnds : ℕ → Result Output Fault → Type 0
 HasEnds n r = IfOk r (λ o. count_by is_end o.text ≡ n)
 
@@ -278,7 +278,7 @@ ends_preprocessed defs text u p =
     subst (λ r. HasEnds (length (lines text)) r) (scanned_reading defs end ls (reading defs ls) (IsReading-reading defs ls))
     (subst (λ n. HasEnds n (written defs nothing_known (scanned defs end [] 0 ls))) (length-placed Code 0 (lines text)) all)
 
--- where no path that a text declares holds a line end, what it becomes has as many line ends as the text has lines
+-- if no declared path has a line end, the result has as many line ends as the text has lines
 pub as_many_ends : (defs : Definitions) (text : List ℕ) (o : Output) → IsUtf8 text → preprocessed defs text ≡ Ok o
     → All (λ path. count_by (λ b. eqb b 10) path ≡ 0) (declared_paths defs text) → count_by (λ b. eqb b 10) o.text ≡ length (lines text)
 as_many_ends defs text o u e p = subst (HasEnds (length (lines text))) e (ends_preprocessed defs text u p)

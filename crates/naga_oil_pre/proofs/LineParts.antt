@@ -1,4 +1,4 @@
--- What holds of the texts that the characters of a text make holds of its lines.
+-- A property of the texts made of a text's characters holds for its lines.
 use Rattle.std.proofs.Common.{◌≡◌, ℕ, ◌+◌, ◌-◌, ◌<◌, Bool, true, false, cond, eqb, List, [], ◌∷◌, ◌++◌, length, get_or, take, refl, sym, ap, subst, ◌∙◌, arith}
 use borrow.Author.Tests.{eqb-true}
 use lib.Utf8.{encode, encodes}
@@ -29,7 +29,7 @@ before_parts [] ys part more none e = e
 before_parts (x ∷ xs) ys part more none e =
     slice_split-cons_no is_end x (xs ++ ys) (first_is_none x xs none) ∙ ap (onto_first x) (before_parts xs ys part more (more_are_none x xs none) e)
 
--- the front of a text that a carriage return ends keeps what holds of the text
+-- the front of a text that a carriage return ends keeps the property
 abbrev pub KeepsFront : (List ℕ → Type 0) → Type 0
 KeepsFront P = (text : List ℕ) → 0 < length text → get_or text (length text - 1) 0 ≡ 13 → P text → P (take (length text - 1) text)
 

@@ -1,5 +1,5 @@
--- What a line and the lines that it takes become, before what is left.
-use Rattle.std.specs.Prelude.{OnOk, IfErr, String}
+-- The text that a line and the lines that it takes become, before the rest.
+use Rattle.std.specs.Prelude.{OnOk, IfErr, IfSome, String}
 use Rattle.std.specs.declared.alloc.Global.{Global}
 use Rattle.naga_oil_imports.specs.declared.import_definition.ImportDefWithOffset.{ImportDefWithOffset}
 use Rattle.std.proofs.Common.{◌≡◌, ℕ, zero, suc, ◌+◌, ◌<◌, ◌≤◌, ◌^◌, true, false, List, [], ◌∷◌, ◌++◌, map, length, refl, sym, ap, subst, ◌∙◌, append_assoc, append-nil, Option, Some, None, MatchOption, Result, Ok, Err, arith}
@@ -7,12 +7,11 @@ use Rattle.naga_oil_imports.specs.Declarations.{Declared}
 use Rattle.naga_oil_imports.specs.Leaves.{Leaf, SyntaxFault, import_leaves, with_leaves, with_import as declared_behind}
 use Rattle.naga_oil_imports.specs.Uses.{Use, Uses, use_of, use_entry}
 use Rattle.naga_oil_imports.specs.Substituted.{Site, substituted, sites, first_ambiguous, usize_sites, used_by}
-use denote.Ref.{Bor}
 use Rattle.std.specs.Str.{IsUtf8, chars}
 use Rattle.naga_oil_imports.proofs.ImportPlaceLemmas.{fault_within}
 use Rattle.naga_oil_imports.proofs.SitePlaceLemmas.{sites_count}
 use Rattle.naga_oil_lines.specs.Tokens.{lexemes}
-use Rattle.naga_oil_imports.specs.ImportView.{RefusesImport as Declines}
+use Rattle.naga_oil_imports.specs.ImportView.{RefusesImport as Declines, fault_of as import_fault}
 use Rattle.naga_oil_imports.specs.declared.parse_imports.ImportFault.{ImportFault}
 use Rattle.naga_oil_imports.specs.declared.parse_imports.ImportFault.TheVariants.{Syntax, Memory as OutOfMemory}
 use Rattle.naga_oil_imports.specs.SubstituteFault.{RefusesUses}
@@ -24,13 +23,13 @@ use Rattle.naga_oil_pre.specs.declared.preprocess.Treatment.{Treatment}
 use Rattle.naga_oil_pre.specs.declared.preprocess.Treatment.TheVariants.{Blank, Show, Import}
 use Rattle.naga_oil_conditions.specs.Line.{Line, source_lines, end_place}
 use Rattle.naga_oil_conditions.specs.Kind.{kind_of}
-use Rattle.naga_oil_conditions.specs.Fault.{Fault, Definitions}
+use Rattle.naga_oil_conditions.specs.Fault.{Fault, Definitions, invalid_import}
 use Rattle.naga_oil_pre.specs.Reading.{braces_after, reading, taken, behind_taken}
 use Rattle.naga_oil_conditions.specs.Replaced.{replaced}
 use Rattle.naga_oil_pre.specs.Preprocessed.{Status, blanked, shown, imported, noted, Known, nothing_known, Output, Passage, written, end_line, spaces, padded, blanks, import_text, tokens_of, using_tokens, ambiguous, shown_passage, imported_passage, passage, prepend, prepend_passage, end_status, preprocessed}
 use Rattle.naga_oil_pre.specs.Step.{Step, step, opened, scanned}
 use Rattle.naga_oil_conditions.specs.Scope.{is_open}
-use Rattle.naga_oil_pre.specs.KnownView.{TellsRefused}
+use Rattle.naga_oil_pre.specs.KnownView.{ReportsRefused}
 use Rattle.naga_oil_pre.specs.Treatment.{status_of, open_after}
 use Rattle.naga_oil_conditions.specs.View.{Fails, fault_of}
 use Rattle.naga_oil_pre.proofs.Machine.{scanned_reading}
@@ -44,14 +43,14 @@ behind_nothing : (r : Result Output Fault) → prepend [] r ≡ r
 behind_nothing (Ok o) = refl
 behind_nothing (Err f) = refl
 
--- the status of a line that is treated so, and those of what is left
+-- the status of a line by its treatment, and those of the rest
 pub scanned_first : (defs : Definitions) (end : ℕ) (levels next : List ScopeLevel) (l : Line) (more : List Line) (t : Treatment)
     → ((ls : List Line) → (let s : Step = (status_of t l ls, next) in step defs levels l (kind_of l.covered) ls ≡ s)) → opened levels l (kind_of l.covered) ≡ open_after t
     → scanned defs end levels 0 (l ∷ more) ≡ status_of t l more ∷ scanned defs end next (open_after t) more
 scanned_first defs end levels next l more t e o =
     ap (λ (s : Step). s.0 ∷ scanned defs end s.1 (opened levels l (kind_of l.covered)) more) (e more) ∙ ap (λ n. status_of t l more ∷ scanned defs end next n more) o
 
--- the lines that an import takes, and those behind them
+-- the lines that an import takes, and those after them
 scanned_behind : (defs : Definitions) (end : ℕ) (levels : List ScopeLevel) (n : ℕ) (ls : List Line) → scanned defs end levels n ls ≡ map blanked (taken n ls) ++ scanned defs end levels 0 (behind_taken n ls)
 scanned_behind defs end levels zero ls = refl
 scanned_behind defs end levels (suc n) [] = refl
@@ -94,23 +93,29 @@ fault_alike : (o : Option Fault) (place : ℕ) → MatchOption o (Unit {0}) (λ 
 fault_alike None place h = tt
 fault_alike (Some f) place h = ap Err (sym h)
 
--- what is told of a shown line whose identifiers aren't substituted
+-- the error of a shown line whose identifiers can't be substituted
 pub uses_refused : (defs : Definitions) (known : Known) (l : Line) (declared : Declared) (ss all : List Site) (old new : Uses) (f : SubstituteFault) (e : ComposerErrorInner) → ss ≡ all
-    → RefusesUses declared false ss old new f → TellsRefused e f → Fails e (shown_passage defs known l (first_ambiguous declared false all))
+    → RefusesUses declared false ss old new f → ReportsRefused e f → Fails e (shown_passage defs known l (first_ambiguous declared false all))
 uses_refused defs known l declared ss all old new (Ambiguous place) e same h told =
     let first : first_ambiguous declared false all ≡ Some place = ap (first_ambiguous declared false) (sym same) ∙ h.0 in
     rw first (fault_alike (fault_of e) place told)
 uses_refused defs known l declared ss all old new Memory e same h told = rw told tt
 
--- the identifiers of a text whose end is a number of the machine
+-- the identifiers of a text whose end fits in a `usize`
 pub counted : (offset : ℕ) (text whole : List ℕ) → IsUtf8 text → text ≡ whole → offset + length text < 2 ^ 64 → usize_sites (sites offset (lexemes 0 0 (chars text))) ≡ sites offset (tokens_of whole)
 counted offset text whole u e h = sites_count offset text u h ∙ ap (λ t. sites offset (tokens_of t)) e
 
 -- ---- an import
--- a fault of an import line has its place in the line or at its end
-pub syntax_within : (text : List ℕ) (e : ImportFault) (said : Bor (List ℕ)) (place : ℕ) → IsUtf8 text → Declines e (import_leaves text) → e ≡ Syntax said place → place ≤ length text
-syntax_within text (Syntax s p) said place u h e = let same : p ≡ place = cc in let fits : p ≤ length text = fault_within text (s.now, p) u h in omega arith
-syntax_within text OutOfMemory said place u h e = cc
+-- the place of a fault of an import whose text is at the offset is a `usize`
+pub import_fits : (text : List ℕ) (e : ImportFault) (offset : ℕ) → IsUtf8 text → Declines e (import_leaves text) → offset + length text < 2 ^ 64 → IfSome (import_fault e) (λ f. offset + f.1 < 2 ^ 64)
+import_fits text (Syntax said place) offset u h fits = let within : place ≤ length text = fault_within text (said.now, place) u h in omega (arith, within, fits)
+import_fits text OutOfMemory offset u h fits = tt
+
+-- the fault of an import whose text is at the offset
+pub import_faults : (known : Known) (l : Line) (leaves : Result (List Leaf) SyntaxFault) (offset place : ℕ) (text said : List ℕ) → l.at ≡ offset → leaves ≡ Err (text, place) → said ≡ text
+    → imported_passage known l leaves ≡ Err (invalid_import said (offset + place))
+import_faults known l leaves offset place text said at e same =
+    ap (imported_passage known l) e ∙ ap (λ n. Err (invalid_import text (n + place))) at ∙ ap (λ t. Err (invalid_import t (offset + place))) (sym same)
 
 declared_piece : (k : Known) (l : Line) (r : Result (List Leaf) SyntaxFault) (declared : Declared) → declared_behind k.declared r ≡ Ok declared
     → (let p : Passage = (end_line (spaces l), record k { declared = declared }) in imported_passage k l r ≡ Ok p)
@@ -158,7 +163,7 @@ fails_along : {Y : Type 0} (o : Option Fault) (a : Status) (b : Result Y Fault) 
 fails_along None a b go h = tt
 fails_along (Some f) a b go h = go f h
 
--- a line that is noted is the first that fails
+-- a line with a fault is the first that fails
 pub line_fails : (defs : Definitions) (k : Known) (end : ℕ) (levels : List ScopeLevel) (l : Line) (more : List Line) (error : ComposerErrorInner)
     → ((ls : List Line) → MatchOption (fault_of error) (Unit {0}) (λ f. (step defs levels l (kind_of l.covered) ls).0 ≡ noted f)) → Fails error (written defs k (scanned defs end levels 0 (l ∷ more)))
 line_fails defs k end levels l more error h =
@@ -170,7 +175,7 @@ fails_joined : (o : Option Fault) (p : Result Passage Fault) (rest : Known → R
 fails_joined None p rest h = tt
 fails_joined (Some f) p rest h = ap (λ v. prepend_passage v rest) h
 
--- a line whose piece is refused is the first that fails
+-- a line whose passage has a fault is the first that fails
 pub piece_fails : (defs : Definitions) (k : Known) (s : Status) (rest all : List Status) (error : ComposerErrorInner) → all ≡ s ∷ rest → Fails error (passage defs k s) → Fails error (written defs k all)
 piece_fails defs k s rest all error e h =
     subst (λ v. Fails error (written defs k v)) (sym e) (fails_joined (fault_of error) (passage defs k s) (λ kk. written defs kk rest) h)
@@ -179,7 +184,7 @@ fails_on : (o : Option Fault) (out : List ℕ) (r total : Result Output Fault) �
 fails_on None out r total e h = tt
 fails_on (Some f) out r total e h = sym e ∙ ap (prepend out) h
 
--- a fault of the first line that is left is that of the whole
+-- a fault of the first line that is left is that of all the lines
 pub fails_first : (defs : Definitions) (k : Known) (end : ℕ) (levels : List ScopeLevel) (l : Line) (left more : List Line) (out : List ℕ) (total : Result Output Fault) (error : ComposerErrorInner)
     → left ≡ l ∷ more → prepend out (written defs k (scanned defs end levels 0 left)) ≡ total
     → ((end : ℕ) → Fails error (written defs k (scanned defs end levels 0 (l ∷ more)))) → Fails error total
@@ -215,7 +220,7 @@ shown_fails defs k end levels next l left t error e o is h =
     piece_fails defs k (shown l) (scanned defs end next (open_after t) left) (scanned defs end levels 0 (l ∷ left)) error
     (scanned_first defs end levels next l left t e o ∙ ap (λ v. status_of v l left ∷ scanned defs end next (open_after t) left) is) h
 
--- ---- what follows from a result
+-- ---- consequences of a result
 pub on_ok : {X Y : Type 0} (r : Result X Y) (P Q : Type 0) → OnOk r P → (P → Q) → OnOk r Q
 on_ok (Ok x) P Q h go = go h
 on_ok (Err e) P Q h go = tt
@@ -232,7 +237,7 @@ pub uses_of_values : (entries : List (String Global × ImportDefWithOffset)) →
 uses_of_values [] = refl
 uses_of_values (e ∷ more) = ap (λ v. use_of e.1 ∷ v) (uses_of_values more)
 
--- where no line is left and no chain is open
+-- no line is left, and no chain is open
 pub told_last : (defs : Definitions) (k : Known) (end : ℕ) (levels : List ScopeLevel) (left : List Line) (out : List ℕ) (uses : List Use) (total : Result Output Fault)
     → left ≡ [] → is_open levels ≡ false → prepend out (written defs k (scanned defs end levels 0 left)) ≡ total → uses ≡ map (λ u. u.1) k.uses
     → (let o : Output = record { text = out; uses = uses } in total ≡ Ok o)

@@ -1,4 +1,4 @@
--- The loop gives what the reading says: by induction on the tree.
+-- The loop agrees with the reading: by induction on the tree.
 use Rattle.std.proofs.Common.{◌≡◌, ℕ, zero, suc, Bool, true, false, ◌&&◌, ◌||◌, not, List, [], ◌∷◌, ◌++◌, map, refl, ap, sym, subst, ◌∙◌, append_assoc, append-nil}
 use Rattle.naga_oil_conditions.specs.declared.scope.ScopeLevel.{ScopeLevel}
 use Rattle.naga_oil_conditions.specs.declared.scope.ScopeLevel.TheVariants.{Active, PreviouslyActive, NotActive}
@@ -10,7 +10,7 @@ use Rattle.naga_oil_pre.specs.Preprocessed.{Status, blanked, imported, condition
 use Rattle.naga_oil_conditions.specs.Scope.{level, is_active_level, has_met, is_active, is_open}
 use Rattle.naga_oil_pre.specs.Step.{Step, step, opened, scanned}
 
--- what a step gives, with the braces that it leaves open
+-- the result of a step, with the braces that it leaves open
 abbrev Turn : Type 0
 Turn = Step × ℕ
 
@@ -21,7 +21,7 @@ scanned_at : (defs : Definitions) (end : ℕ) (levels next : List ScopeLevel) (b
     → scanned defs end levels 0 (l ∷ more) ≡ s ∷ scanned defs end next braces more
 scanned_at defs end levels next braces l s more e = ap (λ (t : Turn). t.0.0 ∷ scanned defs end t.0.1 t.1 more) e
 
--- only under no levels a plain line may be an else or an end
+-- only without levels a plain line may be an else or an end
 abbrev Fits : Bool → List ScopeLevel → Type 0
 Fits in_arm levels = in_arm ≡ false → levels ≡ []
 
@@ -63,12 +63,12 @@ end_turn defs previous levels l (import_path name) more p = cc
 end_turn defs previous levels l (define name value) more p = cc
 end_turn defs previous levels l other more p = cc
 
--- the levels before the condition of an arm: of a further arm the level of the one before it
+-- the levels before the condition of an arm: for a further arm, the level of the arm before it
 abbrev before : Bool → ScopeLevel → List ScopeLevel → List ScopeLevel
 before false previous levels = levels
 before true previous levels = previous ∷ levels
 
--- the level says whether an earlier arm held
+-- the level records whether an earlier arm held
 abbrev IsMetBy : Bool → Bool → ScopeLevel → List ScopeLevel → Type 0
 IsMetBy false met previous levels = met ≡ false
 IsMetBy true met previous levels = is_active levels ≡ true → has_met previous ≡ met
@@ -138,7 +138,7 @@ scanned_all defs end levels zero e (l ∷ ls) h = absurd h
 scanned_all defs end levels (suc n) e [] h = refl
 scanned_all defs end levels (suc n) e (l ∷ ls) h = ap (λ v. blanked l ∷ v) (scanned_all defs end levels (braces_after (suc n) l.covered) e ls h)
 
--- the same where a block follows that may be empty, and the text ends behind it
+-- a block that may be empty follows, and the text ends after it
 import_open : (defs : Definitions) (end : ℕ) (levels : List ScopeLevel) (n : ℕ) (ls : List Line) (more : Block) → Takes n (is_nothing more) ls
     → scanned defs end levels 0 (lines_of more) ≡ statuses defs (is_active levels) more ++ end_status end (is_unclosed more || is_open levels)
     → (taken n (ls ++ lines_of more) ≡ ls) × (scanned defs end levels n (ls ++ lines_of more) ≡ map blanked ls ++ (statuses defs (is_active levels) more ++ end_status end (is_unclosed more || is_open levels)))
@@ -153,7 +153,7 @@ import_open defs end levels n ls (chain a l m) h ih =
 import_open defs end levels n ls (unclosed a) h ih =
     (taken_whole n ls (lines_of (unclosed a)) h, scanned_taken defs end levels n ls (lines_of (unclosed a)) h ∙ ap (λ v. map blanked ls ++ v) ih)
 
--- the status and the level of the arm whose condition stands at the line
+-- the status and the level of the arm whose condition is on the line
 abbrev arm_status : Definitions → Line → Status
 arm_status defs l = condition_status l (outcome defs l (kind_of l.covered))
 
@@ -183,7 +183,7 @@ mutual
       ∙ sym (append_assoc (arm_statuses defs (is_active levels) false arms) (blanked last ∷ statuses defs (is_active levels) more) (scanned defs end levels 0 rest))
   closed_block defs end in_arm levels (unclosed arms) rest f h = let e = h.0 in cc
 
-  -- what follows the arms gives r under whichever level the last of them leaves
+  -- the lines after the arms give r under whichever level the last of them leaves
   closed_arms : (defs : Definitions) (end : ℕ) (is_else met : Bool) (previous : ScopeLevel) (levels : List ScopeLevel) (arms : Arms) (rest : List Line) (r : List Status) → IsMetBy is_else met previous levels → AreArms defs (is_active levels) met is_else false arms
       → ((p : ScopeLevel) → scanned defs end (p ∷ levels) 0 rest ≡ r)
       → scanned defs end (before is_else previous levels) 0 (arm_lines arms ++ rest) ≡ arm_statuses defs (is_active levels) met arms ++ r
@@ -255,11 +255,11 @@ mutual
       ∙ ap (λ v. block ++ v) (open_arms defs end true (met || holds defs l) here levels arms (met_level a met (holds defs l)) h.2)
       ∙ sym (append_assoc block (arm_statuses defs a (met || holds defs l) arms) (end_status end true)))
 
--- from no levels on the loop meets the statuses of the reading
+-- from no levels on, the loop has the statuses of the reading
 pub scanned_statuses : (defs : Definitions) (end : ℕ) (lines : List Line) (b : Block) → IsReading defs lines b → scanned defs end [] 0 lines ≡ statuses defs true b ++ end_status end (is_unclosed b)
 scanned_statuses defs end lines b h =
     ap (λ ls. scanned defs end [] 0 ls) (sym h.whole) ∙ open_block defs end false [] b (λ e. refl) h.placed ∙ ap (λ v. statuses defs true b ++ end_status end v) (or_false (is_unclosed b))
 
--- so it gives what the reading says
+-- so the loop has the result of the reading
 pub scanned_reading : (defs : Definitions) (end : ℕ) (lines : List Line) (b : Block) → IsReading defs lines b → written defs nothing_known (scanned defs end [] 0 lines) ≡ read_so defs end b
 scanned_reading defs end lines b h = ap (written defs nothing_known) (scanned_statuses defs end lines b h)

@@ -1,4 +1,4 @@
--- What is found in a text, line by line.
+-- The findings in a text, line by line.
 use Rattle.std.proofs.Common.{◌≡◌, ℕ, zero, suc, ◌+◌, ◌<◌, length, get_or, take, Bool, true, false, ◌||◌, ◌∷◌, [], ◌++◌, List, Option, Some, None, MatchOption, Result, Ok, Err, refl, sym, ap, ◌∙◌}
 use Rattle.std.specs.Prelude.{OnOk, is_none, map, option_map, String, string_bytes}
 use Rattle.std.specs.BTreeSet.{BTreeSet, contains_text}
@@ -20,8 +20,8 @@ use Rattle.naga_oil_pre.specs.Reading.{braces_after, taken, behind_taken}
 use Rattle.naga_oil_pre.specs.Recorded.{line_names, names_of, is_recorded, AgreeOn}
 use Rattle.naga_oil_conditions.specs.View.{Fails, fault_of}
 use Rattle.naga_oil_pre.proofs.Agreement.{recorded_names_decide}
-use Rattle.naga_oil_pre.proofs.LoopLemmas.{taken_first, taken_none}
-use Rattle.naga_oil_pre.proofs.RecordedLemmas.{gained}
+use Rattle.naga_oil_pre.specs.Taking.{TakesAll}
+use Rattle.naga_oil_pre.proofs.RecordedLemmas.{gained, gains_nothing, gains_both}
 use Rattle.std.specs.declared.alloc.Global.{Global}
 use Rattle.std.specs.BTreeMap as tree
 use Rattle.std.specs.BTreeMap.{BTreeMap, get_by_text}
@@ -38,7 +38,7 @@ use Rattle.naga_oil_pre.specs.Metadata.{Found, Metadata, nothing_found, metadata
 all_alike : {A : Type 0} (f g : List ℕ → A) → ((name : List ℕ) → f name ≡ g name) → f ≡ g
 all_alike f g h = λ i name. h name i
 
--- a name that is put in
+-- a name that is inserted
 pub defines_name : (old new : BTreeMap (String Global) ShaderDefValue) (key : String Global) (name : List ℕ) (text : Option (List ℕ)) (at : ℕ) (value : ShaderDefValue)
     → string_bytes key ≡ name → defined_value text ≡ Some value → tree.UpdatesBy string_cmp (λ k. slice_cmp nat_cmp (string_bytes key) (string_bytes k)) old new (Some value)
     → defined_behind true (get_by_text old) at name text ≡ Ok (get_by_text new)
@@ -48,21 +48,16 @@ defines_name old new key name text at value e is updates =
     ∙ ap Ok (sym (all_alike (get_by_text new) (with_definition (get_by_text old) (string_bytes key) value) (btree_map_updates_text (string_bytes key) old new (Some value) updates)))
 
 -- ---- the names of lines that an import takes
-pub names_taken : (n : ℕ) (l : Line) (left more : List Line) → 0 < n → left ≡ l ∷ more → names_of (taken n left) ≡ line_names l ++ names_of (taken (braces_after n l.covered) more)
-unfolding names_of
-names_taken n l left more some e = ap (λ ls. names_of (taken n ls)) e ∙ ap names_of (taken_first n l more some)
-
-pub none_taken : (n : ℕ) (left : List Line) → left ≡ [] → names_of (taken n left) ≡ []
-unfolding names_of
-none_taken n left e = ap (λ ls. names_of (taken n ls)) e ∙ ap names_of (taken_none n)
-
-pub none_open : (n : ℕ) (left : List Line) → n ≡ 0 → names_of (taken n left) ≡ []
-unfolding names_of
-none_open n left e = ap (λ k. names_of (taken k left)) e
-
 names_of_first : (l : Line) (more : List Line) → names_of (l ∷ more) ≡ line_names l ++ names_of more
 unfolding names_of
 names_of_first l more = refl
+
+-- the names of the taken lines are recorded
+pub takes_names : (old new : BTreeSet (String Global)) (ls : List Line) → TakesAll (λ (o : BTreeSet (String Global)) (l : Line) (n : BTreeSet (String Global)). Gains o n (line_names l)) old ls new
+    → Gains old new (names_of ls)
+unfolding names_of
+takes_names old new [] h = λ name. ap (λ s. contains_text s name) h ∙ gains_nothing old name
+takes_names old new (l ∷ ls) h = gains_both old h.0 new (line_names l) (names_of ls) h.1 (takes_names h.0 new ls h.2)
 
 taken_and_behind : (n : ℕ) (ls : List Line) → taken n ls ++ behind_taken n ls ≡ ls
 taken_and_behind zero ls = refl
@@ -118,7 +113,7 @@ pub import_refused : (e : ComposerErrorInner) (found : Found) (l : Line) (r : Re
 import_refused e found l (Ok leaves) h = never_refused Passage Found (fault_of e) _ (with_import found l.at (Ok leaves)) h
 import_refused e found l (Err f) h = refused_alike Passage Found (fault_of e) _ h
 
--- ---- what follows from two clauses on a result
+-- ---- consequences of two clauses on a result
 pub on_both : {X Y : Type 0} (r : Result X Y) (P Q R : Type 0) → OnOk r P → OnOk r Q → (P → Q → R) → OnOk r R
 on_both (Ok x) P Q R h g go = go h g
 on_both (Err e) P Q R h g go = tt
@@ -180,7 +175,7 @@ pub data_made : (m : PreprocessorMetaData) (r : Result Metadata Fault) (definiti
     → data_of r ≡ (option_map string_bytes m.name, definitions, get_by_text m.defines)
 data_made m r definitions e same = ap data_of e ∙ ap (λ (ds : List Import). (option_map string_bytes m.name, ds, get_by_text m.defines)) (places_dropped m.imports.items ∙ sym same)
 
--- where metadata is refused for another cause than memory there is nothing
+-- if the metadata has an error other than out of memory, there is nothing
 pub data_refused : (o : Option Fault) (r : Result Metadata Fault) (definitions : List ImportDefinition) (defines : BTreeMap (String Global) ShaderDefValue) → MatchOption o (Unit {0}) (λ f. r ≡ Err f) → false ≡ is_none o
     → definitions ≡ [] → defines.entries ≡ [] → data_of r ≡ (None, map import_of definitions, get_by_text defines)
 data_refused None r definitions defines h e none empty = cc

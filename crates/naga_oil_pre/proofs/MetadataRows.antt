@@ -1,4 +1,4 @@
--- Texts and what is found in them, computed.
+-- Rows of texts and their findings, computed.
 use Rattle.std.proofs.Common.{◌≡◌, ℕ, true, false, Bool, List, [], ◌∷◌, ◌++◌, refl, map, Option, Some, None, Result, Ok, Err}
 use lib.Utf8.{encode}
 use Rattle.std.specs.Prelude.{codes}
@@ -49,7 +49,7 @@ no_value : finds true (codes "" ∷ codes "#define A x1" ∷ []) ≡ Err (invali
 unfolding finds text cover line_kinds defined_value read_u32 read_i32 read_bool chars encode ucd_perl
 no_value = refl
 
--- of the defines of a name the last counts, in arms that aren't active too
+-- the last define of a name counts, also in arms that aren't active
 last_define : value_of (codes "A") (finds true (codes "#define A 1" ∷ codes "#ifdef B" ∷ codes "#define A 2" ∷ codes "#endif" ∷ [])) ≡ Some (def.UInt 2)
 unfolding finds value_of text cover line_kinds defined_value read_u32 read_i32 read_bool chars encode ucd_perl
 last_define = refl

@@ -1,4 +1,4 @@
--- A text has one reading only.
+-- A text has exactly one reading.
 use Rattle.std.proofs.Common.{◌≡◌, ℕ, zero, suc, ◌+◌, ◌*◌, ◌≤◌, Bool, true, false, ◌&&◌, ◌||◌, not, List, [], ◌∷◌, ◌++◌, length, refl, ap, sym, subst, ◌∙◌, append_assoc, append-nil, arith, length-append}
 use Rattle.naga_oil_conditions.specs.Line.{Line}
 use Rattle.naga_oil_conditions.specs.Kind.{LineKind, version, condition, endif, imports, import_path, define, other, kind_of}
@@ -49,7 +49,7 @@ role_end active (import_path name) h = cc
 role_end active (define name value) h = cc
 role_end active other h = cc
 
--- what an import takes
+-- the lines that an import takes
 taken_again : (n : ℕ) (e : Bool) (ls back : List Line) → Takes n e ls → (e ≡ true → back ≡ []) → (taken n (ls ++ back) ≡ ls) × (behind_taken n (ls ++ back) ≡ back)
 taken_again zero e [] back h ends = (refl, refl)
 taken_again zero e (l ∷ ls) back h ends = absurd h
@@ -58,7 +58,7 @@ taken_again (suc n) e (l ∷ ls) back h ends =
     let r = taken_again (braces_after (suc n) l.covered) e ls back h ends in
     (ap (λ v. l ∷ v) r.0, r.1)
 
--- nothing follows what the text ends with
+-- nothing follows the end of the text
 nothing_back : (at_end : Bool) (b : Block) (rest : List Line) → (at_end ≡ true → rest ≡ []) → (at_end && is_nothing b) ≡ true → lines_of b ++ rest ≡ []
 nothing_back true nothing rest ends e = ends refl
 nothing_back false b rest ends e = cc
@@ -67,7 +67,7 @@ nothing_back true (import l t m) rest ends e = cc
 nothing_back true (chain a l m) rest ends e = cc
 nothing_back true (unclosed a) rest ends e = cc
 
--- the first line of arms, and those behind it
+-- the first line of arms, and those after it
 abbrev first_line : Arms → Line
 first_line (last_arm l b) = l
 first_line (arm l b arms) = l
@@ -85,7 +85,7 @@ first_begins : (defs : Definitions) (active met is_else at_end : Bool) (arms : A
 first_begins defs active met is_else at_end (last_arm l b) h = h.0
 first_begins defs active met is_else at_end (arm l b arms) h = h.0
 
--- what follows the last arm: nothing, or an end
+-- the lines after the last arm: none, or an end
 abbrev StopsArms : List Line → Type 0
 StopsArms [] = Unit {0}
 StopsArms (l ∷ more) = ends_chain (kind_of l.covered) ≡ true

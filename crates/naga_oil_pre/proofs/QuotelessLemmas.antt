@@ -1,4 +1,4 @@
--- Where a text has no `"`, no path that its imports declare holds a line end.
+-- If a text has no `"`, no path that its imports declare has a line end.
 use Rattle.std.proofs.Common.{◌≡◌, ℕ, zero, suc, ◌+◌, ◌&&◌, ◌||◌, not, Bool, true, false, cond, eqb, nat_eq, nat_le, Result, Ok, Err, List, [], ◌∷◌, ◌++◌, map, filter, length, take, drop, codes, bytes_eq, refl, ap, subst, ◌∙◌}
 use borrow.Author.Tests.{eqb-true}
 use Rattle.std.specs.Prelude.{All, IfOk}
@@ -33,7 +33,7 @@ is_quote c = eqb c 34
 abbrev HoldsNoEnd : List ℕ → Type 0
 HoldsNoEnd text = count_by is_end text ≡ 0
 
--- ---- tokens: no identifier holds a line end
+-- ---- tokens: no identifier has a line end
 no_start : (c : ℕ) → is_xid_start c ≡ true → is_end c ≡ false
 unfolding unicode_ident
 no_start c e =
@@ -286,7 +286,7 @@ no_end_scanned defs end levels zero (l ∷ more) h =
     All-append HoldsNoEnd _ _ (no_end_in_step defs levels l k more h) (no_end_scanned defs end (step defs levels l k more).1 (opened levels l k) more (All-tail IsQuotelessLine l more h))
 no_end_scanned defs end levels (suc n) (l ∷ more) h = no_end_scanned defs end levels (braces_after (suc n) l.covered) more (All-tail IsQuotelessLine l more h)
 
--- where a text has no `"`, no path that it declares holds a line end
+-- if a text has no `"`, no path that it declares has a line end
 pub quoteless_paths : (defs : Definitions) (text : List ℕ) → IsUtf8 text → NoCharPasses (λ c. eqb c 34) text → All (λ path. count_by (λ b. eqb b 10) path ≡ 0) (declared_paths defs text)
 quoteless_paths defs text u none =
     subst (All HoldsNoEnd) (paths_scanned defs 0 text) (no_end_scanned defs 0 [] 0 (source_lines text) (source_quoteless text u none))

@@ -1,4 +1,4 @@
--- Texts without `"`, and what their lines are when their comments are covered.
+-- Texts without `"`, and their covered lines.
 use Rattle.std.proofs.Common.{◌≡◌, ℕ, zero, suc, ◌+◌, ◌-◌, ◌<◌, ◌≤◌, ◌/◌, ◌&&◌, Bool, true, false, cond, eqb, ltb, Option, Some, None, List, [], ◌∷◌, ◌++◌, length, replicate, take, drop, refl, sym, ap, subst, ◌∙◌, ⊎_elim, arith, append-nil}
 use borrow.Author.Tests.{eqb-true, ne_eqb, le-ltb}
 use lib.Utf8.{encode, encodes, scalar, scalars, next}
@@ -184,7 +184,7 @@ first_quoteless s a b bs (Some Open) h one two = both (spaces 2) (cover (deeper 
 first_quoteless s a b bs (Some Close) h one two = both (spaces 2) (cover (shallower s) bs).0 (all_spaces 2) (two tt (shallower s))
 first_quoteless s a b bs (Some DoubleQuote) h one two = both (a ∷ []) (cover (past_quote s) (b ∷ bs)).0 h (one (past_quote s))
 
--- a byte of ASCII, and characters behind it: their first, where it is a byte
+-- an ASCII byte, and characters after it; the first of them, if it is one byte
 low_quoteless : (s : CommentState) (a : ℕ) (cs ys : List ℕ) → Quoteless (a ∷ []) → encodes cs ≡ ys → ((t : CommentState) → Quoteless (cover t (encodes cs)).0) → ((d : ℕ) (ds : List ℕ) → cs ≡ d ∷ ds → (t : CommentState) → Quoteless (cover t (encodes ds)).0)
     → Quoteless (cover s (a ∷ ys)).0
 unfolding cover

@@ -9,7 +9,7 @@ abbrev is_empty : List Line → Bool
 is_empty [] = true
 is_empty (l ∷ more) = false
 
--- what follows a block: nothing, or a line that leaves it
+-- the lines after a block: none, or a line that leaves the block
 abbrev pub Stops : (active in_arm : Bool) → List Line → Type 0
 Stops active in_arm [] = Unit {0}
 Stops active in_arm (l ∷ more) = role active in_arm (kind_of l.covered) ≡ leaves
@@ -19,7 +19,7 @@ record Reads (defs : Definitions) (active in_arm : Bool) (lines : List Line) (r 
   block : IsBlock defs active in_arm (is_empty r.1) r.0
   stops : Stops active in_arm r.1
 
--- what follows arms: nothing, or an end
+-- the lines after arms: none, or an end
 abbrev pub StopsArms : List Line → Type 0
 StopsArms [] = Unit {0}
 StopsArms (l ∷ more) = ends_chain (kind_of l.covered) ≡ true
@@ -118,7 +118,7 @@ arm_lines_some : (arms : Arms) → 0 < length (arm_lines arms)
 arm_lines_some (last_arm l b) = omega arith
 arm_lines_some (arm l b arms) = omega arith
 
--- a unit, where its reader reads what is no longer than the lines behind it
+-- a unit, where its reader reads no more than the lines after it
 chain_good : (defs : Definitions) (active in_arm : Bool) (size : ℕ) (block : List Line → Read) (lines : List Line) (a : ReadArms) → ((ls : List Line) → length ls ≤ size → Reads defs active in_arm ls (block ls)) → length lines ≤ size + 1
     → ReadsArms defs active false false lines a → Reads defs active in_arm lines (chain_read block a)
 chain_good defs active in_arm size block lines (arms, []) go short h = record { whole = h.whole; block = (refl, h.arms); stops = tt }

@@ -1,4 +1,4 @@
--- What a set has after names are recorded, and the `#` names of a text from its front.
+-- A set after names are recorded, and the `#` names of a text from its front.
 use Rattle.std.proofs.Common.{◌≡◌, ℕ, zero, suc, Bool, true, false, ◌||◌, cond, eqb, Some, None, List, [], ◌∷◌, ◌++◌, drop, refl, sym, ap, ◌∙◌, append-nil}
 use Rattle.std.specs.Prelude.{bytes_eq, String, string_bytes}
 use Rattle.std.specs.declared.alloc.Global.{Global}
@@ -15,11 +15,11 @@ use Rattle.std.proofs.lemmas.Slice.Eq.{bytes_eq-Decides}
 use Rattle.std.proofs.lemmas.Str.{chars-append, chars_from_encodes}
 use Rattle.naga_oil_pre.specs.MetadataView.{has_with, Gains}
 use Rattle.naga_oil_pre.specs.Recorded.{names_from}
-use Rattle.naga_oil_lines.specs.Text.{is_among}
+use Rattle.naga_oil_words.specs.Texts.{is_among}
 use Rattle.naga_oil_conditions.specs.Replaced.{HashName, hash_name, pieces, name_of}
 use Rattle.naga_oil_conditions.specs.Splits.{SplitsHashName, SplitsAtHash}
 
--- ---- what a set has
+-- ---- the names of a set
 or_assoc : (a b c : Bool) → ((a || b) || c) ≡ (a || (b || c))
 or_assoc true b c = refl
 or_assoc false b c = refl
@@ -31,7 +31,7 @@ or_false false = refl
 pub gains_nothing : (s : BTreeSet (String Global)) → Gains s s []
 gains_nothing s = λ name. sym (or_false (contains_text s name))
 
--- where a set has gained names, and others are left
+-- a set that has gained names, with others left
 pub gained : (old new : BTreeSet (String Global)) (names left all : List (List ℕ)) → Gains old new names → all ≡ names ++ left → (name : List ℕ) → has_with new left name ≡ has_with old all name
 gained old new names left all h e name =
     ap (λ b. b || is_among left name) (h name)
@@ -52,7 +52,7 @@ gains_twice old new names again e h = λ name.
     ∙ ap (λ b. contains_text old name || b)
     (sym (or_twice (is_among names name)) ∙ ap (λ ns. is_among names name || is_among ns name) (sym e) ∙ sym (list_any-append (bytes_eq name) names again))
 
--- where nothing is left
+-- no name is left
 pub gains_all : (old new : BTreeSet (String Global)) (left all : List (List ℕ)) → left ≡ [] → ((name : List ℕ) → has_with new left name ≡ has_with old all name) → Gains old new all
 gains_all old new left all e h = λ name. sym (or_false (contains_text new name)) ∙ ap (λ ns. has_with new ns name) (sym e) ∙ h name
 
@@ -81,7 +81,7 @@ same_tests xs ys = go (bytes_eq xs ys) (bytes_eq ys xs) (λ e. (bytes_eq-Decides
     go false true f g = g refl
     go false false f g = refl
 
--- a name that is put in
+-- a name that is inserted
 pub gains_new : (old new : BTreeSet (String Global)) (key : String Global) (bytes : List ℕ) → string_bytes key ≡ bytes → sorted.UpdatesBy string_cmp (λ k. slice_cmp nat_cmp (string_bytes key) (string_bytes k)) old new true → Gains old new (bytes ∷ [])
 gains_new old new key bytes e updates = λ name.
     btree_set_updates_text (string_bytes key) old new true updates name
@@ -133,7 +133,7 @@ pub no_names : (text : List ℕ) → IsUtf8 text → NoCharPasses (λ c. eqb c 3
 unfolding names_from pieces
 no_names text u none = ap names_from (sym (append-nil (chars text))) ∙ names_front text [] u none
 
--- behind a `#` without a name, and with one
+-- after a `#` without a name, and with one
 pub bare_recorded : (s : BTreeSet (String Global)) (text : List ℕ) → hash_name (chars text) ≡ None → (name : List ℕ) → has_with s (names_from (chars text)) name ≡ has_with s (names_from (35 ∷ chars text)) name
 bare_recorded s text e name = ap (λ ns. has_with s ns name) (sym (names_at_bare (chars text) e))
 

@@ -1,4 +1,4 @@
--- Texts and the names that they record, computed.
+-- Rows of texts and the names that they record, computed.
 use Rattle.std.proofs.Common.{◌≡◌, ℕ, List, [], ◌∷◌, ◌++◌, refl}
 use lib.Utf8.{encode}
 use Rattle.std.specs.Prelude.{codes}

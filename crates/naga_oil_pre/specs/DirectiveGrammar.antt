@@ -1,16 +1,16 @@
--- The directives that a text may begin with as a grammar: the pieces that a line, without the white space round it, is
--- made of, one behind the other.
+-- The directives at the start of a text as a grammar: the pieces of a line, without surrounding
+-- white space, one after another.
 use Rattle.std.specs.Prelude.{◌≡◌, ◌⊎◌, ℕ, true, false, ◌==◌, not, List, [], ◌∷◌, ◌++◌, codes}
 use Rattle.std.specs.Char.{is_whitespace}
 use Rattle.std.specs.Str.{byte, chars, trim, trim_start}
 use Rattle.naga_oil_conditions.specs.LineGrammar.{IsRun}
 use Rattle.naga_oil_pre.specs.DirectiveLines.{Directive, enabling, requiring, treating, wrong, passing, ending, extensions, is_severity, unknown_severity, is_between}
 
--- the bytes before the first byte c, and those behind it
+-- the bytes before the first byte c, and those after it
 abbrev pub IsUpTo : (c : ℕ) (text before behind : List ℕ) → Type 0
 IsUpTo c text before behind = IsRun (λ b. not (b == c)) text before (c ∷ behind)
 
--- a white character and at least one more
+-- a white space character and at least one more
 pub record IsList (text : List ℕ) : Type 0 where
   pub white : ℕ
   pub next : ℕ
@@ -18,7 +18,7 @@ pub record IsList (text : List ℕ) : Type 0 where
   pub spelled : chars text ≡ white ∷ (next ∷ more)
   pub gap : is_whitespace white ≡ true
 
--- a word, and the list behind it up to the first `;`
+-- a word, and the list after it up to the first `;`
 pub record HasList (word line list : List ℕ) : Type 0 where
   pub behind : List ℕ
   pub rest : List ℕ
@@ -39,11 +39,12 @@ IsEnabling names line = IsNaming (codes "enable") names line
 abbrev pub IsRequiring : (names : List (List ℕ)) (line : List ℕ) → Type 0
 IsRequiring names line = IsNaming (codes "requires") names line
 
--- a list of no extension
+-- a list without extensions
 abbrev pub IsNameless : (line : List ℕ) → Type 0
 IsNameless line = (list : List ℕ) × (HasList (codes "enable") line list ⊎ HasList (codes "requires") line list) × (extensions list ≡ [])
 
--- `diagnostic`, and in brackets a severity up to the first `,` and a rule up to the first `)` behind it; then `;`
+-- `diagnostic`, and in parentheses a severity up to the first `,` and a rule up to the first `)`
+-- after it; then `;`
 pub record IsDiagnostic (severity rule line : List ℕ) : Type 0 where
   pub behind : List ℕ
   pub inside : List ℕ
@@ -62,15 +63,15 @@ pub record IsDiagnostic (severity rule line : List ℕ) : Type 0 where
   pub severity_is : severity ≡ trim first
   pub rule_is : rule ≡ trim second
 
--- a diagnostic of a severity that is known
+-- a diagnostic with a known severity
 abbrev pub IsTreating : (severity rule line : List ℕ) → Type 0
 IsTreating severity rule line = IsDiagnostic severity rule line × (is_severity severity ≡ true)
 
--- a diagnostic of one that isn't
+-- a diagnostic with an unknown severity
 abbrev pub IsUngraded : (severity line : List ℕ) → Type 0
 IsUngraded severity line = (rule : List ℕ) × IsDiagnostic severity rule line × (is_severity severity ≡ false)
 
--- what is wrong with a directive
+-- the reason why a directive is wrong
 abbrev pub IsWrong : (reason line : List ℕ) → Type 0
 IsWrong reason line = (IsNameless line × (reason ≡ codes "No extensions specified")) ⊎ ((severity : List ℕ) × IsUngraded severity line × (reason ≡ unknown_severity severity))
 
@@ -80,7 +81,7 @@ pub record IsNone (line : List ℕ) : Type 0 where
   pub requires : (list : List ℕ) → HasList (codes "requires") line list → ⊥
   pub diagnoses : (severity rule : List ℕ) → IsDiagnostic severity rule line → ⊥
 
--- what a line is among directives
+-- the kind of a line among directives
 abbrev pub IsDirective : Directive → (line : List ℕ) → Type 0
 IsDirective (enabling names) line = IsEnabling names line
 IsDirective (requiring names) line = IsRequiring names line

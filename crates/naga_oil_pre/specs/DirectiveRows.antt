@@ -8,7 +8,7 @@ use Rattle.naga_oil_conditions.specs.Fault.{invalid_directive}
 use Rattle.naga_oil_pre.specs.DirectiveLines.{cut_at, listed, treated, directive_of}
 use Rattle.naga_oil_pre.specs.Extracted.{taken_out, extracted}
 
--- `unfolding texts_extracted` lets `refl` compute what is left of a text
+-- `unfolding texts_extracted` lets `refl` compute the text without its directives
 unfoldable pub texts_extracted : Unit {0}
 unfolding extracted taken_out directive_of listed treated cut_at past_word trim_start trim_end chars encode
 texts_extracted = tt

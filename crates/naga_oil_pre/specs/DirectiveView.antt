@@ -1,4 +1,4 @@
--- Directives as the code has them.
+-- The code's directives, seen as those of `DirectiveLines`.
 use Rattle.std.specs.Prelude.{codes, map, string_bytes}
 use Rattle.naga_oil_pre.specs.declared.directives.Directive as code
 use Rattle.naga_oil_pre.specs.declared.directives.Directive.TheVariants as d

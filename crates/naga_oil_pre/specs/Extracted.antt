@@ -1,8 +1,9 @@
--- A text without the directives that it begins with.
+-- A text without the directives at its start.
 use Rattle.std.specs.Prelude.{ℕ, ◌+◌, Bool, true, false, List, [], ◌∷◌, ◌++◌, Result, Ok, Err}
 use Rattle.std.specs.List.{join_with_byte}
 use Rattle.std.specs.Str.{trim}
 use Rattle.std.specs.Str.Lines.{lines}
+use Rattle.naga_oil_words.specs.Bytes.{newline}
 use Rattle.naga_oil_lines.specs.Directives.{Directives, no_directives}
 use Rattle.naga_oil_conditions.specs.Fault.{Fault, invalid_directive}
 use Rattle.naga_oil_pre.specs.DirectiveLines.{Directive, enabling, requiring, treating, wrong, passing, ending, directive_of}
@@ -12,20 +13,20 @@ pub record Extracted : Type 0 where
   pub lines : List (List ℕ)
   pub directives : Directives
 
--- the line is empty behind a directive
+-- the line that is kept: empty for a directive
 abbrev pub kept : (line : List ℕ) → Directive → List ℕ
 kept line passing = line
 kept line ending = line
 kept line _ = []
 
--- the directive at the line number
+-- the directive of the line with this number
 abbrev pub found : (index : ℕ) → Directive → Directives
 found index (enabling names) = record no_directives { enables = record { names = names; line = index } ∷ [] }
 found index (requiring names) = record no_directives { requires = record { names = names; line = index } ∷ [] }
 found index (treating severity rule) = record no_directives { diagnostics = record { severity = severity; rule = rule; line = index } ∷ [] }
 found index _ = no_directives
 
--- whether more directives may follow a line of this number, or what is wrong with it
+-- whether more directives may follow the line with this number, or its fault
 abbrev pub goes_on : (index : ℕ) (line : List ℕ) → Directive → Result Bool Fault
 goes_on index line (wrong reason) = Err (invalid_directive line index reason)
 goes_on index line ending = Ok false
@@ -41,7 +42,7 @@ abbrev pub onto : List ℕ → Directives → Result Extracted Fault → Result 
 onto line own (Ok rest) = Ok (record { lines = line ∷ rest.lines; directives = own and rest.directives })
 onto line own (Err f) = Err f
 
--- the lines without their directives, of which the first has this number; or the first fault
+-- the lines without their directives, the first with this number; or the first fault
 unfoldable pub taken_out : (index : ℕ) → List (List ℕ) → Result Extracted Fault
 taken_out index [] = Ok (record { lines = []; directives = no_directives })
 taken_out index (line ∷ more) =
@@ -52,11 +53,11 @@ taken_out index (line ∷ more) =
       | Err f ↦ Err f
     ]
 
--- the lines joined, so that the last line's end goes
+-- the lines joined; the end of the last line is removed
 abbrev pub join_lines : Result Extracted Fault → Result (List ℕ × Directives) Fault
-join_lines (Ok e) = Ok (join_with_byte 10 e.lines, e.directives)
+join_lines (Ok e) = Ok (join_with_byte newline e.lines, e.directives)
 join_lines (Err f) = Err f
 
--- a text without the directives that it begins with, and these; or the first fault
+-- a text without the directives at its start, and these directives; or the first fault
 unfoldable pub extracted : List ℕ → Result (List ℕ × Directives) Fault
 extracted text = join_lines (taken_out 0 (lines text))

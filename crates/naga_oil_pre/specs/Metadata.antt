@@ -1,4 +1,5 @@
--- What is read of a text before any build: its import path, its uses, its defines and the names that it records.
+-- The metadata of a text, read before any build: its import path, its uses, its defines and the
+-- names that it records.
 use Rattle.std.specs.Prelude.{ℕ, zero, suc, ◌+◌, Bool, if◌then◌else◌, List, [], ◌∷◌, map, bytes_eq, unwrap_or, Option, Some, None, Result, Ok, Err}
 use Rattle.naga_oil_lines.specs.Directives.{Directives}
 use Rattle.naga_oil_imports.specs.Leaves.{Leaf, SyntaxFault, import_leaves, with_leaves}
@@ -14,7 +15,8 @@ use Rattle.naga_oil_pre.specs.Reading.{braces_after, taken}
 use Rattle.naga_oil_pre.specs.Preprocessed.{Known, nothing_known, tokens_of, import_text}
 use Rattle.naga_oil_pre.specs.Recorded.{is_recorded}
 
--- what has been read of a text: the last import path, what imports declare and lines use, and of each name the last define
+-- the findings so far: the last import path, the declarations and uses, and the last define of each
+-- name
 pub record Found : Type 0 where
   pub name : Option (List ℕ)
   pub known : Known
@@ -28,34 +30,35 @@ none_defined name = None
 abbrev pub nothing_found : Found
 nothing_found = record { name = None; known = nothing_known; defines = none_defined }
 
--- the definitions with a name defined, in place of what it was
+-- the definitions with a name defined; its earlier value is replaced
 abbrev pub with_definition : Definitions → (name : List ℕ) → ShaderDefValue → Definitions
 with_definition defs name value asked = if bytes_eq name asked then Some value else defs asked
 
--- the definitions behind a define of this value, or the fault of a text that is no value
+-- the definitions after a define of this value, or the fault of a text that is no value
 abbrev pub defined_as : Definitions → ℕ → (name : List ℕ) → (text : Option (List ℕ)) → Option ShaderDefValue → Result Definitions Fault
 defined_as defs at name text (Some value) = Ok (with_definition defs name value)
 defined_as defs at name text None = Err (invalid_definition at name (unwrap_or text []))
 
--- the definitions behind a define that stands at the place
+-- the definitions after a define at the place
 abbrev pub defined_behind : (allow_defines : Bool) → Definitions → ℕ → (name : List ℕ) → (text : Option (List ℕ)) → Result Definitions Fault
 defined_behind allow_defines defs at name text = if allow_defines then defined_as defs at name text (defined_value text) else Err (define_in_module at)
 
--- what is found behind a define
+-- the findings after a define
 abbrev pub with_defines : Found → Result Definitions Fault → Result Found Fault
 with_defines found (Ok defs) = Ok (record found { defines = defs })
 with_defines found (Err f) = Err f
 
--- what is found behind an import that stands at the place
+-- the findings after an import at the place
 abbrev pub with_import : Found → ℕ → Result (List Leaf) SyntaxFault → Result Found Fault
 with_import found at (Ok leaves) = Ok (record found { known = record found.known { declared = with_leaves found.known.declared leaves } })
 with_import found at (Err f) = Err (invalid_import f.0 (at + f.1))
 
--- what is found behind a line of no kind: it uses items by its covered line, as it stands
+-- the findings after a line of no kind: its uses are those of its covered line, with no names
+-- replaced
 abbrev pub with_uses : Found → Line → Found
 with_uses found l = record found { known = record found.known { uses = used_by found.known.declared l.at (tokens_of l.covered) found.known.uses } }
 
--- what is found behind a line of this kind, where more follows; conditions choose nothing
+-- the findings after a line of this kind, with more lines after it; conditions select nothing
 abbrev pub found_behind : (allow_defines : Bool) → Found → Line → LineKind → (more : List Line) → Result Found Fault
 found_behind allow_defines found l (condition is_else c) more = Ok found
 found_behind allow_defines found l endif more = Ok found
@@ -65,41 +68,42 @@ found_behind allow_defines found l (define name text) more = with_defines found 
 found_behind allow_defines found l (version known) more = Ok (with_uses found l)
 found_behind allow_defines found l other more = Ok (with_uses found l)
 
--- how many braces a line leaves open for the lines behind it
+-- the number of braces that a line leaves open for the lines after it
 abbrev pub left_open : Line → LineKind → ℕ
 left_open l imports = braces_after 0 l.covered
 left_open l _ = 0
 
--- the same of a line that may have a fault, which is then the earlier one
+-- the findings of the rest, unless there is an earlier fault
 abbrev pub going_on : Result Found Fault → (Found → Result Found Fault) → Result Found Fault
 going_on (Ok found) rest = rest found
 going_on (Err f) rest = Err f
 
--- what is found in lines, or the earliest fault; the first of them may be taken by an import before them
+-- the findings in lines, or the earliest fault; an import before the lines may take the first of
+-- them
 abbrev pub found_in : (allow_defines : Bool) → Found → (braces : ℕ) → List Line → Result Found Fault
 found_in allow_defines found braces [] = Ok found
 found_in allow_defines found zero (l ∷ more) =
     going_on (found_behind allow_defines found l (unversioned_kind_of l.covered) more) (λ next. found_in allow_defines next (left_open l (unversioned_kind_of l.covered)) more)
 found_in allow_defines found (suc n) (l ∷ more) = found_in allow_defines found (braces_after (suc n) l.covered) more
 
--- the defines of what is found
+-- the defines of the findings
 abbrev pub defines_of : Result Found Fault → Result Definitions Fault
 defines_of (Ok found) = Ok found.defines
 defines_of (Err f) = Err f
 
--- nothing is found but these defines
+-- findings with these defines and nothing else
 abbrev pub defining : Definitions → Found
 defining defs = record nothing_found { defines = defs }
 
--- what is defined behind lines, where these defines stand before them; or the earliest fault
+-- the defines after the lines, given those before them; or the earliest fault
 abbrev pub own_defines : (allow_defines : Bool) → Definitions → List Line → Result Definitions Fault
 own_defines allow_defines defs lines = defines_of (found_in allow_defines (defining defs) 0 lines)
 
--- what a registry needs of a text
+-- the metadata of a text
 pub record Metadata : Type 0 where
   -- the import path
   pub name : Option (List ℕ)
-  -- what is used of each module, in order of first use
+  -- the uses of each module, in order of first use
   pub uses : List Use
   pub defines : Definitions
   -- whether a name is recorded
@@ -108,7 +112,7 @@ pub record Metadata : Type 0 where
   -- the text without the directives
   pub cleaned : List ℕ
 
--- what was found in the cleaned text, with its directives
+-- the metadata from the findings in the cleaned text, with its directives
 abbrev pub metadata_with : (cleaned : List ℕ) → Directives → Result Found Fault → Result Metadata Fault
 metadata_with cleaned directives (Ok found) =
     Ok (record { name = found.name; uses = map (λ u. u.1) found.known.uses; defines = found.defines; records = is_recorded cleaned; directives = directives; cleaned = cleaned })
@@ -122,11 +126,11 @@ abbrev pub metadata_behind : (allow_defines : Bool) → Result (List ℕ × Dire
 metadata_behind allow_defines (Ok r) = metadata_of_cleaned allow_defines r.0 r.1
 metadata_behind allow_defines (Err f) = Err f
 
--- the metadata of a text, whose directives are taken out first, or its first fault
+-- the metadata of a text, whose directives are removed first, or its first fault
 unfoldable pub metadata : (allow_defines : Bool) → (text : List ℕ) → Result Metadata Fault
 metadata allow_defines text = metadata_behind allow_defines (extracted text)
 
--- the import path, what is used of each module, and the defines; nothing where there is a fault
+-- the import path, the uses of each module, and the defines; nothing if there is a fault
 abbrev pub data_of : Result Metadata Fault → Option (List ℕ) × List Import × Definitions
 data_of (Ok m) = (m.name, map (λ u. u.import) m.uses, m.defines)
 data_of (Err f) = (None, [], none_defined)

@@ -1,5 +1,6 @@
--- How a text is read: a tree of lines, imports and chains of arms.
+-- The reading of a text: a tree of lines, imports and chains of arms.
 use Rattle.std.specs.Prelude.{◌≡◌, ℕ, zero, suc, ◌+◌, ◌-◌, ◌*◌, length, Bool, true, false, not, ◌&&◌, ◌||◌, ◌==◌, count_by, List, [], ◌∷◌, ◌++◌}
+use Rattle.naga_oil_words.specs.Bytes.{open_brace, close_brace}
 use Rattle.naga_oil_conditions.specs.Line.{Line}
 use Rattle.naga_oil_conditions.specs.Kind.{LineKind, version, condition, endif, imports, import_path, define, other, kind_of}
 use Rattle.naga_oil_conditions.specs.Fault.{Definitions, holds}
@@ -14,7 +15,7 @@ mutual
     import : Line → List Line → Block → Block
     -- a chain of arms and the line of its end
     chain : Arms → Line → Block → Block
-    -- a chain that runs to the end of the text
+    -- a chain that extends to the end of the text
     unclosed : Arms → Block
 
   -- arms, each the line of its condition and the block under it
@@ -22,7 +23,7 @@ mutual
     last_arm : Line → Block → Arms
     arm : Line → Block → Arms → Arms
 
--- the lines that are read so
+-- the lines of a block
 abbrev mutual
   pub lines_of : Block → List Line
   lines_of nothing = []
@@ -49,7 +50,8 @@ abbrev pub is_import : LineKind → Bool
 is_import imports = true
 is_import _ = false
 
--- whether a line is plain: it begins no chain, in an arm it is no else and no end, in an active block no import
+-- whether a line is plain: it begins no chain; in an arm it is no else and no end; in an active
+-- block it is no import
 abbrev pub is_plain : (active in_arm : Bool) → LineKind → Bool
 is_plain active in_arm (version known) = true
 is_plain active in_arm (condition false c) = false
@@ -60,11 +62,11 @@ is_plain active in_arm (import_path name) = true
 is_plain active in_arm (define name value) = true
 is_plain active in_arm other = true
 
--- how many braces are open behind a line
+-- the number of braces open after a line
 abbrev pub braces_after : ℕ → List ℕ → ℕ
-braces_after n text = n + count_by (λ b. b == 123) text - count_by (λ b. b == 125) text
+braces_after n text = n + count_by (λ b. b == open_brace) text - count_by (λ b. b == close_brace) text
 
--- the lines that an import takes under open braces, and those behind them
+-- the lines that an import with open braces takes, and those after them
 abbrev pub taken : ℕ → List Line → List Line
 taken zero lines = []
 taken (suc n) [] = []
@@ -75,7 +77,7 @@ behind_taken zero lines = lines
 behind_taken (suc n) [] = []
 behind_taken (suc n) (l ∷ more) = behind_taken (braces_after (suc n) l.covered) more
 
--- lines that are taken while braces are open, to the last of them or, where the text ends there, to the end
+-- the taken lines: up to the closing of the last brace, or to the end of the text
 abbrev pub Takes : ℕ → (at_end : Bool) → List Line → Type 0
 Takes zero at_end [] = Unit {0}
 Takes zero at_end (l ∷ more) = ⊥
@@ -86,7 +88,7 @@ abbrev pub is_nothing : Block → Bool
 is_nothing nothing = true
 is_nothing _ = false
 
--- each line is in its place, and only at the end of the text a chain has no end
+-- each line is in its place, and only the last chain of the text may have no end
 abbrev mutual
   pub IsBlock : Definitions → (active in_arm at_end : Bool) → Block → Type 0
   IsBlock defs active in_arm at_end nothing = Unit {0}
@@ -95,7 +97,7 @@ abbrev mutual
   IsBlock defs active in_arm at_end (chain arms end more) = AreArms defs active false false false arms × (ends_chain (kind_of end.covered) ≡ true) × IsBlock defs active in_arm at_end more
   IsBlock defs active in_arm at_end (unclosed arms) = (at_end ≡ true) × AreArms defs active false false true arms
 
-  -- of the arms of an active block the first whose condition holds is active, and in an inactive block none
+  -- in an active block the first arm whose condition holds is active, in an inactive block none
   pub AreArms : Definitions → (active met is_else at_end : Bool) → Arms → Type 0
   AreArms defs active met is_else at_end (last_arm l block) =
       (begins_arm is_else (kind_of l.covered) ≡ true) × IsBlock defs (active && (not met && holds defs l)) true at_end block
@@ -115,7 +117,7 @@ is_unclosed (import l taken more) = is_unclosed more
 is_unclosed (chain arms end more) = is_unclosed more
 is_unclosed (unclosed arms) = true
 
--- What a line begins: a plain line, a chain, an import, or what follows the block.
+-- the role of a line: a plain line, the begin of a chain, an import, or a line after the block
 pub data Role : Type 0 where
   plain : Role
   opens : Role
@@ -131,14 +133,14 @@ role_of false false false = leaves
 abbrev pub role : (active in_arm : Bool) → LineKind → Role
 role active in_arm k = role_of (is_plain active in_arm k) (begins_arm false k) (is_import k)
 
--- a block or arms from the front of the lines, and the lines behind them
+-- a block or arms from the front of the lines, and the rest of the lines
 abbrev pub Read : Type 0
 Read = Block × List Line
 
 abbrev pub ReadArms : Type 0
 ReadArms = Arms × List Line
 
--- one unit and the block behind it, by readers of a block and of arms
+-- one unit and the block after it, by readers of a block and of arms
 abbrev pub chain_read : (List Line → Read) → ReadArms → Read
 chain_read block (arms, []) = (unclosed arms, [])
 chain_read block (arms, end ∷ more) = let r = block more in (chain arms end r.0, r.1)
@@ -153,7 +155,7 @@ abbrev pub block_read : (List Line → Read) → (Line → List Line → ReadArm
 block_read block arms active in_arm [] = (nothing, [])
 block_read block arms active in_arm (l ∷ more) = unit_read block arms (role active in_arm (kind_of l.covered)) l more
 
--- one arm and those behind it
+-- one arm and the arms after it
 abbrev pub arms_on : (Line → List Line → ReadArms) → Line → Block → Bool → Line → List Line → ReadArms
 arms_on arms l b true next more = let r = arms next more in (arm l b r.0, r.1)
 arms_on arms l b false next more = (last_arm l b, next ∷ more)
@@ -162,7 +164,7 @@ abbrev pub arms_read : (Line → List Line → ReadArms) → Line → Read → R
 arms_read arms l (b, []) = (last_arm l b, [])
 arms_read arms l (b, next ∷ more) = arms_on arms l b (begins_arm true (kind_of next.covered)) next more
 
--- in at most so many steps
+-- in at most `n` steps
 unfoldable mutual
   pub read_block : Definitions → (active in_arm : Bool) → ℕ → List Line → Read
   read_block defs active in_arm zero lines = (nothing, lines)

@@ -1,13 +1,14 @@
--- The names that a text records: those of its conditions and its `#` names, of every line, whichever arms are active.
+-- The names that a text records: those of its conditions and its `#` names, from every line,
+-- whichever arms are active.
 use Rattle.std.specs.Prelude.{◌≡◌, ℕ, Bool, true, List, [], ◌∷◌, ◌++◌}
 use Rattle.std.specs.List.{flat_map}
-use Rattle.naga_oil_lines.specs.Text.{is_among}
+use Rattle.naga_oil_words.specs.Texts.{is_among}
 use Rattle.naga_oil_conditions.specs.Line.{Line, source_lines}
 use Rattle.naga_oil_conditions.specs.Kind.{LineKind, version, condition, endif, imports, import_path, define, other, unversioned_kind_of, Condition, defined, undefined, compares, otherwise}
 use Rattle.naga_oil_conditions.specs.Fault.{Definitions}
 use Rattle.naga_oil_conditions.specs.Replaced.{hash_names, name_of, pieces}
 
--- the name that a condition asks for; a plain else asks for none
+-- the name that a condition refers to; a plain else has none
 abbrev pub condition_names : Condition → List (List ℕ)
 condition_names (defined name) = name ∷ []
 condition_names (undefined name) = name ∷ []
@@ -36,7 +37,7 @@ line_names l = kind_names (unversioned_kind_of l.covered) l
 unfoldable pub names_from : List ℕ → List (List ℕ)
 names_from cs = flat_map name_of (pieces 0 cs)
 
--- the names that lines record, also lines that an import takes
+-- the names that lines record, including lines that an import takes
 unfoldable pub names_of : List Line → List (List ℕ)
 names_of lines = flat_map line_names lines
 

@@ -1,4 +1,4 @@
--- What the code says of a line.
+-- The code's treatment of a line, seen as its status.
 use Rattle.std.specs.Prelude.{◌≡◌, ℕ, List, MatchOption}
 use Rattle.naga_oil_conditions.specs.declared.fault.ComposerErrorInner.{ComposerErrorInner}
 use Rattle.naga_oil_pre.specs.declared.preprocess.Treatment.{Treatment}
@@ -18,6 +18,6 @@ status_of Blank l more = blanked l
 status_of Show l more = shown l
 status_of (Import n) l more = imported l (taken n more)
 
--- an error is the note of a line, or want of memory
+-- an error is the fault of a line, or out of memory
 abbrev pub Notes : ComposerErrorInner → Status → Type 0
 Notes e status = MatchOption (fault_of e) (Unit {0}) (λ f. status ≡ noted f)

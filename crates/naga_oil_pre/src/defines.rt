@@ -1,20 +1,19 @@
-// What a text defines, without what else it tells.
+// The defines of a text, without the rest of its metadata.
 ghost use Rattle.std.specs.Prelude.{◌≡◌, ◌+◌, ◌^◌, ◌≤◌, ◌∷◌, length, string_bytes, option_copied, unwrap_or, Ok, OnOk, IfErr};
 ghost use Rattle.std.specs.BTreeMap.{get_by_text};
 ghost use Rattle.naga_oil_conditions.specs.Line.{source_lines};
 ghost use Rattle.naga_oil_conditions.specs.SourceView.{line_of};
 ghost use Rattle.naga_oil_conditions.specs.View.{Fails, Gives};
 ghost use Rattle.naga_oil_imports.specs.Leaves.{import_leaves};
-ghost use Rattle.naga_oil_pre.specs.Metadata.{Found, none_defined, defined_behind, with_import, defines_of, own_defines, metadata, source_and_defines};
+ghost use Rattle.naga_oil_pre.specs.Metadata.{Found, none_defined, with_definition, defined_behind, with_import, defines_of, own_defines, metadata, source_and_defines};
 ghost use Rattle.naga_oil_pre.specs.Preprocessed.{import_text};
 ghost use Rattle.naga_oil_pre.specs.Reading.{braces_after, taken, behind_taken};
 
-use super::imports::take_lines;
+use super::imports::{TakesLine, check_import, read_import};
 use super::*;
 use naga_oil_conditions::line_kind::unversioned_line_kind;
-use naga_oil_imports::declared_names::DeclaredNames;
 
-// Defines a name, in place of what it was, if defines are allowed.
+// Defines a name, replacing its value, if defines are allowed.
 pub fn define(
     alloc: Global,
     allow_defines: bool,
@@ -44,8 +43,20 @@ pub fn define(
     Ok(())
 }
 
-// Reads an import for its faults alone, with the lines that it takes.
-fn read_import(
+// A sink that the lines which an import takes leave as it is.
+#[derive(Drop)]
+struct Passed;
+
+impl TakesLine for Passed {
+    ghost Takes = { λ old _ new. new ≡ old };
+
+    fn take(&mut self, _alloc: Global, _line: &SourceLine<'_>) -> Result<(), AllocError> {
+        Ok(())
+    }
+}
+
+// Reads an import, with the lines that it takes, only for its faults.
+fn skip_import(
     alloc: Global,
     line: &SourceLine<'_>,
     source: &mut SourceLines<'_, '_>,
@@ -66,23 +77,12 @@ fn read_import(
         let leaves = import_leaves (import_text (first ∷ more)) in
         IfErr result (λ e. (found : Found) → Fails e (with_import found line.now.offset leaves)) }
 {
-    let covered = line.covered.as_str();
-    let mut import = String::from_str(alloc, covered)?;
-    import.push('\n')?;
-    let mut blanks = String::new(alloc);
-    take_lines(source, braces_after(0, covered), &mut import, &mut blanks)?;
-    let mut declared = IndexMap::new(alloc);
-    let mut names = DeclaredNames::new();
-    declare(
-        alloc,
-        import.as_str(),
-        line.offset,
-        &mut declared,
-        &mut names,
-    )
+    let braces = braces_after(0, line.covered.as_str());
+    let import = read_import(alloc, line, braces, source, &mut Passed)?;
+    check_import(alloc, import.as_str(), line.offset)
 }
 
-// Reads what a line defines; of an import with the lines that it takes.
+// Reads the define of a line; of an import, also the lines that it takes.
 fn read_line(
     alloc: Global,
     line: &SourceLine<'_>,
@@ -102,7 +102,7 @@ fn read_line(
         IfErr result (λ e. Fails e before) }
 {
     match unversioned_line_kind(line.covered.as_str()) {
-        LineKind::Import => read_import(alloc, line, source),
+        LineKind::Import => skip_import(alloc, line, source),
         LineKind::Define { name, value } => {
             define(alloc, allow_defines, name, value, line.offset, defines)
         }
@@ -110,7 +110,7 @@ fn read_line(
     }
 }
 
-// What a text without directives defines.
+// The defines of a text without directives.
 fn read_defines(
     alloc: Global,
     cleaned: &str,
@@ -129,19 +129,33 @@ fn read_defines(
 }
 
 impl Preprocessor {
-    /// The cleaned source and the defines of the text's metadata, or the fault that the metadata has, or `Memory`.
-    /// Neither uses nor names are read, so it takes less time than the metadata.
+    /// Returns the cleaned source and the defines of the text's metadata. An error is the one of
+    /// the metadata, or `Memory`. Neither uses nor names are read, so the call is faster than that
+    /// of the metadata.
     pub fn get_preprocessor_defines(
         &self,
         alloc: Global,
         shader_str: &str,
         allow_defines: bool,
     ) -> Result<(String, BTreeMap<String, ShaderDefValue>), ComposerErrorInner>
-        ensures { let told = source_and_defines (metadata allow_defines shader_str.now) in
-            Gives (λ r. (string_bytes r.0, get_by_text r.1)) result told }
+        ensures { let expected = source_and_defines (metadata allow_defines shader_str.now) in
+            Gives (λ r. (string_bytes r.0, get_by_text r.1)) result expected }
     {
         let (cleaned, _directives) = self.extract_wgsl_directives(alloc, shader_str)?;
         let defines = read_defines(alloc, cleaned.as_str(), allow_defines)?;
         Ok((cleaned, defines))
     }
+}
+
+/// Defines a name, and replaces its value if there is one.
+pub fn set_definition(
+    definitions: &mut BTreeMap<String, ShaderDefValue>,
+    name: String,
+    value: ShaderDefValue,
+) -> Result<(), AllocError>
+    ensures { let defined = with_definition (get_by_text definitions.old) (string_bytes name) value in
+        OnOk result (get_by_text definitions.new ≡ defined) }
+{
+    definitions.insert(name, value)?;
+    Ok(())
 }

@@ -1,12 +1,12 @@
-// The directives that a text may begin with.
+// The directives at the start of a text.
 ghost use Rattle.std.specs.Prelude.{◌≡◌, ◌==◌, if◌then◌else◌, ◌++◌, ◌<◌, [], ◌∷◌, map, string_bytes, option_copied, IfOk, OnOk};
 ghost use Rattle.std.specs.Option.{option_map};
 ghost use Rattle.std.specs.List.{flat_map};
 ghost use Rattle.std.specs.Str.{chars, trim};
 ghost use Rattle.std.specs.Str.Lines.{lines};
 ghost use Rattle.std.specs.Str.Iter.{lines_rest};
+ghost use Rattle.naga_oil_words.specs.Bytes.{newline};
 ghost use Rattle.naga_oil_lines.specs.Directives.{directives_of};
-ghost use Rattle.naga_oil_lines.specs.Text.{past_word};
 ghost use Rattle.naga_oil_pre.specs.DirectiveLines as grammar;
 ghost use Rattle.naga_oil_pre.specs.DirectiveLines.{directive_of, unknown_severity};
 ghost use Rattle.naga_oil_pre.specs.DirectiveView.{line_directive_of};
@@ -14,31 +14,25 @@ ghost use Rattle.naga_oil_pre.specs.Extracted.{kept, found, goes_on, ◌and◌, 
 ghost use Rattle.naga_oil_conditions.specs.View.{Gives};
 
 use super::*;
+use naga_oil_lines::text::past_word;
 use naga_oil_lines::wgsl_directives::{DiagnosticDirective, EnableDirective, RequiresDirective};
 
-// What a line is among directives.
+// The kind of a line among directives.
 #[derive(Drop)]
 enum Directive<'a> {
     Enable(Vec<String>),
     Requires(Vec<String>),
     Diagnostic { severity: &'a str, rule: &'a str },
-    /// An `enable` or `requires` that names nothing.
+    /// An `enable` or `requires` without extensions.
     NoExtensions,
     UnknownSeverity(&'a str),
-    /// No directive, and more may follow.
+    /// No directive; more may follow.
     Passing,
-    /// No directive, and none follows.
+    /// No directive; none follows.
     Ending,
 }
 
-// What follows the word at the front.
-fn past_word<'a>(text: &'a str, word: &str) -> Option<&'a str>
-    ensures { option_copied result ≡ past_word word.now text.now }
-{
-    text.strip_prefix(word)
-}
-
-// What is before and behind the first such character.
+// The text before the first such character, and the text after it.
 fn cut_at(text: &str, c: char) -> Option<(&str, &str)>
     requires { c < 128 }
     ensures { option_map (λ r. (r.0.now, r.1.now)) result ≡ grammar.cut_at c text.now }
@@ -46,7 +40,7 @@ fn cut_at(text: &str, c: char) -> Option<(&str, &str)>
     text.split_once(c)
 }
 
-// Whether a text is a white character and at least one more.
+// Whether a text is a white space character and at least one more.
 fn begins_list(text: &str) -> bool
     ensures { result ≡ grammar.begins_list (chars text.now) }
 {
@@ -56,7 +50,7 @@ fn begins_list(text: &str) -> bool
     }
 }
 
-// The list behind a word, up to the first `;`.
+// The list after a word, up to the first `;`.
 fn listed<'a>(line: &'a str, word: &str) -> Option<&'a str>
     ensures { option_copied result ≡ grammar.listed word.now line.now }
 {
@@ -64,7 +58,7 @@ fn listed<'a>(line: &'a str, word: &str) -> Option<&'a str>
     if begins_list(list) { Some(list) } else { None }
 }
 
-// The names of a list between commas.
+// The names of a list, separated by commas.
 fn extensions(alloc: Global, list: &str) -> Result<Vec<String>, AllocError>
     ensures { IfOk result (λ v. map string_bytes v.items ≡ grammar.extensions list.now) }
 {
@@ -78,7 +72,7 @@ fn extensions(alloc: Global, list: &str) -> Result<Vec<String>, AllocError>
     Ok(names)
 }
 
-// Severity and rule of a diagnostic.
+// The severity and the rule of a diagnostic.
 fn treated(line: &str) -> Option<(&str, &str)>
     ensures { option_map (λ r. (r.0.now, r.1.now)) result ≡ grammar.treated line.now }
 {
@@ -100,7 +94,7 @@ fn is_severity(text: &str) -> bool
     text == "off" || text == "info" || text == "warn" || text == "error"
 }
 
-// Whether a line may stand among directives.
+// Whether directives may follow the line, though it is none.
 fn is_between(line: &str) -> bool
     ensures { result ≡ grammar.is_between line.now }
 {
@@ -111,7 +105,7 @@ fn is_between(line: &str) -> bool
         || past_word(line, "diagnostic").is_some()
 }
 
-// What a line is, without the white space round it.
+// The kind of a line, given without surrounding white space.
 fn read_directive(alloc: Global, line: &str) -> Result<Directive<'_>, AllocError>
     ensures { IfOk result (λ d. line_directive_of d ≡ directive_of line.now) }
 {
@@ -139,7 +133,7 @@ fn read_directive(alloc: Global, line: &str) -> Result<Directive<'_>, AllocError
     }
 }
 
-// Takes the directive of a line, or else writes the line. Gives whether more directives may follow.
+// Takes the directive of a line, or writes the line. Returns whether more directives may follow.
 fn take_line(
     alloc: Global,
     line: &str,
@@ -147,12 +141,12 @@ fn take_line(
     directives: &mut WgslDirectives,
     cleaned: &mut String,
 ) -> Result<bool, ComposerErrorInner>
-    ensures goes_on { let told = directive_of (trim line.now) in
-        Gives (λ b. b) result (goes_on index (trim line.now) told) }
-    ensures text { let told = directive_of (trim line.now) in
-        OnOk result (string_bytes cleaned.new ≡ string_bytes cleaned.old ++ kept line.now told) }
-    ensures found { let told = directive_of (trim line.now) in
-        let more = directives_of directives.old and found index told in
+    ensures goes_on { let kind = directive_of (trim line.now) in
+        Gives (λ b. b) result (goes_on index (trim line.now) kind) }
+    ensures text { let kind = directive_of (trim line.now) in
+        OnOk result (string_bytes cleaned.new ≡ string_bytes cleaned.old ++ kept line.now kind) }
+    ensures found { let kind = directive_of (trim line.now) in
+        let more = directives_of directives.old and found index kind in
         OnOk result (directives_of directives.new ≡ more) }
 {
     let trimmed = line.trim();
@@ -201,9 +195,9 @@ fn take_line(
     })
 }
 
-// Writes what stands between a line of this number and the line before it.
+// Writes the line end before a line, unless the line is the first.
 fn push_line_end(out: &mut String, index: usize) -> Result<(), AllocError>
-    ensures { let more = if index == 0 then [] else 10 ∷ [] in
+    ensures { let more = if index == 0 then [] else newline ∷ [] in
         OnOk result (string_bytes out.new ≡ string_bytes out.old ++ more) }
 {
     if index > 0 {
@@ -212,9 +206,9 @@ fn push_line_end(out: &mut String, index: usize) -> Result<(), AllocError>
     Ok(())
 }
 
-// Writes further lines, each behind a line end.
+// Writes further lines, each after a line end.
 fn push_lines(out: &mut String, rest: Lines<'_>) -> Result<(), AllocError>
-    ensures { let more = flat_map (λ line. 10 ∷ line) (lines (lines_rest rest.entry)) in
+    ensures { let more = flat_map (λ line. newline ∷ line) (lines (lines_rest rest.entry)) in
         OnOk result (string_bytes out.new ≡ string_bytes out.old ++ more) }
 {
     for line in rest {
@@ -225,9 +219,9 @@ fn push_lines(out: &mut String, rest: Lines<'_>) -> Result<(), AllocError>
 }
 
 impl Preprocessor {
-    /// The text without the directives that it begins with, and these. The line of a directive is empty;
-    /// all lines are joined by `\n`, so the last line's end goes. Or the first fault, or `Memory`.
-    /// Takes time and memory linear in the text.
+    /// Returns the text without the directives at its start, and these directives. The line of a
+    /// directive becomes empty. All lines are joined by `\n`, so the end of the last line is
+    /// removed. An error is the first fault, or `Memory`. Takes time and memory linear in the text.
     pub fn extract_wgsl_directives(
         &self,
         alloc: Global,

@@ -1,4 +1,4 @@
-// What holds of every text.
+// Laws that hold for every text.
 ghost use Rattle.std.specs.Prelude.{◌≡◌, ◌↔◌, ℕ, List, codes};
 ghost use Rattle.naga_oil_conditions.specs.Line.{Line};
 ghost use Rattle.naga_oil_conditions.specs.LineKinds as grammar;
@@ -12,8 +12,8 @@ ghost use Rattle.naga_oil_pre.specs.Reading.{Block, IsReading, reading};
 ghost use Rattle.naga_oil_pre.specs.Recorded.{is_recorded, AgreeOn};
 ghost use Rattle.naga_oil_pre.specs.Preprocessed.{preprocessed};
 
-/// What stands behind a line's `#` is read as one of the kinds exactly if it is written as that kind's grammar says;
-/// so it is read in one way.
+/// The reader of each kind accepts the text after a line's `#` exactly if the text has the form
+/// that the kind's grammar gives; so a text is read in one way.
 pub fn kinds_by_grammar()
     ensures version { Reads grammar.version IsVersion }
     ensures ifdef { Reads grammar.ifdef (λ g. IsIfdef g.0 g.1) }
@@ -26,26 +26,26 @@ pub fn kinds_by_grammar()
     ensures define { Reads grammar.define (λ g. IsDefine g.0 g.1) }
 {}
 
-/// Each line has one kind: the first of the table that fits.
+/// Each line has exactly one kind: the first of the table that fits.
 pub fn one_kind()
     ensures kind { (line : List ℕ) (k : LineKind) → IsKind line k ↔ (k ≡ kind_of line) }
     ensures unversioned { (line : List ℕ) (k : LineKind) →
         IsUnversionedKind line k ↔ (k ≡ unversioned_kind_of line) }
 {}
 
-/// A line without the white space round it is one thing among directives.
+/// Each line, without surrounding white space, is of exactly one kind among directives.
 pub fn one_directive()
     ensures { (line : List ℕ) (d : Directive) → IsDirective d line ↔ (d ≡ directive_of line) }
 {}
 
-/// Under any definitions a text is read as one tree, and as no other.
+/// Under any definitions a text is read as exactly one tree.
 pub fn one_reading()
     ensures { (defs : Definitions) (lines : List Line) (block : Block) →
         IsReading defs lines block ↔ (block ≡ reading defs lines) }
 {}
 
-/// What a text becomes depends on the definitions through the names that it records alone: it is the same
-/// under any two that agree on these, presence included.
+/// The result of preprocessing depends only on the names that the text records: two definitions
+/// that agree on them, presence included, give the same result.
 pub fn recorded_names_decide()
     ensures { (text : List ℕ) (d e : Definitions) →
         AgreeOn (is_recorded text) d e → preprocessed d text ≡ preprocessed e text }

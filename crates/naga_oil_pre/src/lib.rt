@@ -1,14 +1,14 @@
-//! What a shader's text becomes under definitions of names: the arms of conditions that hold, with values
-//! for `#` names, line for line and place for place. One pass over the text, in time and memory linear in
-//! what it reads and writes. What single lines say is of `naga_oil_conditions`.
+//! Preprocessing of a shader's text under definitions: the arms whose conditions hold, with values
+//! for `#` names; lines and places are kept. One pass over the text, in time and memory linear in
+//! what is read and written. `naga_oil_conditions` reads single lines.
 //!
 //! - `preprocess`: the pass itself.
-//! - `directives`: the directives that a text begins with, taken out.
-//! - `imports`: what imports declare, and what lines use of them.
-//! - `defines`: what a text defines.
-//! - `metadata`: what a text tells before any build.
+//! - `directives`: removes the directives at the start of a text.
+//! - `imports`: what imports declare, and what lines use of the declared modules.
+//! - `defines`: the defines of a text.
+//! - `metadata`: the metadata of a text, read before any build.
 //! - `recorded`: the names on which a text's preprocessing may depend.
-//! - `laws`: what holds of every text.
+//! - `laws`: laws that hold for every text.
 #![tactic(auto)]
 
 mod defines;
@@ -19,6 +19,7 @@ mod metadata;
 mod preprocess;
 mod recorded;
 
+pub use defines::set_definition;
 use imports::{Imports, braces_after, declare};
 use indexmap::IndexMap;
 pub use metadata::{PreprocessorMetaData, get_preprocessor_data};
@@ -26,7 +27,7 @@ use naga_oil_conditions::line_kind::{Condition, LineKind};
 use naga_oil_conditions::source_lines::{SourceLine, SourceLines};
 pub use naga_oil_conditions::{ComposerErrorInner, ShaderDefValue, defined_value, line_kind};
 use naga_oil_imports::import_definition::{ImportDefWithOffset, ImportDefinition};
-use naga_oil_imports::substitute::{SubstituteFault, record_identifiers};
+use naga_oil_imports::substitute::{SubstituteFault, Substitution};
 use naga_oil_lines::text::split_first_char;
 use naga_oil_lines::wgsl_directives::WgslDirectives;
 pub use preprocess::{PreprocessOutput, Preprocessor};

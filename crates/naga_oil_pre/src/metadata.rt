@@ -1,4 +1,4 @@
-// What a text tells before any build.
+// The metadata of a text, read before any build.
 ghost use Rattle.std.specs.Prelude.{◌≡◌, ℕ, ◌+◌, ◌^◌, ◌<◌, ◌≤◌, ◌++◌, ◌∷◌, List, length, string_bytes, option_copied, option_map, map, true, unwrap_or, Some, Ok, OnOk, IfOk, IfErr};
 ghost use Rattle.std.specs.BTreeMap.{get_by_text};
 ghost use Rattle.std.specs.BTreeSet.{contains_text};
@@ -12,7 +12,7 @@ ghost use Rattle.naga_oil_pre.specs.KnownView.{HasMarks};
 ghost use Rattle.naga_oil_conditions.specs.KindView.{line_kind_of};
 ghost use Rattle.naga_oil_pre.specs.Metadata.{nothing_found, defined_behind, with_import, found_behind, left_open, going_on, found_in, metadata_of_cleaned, metadata, data_of};
 ghost use Rattle.naga_oil_pre.specs.MetadataView.{has_with, Gains, found_of, metadata_of};
-ghost use Rattle.naga_oil_pre.specs.Preprocessed.{end_line, import_text, tokens_of, preprocessed};
+ghost use Rattle.naga_oil_pre.specs.Preprocessed.{import_text, tokens_of, preprocessed};
 ghost use Rattle.naga_oil_pre.specs.Reading.{braces_after, taken, behind_taken};
 ghost use Rattle.naga_oil_pre.specs.Recorded.{is_recorded, line_names, names_of, AgreeOn};
 ghost use Rattle.naga_oil_conditions.specs.SourceView.{line_of};
@@ -20,30 +20,31 @@ ghost use Rattle.naga_oil_conditions.specs.Fault.{Definitions};
 ghost use Rattle.naga_oil_conditions.specs.View.{Fails, Gives};
 
 use super::defines::define;
+use super::imports::{TakesLine, read_import};
 use super::recorded::record_line_names;
 use super::*;
 use naga_oil_conditions::line_kind::unversioned_line_kind;
 use naga_oil_imports::declared_names::DeclaredNames;
 
-/// What a registry needs of a text before any build.
+/// The metadata of a text, which a registry reads before any build.
 #[derive(Debug, Drop)]
 pub struct PreprocessorMetaData {
-    /// The import path that the text defines last.
+    /// The last import path that the text defines.
     pub name: Option<String>,
-    /// What is used of each module, in order of first use, whichever arms are active.
+    /// The uses of each module, in order of first use, whichever arms are active.
     pub imports: Vec<ImportDefWithOffset>,
-    /// The defines, of one name the last.
+    /// The defines; for each name, the last one.
     pub defines: BTreeMap<String, ShaderDefValue>,
     /// The names on which the text's preprocessing may depend.
     pub effective_defs: BTreeSet<String>,
     pub wgsl_directives: WgslDirectives,
-    /// The text with an empty line in the place of each directive, and without its last line end.
-    /// Offsets count in it.
+    /// The text with an empty line in place of each directive, and without the end of its last
+    /// line. Offsets refer to this text.
     pub cleaned_source: String,
 }
 
-// What has been read of a text: the last import path, what imports declare and lines use, the defines,
-// and the names that are recorded.
+// The findings so far: the last import path, the declarations and uses, the defines, and the
+// recorded names.
 #[derive(Drop)]
 struct Findings {
     name: Option<String>,
@@ -52,7 +53,7 @@ struct Findings {
     names: BTreeSet<String>,
 }
 
-// Records what a line uses by its covered line, as it stands.
+// Records the uses of a line by its covered line, with no names replaced.
 fn read_uses(alloc: Global, line: &SourceLine<'_>, imports: &mut Imports) -> Result<(), AllocError>
     requires place { line.now.offset ≤ 2 ^ 63 }
     requires marked { HasMarks imports.old }
@@ -63,76 +64,38 @@ fn read_uses(alloc: Global, line: &SourceLine<'_>, imports: &mut Imports) -> Res
         OnOk result (declared_of imports.new.declared ≡ old) }
     ensures marked { OnOk result (HasMarks imports.new) }
 {
-    match record_identifiers(
+    let substitution = Substitution {
         alloc,
-        line.covered.as_str(),
-        line.offset,
-        &imports.declared,
-        &imports.names,
-        &mut imports.used,
-        true,
-    ) {
+        declared_imports: &imports.declared,
+        names: &imports.names,
+        allow_ambiguous: true,
+        offset: line.offset,
+        writes: false,
+    };
+    let mut unwritten = String::new(alloc);
+    match substitution.walk(line.covered.as_str(), &mut imports.used, &mut unwritten) {
         Ok(()) => Ok(()),
         Err(SubstituteFault::Ambiguous(_)) => unreachable!(),
         Err(SubstituteFault::Memory) => Err(AllocError),
     }
 }
 
-// Records the names of a line that an import takes, and writes its covered line behind the import's own.
-// Gives the braces that are open behind it.
-fn take_line(
-    alloc: Global,
-    line: SourceLine<'_>,
-    braces: usize,
-    import: &mut String,
-    names: &mut BTreeSet<String>,
-) -> Result<usize, AllocError>
-    requires { braces + length (line_of line).covered < 2 ^ 64 }
-    ensures import { let more = end_line (line_of line.entry).covered in
-        OnOk result (string_bytes import.new ≡ string_bytes import.old ++ more) }
-    ensures names { OnOk result (Gains names.old names.new (line_names (line_of line.entry))) }
-    ensures after { IfOk result (λ n. n ≡ braces_after braces (line_of line.entry).covered) }
-    ensures bound { IfOk result (λ n. n ≤ braces + length (line_of line.entry).covered) }
-{
-    let covered = line.covered.as_str();
-    record_line_names(alloc, names, &line, unversioned_line_kind(covered))?;
-    import.push_str(covered)?;
-    import.push('\n')?;
-    Ok(braces_after(braces, covered))
-}
+// The recorded names: those of a taken line are recorded too.
+impl TakesLine for BTreeSet<String> {
+    ghost Takes = { λ old line new. Gains old new (line_names line) };
 
-// Records the names of the lines that an import takes, and writes their covered lines behind its own.
-fn take_lines(
-    alloc: Global,
-    source: &mut SourceLines<'_, '_>,
-    braces: usize,
-    import: &mut String,
-    names: &mut BTreeSet<String>,
-) -> Result<(), AllocError>
-    requires { braces ≤ source.old.place }
-    ensures left { OnOk result (source.new.left ≡ behind_taken braces source.old.left) }
-    ensures import { let more = taken braces source.old.left in
-        OnOk result (string_bytes import.new ≡ string_bytes import.old ++ import_text more) }
-    ensures names { let more = taken braces source.old.left in
-        OnOk result (Gains names.old names.new (names_of more)) }
-    ensures fits { let before = length (string_bytes import.old) in
-        let after = length (string_bytes import.new) in
-        OnOk result (after + source.old.place ≤ before + source.new.place) }
-    ensures room { OnOk result (source.old.place ≤ 2 ^ 63 → source.new.place ≤ 2 ^ 63) }
-    ensures shorter { OnOk result (length source.new.left ≤ length source.old.left) }
-{
-    let mut braces = braces;
-    while braces > 0 {
-        let Some(line) = source.next()? else {
-            break;
-        };
-        braces = take_line(alloc, line, braces, import, names)?;
+    fn take(&mut self, alloc: Global, line: &SourceLine<'_>) -> Result<(), AllocError> {
+        record_line_names(
+            alloc,
+            self,
+            line,
+            unversioned_line_kind(line.covered.as_str()),
+        )
     }
-    Ok(())
 }
 
-// Declares what an import declares, with the lines that it takes.
-fn read_import(
+// Adds the declarations of an import, read with the lines that it takes.
+fn declare_import(
     alloc: Global,
     line: &SourceLine<'_>,
     source: &mut SourceLines<'_, '_>,
@@ -160,16 +123,8 @@ fn read_import(
         let found = with_import (found_of findings.old) line.now.offset leaves in
         IfErr result (λ e. Fails e found) }
 {
-    let covered = line.covered.as_str();
-    let mut import = String::from_str(alloc, covered)?;
-    import.push('\n')?;
-    take_lines(
-        alloc,
-        source,
-        braces_after(0, covered),
-        &mut import,
-        &mut findings.names,
-    )?;
+    let braces = braces_after(0, line.covered.as_str());
+    let import = read_import(alloc, line, braces, source, &mut findings.names)?;
     declare(
         alloc,
         import.as_str(),
@@ -179,7 +134,7 @@ fn read_import(
     )
 }
 
-// Reads what a line of this kind tells, and an import's lines with it.
+// Reads a line of this kind; of an import, also the lines that it takes.
 fn read_kind(
     alloc: Global,
     line: &SourceLine<'_>,
@@ -193,24 +148,24 @@ fn read_kind(
     requires room { source.old.place ≤ 2 ^ 63 }
     requires marked { HasMarks findings.old.imports }
     ensures ok { let here = line_of line.now in
-        let told = line_kind_of kind.entry in
-        let behind = found_behind allow_defines (found_of findings.old) here told source.old.left in
+        let seen = line_kind_of kind.entry in
+        let behind = found_behind allow_defines (found_of findings.old) here seen source.old.left in
         OnOk result (found_in allow_defines (found_of findings.new) 0 source.new.left
         ≡ going_on behind (λ next.
-        found_in allow_defines next (left_open here told) source.old.left)) }
+        found_in allow_defines next (left_open here seen) source.old.left)) }
     ensures names { let before = has_with findings.old.names (names_of source.old.left) in
         let after = has_with findings.new.names (names_of source.new.left) in
         OnOk result ((name : List ℕ) → after name ≡ before name) }
     ensures marked { OnOk result (HasMarks findings.new.imports) }
     ensures shorter { OnOk result (length source.new.left ≤ length source.old.left) }
     ensures err { let here = line_of line.now in
-        let told = line_kind_of kind.entry in
-        let behind = found_behind allow_defines (found_of findings.old) here told source.old.left in
+        let seen = line_kind_of kind.entry in
+        let behind = found_behind allow_defines (found_of findings.old) here seen source.old.left in
         IfErr result (λ e. Fails e behind) }
 {
     match kind {
         LineKind::Condition { .. } | LineKind::EndIf => Ok(()),
-        LineKind::Import => read_import(alloc, line, source, findings),
+        LineKind::Import => declare_import(alloc, line, source, findings),
         LineKind::ImportPath(name) => {
             findings.name = Some(String::from_str(alloc, name)?);
             Ok(())
@@ -230,7 +185,7 @@ fn read_kind(
     }
 }
 
-// Reads a line with the lines that it takes.
+// Reads a line, with the lines that it takes.
 fn read_line(
     alloc: Global,
     line: &SourceLine<'_>,
@@ -298,8 +253,8 @@ fn read_metadata(
     directives: WgslDirectives,
     allow_defines: bool,
 ) -> Result<PreprocessorMetaData, ComposerErrorInner>
-    ensures value { let told = directives_of directives in
-        Gives metadata_of result (metadata_of_cleaned allow_defines (string_bytes cleaned) told) }
+    ensures value { let expected = directives_of directives in
+        Gives metadata_of result (metadata_of_cleaned allow_defines (string_bytes cleaned) expected) }
     ensures agreement { IfOk result (λ m. let text = string_bytes m.cleaned_source in
         let agree = AgreeOn (contains_text m.effective_defs) in
         (d e : Definitions) → agree d e → preprocessed d text ≡ preprocessed e text) }
@@ -322,10 +277,11 @@ fn read_metadata(
 }
 
 impl Preprocessor {
-    /// What a registry needs of the text before any build. Directives are taken out first; conditions choose nothing.
-    /// Or the fault of a directive, or else the fault of the earliest line that has one (a define is one where defines
-    /// aren't allowed), or `Memory`. Under any definitions that agree on `effective_defs`, presence included, the
-    /// cleaned source becomes the same. Time and memory are linear in the text.
+    /// Returns the metadata of the text. Directives are removed first; conditions select nothing.
+    /// An error is the fault of a directive, or else the fault of the earliest line that has one (a
+    /// define is a fault where defines aren't allowed), or `Memory`. Definitions that agree on
+    /// `effective_defs`, presence included, give the same result for the cleaned source. Takes time
+    /// and memory linear in the text.
     pub fn get_preprocessor_metadata(
         &self,
         alloc: Global,
@@ -347,8 +303,8 @@ fn definitions_of(
     alloc: Global,
     imports: &[ImportDefWithOffset],
 ) -> Result<Vec<ImportDefinition>, AllocError>
-    ensures { let told = map (λ used. (use_of used).import) imports.now in
-        IfOk result (λ v. map import_of v.items ≡ told) }
+    ensures { let expected = map (λ used. (use_of used).import) imports.now in
+        IfOk result (λ v. map import_of v.items ≡ expected) }
 {
     let mut definitions = Vec::with_capacity(alloc, imports.len())?;
     for used in imports {
@@ -357,8 +313,8 @@ fn definitions_of(
     Ok(definitions)
 }
 
-/// The import path, the imports and the defines of a text's metadata, with defines allowed. Where the metadata is
-/// refused for another cause than memory there are none.
+/// Returns the import path, the imports and the defines of a text's metadata, with defines allowed.
+/// If the metadata has an error other than out of memory, all three are empty.
 pub fn get_preprocessor_data(
     alloc: Global,
     source: &str,
@@ -370,9 +326,9 @@ pub fn get_preprocessor_data(
     ),
     AllocError,
 >
-    ensures { let told = data_of (metadata true source.now) in
+    ensures { let expected = data_of (metadata true source.now) in
         IfOk result (λ r.
-        told ≡ (option_map string_bytes r.0, map import_of r.1.items, get_by_text r.2)) }
+        expected ≡ (option_map string_bytes r.0, map import_of r.1.items, get_by_text r.2)) }
 {
     match Preprocessor.get_preprocessor_metadata(alloc, source, true) {
         Ok(metadata) => {

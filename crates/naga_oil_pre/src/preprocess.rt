@@ -1,8 +1,9 @@
-// Conditions and definitions of a text, line by line.
+// Evaluates the conditions of a text and replaces its names, line by line.
 ghost use Rattle.std.specs.Prelude.{ℕ, List, ◌≡◌, ◌+◌, ◌∷◌, ◌^◌, ◌≤◌, ◌<◌, length, string_bytes, OnOk, IfOk, IfErr, All, ◌==◌};
 ghost use Rattle.std.specs.Str.{NoCharPasses};
 ghost use Rattle.std.specs.Str.Lines.{lines};
 ghost use Rattle.std.specs.BTreeMap.{get_by_text};
+ghost use Rattle.naga_oil_words.specs.Bytes.{double_quote};
 ghost use Rattle.naga_oil_conditions.specs.Line.{Line, end_place};
 ghost use Rattle.naga_oil_conditions.specs.Kind.{kind_of};
 ghost use Rattle.naga_oil_pre.specs.Step.{step, opened, scanned};
@@ -16,31 +17,31 @@ ghost use Rattle.naga_oil_pre.specs.Treatment.{status_of, open_after, Notes};
 ghost use Rattle.naga_oil_conditions.specs.SourceView.{line_of};
 ghost use Rattle.naga_oil_conditions.specs.declared.scope.ScopeLevel.{ScopeLevel};
 
-use super::imports::{blank_line, show_line, take_lines};
+use super::imports::{blank_line, read_import, show_line};
 use super::*;
 use naga_oil_conditions::condition::evaluate;
 use naga_oil_conditions::line_kind::line_kind;
 use naga_oil_conditions::scope::Scope;
 use naga_oil_imports::declared_names::DeclaredNames;
 
-/// What a text becomes.
+/// The result of preprocessing a text.
 #[derive(Debug, Drop)]
 pub struct PreprocessOutput {
     pub preprocessed_source: String,
-    /// What is used of each module, in order of first use.
+    /// The uses of each module, in order of first use.
     pub imports: Vec<ImportDefWithOffset>,
 }
 
-// What is to be done with a line.
+// What to do with a line.
 #[derive(Clone, Copy)]
 enum Treatment {
     Blank,
     Show,
-    /// An import, which leaves so many braces open.
+    /// An import, by the number of braces that its line leaves open.
     Import(usize),
 }
 
-// Reads a line under the scope. Says what is to be done with it.
+// Reads a line under the scope. Returns what to do with the line.
 fn read_line(
     alloc: Global,
     line: &SourceLine<'_>,
@@ -99,7 +100,7 @@ fn read_line(
     }
 }
 
-// Writes an import as spaces, with the lines that it takes, and declares what it declares.
+// Writes an import as spaces, with the lines that it takes, and adds its declarations.
 fn write_import(
     alloc: Global,
     line: SourceLine<'_>,
@@ -127,10 +128,8 @@ fn write_import(
         IfErr result (λ e. (defs : Definitions) →
         Fails e (passage defs (known_of imports.old) first)) }
 {
-    let mut import = String::from_str(alloc, line.covered.as_str())?;
-    import.push('\n')?;
     blank_line(out, line.text)?;
-    take_lines(source, braces, &mut import, out)?;
+    let import = read_import(alloc, &line, braces, source, out)?;
     declare(
         alloc,
         import.as_str(),
@@ -140,7 +139,7 @@ fn write_import(
     )
 }
 
-// Reads a line and writes what it becomes, with the lines that it takes.
+// Reads a line and writes its result, with the lines that it takes.
 fn write_line(
     alloc: Global,
     line: SourceLine<'_>,
@@ -187,28 +186,28 @@ fn write_line(
 pub struct Preprocessor;
 
 impl Preprocessor {
-    /// What the text becomes under the definitions, as many lines, each ended by `\n`: the lines of
-    /// conditions, directives and inactive arms, and the lines that imports take, are spaces; in every
-    /// other line the values stand for the names, filled up by spaces to the line's length.
-    /// Or the fault of the earliest line that has one, or `Memory`.
+    /// Returns the text preprocessed under the definitions, with as many lines, each ended by `\n`:
+    /// the lines of conditions, directives and inactive arms, and the lines that imports take,
+    /// become spaces; in every other line values replace the names, padded with spaces to the
+    /// line's length. An error is the fault of the earliest line that has one, or `Memory`.
     ///
-    /// Only a path that an import quotes over a line end brings further line ends along, where it is
-    /// written for an identifier.
+    /// Only a path that an import quotes across a line end adds further line ends, where the path
+    /// is written for an identifier.
     pub fn preprocess(
         &self,
         alloc: Global,
         shader_str: &str,
         shader_defs: &BTreeMap<String, ShaderDefValue>,
     ) -> Result<PreprocessOutput, ComposerErrorInner>
-        ensures value { let told = preprocessed (get_by_text shader_defs.now) shader_str.now in
-            Gives output_of result told }
+        ensures value { let expected = preprocessed (get_by_text shader_defs.now) shader_str.now in
+            Gives output_of result expected }
         ensures line_ends { let count = length (lines shader_str.now) in
             let paths = declared_paths (get_by_text shader_defs.now) shader_str.now in
             All (λ path. line_ends path ≡ 0) paths →
             IfOk result (λ o. line_ends (string_bytes o.preprocessed_source) ≡ count) }
-        // A text without `"` declares no other paths.
+        // A text without `"` declares no path with a line end.
         ensures quoteless { let count = length (lines shader_str.now) in
-            let quoteless = NoCharPasses (λ c. c == 34) shader_str.now in
+            let quoteless = NoCharPasses (λ c. c == double_quote) shader_str.now in
             quoteless → IfOk result (λ o. line_ends (string_bytes o.preprocessed_source) ≡ count) }
     {
         let mut out = String::with_capacity(alloc, shader_str.len() + 1)?;

@@ -1,6 +1,7 @@
-// Records the names that lines ask for.
+// Records the names that lines refer to.
 ghost use Rattle.std.specs.Prelude.{◌≡◌, ℕ, ◌∷◌, ◌≤◌, [], List, length, OnOk, IfOk};
 ghost use Rattle.std.specs.Str.{chars, IsUtf8};
+ghost use Rattle.naga_oil_words.specs.Bytes.{hash};
 ghost use Rattle.naga_oil_conditions.specs.KindView.{condition_of, line_kind_of};
 ghost use Rattle.naga_oil_pre.specs.MetadataView.{has_with, Gains};
 ghost use Rattle.naga_oil_pre.specs.Recorded.{condition_names, text_names, kind_names, names_from};
@@ -10,7 +11,7 @@ ghost use Rattle.naga_oil_conditions.specs.SourceView.{line_of};
 use super::*;
 use naga_oil_conditions::replace::{split_at_hash, split_hash_name};
 
-// Records a name. One that is there takes no memory.
+// Records a name. A name that is already there allocates nothing.
 fn record_name(alloc: Global, names: &mut BTreeSet<String>, name: &str) -> Result<(), AllocError>
     ensures { OnOk result (Gains names.old names.new (name.now ∷ [])) }
 {
@@ -20,13 +21,13 @@ fn record_name(alloc: Global, names: &mut BTreeSet<String>, name: &str) -> Resul
     Ok(())
 }
 
-// Records the name behind a `#`, if there is one, and answers what is left.
+// Records the name after a `#`, if there is one. Returns the rest.
 fn record_behind_hash<'a>(
     alloc: Global,
     names: &mut BTreeSet<String>,
     behind: &'a str,
 ) -> Result<&'a str, AllocError>
-    ensures names { let before = has_with names.old (names_from (35 ∷ chars behind.now)) in
+    ensures names { let before = has_with names.old (names_from (hash ∷ chars behind.now)) in
         IfOk result (λ rest. (name : List ℕ) →
         has_with names.new (names_from (chars rest.now)) name ≡ before name) }
     ensures utf8 { IfOk result (λ rest. IsUtf8 rest.now) }
@@ -54,7 +55,8 @@ fn record_hash_names(
     Ok(())
 }
 
-// Records the `#` names of a line and of its covered line, which are the same where it has no comment.
+// Records the `#` names of a line and of its covered line, which are equal if the line has no
+// comment.
 fn record_text_names(
     alloc: Global,
     names: &mut BTreeSet<String>,
@@ -70,7 +72,7 @@ fn record_text_names(
     record_hash_names(alloc, names, covered)
 }
 
-// Records the name that a condition asks for.
+// Records the name of a condition.
 fn record_condition_name(
     alloc: Global,
     names: &mut BTreeSet<String>,

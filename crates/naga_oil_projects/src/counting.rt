@@ -1,14 +1,14 @@
-// A front end that counts.
-use naga_oil_front::Mini;
+// A front end that counts its parses.
 use naga_oil_ir::{
     Backend, BackendRefusal, Capabilities, Module, ParseFault, ShaderLanguage, ValidFault,
     WriteFault,
 };
+use naga_oil_mini_front::Mini;
 use std::alloc::Global;
 use std::cell::Cell;
 
-/// Mini, which counts what it is asked to parse, and finds memory for so many texts. What it answers is what Mini answers, or
-/// want of memory.
+/// Mini, which counts the texts that are parsed, and runs out of memory after `limit` texts. Each result is that of Mini, or out
+/// of memory.
 #[derive(Drop)]
 pub struct Counting<'c> {
     parses: &'c Cell<usize>,
@@ -16,7 +16,7 @@ pub struct Counting<'c> {
 }
 
 impl<'c> Counting<'c> {
-    /// Mini; how many texts it was asked to parse, and behind how many there is no memory for one.
+    /// A front end that counts its parses in `parses`, and runs out of memory after `limit` texts.
     pub fn new(parses: &'c Cell<usize>, limit: &'c Cell<usize>) -> Counting<'c> {
         Counting { parses, limit }
     }
@@ -27,7 +27,7 @@ impl<'c> Counting<'c> {
 }
 
 impl Backend for Counting<'_> {
-    ghost use Rattle.naga_oil_front.specs.Front.{mini};
+    ghost use Rattle.naga_oil_mini_front.specs.Front.{mini};
 
     ghost front = { λ _. mini };
 

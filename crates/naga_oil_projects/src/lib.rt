@@ -1,8 +1,8 @@
-//! Projects in memory, over a front end that counts what it is asked to parse: what makes cost, told by counts alone.
+//! Projects in memory, over a front end that counts its parses: the costs of builds, as counts.
 //!
-//! - `counting`: the front end Mini, which counts what it parses.
+//! - `counting`: the front end Mini, which counts its parses.
 //! - `tree`: the texts of modules that import one another as a tree.
-//! - `project`: such modules in a composer, and shaders that are made of them.
+//! - `project`: such modules in a composer, and shaders that are built from them.
 #![tactic(auto)]
 
 mod counting;

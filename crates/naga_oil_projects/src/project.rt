@@ -1,4 +1,4 @@
-// Modules in a composer, and shaders that are made of them.
+// Modules in a composer, and shaders that are built from them.
 use super::counting::Counting;
 use super::tree::Tree;
 use naga_oil::compose::{
@@ -10,17 +10,17 @@ use std::fmt;
 
 const TOP: &str = "#import m1\nentry main = m1::f0(1)\n";
 
-/// What makes cost.
+/// The cost of builds.
 #[derive(Clone, Copy, Debug, Default, PartialEq, Eq)]
 pub struct Cost {
-    /// How many texts were parsed.
+    /// The number of texts that were parsed.
     pub parses: usize,
-    /// How many builds were newly kept.
+    /// The number of builds that were newly kept.
     pub builds: u64,
 }
 
 impl Cost {
-    /// What both cost.
+    /// The sum of two costs.
     pub fn plus(self, other: Cost) -> Cost {
         Cost {
             parses: self.parses.saturating_add(other.parses),
@@ -29,10 +29,10 @@ impl Cost {
     }
 }
 
-/// Why a project isn't made.
+/// The errors of a project.
 #[derive(Debug, Drop)]
 pub enum Refusal {
-    /// The report of a fault.
+    /// The report of an error.
     Fault(String),
     Memory,
 }
@@ -52,7 +52,7 @@ impl From<AllocError> for Refusal {
     }
 }
 
-/// The modules of a tree in a composer that counts.
+/// The modules of a tree in a composer, with the costs of builds.
 #[derive(Drop)]
 pub struct Project<'c> {
     alloc: Global,
@@ -62,7 +62,7 @@ pub struct Project<'c> {
 }
 
 impl<'c> Project<'c> {
-    /// A project none of whose modules is added yet. What it makes is validated.
+    /// A project without modules. Shaders are validated.
     pub fn new(alloc: Global, tree: Tree, front: Counting<'c>) -> Project<'c> {
         Project {
             alloc,
@@ -72,7 +72,7 @@ impl<'c> Project<'c> {
         }
     }
 
-    /// The same, but nothing is validated.
+    /// A project without modules. Nothing is validated.
     pub fn non_validating(alloc: Global, tree: Tree, front: Counting<'c>) -> Project<'c> {
         Project {
             alloc,
@@ -82,7 +82,7 @@ impl<'c> Project<'c> {
         }
     }
 
-    // What is told of an error.
+    // The refusal of an error.
     fn told(&self, error: ComposerError) -> Refusal {
         match error.emit_to_string(&self.composer) {
             Ok(report) if !error.inner.is_memory() => Refusal::Fault(report),
@@ -90,7 +90,7 @@ impl<'c> Project<'c> {
         }
     }
 
-    /// Adds a module. Where it is there already, it goes with all that reach it by imports before it is added again.
+    /// Adds a module. A module with that name, and all that reach it by imports, are removed before.
     pub fn add(&mut self, number: usize) -> Result<(), Refusal> {
         let name = Tree::name(self.alloc, number)?;
         let text = self.tree.text(self.alloc, number)?;
@@ -103,7 +103,7 @@ impl<'c> Project<'c> {
         }
     }
 
-    /// Adds each module that isn't there, in one order: each behind what it imports. Answers how many.
+    /// Adds the missing modules, each after its imports, and returns their number.
     pub fn add_missing(&mut self) -> Result<usize, Refusal> {
         let mut added = 0usize;
         for number in (1..=self.tree.modules).rev() {
@@ -116,7 +116,7 @@ impl<'c> Project<'c> {
         Ok(added)
     }
 
-    /// Makes a shader of the root under a value of the name `SHADE`, and answers what that cost.
+    /// Builds a shader of the root under a value of the name `SHADE`, and returns the cost.
     pub fn make(&mut self, shade: i32) -> Result<Cost, Refusal> {
         let (parses, builds) = (self.parses.get(), self.composer.builds());
         let mut desc = NagaModuleDescriptor::new(self.alloc);
@@ -136,7 +136,7 @@ impl<'c> Project<'c> {
         })
     }
 
-    /// Makes a shader for each of so many values of the name `SHADE`, from the first one on.
+    /// Builds a shader for each of `count` values of the name `SHADE`, from `first` on, and returns the cost.
     pub fn make_each(&mut self, first: i32, count: u16) -> Result<Cost, Refusal> {
         let mut cost = Cost::default();
         for step in 0..count {

@@ -8,11 +8,11 @@ use std::ops::Range;
 #[derive(Clone, Copy, Debug)]
 pub struct Tree {
     pub modules: usize,
-    /// How many functions each module has, at least one.
+    /// The number of functions of each module, at least one.
     pub functions: usize,
-    /// How many terms each of these has besides its parameter, but the first one.
+    /// The number of terms of each function but the first, besides its parameter.
     pub terms: usize,
-    /// How many modules, the last ones, record the name `SHADE`.
+    /// The number of modules that record the name `SHADE`. These are the last ones.
     pub recording: usize,
 }
 

@@ -1,4 +1,4 @@
--- Calls that are sent down a chain, one redirection after another.
+-- Calls that are redirected along a chain, one redirection after another.
 use Rattle.std.proofs.Common.{◌≡◌, ◌∙◌, ⊎_elim, ℕ, ◌<◌, ◌==◌, ◌||◌, Bool, true, false, if◌then◌else◌, unwrap_or, List, [], ◌∷◌, ◌++◌, map, length, bytes_eq, slice_get, Option, Some, None, option_map, IsSome, All, refl, ap, sym, subst, append_assoc, arith}
 use Rattle.std.specs.List.{list_any}
 use Rattle.std.proofs.lemmas.Bool.{cases_Bool, false≢true}
@@ -46,7 +46,7 @@ of_destination : (P : Name → Type 0) (rs : List Name) (caller : Text) (base : 
 of_destination P [] caller base p all = p
 of_destination P (r ∷ rs) caller base p all = either P (is_named (λ n. bytes_eq n r) caller) base (destination rs caller r) p (of_destination P rs caller r (all r (first_in r rs)) (λ s h. all s (later_in s r rs h)))
 
--- a replacement goes where it went before one comes behind it
+-- the destination in a replacement stays when a replacement is added after it
 destination-in : (rs : List Name) (r n base : Name) → list_any (bytes_eq n) rs ≡ true → destination (rs ++ r ∷ []) (Some n) base ≡ destination rs (Some n) base
 destination-in [] r n base h = absurd (false≢true h)
 destination-in (s ∷ rs) r n base h = by (bytes_eq n s) refl (λ e. destination-in rs r n s e)
@@ -60,7 +60,7 @@ destination-own : (rs : List Name) (r base : Name) → destination (rs ++ r ∷ 
 destination-own [] r base = ap (λ b. if b then base else r) ((bytes_eq-Decides r r).1 refl)
 destination-own (s ∷ rs) r base = ap (λ d. if bytes_eq r s then base else d) (destination-own rs r s)
 
--- any other caller goes to the last
+-- the destination in any other caller is the last replacement
 destination-other : (rs : List Name) (n base : Name) → list_any (bytes_eq n) rs ≡ false → destination rs (Some n) base ≡ last_of rs base
 destination-other [] n base h = refl
 destination-other (s ∷ rs) n base h = by (bytes_eq n s) refl (λ e. destination-other rs n s e)
@@ -84,7 +84,7 @@ any-push (s ∷ rs) r n = ap (λ b. bytes_eq n s || b) (any-push rs r n) ∙ or-
 
 -- ---- lists of names
 
--- what goes to d goes to e, where that stands for d
+-- calls of d are redirected to e, where e stands for d
 sent_again : (base d e o r : Name) (xs ys : List Name) → instead o r d ≡ e → AreSent base d xs ys → AreSent base e xs (map (instead o r) ys)
 sent_again base d e o r xs ys h a = λ i at. slice_get-map (instead o r) ys i ∙ ap (option_map (instead o r)) (a i at) ∙ ap Some h
 
@@ -122,12 +122,12 @@ module _ (m : ModuleValue) (o r : Name) (omitted : Name → Bool) (pair : ℕ ×
   abbrev stays : ℕ → FunctionValue × Span → Bool
   stays k e = (k == pair.1) || is_named omitted e.0.name
 
-  -- what a function calls then: all that it called, or what is sent instead
+  -- what a function calls then: what it called, or what the call is redirected to
   called_then : (k : ℕ) (e : FunctionValue × Span) → slice_get m.functions k ≡ Some e → (b : Bool) → called next.functions (if b then e else (send pair.0 pair.1 e.0, e.1)).0 ≡ (if b then called m.functions e.0 else map (instead o r) (called m.functions e.0))
   called_then k e at true = called_next e.0
   called_then k e at false = called_next (send pair.0 pair.1 e.0) ∙ called_sent m h o r pair from to e.0 (h.functions k e at)
 
-  -- what calls were sent to, where those of the functions whose calls don't stay are sent instead
+  -- what calls were redirected to, where calls in the functions whose calls don't stay are redirected again
   sent_then : (base : Name) (rs ss : List Name) (w : ModuleValue) → ((k : ℕ) (e : FunctionValue × Span) → slice_get m.functions k ≡ Some e → (if stays k e then destination rs e.0.name base else instead o r (destination rs e.0.name base)) ≡ destination ss e.0.name base) → instead o r (last_of rs base) ≡ last_of ss base → IsSentDown base rs w m → IsSentDown base ss w next
   sent_then base rs ss w goes last s = record {
     functions = λ k g at.
@@ -265,7 +265,7 @@ start_law m base h = record {
   as_many = refl;
 }
 
--- redirections in turn, behind some that were made
+-- redirections one after another, after some that were made
 sent_all : {m n : ModuleValue} {original : Name} {others : List Name} {omitted : Name → Bool} (done : List Name) (w : ModuleValue) (base : Name) → SentInTurn m original others omitted n → last_of done base ≡ original → HasNamedCalls m → PassesJust done omitted → IsSentDown base done w m → IsSentDown base (done ++ others) w n × HasNamedCalls n
 sent_all {m} done w base NoMore last h those s = (subst (λ rs. IsSentDown base rs w m) (sym (append-nil done)) s, h)
 sent_all {m} {n} {original} {omitted = omitted} done w base (OneMore {other = other} {more = more} pair matches next) last h those s =

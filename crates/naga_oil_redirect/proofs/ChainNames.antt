@@ -169,6 +169,6 @@ module _ (m : ModuleValue) (h : HasNamedCalls m) (o r : Name) (pair : ℕ × ℕ
       let first = callee_if c (All-head (λ c. c < length m.functions) c cs a) (c == pair.0) (bytes_eq (function_name_at m.functions c) o) refl refl in
       ap (λ n. n ∷ map (function_name_at m.functions) (map (sent pair.0 pair.1).function cs)) first ∙ ap (λ ns. instead o r (function_name_at m.functions c) ∷ ns) (callees_sent cs (All-tail (λ c. c < length m.functions) c cs a))
 
-  -- what a function calls whose calls are sent
+  -- what a function calls after its calls are redirected
   pub called_sent : (f : FunctionValue) → All (λ c. c < length m.functions) (callees_of f.body) → called m.functions (send pair.0 pair.1 f) ≡ map (instead o r) (called m.functions f)
   called_sent f a = ap (map (function_name_at m.functions)) (callees-renamed (sent pair.0 pair.1) f.body) ∙ callees_sent (callees_of f.body) a

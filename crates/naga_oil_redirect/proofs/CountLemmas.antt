@@ -94,7 +94,7 @@ pub count-set : (ls : List (Option ℕ)) (f l : ℕ) → f < length ls → known
 count-set ls f l i h [] = refl
 count-set ls f l i h (c ∷ cs) = omega (arith, none-bit ls f l c i h, count-set ls f l i h cs)
 
--- how many levels aren't known
+-- the number of unknown levels
 abbrev pub nones : List (Option ℕ) → ℕ
 nones [] = 0
 nones (o ∷ os) = bit (is_none o) + nones os

@@ -84,7 +84,7 @@ ready_is calls w pending ready ls f g h =
     let right = above_agree (known ls) (level calls) (linked calls f) callees.0 callees.1 (λ c m e i. g.sound c m e) in
     (callees.0, record { within = within; fresh = fresh; found = callees.1; right = level_is calls w f within ∙ right })
 
--- a function calls so often as its open calls tell
+-- a weaker property holds of at least as many elements
 count_more : (p q : ℕ → Bool) → ((x : ℕ) → p x ≡ true → q x ≡ true) → (xs : List ℕ) → count p xs ≤ count q xs
 count_more p q h [] = omega arith
 count_more p q h (x ∷ xs) = let r = count_more p q h xs in ⊎_elim (λ e. omega (arith, r, bit_true (p x) e, bit_true (q x) (h x e))) (λ e. omega (arith, r, bit_false (p x) e)) (cases_Bool (p x))

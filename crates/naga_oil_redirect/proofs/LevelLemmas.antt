@@ -238,13 +238,13 @@ way_more calls k c ps i e new s = record {
   leads = λ j h. ⊎_elim (λ f. inl (eqb_eq j c f)) (λ f. inr (⊎_elim (λ g. subst (λ a. Leads calls a c) (sym g) (Calls e)) (λ g. leads_push calls j k c g e) (s.leads j f))) (or_cases (eqb j c) (list_any (eqb j) ps) h);
 }
 
--- the last function of a way calls one that stands on it
+-- a way whose last function calls one of the way has a cycle
 closes : (calls : Links) (k c : ℕ) → has (linked calls k) c ≡ true → (c ≡ k) ⊎ Leads calls c k → HasCycle calls
 closes calls k c e f =
     let P : ℕ → Type 0 = λ d. has (linked calls k) d ≡ true in
     (k, ⊎_elim (λ g. Calls (subst P g e)) (λ g. Through e g) f)
 
--- from a function without a level a way goes on and on, until it closes
+-- from a function without a level a way goes on until it closes
 goes_on : (calls : Links) → StayWithin calls → (n k : ℕ) (ps : List ℕ) → length ps + n ≡ suc (length calls) → k < length calls → level calls k ≡ None → IsWay calls k ps → HasCycle calls
 goes_on calls w zero k ps long i h s =
     let e = length-le_from_distinct_below ps (length calls) s.distinct s.within in

@@ -47,7 +47,7 @@ rounds_some vs levels i l v h e j items so_far k =
     let more = passing_more (is_level k) levels i (Some l) h e in
     ⊎_elim (λ (s : k ≡ l). ap (linked (lists (slice_set vs l v))) s ∙ linked-set_same vs l v j ∙ items ∙ ap (λ xs. xs ++ i ∷ []) (ap (linked (lists vs)) (sym s) ∙ so_far k) ∙ ap (λ b. passing (is_level k) (take i levels) ++ cond b (i ∷ []) []) (sym (eq_eqb l k (sym s))) ∙ sym more) (λ (d : k ≢ l). linked-set_other vs l k v d ∙ so_far k ∙ sym (append-nil (passing (is_level k) (take i levels))) ∙ ap (λ b. passing (is_level k) (take i levels) ++ cond b (i ∷ []) []) (sym (differs l k (λ s. d (sym s)))) ∙ sym more) (cases_eq k l)
 
--- lists that are given by their places, one behind the other
+-- lists that are given by their places, joined
 flat_places : (vs : List (Vec ℕ Global)) (F : ℕ → List ℕ) (a : ℕ) → ((k : ℕ) → k < length vs → linked (lists vs) k ≡ F (a + k)) → flat_map (λ v. v.items) vs ≡ flat_map F (range_with_len a (length vs))
 flat_places [] F a h = refl
 flat_places (v ∷ vs) F a h =

@@ -1,4 +1,4 @@
--- Functions that are found by their names, and functions whose calls are sent one after another.
+-- Functions that are found by their names, and functions whose calls are redirected one after another.
 use Rattle.std.proofs.Common.{◌≡◌, ◌≢◌, ◌∙◌, ◌==◌, ◌||◌, ℕ, zero, suc, ◌+◌, ◌<◌, ◌≤◌, Bool, true, false, not, if◌then◌else◌, List, [], ◌∷◌, ◌++◌, map, take, drop, length, get_or, nat_eq, Result, Ok, Err, refl, ap, sym, arith}
 use Rattle.std.specs.List.{enumerate_from}
 use Rattle.std.proofs.lemmas.Simd.{map-map}
@@ -37,7 +37,7 @@ found_none n fs i h so_far =
     let value : Function × Span → FunctionValue × Span = λ f. (function_value f.0, f.1) in
     sym so_far ∙ ap (found_from i n) (drop_all i (function_values fs) (omega (arith, h, length-map fs value)))
 
--- ---- sent by their places
+-- ---- redirected by their places
 
 enumerate-push : {X : Type 0} (a : ℕ) (xs : List X) (x : X) → enumerate_from a (xs ++ x ∷ []) ≡ enumerate_from a xs ++ (a + length xs, x) ∷ []
 enumerate-push a [] x = ap (λ n. (n, x) ∷ []) (omega arith)

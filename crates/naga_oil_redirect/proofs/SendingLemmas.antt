@@ -1,4 +1,4 @@
--- Calls sent to another function, by the kinds of statements.
+-- Calls redirected to another function, by the kinds of statements.
 use Rattle.std.proofs.Common.{◌≡◌, ◌∙◌, ℕ, ◌+◌, ◌<◌, List, [], ◌∷◌, ◌++◌, map, take, length, get_or, option_map, set, Option, Some, None, Vec, Global, refl, ap, sym, arith}
 use Rattle.std.specs.List.{flat_map}
 use Rattle.std.proofs.lemmas.List.{map-append, map-id, take_more, take_more_set}

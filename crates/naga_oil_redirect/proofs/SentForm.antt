@@ -1,4 +1,4 @@
--- A module whose calls are sent passes the test of form as before.
+-- A module whose calls are redirected passes the test of form as before.
 use Rattle.std.proofs.Common.{◌≡◌, ◌∙◌, ℕ, ◌+◌, ◌<◌, ◌++◌, ◌||◌, ◌==◌, Bool, true, false, if◌then◌else◌, unwrap_or, List, [], ◌∷◌, map, length, Option, Some, None, option_map, option_to_list, IsSome, IfSome, string_bytes, codes, nat_eq, String, All, slice_get, Vec, Global, refl, ap, sym, subst, arith}
 use Rattle.std.specs.List.{flat_map, enumerate_from, IsDistinct}
 use Rattle.std.specs.Cmp.Lexicographic.{pointwise}
@@ -14,7 +14,7 @@ use Rattle.naga_oil_ir.specs.Rows.{Text}
 use Rattle.naga_oil_ir.specs.Body.{Tokens, block_tokens}
 use Rattle.naga_oil_form.specs.BodyForm.{kinds, callee, named_of, operand_links, made, IsFine, AreFine, MayStand, IsSpanFine, IsTokenFine}
 use Rattle.naga_oil_form.specs.NameForm.{Name}
-use Rattle.naga_oil_marks.specs.Marks.{with_decoration}
+use Rattle.naga_oil_words.specs.Marks.{with_decoration}
 use Rattle.naga_oil_form.specs.WellFormed.{NamedThere, initialisers, FunctionForm, MeshForm, IsExpressionThere, EntryForm}
 use Rattle.naga_oil_ir.specs.ModuleValue.{ArgumentValue, argument_value, LocalValue, local_value, FunctionValue, function_value, EntryValue, entry_value}
 use Rattle.naga_oil_ir.specs.declared.expression.Expression.{Expression}
@@ -36,7 +36,7 @@ use Rattle.naga_oil_redirect.proofs.SendingLemmas.{options-sent}
 
 -- ---- the test of form of a function as plain data
 
--- how many items there are
+-- the number of items
 record Counts : Type 0 where
   types : ℕ
   constants : ℕ
@@ -158,7 +158,7 @@ from_value m n f h =
       };
     }
 
--- ---- calls sent
+-- ---- redirected calls
 
 abbrev sent_part : ℕ → ℕ → Parts × Span → Parts × Span
 sent_part f t e = (rename (sent f t) e.0, e.1)
@@ -346,7 +346,7 @@ entries-sent m fs es f t n i c h e =
     let counted = subst (λ k. All (EntryFine m k n) (map entry_value es.items)) c after in
     All-weaker (λ x. Q (entry_value x)) (EntryForm (with_functions m fs es) n) (entry_out m fs es n) es.items (All-unmap Q entry_value es.items counted)
 
--- a module whose calls are sent to one of its functions can be redirected again
+-- a module whose calls are redirected to one of its functions can be redirected again
 pub redirectable-sent : (m : Module) (fs : List (Function × Span)) (es : Vec EntryPoint Global) (f t : ℕ) (o : Name → Bool) → t < length m.functions → Redirectable m → function_values fs ≡ map (send_at f t o) (enumerate_from 0 (function_values m.functions)) → map entry_value es.items ≡ map (send_entry f t) (map entry_value m.entry_points.items) → Redirectable (with_functions m fs es)
 redirectable-sent m fs es f t o i h e g =
     let c = count-sent f t o m.functions fs e in

@@ -1,4 +1,4 @@
--- Where functions are put in order, each calls what it called, by name.
+-- After functions are sorted, each calls what it called, by name.
 use Rattle.std.proofs.Common.{◌≡◌, ◌∙◌, ⊎_elim, ◌⊎◌, inl, inr, ℕ, zero, suc, ◌+◌, ◌<◌, ◌==◌, true, unwrap_or, List, [], ◌∷◌, ◌++◌, map, length, take, get_or, bytes_eq, slice_get, Option, Some, None, option_map, is_some, IsSome, Result, Ok, Err, All, refl, ap, sym, subst, arith, append_assoc, append-nil, length-append}
 use Rattle.std.specs.Option.{option_flatten}
 use Rattle.std.proofs.lemmas.Bool.{cases_Bool, or_cases, false≢true}

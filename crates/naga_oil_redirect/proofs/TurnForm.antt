@@ -88,7 +88,7 @@ values_at : (m : Module) → (value_of m).functions ≡ function_values m.functi
 unfolding value_of
 values_at m = refl
 
--- ---- in turn
+-- ---- one after another
 
 -- what the function at a place calls
 callees_at : (m : Module) (k : ℕ) (e : Function × Span) → slice_get m.functions k ≡ Some e → linked (calls_of (value_of m).functions) k ≡ callees_of (block_tokens e.0.body)

@@ -1,4 +1,4 @@
--- The order of functions: each stands behind what it calls.
+-- The order of functions: each stands after what it calls.
 use Rattle.std.proofs.Common.{◌≡◌, ◌∙◌, ⊎_elim, ◌⊎◌, inl, inr, ℕ, zero, suc, ◌+◌, ◌<◌, ◌≤◌, ◌||◌, ◌==◌, Bool, true, false, cond, List, [], ◌∷◌, ◌++◌, length, take, get_or, slice_get, Option, Some, None, is_none, Ok, All, refl, ap, sym, subst, arith}
 use Rattle.std.specs.List.{flat_map, range_with_len}
 use Rattle.std.proofs.lemmas.Bool.{cases_lt, or_cases, false≢true}
@@ -98,7 +98,7 @@ level_has calls l k i e =
     let place : 0 + k ≡ k = omega arith in
     subst (λ j. has (of_level calls l) j ≡ true) place (passing_has 0 (is_level l) (levels calls) k (Some l) (levels_at calls k i ∙ ap Some e) (eq_eqb l l refl))
 
--- ---- lists one behind the other
+-- ---- lists joined
 
 -- a place lies in the first list or in the rest
 joined_at : (xs ys : List ℕ) (i : ℕ) → i < length (xs ++ ys) → (has xs (get_or (xs ++ ys) i 0) ≡ true) ⊎ ((j : ℕ) × (j < length ys) × (get_or (xs ++ ys) i 0 ≡ get_or ys j 0) × (take i (xs ++ ys) ≡ xs ++ take j ys))
@@ -144,7 +144,7 @@ before_in calls w os i e h g c =
     let there = All-has (λ x. x < length calls) (linked calls k) g (w k) c in
     turn.before callee.0 g (omega arith) callee.2 (level_has calls callee.0 g there callee.1)
 
--- in the order of functions each stands behind what it calls
+-- in the order of functions each stands after what it calls
 pub callees_before : (fs : List (FunctionValue × Span)) → StayWithin (calls_of fs) → (os : List ℕ) (i : ℕ) → ordered fs ≡ Ok os → i < length os → (g : ℕ) → has (linked (calls_of fs) (get_or os i 0)) g ≡ true → has (take i os) g ≡ true
 callees_before fs w os i e h g c = before_in (calls_of fs) w os i (by_levels fs os e).0 h g c
 

@@ -104,7 +104,7 @@ answered_by n m shift (Call k ∷ rs) s a =
       names = ap (λ (t : ImportState). (answer_by (answer_one (import_callee n m shift) m shift) t rs).names) same ∙ w.names;
     }
 
--- where all that a function calls is known, answering what it asks for leaves functions and names
+-- if everything that a function calls is known, answering its requests leaves functions and names
 pub answered : (n : ℕ) (m : ModuleValue) (shift : ℕ) (f : FunctionValue) (s : ImportState) → ((c : ℕ) → has (callees_of f.body) c ≡ true → IsSome (meant_at s.names (slice_get m.functions c))) → Stays s (answer_all n m shift s (requests_of f))
 answered n m shift f s known = answered_by n m shift (requests_of f) s (all_asked (IsKnownCall m s.names) (λ p. tt) f known)
 

@@ -7,8 +7,7 @@ use Rattle.naga_oil_redirect.specs.Chain.{last_of, SentInTurn, none_omitted, IsS
 use Rattle.naga_oil_redirect.specs.PutInOrder.{put_in_order}
 use Rattle.naga_oil_redirect.specs.Redirected.{matched, redirected}
 
--- LAW: where calls of a base are sent down replacements, one redirection after another, each goes to its destination, however many
--- replacements there are
+-- LAW: redirections of a base to any number of replacements, one after another, redirect each call of the base to its destination
 abbrev pub ChainLaw : Type 0
 ChainLaw = (m n : ModuleValue) (base : Name) (rs : List Name) →
     HasNamedCalls m → SentInTurn m base rs none_omitted n →
@@ -18,7 +17,7 @@ ChainLaw = (m n : ModuleValue) (base : Name) (rs : List Name) →
 abbrev pub PassesJust : List Name → (Name → Bool) → Type 0
 PassesJust names test = (n : Name) → test n ≡ list_any (bytes_eq n) names
 
--- calls of a base that were sent down replacements, of which the original is the last and which are omitted, are sent down one more
+-- calls of a base that were redirected along omitted replacements, the last of them the original, are redirected along one more
 abbrev pub SendsOn : (original replacement : Name) → (omitted : Name → Bool) → (old new : ModuleValue) → Type 0
 SendsOn original replacement omitted old new = (base : Name) (rs : List Name) (m : ModuleValue) →
     last_of rs base ≡ original → PassesJust rs omitted →
@@ -28,28 +27,28 @@ SendsOn original replacement omitted old new = (base : Name) (rs : List Name) (m
 abbrev pub is_in_chain : (base : Name) → (rs : List Name) → Name → Bool
 is_in_chain base rs n = list_any (bytes_eq n) (base ∷ rs)
 
--- calls that were sent down a chain without the original stay where they went
+-- calls that were redirected along a chain without the original stay as they are
 abbrev pub SendsApart : (original : Name) → (old new : ModuleValue) → Type 0
 SendsApart original old new = (base : Name) (rs : List Name) (m : ModuleValue) →
     is_in_chain base rs original ≡ false →
     IsSentDown base rs m old → IsSentDown base rs m new
 
--- calls that were sent down any chain stay where they went
+-- calls that were redirected along any chain stay as they are
 abbrev pub KeepsSent : (old new : ModuleValue) → Type 0
 KeepsSent old new = (base : Name) (rs : List Name) (m : ModuleValue) →
     IsSentDown base rs m old → IsSentDown base rs m new
 
--- LAW: so it is with each redirection, and functions have names of their own then too
+-- LAW: each redirection extends the chain of its original and keeps others, and functions still have names of their own
 abbrev pub StepLaw : Type 0
 StepLaw = (m : ModuleValue) (original replacement : Name) (omitted : Name → Bool) (pair : ℕ × ℕ) →
     HasNamedCalls m → matched m.functions original replacement ≡ Ok pair →
     let n = redirected m pair.0 pair.1 omitted in
     SendsOn original replacement omitted m n × SendsApart original m n × HasNamedCalls n
 
--- LAW: nothing was sent down no replacements
+-- LAW: without replacements nothing is redirected
 abbrev pub StartLaw : Type 0
 StartLaw = (m : ModuleValue) (base : Name) → HasNamedCalls m → IsSentDown base [] m m
 
--- LAW: where functions are put in order, calls stay where they went
+-- LAW: sorting functions keeps redirected calls
 abbrev pub OrderLaw : Type 0
 OrderLaw = (m n : ModuleValue) → HasNamedCalls m → put_in_order m ≡ Ok n → KeepsSent m n

@@ -9,7 +9,7 @@ use Rattle.naga_oil_redirect.specs.PutInOrderRows.{calling, empty, module_of}
 abbrev chain : List Name
 chain = codes "b" ∷ codes "c" ∷ codes "d" ∷ []
 
--- the first replacement calls the base, each other one the one before it, and all others the last
+-- the first replacement calls the base, each other replacement the one before it, and all other functions the last
 by_first : destination chain (Some (codes "b")) (codes "a") ≡ codes "a"
 by_first = refl
 
@@ -30,9 +30,13 @@ by_entry_points = refl
 
 -- a module in which b, c, d, e and the entry point call a
 abbrev calling_a : ModuleValue
-calling_a = module_of (empty (codes "a") ∷ calling (codes "b") 0 ∷ calling (codes "c") 0 ∷ calling (codes "d") 0 ∷ calling (codes "e") 0 ∷ []) (calling (codes "main") 0)
+calling_a =
+    module_of
+    (empty (codes "a") ∷ calling (codes "b") 0 ∷ calling (codes "c") 0 ∷ calling (codes "d") 0 ∷
+    calling (codes "e") 0 ∷ [])
+    (calling (codes "main") 0)
 
--- its calls of a sent to b, those of b to c, and those of c to d
+-- the module with its calls of a redirected to b, those of b to c, and those of c to d
 abbrev first : ModuleValue
 first = redirected calling_a 0 1 none_omitted
 
@@ -45,7 +49,9 @@ third = redirected second 2 3 (λ name. bytes_eq name (codes "c") || (bytes_eq n
 in_turn : SentInTurn calling_a (codes "a") chain none_omitted third
 in_turn = OneMore (0, 1) refl (OneMore (1, 2) refl (OneMore (2, 3) refl NoMore))
 
-functions_call : map (λ f. called third.functions f.0) third.functions ≡ [] ∷ (codes "a" ∷ []) ∷ (codes "b" ∷ []) ∷ (codes "c" ∷ []) ∷ (codes "d" ∷ []) ∷ []
+functions_call :
+    map (λ f. called third.functions f.0) third.functions ≡
+    [] ∷ (codes "a" ∷ []) ∷ (codes "b" ∷ []) ∷ (codes "c" ∷ []) ∷ (codes "d" ∷ []) ∷ []
 functions_call = refl
 
 entry_points_call : map (λ e. called third.functions e.function) third.entry_points ≡ (codes "d" ∷ []) ∷ []

@@ -1,4 +1,4 @@
--- The levels of functions, the order by them, and cycles of calls. Of each function the places of its callees are given.
+-- The levels of functions, the order by levels, and cycles of calls, given the places of each function's callees.
 use Rattle.std.specs.Prelude.{◌≡◌, ℕ, zero, suc, ◌+◌, ◌<◌, max, Bool, true, false, List, [], ◌∷◌, map, length, All, Option, Some, None, option_map, is_none, slice_get, ◌==◌}
 use Rattle.std.specs.Option.{option_flatten}
 use Rattle.std.specs.List.{flat_map, filter, enumerate_from, range_with_len}
@@ -8,7 +8,7 @@ use Rattle.naga_oil_form.specs.Links.{Links, linked, has}
 abbrev pub StayWithin : Links → Type 0
 StayWithin calls = (k : ℕ) → All (λ c. c < length calls) (linked calls k)
 
--- 0 of nothing, else 1 more than the greatest; none where one is none
+-- 0 of nothing, else 1 more than the greatest level; None if one level is None
 abbrev pub above : List (Option ℕ) → Option ℕ
 above [] = Some 0
 above (None ∷ levels) = None
@@ -30,7 +30,7 @@ abbrev pub is_level : ℕ → Option ℕ → Bool
 is_level l None = false
 is_level l (Some m) = m == l
 
--- the level that stands in a list at a place, if one does
+-- the level at a place of a list, if there is one
 abbrev pub known : List (Option ℕ) → ℕ → Option ℕ
 known levels k = option_flatten (slice_get levels k)
 
@@ -46,7 +46,7 @@ without_level levels = passing is_none levels
 abbrev pub by_level : List (Option ℕ) → List ℕ
 by_level levels = flat_map (λ l. passing (is_level l) levels) (range_with_len 0 (length levels))
 
--- one function leads to another by one call or more
+-- one function leads to another by one or more calls
 pub data Leads (calls : Links) : ℕ → ℕ → Type 0 where
   Calls : {a b : ℕ} → has (linked calls a) b ≡ true → Leads calls a b
   Through : {a b c : ℕ} → has (linked calls a) b ≡ true → Leads calls b c → Leads calls a c

@@ -7,7 +7,7 @@ branched : levels ([] ∷ (0 ∷ []) ∷ [] ∷ (2 ∷ 0 ∷ []) ∷ []) ≡ Som
 unfolding level_below
 branched = refl
 
--- 1 calls 2, which stands behind it
+-- 1 calls 2, which stands after it
 turned : by_level (levels ([] ∷ (2 ∷ []) ∷ [] ∷ [])) ≡ 0 ∷ 2 ∷ 1 ∷ []
 unfolding level_below
 turned = refl
@@ -22,7 +22,7 @@ circular : without_level (levels ([] ∷ (2 ∷ 2 ∷ []) ∷ (1 ∷ []) ∷ (0 
 unfolding level_below
 circular = refl
 
--- one that calls itself
+-- a function that calls itself
 alone : levels ((0 ∷ []) ∷ []) ≡ None ∷ []
 unfolding level_below
 alone = refl

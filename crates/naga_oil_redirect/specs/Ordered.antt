@@ -1,4 +1,4 @@
--- The order of functions in which each stands behind what it calls.
+-- The order of functions in which each stands after what it calls.
 use Rattle.std.specs.Prelude.{ℕ, List, [], ◌∷◌, map, codes, Option, Some, None, option_map, unwrap_or, slice_get, Result, Ok, Err}
 use Rattle.std.specs.List.{filter_map, join_by}
 use Rattle.std.specs.Option.{option_flatten}

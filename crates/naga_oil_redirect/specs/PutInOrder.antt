@@ -1,4 +1,4 @@
--- A module with its functions in order, as a value.
+-- A module with its functions sorted, as a value.
 use Rattle.std.specs.Prelude.{ℕ, List, fold, slice_get, Option, Some, None, Result, Ok, Err}
 use Rattle.naga_oil_ir.specs.ModuleValue.{ModuleValue, FunctionValue, module_value}
 use Rattle.naga_oil_ir.specs.RedirectFault.{RedirectFault, Gives}
@@ -19,7 +19,7 @@ import_one d (Some f) = import_function d f.0 f.1
 abbrev pub import_in_turn : ModuleValue → Derived → (places : List ℕ) → Derived
 import_in_turn m d places = fold (λ d k. import_one d (slice_get m.functions k)) d places
 
--- a module that is made of what another's special types, its functions at some places, and then its entry points reach
+-- the module of what another module's special types, its functions at some places, and then its entry points reach
 unfoldable pub in_turn : ModuleValue → (places : List ℕ) → ModuleValue
 in_turn m places = make_module (import_in_turn m (set_source nothing m 0) places)
 
@@ -27,10 +27,10 @@ abbrev pub in_turn_if : ModuleValue → Result (List ℕ) RedirectFault → Resu
 in_turn_if m (Ok places) = Ok (in_turn m places)
 in_turn_if m (Err f) = Err f
 
--- a module with its functions by level, then by place; or the names of those without a level
+-- a module with its functions by level, then by place; or the names of functions without a level
 abbrev pub put_in_order : ModuleValue → Result ModuleValue RedirectFault
 put_in_order m = in_turn_if m (ordered m.functions)
 
--- a result is a module with its functions in order
+-- a result is a module with its functions sorted
 abbrev pub PutsInOrder : ModuleValue → Result Module RedirectError → Type 0
 PutsInOrder m r = Gives module_value r (put_in_order m)

@@ -1,16 +1,16 @@
-//! What holds of calls that are sent down chains of replacements.
+//! Laws of calls that are redirected along chains of replacements.
 ghost use Rattle.naga_oil_redirect.specs.ChainLaw.{ChainLaw, OrderLaw, StartLaw, StepLaw};
 
-/// However many functions replace a base, one after another, each call of it goes to its destination: to the base or the
-/// replacement before its caller, if that is a replacement, and else to the last. Each redirection adds one to the chain of
-/// what it replaces, and leaves other chains.
+/// However many functions replace a base, one after another, each call of the base is redirected to its destination: if the
+/// caller is a replacement, the base or replacement before it, otherwise the last replacement. Each redirection adds one to
+/// the chain of what it replaces, and leaves other chains unchanged.
 pub fn calls_go_down_chains()
     ensures chain { ChainLaw }
     ensures start { StartLaw }
     ensures step { StepLaw }
 {}
 
-/// Where functions are put in order, each stays, and calls go to the functions of the same names.
+/// Sorting functions keeps each function, and calls are of the functions with the same names.
 pub fn order_keeps_calls()
     ensures { OrderLaw }
 {}

@@ -1,5 +1,5 @@
-//! The order of functions in which each stands behind what it calls, by their levels: 0 without calls, else 1 more than the
-//! greatest level of a callee. A function that calls itself, or leads to one that does, has none.
+//! The order of functions in which each stands after what it calls, by their levels: the level of a function is 0 without calls,
+//! else 1 more than the greatest level of a callee. A function that calls itself, or leads to one that does, has no level.
 ghost use Rattle.std.specs.Prelude.{◌≡◌, ◌+◌, ◌<◌, ◌≤◌, ◌==◌, if◌then◌else◌, [], ℕ, All, IfOk, IfSome, OnOk, length, map, get_or, replicate, nat_lt, ◌&&◌, ◌↔◌, IsErr, unwrap_or, option_map, string_bytes};
 ghost use Rattle.naga_oil_form.specs.Links.{lists, linked};
 ghost use Rattle.naga_oil_redirect.specs.Count.{bit, times};
@@ -11,8 +11,8 @@ ghost use Rattle.naga_oil_ir.specs.RedirectFault.{Gives};
 
 use super::*;
 
-/// So many empty lists.
-fn no_places(count: usize, alloc: Global) -> Tried<Vec<Vec<usize>>>
+/// Returns `count` empty lists.
+fn no_places(count: usize, alloc: Global) -> AllocResult<Vec<Vec<usize>>>
     ensures { IfOk result (λ v. lists v.items ≡ replicate count []) }
 {
     let mut places = Vec::new(alloc);
@@ -22,8 +22,8 @@ fn no_places(count: usize, alloc: Global) -> Tried<Vec<Vec<usize>>>
     Ok(places)
 }
 
-/// Puts a function into the lists of its callees.
-fn push_caller(callers: &mut Vec<Vec<usize>>, function: usize, callees: &[usize]) -> Tried
+/// Adds a function to the lists of its callees.
+fn push_caller(callers: &mut Vec<Vec<usize>>, function: usize, callees: &[usize]) -> AllocResult
     requires { All (λ c. c < length callers.old.items) callees.now }
     ensures long { OnOk result (length callers.new.items ≡ length callers.old.items) }
     ensures callers { let old = lists callers.old.items in
@@ -36,8 +36,8 @@ fn push_caller(callers: &mut Vec<Vec<usize>>, function: usize, callees: &[usize]
     Ok(())
 }
 
-/// Of each function the functions that call it, as often as they do.
-fn callers_of(calls: &[Vec<usize>], alloc: Global) -> Tried<Vec<Vec<usize>>>
+/// Returns for each function the functions that call it, as often as they do.
+fn callers_of(calls: &[Vec<usize>], alloc: Global) -> AllocResult<Vec<Vec<usize>>>
     requires { StayWithin (lists calls.now) }
     ensures long { IfOk result (λ v. length v.items ≡ length calls.now) }
     ensures callers { let called = lists calls.now in
@@ -51,7 +51,7 @@ fn callers_of(calls: &[Vec<usize>], alloc: Global) -> Tried<Vec<Vec<usize>>>
     Ok(callers)
 }
 
-/// 1 more than the greatest level of some functions, 0 of none; none where one has no level yet.
+/// Returns 1 more than the greatest level of some functions, 0 for no functions, and `None` if one of them has no level yet.
 fn level_above(callees: &[usize], levels: &[Option<usize>]) -> Option<usize>
     requires { (k : ℕ) → IfSome (known levels.now k) (λ l. l < length levels.now) }
     ensures { result ≡ above (map (known levels.now) callees.now) }
@@ -64,8 +64,8 @@ fn level_above(callees: &[usize], levels: &[Option<usize>]) -> Option<usize>
     Some(above)
 }
 
-/// Counts off a call of each of some functions; those with no more are ready.
-fn count_off(callers: &[usize], pending: &mut Vec<usize>, ready: &mut Vec<usize>) -> Tried
+/// Counts off one call of each of some callers; a caller with no call left is ready.
+fn count_off(callers: &[usize], pending: &mut Vec<usize>, ready: &mut Vec<usize>) -> AllocResult
     requires { (k : ℕ) → times k callers.now ≤ get_or pending.old.items k 0 }
     ensures long { OnOk result (length pending.new.items ≡ length pending.old.items) }
     ensures pending { OnOk result ((k : ℕ) →
@@ -84,8 +84,8 @@ fn count_off(callers: &[usize], pending: &mut Vec<usize>, ready: &mut Vec<usize>
     Ok(())
 }
 
-/// Of each function how many calls it has, and the functions that have none.
-fn open_calls(calls: &[Vec<usize>], alloc: Global) -> Tried<(Vec<usize>, Vec<usize>)>
+/// Returns the number of calls of each function, and the functions that have none.
+fn open_calls(calls: &[Vec<usize>], alloc: Global) -> AllocResult<(Vec<usize>, Vec<usize>)>
     ensures pending { IfOk result (λ r. r.0.items ≡ map length (lists calls.now)) }
     ensures ready { let called = lists calls.now in
         IfOk result (λ r. (k : ℕ) → times k r.1.items ≡
@@ -102,8 +102,8 @@ fn open_calls(calls: &[Vec<usize>], alloc: Global) -> Tried<(Vec<usize>, Vec<usi
     Ok((pending, ready))
 }
 
-/// The levels of functions, of each of which the places of its callees are given, in time in proportion to the calls.
-pub fn levels_of(calls: &[Vec<usize>], alloc: Global) -> Tried<Vec<Option<usize>>>
+/// Returns the levels of functions, given the places of each function's callees. The time is proportional to the number of calls.
+pub fn levels_of(calls: &[Vec<usize>], alloc: Global) -> AllocResult<Vec<Option<usize>>>
     requires { StayWithin (lists calls.now) }
     ensures { IfOk result (λ v. v.items ≡ levels (lists calls.now)) }
 {
@@ -117,8 +117,8 @@ pub fn levels_of(calls: &[Vec<usize>], alloc: Global) -> Tried<Vec<Option<usize>
     Ok(levels)
 }
 
-/// The functions without a level, by place.
-pub fn without_level(levels: &[Option<usize>], alloc: Global) -> Tried<Vec<usize>>
+/// Returns the functions without a level, by place.
+pub fn without_level(levels: &[Option<usize>], alloc: Global) -> AllocResult<Vec<usize>>
     ensures { IfOk result (λ v. v.items ≡ without_level levels.now) }
 {
     let levels = levels.iter().enumerate();
@@ -126,8 +126,8 @@ pub fn without_level(levels: &[Option<usize>], alloc: Global) -> Tried<Vec<usize
     open.map(|(place, _)| place).collect(alloc)
 }
 
-/// The functions that have a level, by level and then by place.
-pub fn by_level(levels: &[Option<usize>], alloc: Global) -> Tried<Vec<usize>>
+/// Returns the functions that have a level, by level and then by place.
+pub fn by_level(levels: &[Option<usize>], alloc: Global) -> AllocResult<Vec<usize>>
     requires { (k : ℕ) → IfSome (known levels.now k) (λ l. l < length levels.now) }
     ensures { IfOk result (λ v. v.items ≡ by_level levels.now) }
 {
@@ -143,8 +143,8 @@ pub fn by_level(levels: &[Option<usize>], alloc: Global) -> Tried<Vec<usize>>
     Ok(order)
 }
 
-/// What a body calls, in order.
-fn callees_of(body: &Block, alloc: Global) -> Tried<Vec<usize>>
+/// Returns the functions that a body calls, in order.
+fn callees_of(body: &Block, alloc: Global) -> AllocResult<Vec<usize>>
     ensures { IfOk result (λ v. v.items ≡ callees_of (block_tokens body.now)) }
 {
     let mut tokens = Vec::new(alloc);
@@ -156,8 +156,8 @@ fn callees_of(body: &Block, alloc: Global) -> Tried<Vec<usize>>
     callees.collect(alloc)
 }
 
-/// What each function calls.
-fn calls_of(functions: &[(Function, Span)], alloc: Global) -> Tried<Vec<Vec<usize>>>
+/// Returns the functions that each function calls.
+fn calls_of(functions: &[(Function, Span)], alloc: Global) -> AllocResult<Vec<Vec<usize>>>
     ensures { IfOk result (λ v. lists v.items ≡ calls_of (function_values functions.now)) }
 {
     let mut calls = Vec::new(alloc);
@@ -173,8 +173,8 @@ fn name_of(function: &Function) -> &str
     function.name.as_ref().map_or("", |name| name.as_str())
 }
 
-/// The names of functions at some places, joined.
-fn names_at(functions: &[(Function, Span)], places: &[usize], alloc: Global) -> Tried<String>
+/// Returns the names of the functions at some places, joined.
+fn names_at(functions: &[(Function, Span)], places: &[usize], alloc: Global) -> AllocResult<String>
     requires { All (λ k. k < length functions.now) places.now }
     ensures { let told = names_at (function_values functions.now) places.now in
         IfOk result (λ s. string_bytes s ≡ told) }
@@ -186,7 +186,10 @@ fn names_at(functions: &[(Function, Span)], places: &[usize], alloc: Global) -> 
     names.join(alloc, ", ")
 }
 
-/// The functions by level, then by place, unless they call each other in a circle.
+/// Returns the functions by level, then by place.
+///
+/// # Errors
+/// If functions call each other in a circle, or if there is no memory.
 pub fn ordered(functions: &[(Function, Span)], alloc: Global) -> Result<Vec<usize>, RedirectError>
     requires { StayWithin (calls_of (function_values functions.now)) }
     ensures order { Gives (λ v. v.items) result (ordered (function_values functions.now)) }

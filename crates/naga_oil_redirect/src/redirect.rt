@@ -1,4 +1,4 @@
-//! A module whose calls can be sent to other functions.
+//! The redirector: a module whose calls can be redirected to other functions.
 ghost use Rattle.std.specs.Prelude.{◌≡◌, ◌<◌, ◌↔◌, Ok, IsErr, IsSome, length, map, IfOk, OnOk, OnErr, nat_eq};
 ghost use Rattle.std.specs.List.{enumerate_from};
 ghost use Rattle.std.specs.BTreeSet.{contains_text};
@@ -47,7 +47,7 @@ fn same_results(original: &Function, replacement: &Function) -> bool
     original.result.map(|gives| gives.ty) == replacement.result.map(|gives| gives.ty)
 }
 
-/// Sends the calls of all functions but the one that they go to and the omitted ones.
+/// Redirects the calls in all functions except the replacement and the omitted ones.
 fn send_functions(arena: &mut Arena<Function>, pair: Pair, omit: &BTreeSet<String>, alloc: Global)
     ensures { let sends = send_at pair.0 pair.1 (contains_text omit.now) in
         function_values arena.new ≡ map sends (enumerate_from 0 (function_values arena.old)) }
@@ -61,7 +61,7 @@ fn send_functions(arena: &mut Arena<Function>, pair: Pair, omit: &BTreeSet<Strin
     *arena = Arena::from_items(items);
 }
 
-/// Sends the calls of all entry points.
+/// Redirects the calls in all entry points.
 fn send_entries(entries: &mut Vec<EntryPoint>, pair: Pair, alloc: Global)
     ensures { let sends = send_entry pair.0 pair.1 in
         map entry_value entries.new.items ≡ map sends (map entry_value entries.old.items) }
@@ -71,8 +71,12 @@ fn send_entries(entries: &mut Vec<EntryPoint>, pair: Pair, alloc: Global)
     }
 }
 
-/// Sets a module as the source, and imports its functions in their order.
-fn import_in_turn<'a>(derived: &mut DerivedModule<'a>, source: &'a Module, order: &[usize]) -> Tried
+/// Sets a module as the source, and imports its functions in the given order.
+fn import_in_turn<'a>(
+    derived: &mut DerivedModule<'a>,
+    source: &'a Module,
+    order: &[usize],
+) -> AllocResult
     requires source { Redirectable source.now }
     requires order { ordered (function_values source.now.functions) ≡ Ok order.now }
     ensures value { let shader = value_of source.now in
@@ -90,8 +94,8 @@ fn import_in_turn<'a>(derived: &mut DerivedModule<'a>, source: &'a Module, order
     Ok(())
 }
 
-/// A module with its functions in their order.
-fn in_order(source: &Module, order: &[usize], alloc: Global) -> Tried<Module>
+/// Returns a module with its functions in the given order.
+fn in_order(source: &Module, order: &[usize], alloc: Global) -> AllocResult<Module>
     requires source { Redirectable source.now }
     requires order { ordered (function_values source.now.functions) ≡ Ok order.now }
     ensures { IfOk result (λ m. value_of m ≡ in_turn (value_of source.now) order.now) }
@@ -101,7 +105,7 @@ fn in_order(source: &Module, order: &[usize], alloc: Global) -> Tried<Module>
     derived.into_module_with_entrypoints()
 }
 
-/// A module whose calls can be sent to other functions.
+/// A module whose calls can be redirected to other functions.
 #[derive(Drop)]
 pub struct Redirector {
     module: Module,
@@ -120,7 +124,7 @@ impl Model for Redirector {
 }
 
 impl Redirector {
-    /// A redirector of a module that passes the test of form, but that calls may go to any function.
+    /// Returns a redirector of a module. The module passes the test of form, except that a function may call any function.
     pub fn new(alloc: Global, shader: Module) -> Self
         requires { Redirectable shader }
         ensures { result ≡ module_value shader }
@@ -129,14 +133,14 @@ impl Redirector {
         Redirector { module: shader, alloc }
     }
 
-    /// The module so far.
+    /// Returns the module as redirected so far.
     pub fn module(&self) -> &Module
         ensures { module_value result.now ≡ self.now }
     {
         &self.module
     }
 
-    /// The first function of a name, with its place.
+    /// Returns the first function with a name, and its place.
     fn find(&self, name: &str) -> Result<(usize, &Function), RedirectError>
         ensures found { let first = found name.now self.now.functions in
             Gives (λ f. (f.0, function_value f.1.now)) result first }
@@ -152,7 +156,7 @@ impl Redirector {
         Err(RedirectError::FunctionNotFound(name))
     }
 
-    /// The handles of a function and its replacement, if that may stand for it.
+    /// Returns the handles of a function and its replacement, if their signatures match.
     fn matched(&self, original: &str, replacement: &str) -> Result<Pair, RedirectError>
         ensures matched { let both = matched self.now.functions original.now replacement.now in
             Gives (λ pair. (pair.0, pair.1)) result both }
@@ -173,15 +177,16 @@ impl Redirector {
         })
     }
 
-    /// Sends the calls of one function, by name, to another one, its replacement: in all entry points, and in all functions
-    /// but the replacement and the omitted ones. It answers the handles of both.
+    /// Redirects the calls of one function to another, its replacement, both given by name: in all entry points, and in all
+    /// functions except the replacement and the omitted ones. Returns the handles of both.
     ///
-    /// Where calls of a base went down a chain of replacements, of which the original is the last and which are omitted, they go
-    /// down the chain of these and the new one then; those of a base whose chain doesn't have the original stay where they went.
+    /// If the original is the last of a chain of replacements, all of which are omitted, the replacement extends the chain: calls
+    /// of the chain's base are then redirected along the longer chain. Calls of a base whose chain doesn't have the original stay
+    /// as they are.
     ///
     /// # Errors
-    /// Where the original isn't found, else the replacement, else where their arguments differ in number or types, else
-    /// where their results do, or there is no memory. Refused, it changes nothing.
+    /// If the original isn't found; if the replacement isn't; if their arguments differ in number or types; if their results
+    /// do (in this order); or if there is no memory. After an error nothing has changed.
     pub fn redirect_function(
         &mut self,
         original: &str,
@@ -203,11 +208,11 @@ impl Redirector {
         Ok((from, to))
     }
 
-    /// The module with its functions in an order in which each stands behind what it calls: by their levels, then by place.
-    /// Items are there that functions, entry points or special types reach. Calls that went down a chain of replacements do so still.
+    /// Returns the module with its functions sorted by level, then by place: each stands after what it calls. The module has the
+    /// items that functions, entry points or special types reach. Redirected calls stay redirected.
     ///
     /// # Errors
-    /// Where functions call each other in a circle, or there is no memory. The module is dropped then.
+    /// If functions call each other in a circle, or if there is no memory. The module is dropped then.
     pub fn into_module(self) -> Result<Module, RedirectError>
         ensures order { Gives module_value result (put_in_order self) }
         ensures chain { IfOk result (λ m. KeepsSent self (module_value m)) }

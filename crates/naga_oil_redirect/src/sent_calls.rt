@@ -1,4 +1,4 @@
-//! Calls sent from one function to another, where they stand.
+//! Redirects the calls of a function from one function to another.
 ghost use Rattle.std.specs.Prelude.{◌≡◌, map, ◌==◌, if◌then◌else◌};
 ghost use Rattle.std.specs.List.{flat_map};
 ghost use Rattle.naga_oil_ir.specs.Parts.{parts};
@@ -9,10 +9,10 @@ ghost use Rattle.naga_oil_redirect.specs.Redirected.{sent, send};
 
 use super::*;
 
-/// The function that a call goes to.
+/// The function that a call is of.
 type Callee = Handle<Function>;
 
-/// Sends a call.
+/// Redirects a call.
 fn send_callee(function: &mut Callee, from: Callee, to: Callee)
     ensures { function.new ≡ (sent from to).function function.old }
 {
@@ -21,7 +21,7 @@ fn send_callee(function: &mut Callee, from: Callee, to: Callee)
     }
 }
 
-/// Sends the calls of a body.
+/// Redirects the calls in a body.
 #[cycle(sending)]
 fn send_block(block: &mut Block, from: Callee, to: Callee)
     ensures { block_tokens block.new ≡ rename_tokens (sent from to) (block_tokens block.old) }
@@ -31,7 +31,7 @@ fn send_block(block: &mut Block, from: Callee, to: Callee)
     }
 }
 
-/// Sends the calls of the arms of a switch.
+/// Redirects the calls in the arms of a switch.
 #[cycle(sending)]
 fn send_cases(cases: &mut Vec<SwitchCase>, from: Callee, to: Callee)
     ensures { let renamed = rename_tokens (sent from to) (flat_map case_tokens cases.old.items) in
@@ -42,7 +42,7 @@ fn send_cases(cases: &mut Vec<SwitchCase>, from: Callee, to: Callee)
     }
 }
 
-/// Sends the calls of a statement.
+/// Redirects the calls in a statement.
 #[rattlefmt::skip]
 #[cycle(sending)]
 fn send_statement(statement: &mut Statement, from: Callee, to: Callee)
@@ -84,7 +84,7 @@ fn send_result(expression: &mut Expression, from: Callee, to: Callee)
     }
 }
 
-/// Sends the calls of a function.
+/// Redirects the calls in a function, with their results.
 pub fn send_calls(function: &mut Function, from: Callee, to: Callee, alloc: Global)
     ensures { function_value function.new ≡ send from to (function_value function.old) }
 {

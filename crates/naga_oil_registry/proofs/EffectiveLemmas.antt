@@ -7,8 +7,8 @@ use Rattle.std.specs.List.{list_any, list_all, flat_map}
 use Rattle.std.specs.Str.{bytes_eq}
 use Rattle.naga_oil_imports.specs.Uses.{Use}
 use Rattle.naga_oil_pre.specs.Recorded.{is_recorded}
-use Rattle.naga_oil_lines.specs.Text.{is_among}
-use Rattle.naga_oil_registry.specs.Definition.{Definition}
+use Rattle.naga_oil_words.specs.Texts.{is_among}
+use Rattle.naga_oil_registry.specs.Registered.{Registered}
 use Rattle.naga_oil_registry.specs.Merged.{recorded_names}
 use Rattle.naga_oil_registry.specs.Registry.{registered, module_named, reaches, effective_names, IsRegistry, is_reached_name, AreReachedNames}
 use Rattle.naga_oil_registry.proofs.AddedLemmas.{named-registered}
@@ -16,7 +16,7 @@ use Rattle.naga_oil_registry.proofs.NamesLemmas.{among-in_order}
 use Rattle.naga_oil_registry.proofs.RegistryLemmas.{bytes_same}
 use Rattle.naga_oil_registry.proofs.RemovedLemmas.{reaches-unregistered, bytes_apart}
 
-abbrev names_at : List Definition → List ℕ → List (List ℕ)
+abbrev names_at : List Registered → List ℕ → List (List ℕ)
 names_at ds name = unwrap_or (option_map (λ d. d.effective) (module_named name ds)) []
 
 among-flat_map : {X : Type 0} (f : X → List (List ℕ)) (xs : List X) (n : List ℕ) → is_among (flat_map f xs) n ≡ list_any (λ x. is_among (f x) n) xs
@@ -48,8 +48,8 @@ nowhere-any : {X : Type 0} (s : X → Bool) (xs : List X) → false ≡ list_any
 nowhere-any s [] = refl
 nowhere-any s (x ∷ xs) = nowhere-any s xs
 
--- what the modules say that are imported
-imported-names : (ds : List Definition) (us : List Use) (n : List ℕ) → list_all (λ u. registered u.import.import ds) us ≡ true → ((name : List ℕ) → registered name ds ≡ true → is_among (names_at ds name) n ≡ is_reached_name ds name n) → list_any (λ u. is_among (names_at ds u.import.import) n) us ≡ list_any (λ e. list_any (λ u. reaches ds u.import.import e.name) us && is_recorded e.source n) ds
+-- what the imported modules say
+imported-names : (ds : List Registered) (us : List Use) (n : List ℕ) → list_all (λ u. registered u.import.import ds) us ≡ true → ((name : List ℕ) → registered name ds ≡ true → is_among (names_at ds name) n ≡ is_reached_name ds name n) → list_any (λ u. is_among (names_at ds u.import.import) n) us ≡ list_any (λ e. list_any (λ u. reaches ds u.import.import e.name) us && is_recorded e.source n) ds
 imported-names ds [] n all known = nowhere-any (λ e. is_recorded e.source n) ds
 imported-names ds (u ∷ us) n all known =
     let k = and_parts (registered u.import.import ds) (list_all (λ u. registered u.import.import ds) us) all in
@@ -58,7 +58,7 @@ imported-names ds (u ∷ us) n all known =
     ∙ spread (λ e. reaches ds u.import.import e.name) (λ e. list_any (λ u. reaches ds u.import.import e.name) us) (λ e. is_recorded e.source n) ds
 
 -- the module itself, and what its imports reach
-reached-here : (d : Definition) (earlier : List Definition) (n : List ℕ) (xs : List Definition) → registered d.name xs ≡ false → list_any (λ e. list_any (λ u. reaches earlier u.import.import e.name) d.imports && is_recorded e.source n) xs ≡ list_any (λ e. reaches (d ∷ earlier) d.name e.name && is_recorded e.source n) xs
+reached-here : (d : Registered) (earlier : List Registered) (n : List ℕ) (xs : List Registered) → registered d.name xs ≡ false → list_any (λ e. list_any (λ u. reaches earlier u.import.import e.name) d.imports && is_recorded e.source n) xs ≡ list_any (λ e. reaches (d ∷ earlier) d.name e.name && is_recorded e.source n) xs
 unfolding reaches
 reached-here d earlier n [] fresh = refl
 reached-here d earlier n (x ∷ xs) fresh =
@@ -67,25 +67,25 @@ reached-here d earlier n (x ∷ xs) fresh =
     ∙ ap (λ b. (cond b (bytes_eq d.name x.name || list_any (λ u. reaches earlier u.import.import x.name) d.imports) (reaches earlier d.name x.name) && is_recorded x.source n) || list_any (λ e. list_any (λ u. reaches earlier u.import.import e.name) d.imports && is_recorded e.source n) xs) (sym ((bytes_eq-Decides d.name d.name).1 refl))
     ∙ ap (λ b. (reaches (d ∷ earlier) d.name x.name && is_recorded x.source n) || b) (reached-here d earlier n xs h.1)
 
-reached-itself : (d : Definition) (earlier : List Definition) → true ≡ reaches (d ∷ earlier) d.name d.name
+reached-itself : (d : Registered) (earlier : List Registered) → true ≡ reaches (d ∷ earlier) d.name d.name
 unfolding reaches
 reached-itself d earlier =
     ap (λ b. b || list_any (λ u. reaches earlier u.import.import d.name) d.imports) (sym ((bytes_eq-Decides d.name d.name).1 refl))
     ∙ ap (λ b. cond b (bytes_eq d.name d.name || list_any (λ u. reaches earlier u.import.import d.name) d.imports) (reaches earlier d.name d.name)) (sym ((bytes_eq-Decides d.name d.name).1 refl))
 
--- another module is seen behind it
-reached-there : (d : Definition) (earlier : List Definition) (name n : List ℕ) (xs : List Definition) → bytes_eq d.name name ≡ false → list_any (λ e. reaches earlier name e.name && is_recorded e.source n) xs ≡ list_any (λ e. reaches (d ∷ earlier) name e.name && is_recorded e.source n) xs
+-- another module is looked up in the rest of the list
+reached-there : (d : Registered) (earlier : List Registered) (name n : List ℕ) (xs : List Registered) → bytes_eq d.name name ≡ false → list_any (λ e. reaches earlier name e.name && is_recorded e.source n) xs ≡ list_any (λ e. reaches (d ∷ earlier) name e.name && is_recorded e.source n) xs
 unfolding reaches
 reached-there d earlier name n [] other = refl
 reached-there d earlier name n (x ∷ xs) other =
     ap (λ b. (cond b (bytes_eq name x.name || list_any (λ u. reaches earlier u.import.import x.name) d.imports) (reaches earlier name x.name) && is_recorded x.source n) || list_any (λ e. reaches earlier name e.name && is_recorded e.source n) xs) (sym other)
     ∙ ap (λ b. (reaches (d ∷ earlier) name x.name && is_recorded x.source n) || b) (reached-there d earlier name n xs other)
 
-not-reached : (d : Definition) (earlier : List Definition) (name : List ℕ) → bytes_eq d.name name ≡ false → registered d.name earlier ≡ false → false ≡ reaches (d ∷ earlier) name d.name
+not-reached : (d : Registered) (earlier : List Registered) (name : List ℕ) → bytes_eq d.name name ≡ false → registered d.name earlier ≡ false → false ≡ reaches (d ∷ earlier) name d.name
 unfolding reaches
 not-reached d earlier name other fresh = sym (reaches-unregistered d.name earlier name fresh) ∙ ap (λ b. cond b (bytes_eq name d.name || list_any (λ u. reaches earlier u.import.import d.name) d.imports) (reaches earlier name d.name)) (sym other)
 
-pub effective-reached : (ds : List Definition) → IsRegistry ds → (n name : List ℕ) → registered name ds ≡ true → is_among (names_at ds name) n ≡ is_reached_name ds name n
+pub effective-reached : (ds : List Registered) → IsRegistry ds → (n name : List ℕ) → registered name ds ≡ true → is_among (names_at ds name) n ≡ is_reached_name ds name n
 effective-reached [] h n name r = absurd (true≢false (sym r))
 effective-reached (d ∷ earlier) h n name r = by (bytes_eq d.name name) refl r (λ name r. effective-reached earlier h.1 n name r)
   where
@@ -101,7 +101,7 @@ effective-reached (d ∷ earlier) h n name r = by (bytes_eq d.name name) refl r 
         known name r ∙ reached-there d earlier name n earlier e
         ∙ ap (λ b. (b && is_recorded d.source n) || list_any (λ x. reaches (d ∷ earlier) name x.name && is_recorded x.source n) earlier) (not-reached d earlier name e h.0.name)
 
-pub are_reached : (ds : List Definition) → IsRegistry ds → AreReachedNames ds
+pub are_reached : (ds : List Registered) → IsRegistry ds → AreReachedNames ds
 are_reached ds h d name e =
-    ap (λ (o : Option Definition). is_among (unwrap_or (option_map (λ x. x.effective) o) []) name) (sym e)
+    ap (λ (o : Option Registered). is_among (unwrap_or (option_map (λ x. x.effective) o) []) name) (sym e)
     ∙ effective-reached ds h name d.name (sym (named-registered d.name ds) ∙ ap is_some e)

@@ -10,7 +10,7 @@ use Rattle.std.proofs.lemmas.Map.Keys.{IsDistinct-head, IsDistinct-tail}
 use Rattle.std.specs.Cmp.Lexicographic.{nat_list_eq_equiv}
 use Rattle.std.specs.List.{list_any, position_or_len, IsDistinct, AllByRecursion}
 use Rattle.std.specs.Map.{keys_of, values_of, lookup}
-use Rattle.naga_oil_registry.specs.Definition.{Definition, definition_of}
+use Rattle.naga_oil_registry.specs.Registered.{Registered, definition_of}
 use Rattle.naga_oil_registry.specs.Registry.{registered, standing, taken}
 use Rattle.naga_oil_registry.specs.RegistryView.{newest_first, AreUnderNames, AreMarks, MarksMore, IsOnly}
 use Rattle.naga_oil_registry.specs.declared.definition.ComposableModuleDefinition.{ComposableModuleDefinition}
@@ -94,7 +94,7 @@ module _ {X : Type 0} (p : X → Bool) where
 pub length_newest : (es : List (String Global × ComposableModuleDefinition)) → length (newest_first (values_of es)) ≡ length es
 length_newest es = length-reverse (map definition_of (values_of es)) ∙ length-map (values_of es) definition_of ∙ length-values_of es
 
-newest_get : (ms : List ComposableModuleDefinition) (place : ℕ) (v : ComposableModuleDefinition) (d : Definition) → place < length ms → get_or (newest_first ms) place d ≡ definition_of (get_or ms (length ms - 1 - place) v)
+newest_get : (ms : List ComposableModuleDefinition) (place : ℕ) (v : ComposableModuleDefinition) (d : Registered) → place < length ms → get_or (newest_first ms) place d ≡ definition_of (get_or ms (length ms - 1 - place) v)
 newest_get ms place v d lt =
     let size : length (map definition_of ms) ≡ length ms = length-map ms definition_of in
     get_or-reverse (map definition_of ms) place d (omega (arith, lt, size))
@@ -124,7 +124,7 @@ module _ (name : List ℕ) where
   abbrev is_key : String Global → Bool
   is_key k = bytes_eq name (string_bytes k)
 
-  abbrev is_named : Definition → Bool
+  abbrev is_named : Registered → Bool
   is_named d = bytes_eq d.name name
 
   key_named : (k : String Global) (v : ComposableModuleDefinition) → string_bytes k ≡ string_bytes v.name → is_named (definition_of v) ≡ is_key k
@@ -142,7 +142,7 @@ module _ (name : List ℕ) where
   pub unregistered : (es : List (String Global × ComposableModuleDefinition)) → AreUnderNames es → is_some (lookup is_key es) ≡ false → registered name (newest_first (values_of es)) ≡ false
   unregistered es under e = none_reversed is_named (map definition_of (values_of es)) (unfound es under e)
 
-  -- and the other way round
+  -- and the converse
   unlisted : (key : String Global) (es : List (String Global × ComposableModuleDefinition)) → string_bytes key ≡ name → AreUnderNames es → list_any is_named (map definition_of (values_of es)) ≡ false → lookup (string_eq key) es ≡ None
   unlisted key [] is under e = refl
   unlisted key (x ∷ es) is under e =
@@ -153,9 +153,9 @@ module _ (name : List ℕ) where
   pub unkept : (key : String Global) (es : List (String Global × ComposableModuleDefinition)) → string_bytes key ≡ name → AreUnderNames es → registered name (newest_first (values_of es)) ≡ false → lookup (string_eq key) es ≡ None
   unkept key es is under e = unlisted key es is under (none_forward is_named (map definition_of (values_of es)) e)
 
-  -- a name that the map finds is that of one module, from the newest as far as the key is from the last
+  -- a name that the map finds is that of one module, as far from the newest as the key is from the last
   module _ (k0 : String Global) (v0 : ComposableModuleDefinition) (es : List (String Global × ComposableModuleDefinition)) (under : AreUnderNames es) (apart : IsDistinct string_eq (keys_of es)) (i : ℕ) (at : position is_key (keys_of es) ≡ Some i) where
-    named_at : (place : ℕ) (d : Definition) → place < length es → is_named (get_or (newest_first (values_of es)) place d) ≡ is_key (get_or (keys_of es) (length es - 1 - place) k0)
+    named_at : (place : ℕ) (d : Registered) → place < length es → is_named (get_or (newest_first (values_of es)) place d) ≡ is_key (get_or (keys_of es) (length es - 1 - place) k0)
     named_at place d lt =
         let size = length-values_of es in
         let older = length es - 1 - place in
@@ -195,7 +195,7 @@ module _ (name : List ℕ) where
   only_named [] under apart i at = absurd cc
   only_named (e ∷ es) under apart i at = only_from e.0 e.1 (e ∷ es) under apart i at
 
--- ---- some go
+-- ---- some are removed
 filter_reversed : {X : Type 0} (p : X → Bool) (xs : List X) → reverse (filter p xs) ≡ filter p (reverse xs)
 filter_reversed p [] = refl
 filter_reversed p (x ∷ xs) = by (p x) refl (filter_reversed p xs)
@@ -259,15 +259,15 @@ or_moved true true c = refl
 or_moved true false c = refl
 or_moved false b c = refl
 
-pub marks_more : (marks more : List Bool) (d : Definition) (ds : List Definition) → MarksMore marks d more → AreMarks marks ds → AreMarks more (d ∷ ds)
+pub marks_more : (marks more : List Bool) (d : Registered) (ds : List Registered) → MarksMore marks d more → AreMarks marks ds → AreMarks more (d ∷ ds)
 marks_more marks more d ds m h some =
     let size = m.0 in
     let k = h (omega (arith, some, size)) in
     let all = k.0 in
     (size ∙ all, λ index lt. m.1 index (omega (arith, lt, all)) ∙ ap (λ b. eqb d.index index || b) (k.1 index lt) ∙ or_moved (eqb d.index index) (eqb index 0) (taken ds index))
 
--- what is marked so far, and what is taken from a place on
-module _ (leaves : List ℕ → Bool) (ds : List Definition) (place : ℕ) (d : Definition) (at : slice_get ds place ≡ Some d) where
+-- the marks so far, and the indices that are taken from a place on
+module _ (leaves : List ℕ → Bool) (ds : List Registered) (place : ℕ) (d : Registered) (at : slice_get ds place ≡ Some d) where
   left_on : standing leaves (drop place ds) ≡ cond (not (leaves d.name)) (d ∷ standing leaves (drop (place + 1) ds)) (standing leaves (drop (place + 1) ds))
   left_on = ap (standing leaves) (opened_at ds place d at)
 

@@ -1,4 +1,4 @@
--- Functions behind keywords, and the characters of a text under edits.
+-- Functions after keywords, and the characters of a text with edits.
 use Rattle.std.proofs.Common.{◌≡◌, ◌≢◌, ℕ, ◌+◌, ◌-◌, ◌≤◌, ◌&&◌, Bool, true, false, not, cond, eqb, Option, Some, None, option_map, unwrap_or, List, [], ◌∷◌, ◌++◌, length, take, drop, refl, sym, ap, ◌∙◌, arith, IfSome}
 use Rattle.std.specs.Prelude.{codes}
 use Rattle.std.specs.Bool.{then_some}
@@ -33,7 +33,7 @@ empty_chars (x ∷ xs) u = by (chars (x ∷ xs)) (encodes-chars (x ∷ xs) u)
     by [] e = absurd cc
     by (c ∷ cs) e = ne_eqb (length (x ∷ xs)) 0 (λ h. omega (arith, h)) ∙ sym (ne_eqb (length (c ∷ cs)) 0 (λ h. omega (arith, h)))
 
--- ---- the name behind a keyword
+-- ---- the name after a keyword
 module _ (cs : List ℕ) where
   pub none_first : None ≡ past_spaces cs → None ≡ marked_name cs
   unfolding marked_name

@@ -16,7 +16,7 @@ is_other b = not (eqb b 10)
 count-cons : (b : ℕ) (text : List ℕ) → count_by is_end (b ∷ text) ≡ cond (eqb b 10) 1 0 + count_by is_end text
 count-cons b text = sum_by-cons (λ x. cond (is_end x) 1 0) b text
 
--- how many lines begin up to a place
+-- the number of lines that begin up to a place
 abbrev begun : ℕ → List ℕ → ℕ
 begun place starts = prefix_len (λ s. leb s place) starts
 
@@ -42,7 +42,7 @@ begun_is at (suc n) (b ∷ more) h =
     ] in
     split ∙ sym (count-cons b (take n more))
 
--- behind a line end a line begins
+-- a line begins after a line end
 start_behind : (at n : ℕ) (text : List ℕ) → n < length text → get_or text n 0 ≡ 10 → get_or (starts_behind at text) (count_by is_end (take n text)) 0 ≡ at + n + 1
 start_behind at n [] h e = absurd (omega arith)
 start_behind at zero (b ∷ more) h e = rw (eq-eqb b 10 e) (omega arith)
@@ -58,7 +58,7 @@ start_behind at (suc n) (b ∷ more) h e =
     ] in
     ap (λ k. get_or (starts_behind at (b ∷ more)) k 0) (count-cons b (take n more)) ∙ split
 
--- from the start of its line a place is as far as the bytes behind the last line end
+-- the distance from the start of its line is the number of bytes after the last line end
 from_start : (text : List ℕ) (n : ℕ) → n ≤ length text → get_or (line_starts text) (count_by is_end (take n text)) 0 + suffix_len is_other (take n text) ≡ n
 from_start text zero h = refl
 from_start text (suc n) h =
@@ -79,7 +79,7 @@ from_start text (suc n) h =
           rw (same, more) (omega (arith, before))
     ] refl)
 
--- ---- lines begin one behind another
+-- ---- lines begin one after another
 first_above : (at s d : ℕ) (starts : List ℕ) → at < s → ((k : ℕ) → k < length starts → s < get_or starts k d) → (i : ℕ) → i < length (s ∷ starts) → at < get_or (s ∷ starts) i d
 first_above at s d starts low more zero h = low
 first_above at s d starts low more (suc i) h = let next = more i (omega arith) in omega arith
@@ -115,7 +115,7 @@ partitioned text place i j d le h e =
     let low = leb-true (get_or (line_starts text) j d) place e in
     le-leb (get_or (line_starts text) i d) place (omega arith)
 
--- what a binary search for a place finds
+-- what a binary search for a place returns
 module _ (text : List ℕ) (place line : ℕ) (within : place ≤ length text) (bound : line ≤ length (line_starts text))
     (point : IsPartitionPoint (λ s. leb s place ≡ true) (λ s. leb s place ≡ false) (line_starts text) line) where
   found : begun place (line_starts text) ≡ line

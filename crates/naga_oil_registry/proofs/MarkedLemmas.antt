@@ -1,4 +1,4 @@
--- Functions behind keywords, from the left.
+-- Functions after keywords, from left to right.
 use mathlib.Core.Path.{fun_ext}
 use Rattle.std.proofs.Common.{◌≡◌, ◌≢◌, ℕ, zero, suc, ◌+◌, ◌-◌, ◌<◌, ◌≤◌, Bool, true, false, eqb, List, [], ◌∷◌, ◌++◌, length, take, drop, Option, Some, None, MatchOption, option_map, Bor, refl, sym, ap, ◌∙◌, append_assoc, length-append, arith}
 use Rattle.std.proofs.Math.Seq.{drop-append_seam}
@@ -36,7 +36,7 @@ module _ (k : ℕ) (ks : List ℕ) where
   none_marked at [] none = refl
   none_marked at (b ∷ more) none = rw (begins_not (k ∷ ks) (b ∷ more) (none 0 (omega arith))) (none_marked (at + 1) more (λ i le. none (suc i) (omega (arith, le))))
 
-  -- none is there up to a place
+  -- no keyword is there up to a place
   pub marked_later : (at : ℕ) (text : List ℕ) (i : ℕ) → i ≤ length text → ((j : ℕ) → j < i → LacksTextAt (k ∷ ks) text j) → marked_behind 0 (k ∷ ks) at text ≡ marked_behind 0 (k ∷ ks) (at + i) (drop i text)
   unfolding marked_behind
   marked_later at text zero le none = let e : at ≡ at + 0 = omega arith in ap (λ n. marked_behind 0 (k ∷ ks) n text) e
@@ -45,7 +45,7 @@ module _ (k : ℕ) (ks : List ℕ) where
       let e : at + 1 + i ≡ at + suc i = omega arith in
       rw (begins_not (k ∷ ks) (b ∷ more) (none 0 (omega arith))) (marked_later (at + 1) more i (omega arith) (λ j lt. none (suc j) (omega (arith, lt))) ∙ ap (λ n. marked_behind 0 (k ∷ ks) n (drop i more)) e)
 
-  -- what was read is passed over
+  -- bytes that were read are skipped
   pub past_read : (read text : List ℕ) (at : ℕ) → marked_behind (length read) (k ∷ ks) at (read ++ text) ≡ marked_behind 0 (k ∷ ks) (at + length read) text
   unfolding marked_behind
   past_read [] text at = let e : at ≡ at + 0 = omega arith in ap (λ n. marked_behind 0 (k ∷ ks) n text) e
@@ -57,7 +57,7 @@ module _ (k : ℕ) (ks : List ℕ) where
   marked_here at behind =
       rw (begins (k ∷ ks) behind) (ap (λ text. marked_at (k ∷ ks) at (length (k ∷ ks ++ behind)) (name_behind text) (λ passed. marked_behind (passed - 1) (k ∷ ks) (at + 1) (ks ++ behind))) (drop-append_seam (k ∷ ks) behind))
 
-  -- with no function behind it
+  -- no function follows the keyword
   pub nothing_marked : (at : ℕ) (behind : List ℕ) → name_behind behind ≡ None → marked_behind 0 (k ∷ ks) at (k ∷ ks ++ behind) ≡ marked_behind 0 (k ∷ ks) (at + length (k ∷ ks)) behind
   nothing_marked at behind none =
       let e : length (k ∷ ks) - 1 ≡ length ks = omega arith in
@@ -65,7 +65,7 @@ module _ (k : ℕ) (ks : List ℕ) where
       marked_here at behind ∙ ap (λ o. marked_at (k ∷ ks) at (length (k ∷ ks ++ behind)) o (λ passed. marked_behind (passed - 1) (k ∷ ks) (at + 1) (ks ++ behind))) none
       ∙ ap (λ n. marked_behind n (k ∷ ks) (at + 1) (ks ++ behind)) e ∙ past_read ks behind (at + 1) ∙ ap (λ n. marked_behind 0 (k ∷ ks) n behind) f
 
-  -- with a function behind it
+  -- a function follows the keyword
   pub function_marked : (at : ℕ) (behind name front rest : List ℕ) (onwards : ℕ) → name_behind behind ≡ Some (name, onwards, length rest) → behind ≡ front ++ rest
       → marked_behind 0 (k ∷ ks) at (k ∷ ks ++ behind) ≡ record { keyword = at; name = name; place = at + (length (k ∷ ks ++ behind) - onwards) } ∷ marked_behind 0 (k ∷ ks) (at + length (k ∷ ks) + length front) rest
   function_marked at behind name front rest onwards found split =
@@ -76,7 +76,7 @@ module _ (k : ℕ) (ks : List ℕ) where
       marked_here at behind ∙ ap (λ o. marked_at (k ∷ ks) at (length (k ∷ ks ++ behind)) o (λ passed. marked_behind (passed - 1) (k ∷ ks) (at + 1) (ks ++ behind))) found
       ∙ ap (λ ms. first ∷ ms) (ap (λ n. marked_behind n (k ∷ ks) (at + 1) (ks ++ behind)) size ∙ ap (λ l. marked_behind (length (ks ++ front)) (k ∷ ks) (at + 1) l) whole ∙ past_read (ks ++ front) rest (at + 1) ∙ ap (λ n. marked_behind 0 (k ∷ ks) n rest) f)
 
--- the name behind a keyword, by its bytes
+-- the name after a keyword, by its bytes
 pub name_by_bytes : (text name onwards arguments : List ℕ) → Some (chars name, chars onwards, chars arguments) ≡ marked_name (chars text) → IsUtf8 name → IsUtf8 onwards → IsUtf8 arguments → name_behind text ≡ Some (name, length onwards, length arguments)
 name_by_bytes text name onwards arguments e u v w =
     ap (option_map (λ m. (encode_utf8_all m.0, length (encode_utf8_all m.1), length (encode_utf8_all m.2)))) (sym e)
@@ -95,11 +95,11 @@ module _ (k : ℕ) (ks text before behind : List ℕ) (cut : SplitsAroundMatch (
       let le : cut.0 ≤ length text = omega (arith, f.1.ends, cut.7) in
       marked_later k ks at text cut.0 le f.0 ∙ ap (λ i. marked_behind 0 (k ∷ ks) (at + i) (drop cut.0 text)) (sym cut.6) ∙ ap (marked_behind 0 (k ∷ ks) (at + length before)) (f.1.split ∙ ap (λ l. k ∷ ks ++ l) (sym cut.4))
 
--- how long the parts are
+-- the lengths of the parts
 pub cut_sizes : (keyword text before behind : List ℕ) → SplitsAroundMatch (FindsText keyword) text before behind → length before + length keyword + length behind ≡ length text
 cut_sizes keyword text before behind cut = let f = cut.2 in omega (arith, f.1.ends, cut.6, cut.7)
 
--- one keyword more, and no more
+-- one more keyword, and no more
 pub step_end : (keyword text : List ℕ) (at : ℕ) → 0 < length keyword → FindsText keyword text None → marked_behind 0 keyword at text ≡ []
 step_end [] text at some none = absurd (omega arith)
 step_end (k ∷ ks) text at some none = none_marked k ks at text none
@@ -122,7 +122,7 @@ step_marked (k ∷ ks) text before behind name front rest onwards at next m some
     ∙ ap (λ (x : MarkedFunction). x ∷ marked_behind 0 (k ∷ ks) (at + length before + length (k ∷ ks) + length front) rest) (same_marked m (at + length before) name (at + length before + (length (k ∷ ks ++ behind) - onwards)) p q place)
     ∙ sym (cut_here k ks text before behind cut at ∙ function_marked k ks (at + length before) behind name front rest onwards found split)
 
--- ---- other characters at places
+-- ---- edits
 before_other : (a b : ℕ) → a ≢ b → (b < a → ⊥) → a < b
 before_other zero zero other past = absurd (other refl)
 before_other zero (suc b) other past = omega arith

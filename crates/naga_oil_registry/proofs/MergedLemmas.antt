@@ -7,9 +7,8 @@ use Rattle.std.specs.List.{AllZip}
 use Rattle.std.specs.Ordering.{nat_cmp, match_ordering}
 use Rattle.std.specs.String.{string_cmp}
 use Rattle.naga_oil_conditions.specs.declared.shader_def.ShaderDefValue.{ShaderDefValue}
-use Rattle.naga_oil_lines.specs.DirectivesText.{with_name}
-use Rattle.naga_oil_registry.specs.Definition.{Defs}
-use Rattle.naga_oil_lines.specs.Text.{texts}
+use Rattle.naga_oil_words.specs.Texts.{with_name, texts}
+use Rattle.naga_oil_registry.specs.Registered.{Defs}
 use Rattle.naga_oil_registry.specs.Merged.{with_def}
 
 abbrev pub named : List (String Global × ShaderDefValue) → Defs
@@ -35,7 +34,7 @@ bytes-insert (k ∷ ks) name = by (slice_cmp nat_cmp (string_bytes name) (string
     by Equal rest = refl
     by Greater rest = ap (λ ns. string_bytes k ∷ ns) rest
 
--- lists whose items pair up look the same, where each pair does
+-- lists look the same if their items do, pair by pair
 pub map-from_all_zip : {A C : Type 0} (R : A → A → Type 0) (f : A → C) (xs ys : List A) → AllZip R xs ys → ((x y : A) → R x y → f y ≡ f x) → map f ys ≡ map f xs
 map-from_all_zip R f [] [] h k = refl
 map-from_all_zip R f [] (y ∷ ys) h k = elim h [ ]

@@ -1,4 +1,4 @@
--- Names in byte order: which are among them, and that this tells them.
+-- Names in byte order are determined by which names are among them.
 use Rattle.std.proofs.Common.{◌≡◌, ℕ, List, [], ◌∷◌, Bool, true, false, ◌||◌, refl, sym, ap, subst, ◌∙◌, String, Global, string_bytes, Ordering, Less, Equal, Greater, Result, Ok, Err}
 use Rattle.std.proofs.lemmas.Bool.{or_from, true≢false}
 use Rattle.std.proofs.lemmas.Cmp.{nat_list_cmp_total}
@@ -13,14 +13,13 @@ use Rattle.std.specs.Ordering.{nat_cmp, is_eq, match_ordering, ordering_reverse}
 use Rattle.std.specs.Str.{bytes_eq}
 use Rattle.std.specs.String.{string_cmp}
 use Rattle.naga_oil_lines.specs.Directives.{Directives}
-use Rattle.naga_oil_lines.specs.DirectivesText.{with_name, in_order}
+use Rattle.naga_oil_words.specs.Texts.{with_name, in_order, is_among, texts}
 use Rattle.naga_oil_lines.proofs.NamesInOrder.{names_rise}
 use Rattle.naga_oil_pre.specs.Extracted.{extracted}
 use Rattle.naga_oil_conditions.specs.Fault.{Fault}
 use Rattle.naga_oil_conditions.specs.Line.{source_lines}
 use Rattle.naga_oil_pre.specs.Metadata.{Found, Metadata, metadata, metadata_behind, metadata_with, found_in, nothing_found}
 use Rattle.naga_oil_pre.specs.Recorded.{is_recorded}
-use Rattle.naga_oil_lines.specs.Text.{is_among, texts}
 
 abbrev order : List ℕ → List ℕ → Ordering
 order a b = slice_cmp nat_cmp a b
@@ -58,7 +57,7 @@ pub among-in_order : (names : List (List ℕ)) (n : List ℕ) → is_among (in_o
 unfolding in_order
 among-in_order names n = among-fold [] names n
 
--- ---- names in order are told by which are among them
+-- ---- sorted names are determined by which names are among them
 apart : (x z : List ℕ) → order x z ≡ Less → bytes_eq x z ≡ false
 apart x z e = sym (is_eq-slice_cmp x z) ∙ ap is_eq e
 
@@ -73,7 +72,7 @@ above_more x y (z ∷ zs) e h = (nat_list_cmp_total.trans x y z e h.0, above_mor
 first_among : (x : List ℕ) (xs : List (List ℕ)) → is_among (x ∷ xs) x ≡ true
 first_among x xs = ap (λ b. b || is_among xs x) ((bytes_eq-Decides x x).1 refl)
 
--- what stands behind the same first name
+-- what follows the same first name
 behind : (x n : List ℕ) (xs ys : List (List ℕ)) → is_among xs x ≡ false → is_among ys x ≡ false → is_among (x ∷ xs) n ≡ is_among (x ∷ ys) n → is_among xs n ≡ is_among ys n
 behind x n xs ys p q e = by (bytes_eq n x) refl e
   where

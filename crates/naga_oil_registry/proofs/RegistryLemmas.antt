@@ -1,4 +1,4 @@
--- What is registered, and what goes.
+-- Registered modules, and which are removed.
 use Rattle.std.proofs.Common.{◌≡◌, ℕ, zero, suc, ◌+◌, ◌<◌, List, [], ◌∷◌, Bool, true, false, not, cond, ◌||◌, eqb, refl, sym, ap, subst, ◌∙◌, map, filter, drop, get_or, length, slice_get, Option, Some, None, option_map, arith}
 use Rattle.std.proofs.lemmas.Bool.{or_parts, ne_eqb}
 use Rattle.std.proofs.lemmas.List.{drop_more}
@@ -6,7 +6,7 @@ use Rattle.std.proofs.lemmas.Option.{slice_get_within, get_or_from_slice_get}
 use Rattle.std.proofs.lemmas.Slice.Eq.{bytes_eq-Decides}
 use Rattle.std.specs.List.{list_any, find, position_from, range_with_len}
 use Rattle.std.specs.Str.{bytes_eq}
-use Rattle.naga_oil_registry.specs.Definition.{Definition}
+use Rattle.naga_oil_registry.specs.Registered.{Registered}
 use Rattle.naga_oil_registry.specs.Registry.{registered, module_named, reaches, standing, taken, free_among, IsRegistry}
 
 pub list_any_map : {A C : Type 0} (p : C → Bool) (f : A → C) (xs : List A) → list_any p (map f xs) ≡ list_any (λ x. p (f x)) xs
@@ -41,19 +41,19 @@ pub bytes_same : (xs ys : List ℕ) → bytes_eq xs ys ≡ true → xs ≡ ys
 bytes_same xs ys h = (bytes_eq-Decides xs ys).0 h
 
 -- what isn't registered reaches nothing
-pub unregistered-reaches : (ds : List Definition) (name other : List ℕ) → registered name ds ≡ false → reaches ds name other ≡ false
+pub unregistered-reaches : (ds : List Registered) (name other : List ℕ) → registered name ds ≡ false → reaches ds name other ≡ false
 unfolding reaches
 unregistered-reaches [] name other e = refl
 unregistered-reaches (d ∷ ds) name other e = let h = or_parts (bytes_eq d.name name) (registered name ds) e in rw (h.0) (unregistered-reaches ds name other h.1)
 
-pub registry-drop : (i : ℕ) (ds : List Definition) → IsRegistry ds → IsRegistry (drop i ds)
+pub registry-drop : (i : ℕ) (ds : List Registered) → IsRegistry ds → IsRegistry (drop i ds)
 registry-drop zero ds h = h
 registry-drop (suc i) [] h = tt
 registry-drop (suc i) (d ∷ ds) h = registry-drop i ds h.1
 
--- one module more, which goes or not
-module _ (d : Definition) (ds : List Definition) (name : List ℕ) (has : List ℕ → Bool) (is_new : registered d.name ds ≡ false) (same : (x : List ℕ) → has x ≡ reaches ds x name) where
-  -- whether it goes
+-- one more module, removed or not
+module _ (d : Registered) (ds : List Registered) (name : List ℕ) (has : List ℕ → Bool) (is_new : registered d.name ds ≡ false) (same : (x : List ℕ) → has x ≡ reaches ds x name) where
+  -- whether it is removed
   abbrev pub goes : Bool
   goes = bytes_eq d.name name || list_any (λ u. has u.import.import) d.imports
 
@@ -79,8 +79,8 @@ module _ (d : Definition) (ds : List Definition) (name : List ℕ) (has : List �
       by true e = ap has (sym (bytes_same d.name x e)) ∙ same d.name ∙ unregistered-reaches ds d.name name is_new ∙ sym g ∙ here x e
       by false e = there x e
 
--- a module that doesn't go is found among those that stay
-pub standing-named : (leaves : List ℕ → Bool) (name : List ℕ) (ds : List Definition) → leaves name ≡ false → module_named name (standing leaves ds) ≡ module_named name ds
+-- a module that isn't removed is found among those that stay
+pub standing-named : (leaves : List ℕ → Bool) (name : List ℕ) (ds : List Registered) → leaves name ≡ false → module_named name (standing leaves ds) ≡ module_named name ds
 standing-named leaves name [] e = refl
 standing-named leaves name (d ∷ ds) e = by (leaves d.name) (bytes_eq d.name name) refl refl (standing-named leaves name ds e)
   where
@@ -94,8 +94,8 @@ standing-named leaves name (d ∷ ds) e = by (leaves d.name) (bytes_eq d.name na
 pub opened_at : {X : Type 0} (xs : List X) (place : ℕ) (x : X) → slice_get xs place ≡ Some x → drop place xs ≡ x ∷ drop (place + 1) xs
 opened_at xs place x e = drop_more xs place x (slice_get_within xs place x e) ∙ ap (λ y. y ∷ drop (place + 1) xs) (get_or_from_slice_get xs place x x e)
 
--- the same for the module of a place
-module _ (ds : List Definition) (place : ℕ) (d : Definition) (name : List ℕ) (has : List ℕ → Bool) (at : slice_get ds place ≡ Some d) (all : IsRegistry ds) (same : (o : List ℕ) → has o ≡ reaches (drop (place + 1) ds) o name) where
+-- the removed modules, one place further
+module _ (ds : List Registered) (place : ℕ) (d : Registered) (name : List ℕ) (has : List ℕ → Bool) (at : slice_get ds place ≡ Some d) (all : IsRegistry ds) (same : (o : List ℕ) → has o ≡ reaches (drop (place + 1) ds) o name) where
   first_new : registered d.name (drop (place + 1) ds) ≡ false
   first_new = let rest = subst IsRegistry (opened_at ds place d at) (registry-drop place ds all) in rest.0.name
 
@@ -105,7 +105,7 @@ module _ (ds : List Definition) (place : ℕ) (d : Definition) (name : List ℕ)
   pub gone-same : (bytes_eq d.name name || list_any (λ u. has u.import.import) d.imports) ≡ false → (o : List ℕ) → has o ≡ reaches (drop place ds) o name
   gone-same g o = reaches-stays d (drop (place + 1) ds) name has first_new same g o ∙ ap (λ ds. reaches ds o name) (sym (opened_at ds place d at))
 
--- the first place that isn't marked, as the first index that isn't taken
+-- the first place without a mark is the first index that isn't taken
 first_unmarked : (t : ℕ → Bool) (marks : List Bool) (k : ℕ) → ((i : ℕ) → i < length marks → get_or marks i false ≡ t (k + i)) → position_from (λ b. not b) k marks ≡ find (λ i. not (t i)) (range_with_len k (length marks))
 first_unmarked t [] k h = refl
 first_unmarked t (b ∷ marks) k h =
@@ -113,7 +113,7 @@ first_unmarked t (b ∷ marks) k h =
     ap (λ x. cond (not x) (Some k) (position_from (λ b. not b) (k + 1) marks)) here
     ∙ ap (λ r. cond (not (t k)) (Some k) r) (first_unmarked t marks (k + 1) (λ i lt. h (suc i) (omega (arith, lt)) ∙ ap t (let e : k + suc i ≡ k + 1 + i = omega arith in e)))
 
-pub free-marked : (ds : List Definition) (count : ℕ) (marks : List Bool) → length marks ≡ suc count → ((i : ℕ) → i < suc count → get_or marks i false ≡ (eqb i 0 || taken ds i)) → position_from (λ b. not b) 0 marks ≡ free_among count ds
+pub free-marked : (ds : List Registered) (count : ℕ) (marks : List Bool) → length marks ≡ suc count → ((i : ℕ) → i < suc count → get_or marks i false ≡ (eqb i 0 || taken ds i)) → position_from (λ b. not b) 0 marks ≡ free_among count ds
 unfolding free_among
 free-marked ds count [] len h = absurd (omega arith)
 free-marked ds count (b ∷ rest) len h =

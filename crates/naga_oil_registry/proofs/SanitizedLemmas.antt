@@ -20,12 +20,12 @@ behind_return : (text : List ℕ) → ((rest : List ℕ) → text ≢ 10 ∷ res
 behind_return [] h = refl
 behind_return (b ∷ more) h = rw (ne_eqb b 10 (λ e. h more (ap (λ x. x ∷ more) e))) refl
 
--- behind a carriage return, with the line feed that ends the same line, or none
+-- after a carriage return, with or without the line feed that belongs to it
 pub past_feed : (text : List ℕ) (r : Option (Bor (List ℕ))) (whole : Bor (List ℕ)) → whole.now ≡ text → MatchOption r ((rest : List ℕ) → text ≢ 10 ∷ rest) (λ x. text ≡ 10 ∷ x.now) → line_feeds (13 ∷ text) ≡ 10 ∷ line_feeds (unwrap_or r whole).now
 past_feed text None whole e h = behind_return text h ∙ ap (λ t. 10 ∷ line_feeds t) (sym e)
 past_feed text (Some x) whole e h = ap (λ t. line_feeds (13 ∷ t)) h ∙ behind_pair x.now
 
--- what stands before the first carriage return stays
+-- what precedes the first carriage return stays
 pub plain_front : (front more : List ℕ) → ((i : ℕ) → i < length front → get_or front i 0 ≢ 13) → line_feeds (front ++ more) ≡ front ++ line_feeds more
 plain_front [] more h = refl
 plain_front (a ∷ front) more h = not_return a (front ++ more) (h 0 (omega arith)) ∙ ap (λ l. a ∷ l) (plain_front front more (λ i lt. h (suc i) (omega (arith, lt))))
@@ -48,7 +48,7 @@ begins_not mark text none = by (starts_with eqb text mark) refl
 Found : List ℕ → List ℕ → Option ℕ → Type 0
 Found mark text r = MatchOption r ((i : ℕ) → i ≤ length text → LacksTextAt mark text i) (λ at. ((i : ℕ) → i < at → LacksTextAt mark text i) × ((rest : List ℕ) × (drop at text ≡ mark ++ rest)))
 
--- a mark stands at the front, or it is found further on
+-- a mark stands at the front, or further on
 Step : List ℕ → ℕ → List ℕ → Option ℕ → Type 0
 Step mark c more r = ((r ≡ Some 0) × (starts_with eqb (c ∷ more) mark ≡ true)) ⊎ ((later : Option ℕ) × (r ≡ option_map (λ at. suc at) later) × (starts_with eqb (c ∷ more) mark ≡ false) × Found mark more later)
 
@@ -93,7 +93,7 @@ first_found m ms n ns (c ∷ more) a b f g = by (step (m ∷ ms) c more a f) (st
     by (inr p) (inl q) rest = rw (p.2, q.1) (at_once_too a ∙ ap (λ x. earlier a x) (sym q.0))
     by (inr p) (inr q) rest = rw (p.2, q.2) (ap (option_map (λ at. suc at)) (rest p.0 q.0 p.3 q.3) ∙ later_both p.0 q.0 ∙ ap (λ x. earlier x (option_map (λ at. suc at) q.0)) (sym p.1) ∙ ap (λ x. earlier a x) (sym q.1))
 
--- what `find` gives
+-- what `find` returns
 found : (mark text : List ℕ) (r : Option ℕ) → MatchOption r (FindsText mark text None) (MatchBeginsAt (FindsText mark) text) → Found mark text r
 unfolding Found
 found mark text None h = h
@@ -126,7 +126,7 @@ parts_at m ms text zero back none at = ap (parts_around (m ∷ ms)) at ∙ parts
 parts_at m ms [] (suc i) back none at = absurd cc
 parts_at m ms (c ∷ more) (suc i) back none at = rw (begins_not (m ∷ ms) (c ∷ more) (none 0 (omega arith))) (ap (onto_first c) (parts_at m ms more i back (λ k lt. none (suc k) (omega (arith, lt))) at))
 
--- what `split_once` gives
+-- what `split_once` returns
 pub cut_around : (mark text : List ℕ) (r : Option (Bor (List ℕ) × Bor (List ℕ))) → 0 < length mark → MatchOption r (FindsText mark text None) (λ x. SplitsAroundMatch (FindsText mark) text x.0.now x.1.now)
     → MatchOption r (parts_around mark text ≡ text ∷ []) (λ x. (parts_around mark text ≡ x.0.now ∷ parts_around mark x.1.now) × (length x.1.now < length text))
 cut_around mark text None some h = parts_none mark text h
@@ -147,7 +147,7 @@ parts_some zero mark (c ∷ more) = by (starts_with eqb (c ∷ more) mark) (part
 pub some_parts : (mark text : List ℕ) → 0 < length (parts_around mark text)
 some_parts mark text = let h = parts_some 0 mark text in omega (arith, ap length h.2)
 
--- one part more
+-- one more part
 pub numbered_more : (mark text : List ℕ) (n : ℕ) (part : List ℕ) → numbered n (part ∷ parts_around mark text) ≡ part ++ (binding n ++ numbered (n + 1) (parts_around mark text))
 numbered_more mark text n part = let h = parts_some 0 mark text in rw (h.2) refl
 

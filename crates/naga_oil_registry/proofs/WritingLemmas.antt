@@ -7,7 +7,7 @@ use Rattle.std.specs.Prelude.{codes}
 use Rattle.std.specs.Result.{is_ok}
 use Rattle.naga_oil_registry.specs.Report.{place_line}
 
--- what a text gains, unless there is no memory for it
+-- what a text gains, unless out of memory
 pub on_pushed : {T E : Type 0} (r : Result T E) (new old more : List ℕ) → new ≡ (if is_ok r then old ++ more else old) → OnOk r (new ≡ old ++ more)
 on_pushed (Ok x) new old more h = h
 on_pushed (Err e) new old more h = tt

@@ -1,27 +1,23 @@
--- What adding a module gives.
+-- Adding a module.
 use Rattle.std.specs.Prelude.{◌≡◌, ℕ, ◌+◌, List, [], ◌∷◌, ◌++◌, map, Option, Some, None, Result, Ok, Err, false}
 use Rattle.std.specs.List.{flat_map}
-use Rattle.naga_oil_lines.specs.DirectivesText.{in_order}
+use Rattle.naga_oil_words.specs.Texts.{in_order}
+use Rattle.naga_oil_words.specs.ResultSteps.{◌>>=◌}
 use Rattle.naga_oil_imports.specs.Uses.{Import, Use}
 use Rattle.naga_oil_conditions.specs.Fault.{Fault, decoration_in_source, bindings_exhausted, no_module_name, import_not_found, too_many_modules}
 use Rattle.naga_oil_pre.specs.Metadata.{Metadata, metadata}
-use Rattle.naga_oil_registry.specs.Definition.{Definition}
+use Rattle.naga_oil_registry.specs.Registered.{Registered}
 use Rattle.naga_oil_registry.specs.Descriptor.{ModuleSource}
 use Rattle.naga_oil_registry.specs.Merged.{recorded_names, merged, used_at_start}
 use Rattle.naga_oil_registry.specs.Registry.{module_named, removed, free_index}
 use Rattle.naga_oil_registry.specs.Sanitized.{first_decoration, sanitized}
-
-infixl 10 ◌>>=◌
-abbrev pub ◌>>=◌ : {A B F : Type 0} → Result A F → (A → Result B F) → Result B F
-(Ok x) >>= f = f x
-(Err e) >>= f = Err e
 
 abbrev pub read_as : Option ℕ → Option (List ℕ × ℕ) → Result (List ℕ × ℕ) Fault
 read_as (Some at) read = Err (decoration_in_source at (at + 16))
 read_as None (Some read) = Ok read
 read_as None None = Err bindings_exhausted
 
--- a source as it is read, with the counter behind it: it may hold no mark of a decoration, and the counter has to reach
+-- a prepared source and the counter after it: the source may contain no mark of a decoration, and the numbers must suffice
 unfoldable pub read_source : (counter : ℕ) → (source : List ℕ) → Result (List ℕ × ℕ) Fault
 read_source counter source = read_as (first_decoration source) (sanitized counter source)
 
@@ -29,11 +25,11 @@ abbrev pub counter_behind : ℕ → Result (List ℕ × ℕ) Fault → ℕ
 counter_behind counter (Ok read) = read.1
 counter_behind counter (Err f) = counter
 
--- the counter behind a source; one that isn't read leaves it
+-- the counter after a source; a source that is refused leaves the counter as it was
 abbrev pub counter_after : (counter : ℕ) → (source : List ℕ) → ℕ
 counter_after counter source = counter_behind counter (read_source counter source)
 
--- the name that is given, or else the import path
+-- the given name, or else the import path
 abbrev pub name_among : (given path : Option (List ℕ)) → Result (List ℕ) Fault
 name_among (Some name) path = Ok name
 name_among None (Some path) = Ok path
@@ -44,24 +40,24 @@ pub record Described : Type 0 where
   pub name : List ℕ
   pub metadata : Metadata
 
--- what a text says of its module; it may define nothing
+-- the name and metadata of a module's text, which may define nothing
 unfoldable pub described : (given : Option (List ℕ)) → (text : List ℕ) → Result Described Fault
 described given text = do
   found ← metadata false text
   name ← name_among given found.name
   Ok (record { name = name; metadata = found })
 
--- what a module imports: what its text uses, then what it imports besides
+-- the imports of a module: what its text uses, then the additional imports
 abbrev pub all_uses : Metadata → List Import → List Use
 all_uses found additional = found.uses ++ map used_at_start additional
 
-abbrev pub with_module : Use → Option Definition → Result (List Definition) Fault → Result (List Definition) Fault
+abbrev pub with_module : Use → Option Registered → Result (List Registered) Fault → Result (List Registered) Fault
 with_module u None more = Err (import_not_found u.import.import u.offset)
 with_module u (Some d) (Ok ds) = Ok (d ∷ ds)
 with_module u (Some d) (Err f) = Err f
 
--- the modules that are imported, or the first import that isn't among these
-abbrev pub imported_among : List Definition → List Use → Result (List Definition) Fault
+-- the imported modules, or the first import that isn't among these
+abbrev pub imported_among : List Registered → List Use → Result (List Registered) Fault
 imported_among ds [] = Ok []
 imported_among ds (u ∷ more) = with_module u (module_named u.import.import ds) (imported_among ds more)
 
@@ -69,8 +65,8 @@ abbrev pub indexed : Option ℕ → Result ℕ Fault
 indexed (Some index) = Ok index
 indexed None = Err too_many_modules
 
--- the definition of a module that imports these
-abbrev pub definition_over : ModuleSource → Described → (imported : List Definition) → (index : ℕ) → Definition
+-- the definition of a module with these imported modules
+abbrev pub definition_over : ModuleSource → Described → (imported : List Registered) → (index : ℕ) → Registered
 definition_over m d imported index = record {
   name = d.name;
   source = d.metadata.cleaned;
@@ -84,22 +80,22 @@ definition_over m d imported index = record {
   index = index;
 }
 
--- the definition that a module is registered by, over those that stay
-unfoldable pub new_definition : List Definition → ModuleSource → Described → Result Definition Fault
+-- the definition of a new module, over the modules that stay
+unfoldable pub new_definition : List Registered → ModuleSource → Described → Result Registered Fault
 new_definition ds m d = do
   imported ← imported_among ds (all_uses d.metadata m.additional)
   index ← indexed (free_index ds)
   Ok (definition_over m d imported index)
 
--- a registry in which a module is entered, in the place of the one of its name and of all that reach that
-abbrev pub registry_with : List Definition → Definition → List Definition
+-- a registry with a new module, in place of the one with its name and of all that reach that one
+abbrev pub registry_with : List Registered → Registered → List Registered
 registry_with ds d = d ∷ removed d.name ds
 
 -- the definition that is given is entered
-abbrev pub Enters : {F : Type 0} → (old : List Definition) → Result Definition F → (new : List Definition) → Type 0
-Enters old value new = (d : Definition) × (value ≡ Ok d) × (new ≡ registry_with old d)
+abbrev pub Enters : {F : Type 0} → (old : List Registered) → Result Registered F → (new : List Registered) → Type 0
+Enters old value new = (d : Registered) × (value ≡ Ok d) × (new ≡ registry_with old d)
 
--- what is shown of a definition
-abbrev pub shown_by : {Y F : Type 0} → (Definition → Y) → Result Definition F → Result Y F
+-- a view of a definition, if there is one
+abbrev pub shown_by : {Y F : Type 0} → (Registered → Y) → Result Registered F → Result Y F
 shown_by shown (Ok d) = Ok (shown d)
 shown_by shown (Err f) = Err f

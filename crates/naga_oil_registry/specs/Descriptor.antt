@@ -1,9 +1,9 @@
--- What callers ask for, without where it lies in memory.
+-- The descriptors that callers pass, as values.
 use Rattle.std.specs.Prelude.{ℕ, List, [], map, Option, None, option_map, string_bytes}
 use Rattle.naga_oil_ir.specs.declared.language.ShaderLanguage.{ShaderLanguage}
 use Rattle.naga_oil_ir.specs.declared.language.ShaderLanguage.TheVariants as language
 use Rattle.naga_oil_imports.specs.Uses.{Import, import_of}
-use Rattle.naga_oil_registry.specs.Definition.{Defs, defs_of}
+use Rattle.naga_oil_registry.specs.Registered.{Defs, defs_of}
 use Rattle.naga_oil_registry.specs.declared.descriptor.ShaderType.{ShaderType}
 use Rattle.naga_oil_registry.specs.declared.descriptor.ShaderType.TheVariants as shader
 use Rattle.naga_oil_registry.specs.declared.descriptor.OwnedShaderDefs.{OwnedShaderDefs}
@@ -19,12 +19,12 @@ language_of shader.GlslFragment = language.Glsl
 abbrev pub owned_defs_of : OwnedShaderDefs → Defs
 owned_defs_of d = defs_of d.0
 
--- a module to be added
+-- a module to add
 pub record ModuleSource : Type 0 where
   pub source : List ℕ
   pub file_path : List ℕ
   pub language : ShaderLanguage
-  -- its name, in place of the import path that the text defines
+  -- its name, which replaces the import path that the text defines
   pub as_name : Option (List ℕ)
   pub additional : List Import
   pub defs : Defs
@@ -42,7 +42,7 @@ module_source d = record {
 abbrev pub no_module : ModuleSource
 no_module = record { source = []; file_path = []; language = language.Wgsl; as_name = None; additional = []; defs = [] }
 
--- a shader to be made
+-- a shader to build
 pub record ShaderSource : Type 0 where
   pub source : List ℕ
   pub file_path : List ℕ

@@ -1,4 +1,4 @@
--- Functions behind keywords, as the code has them.
+-- Functions after keywords, as the code has them.
 use Rattle.naga_oil_registry.specs.Keywords.{MarkedFunction}
 use Rattle.naga_oil_registry.specs.declared.marked.Marked.{Marked}
 

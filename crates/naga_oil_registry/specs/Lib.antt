@@ -2,7 +2,7 @@
 pub mod Report
 pub mod ReportView
 pub mod Added
-pub mod Definition
+pub mod Registered
 pub mod DescribedView
 pub mod Descriptor
 pub mod Merged

@@ -1,10 +1,10 @@
--- Worked rows: sources as they are read, and what goes with a module.
+-- Worked rows: prepared sources, and which modules are removed with another.
 use Rattle.std.specs.Prelude.{◌≡◌, refl, ℕ, pos, true, false, Some, None, List, [], ◌∷◌, ◌++◌, map, codes}
 use Rattle.std.specs.Fmt.{digits}
 use Rattle.naga_oil_ir.specs.declared.language.ShaderLanguage.TheVariants.{Wgsl}
 use Rattle.naga_oil_lines.specs.Directives.{no_directives}
 use Rattle.naga_oil_conditions.specs.declared.shader_def.ShaderDefValue.TheVariants.{Int}
-use Rattle.naga_oil_registry.specs.Definition.{Definition}
+use Rattle.naga_oil_registry.specs.Registered.{Registered}
 use Rattle.naga_oil_registry.specs.Merged.{overwritten}
 use Rattle.naga_oil_registry.specs.Registry.{reaches, removed, free_among}
 use Rattle.naga_oil_registry.specs.Sanitized.{first_decoration, sanitized}
@@ -33,8 +33,8 @@ no_mark : first_decoration (codes "X_naga_oil_mod_") ≡ None
 unfolding first_decoration
 no_mark = refl
 
--- a module of this index that imports these
-abbrev row : (name : List ℕ) → (imports : List (List ℕ)) → (index : ℕ) → Definition
+-- a module with this index that imports these
+abbrev row : (name : List ℕ) → (imports : List (List ℕ)) → (index : ℕ) → Registered
 row name imports index = record {
   name = name;
   source = [];
@@ -48,16 +48,16 @@ row name imports index = record {
   index = index;
 }
 
-abbrev a : Definition
+abbrev a : Registered
 a = row (codes "a") [] 1
 
-abbrev b : Definition
+abbrev b : Registered
 b = row (codes "b") (codes "a" ∷ []) 2
 
-abbrev c : Definition
+abbrev c : Registered
 c = row (codes "c") (codes "b" ∷ []) 3
 
-abbrev d : Definition
+abbrev d : Registered
 d = row (codes "d") [] 4
 
 far_reach : reaches (d ∷ c ∷ b ∷ a ∷ []) (codes "c") (codes "a") ≡ true

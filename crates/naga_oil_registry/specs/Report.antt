@@ -1,4 +1,4 @@
--- What an error is told as: its message, its places in a text, and notes.
+-- Reports of errors: the message, its places in a text, and notes.
 use Rattle.std.specs.Prelude.{ℕ, ◌+◌, ◌-◌, ◌%◌, ◌==◌, not, if◌then◌else◌, Option, Some, None, List, [], ◌∷◌, ◌++◌, length, take, count_by, codes}
 use Rattle.std.specs.Fmt.{decimal}
 use Rattle.std.specs.List.{flat_map, suffix_len}
@@ -8,8 +8,9 @@ use Rattle.naga_oil_lines.specs.Undecorate.{undecoration}
 use Rattle.naga_oil_conditions.specs.Fault as fault
 use Rattle.naga_oil_conditions.specs.Fault.{Fault}
 use Rattle.naga_oil_registry.specs.Sanitized.{end_line}
+use Rattle.naga_oil_ir.specs.Spans.{span_stride}
 
--- ---- what is wrong
+-- ---- the message
 abbrev pub redirection_message : RedirectFault → List ℕ
 redirection_message (not_found name) = codes "can't find function " ++ name ++ codes " for redirection"
 redirection_message (argument_mismatch replacement original) = replacement ++ codes " cannot override " ++ original ++ codes " due to argument mismatch"
@@ -48,16 +49,16 @@ message (Some fault.text_too_large) = codes "shader text too large"
 message (Some fault.wrong_form) = codes "front end gave a module of wrong form"
 message None = codes "out of memory"
 
--- ---- where it is wrong
+-- ---- its places
 pub data Places : Type 0 where
   -- in the text as a whole
   no_place : Places
   byte : ℕ → Places
   -- the start of the line with this index
   line : ℕ → Places
-  -- an item, of which the message is said
+  -- an item, labelled with the message
   item : Span → Places
-  -- spans, each with what is said of it
+  -- spans, each with its label
   spans : List (Span × List ℕ) → Places
 
 abbrev pub fault_places : Option Fault → Places
@@ -92,7 +93,7 @@ fault_places (Some fault.text_too_large) = no_place
 fault_places (Some fault.wrong_form) = no_place
 fault_places None = no_place
 
--- ---- what is noted
+-- ---- its notes
 abbrev pub fault_notes : Option Fault → List (List ℕ)
 fault_notes (Some (fault.invalid_import text at)) = (codes "invalid import spec: '" ++ text ++ codes "'") ∷ []
 fault_notes (Some (fault.import_not_found name at)) = (codes "missing import '" ++ name ++ codes "'") ∷ []
@@ -106,14 +107,15 @@ fault_notes _ = []
 
 -- ---- in a text
 
--- the line and the column of a place, from 1: how many line ends are before it, and how many bytes are between the last of them and it;
--- a place past the end counts as the end
+-- the line and the column of a place, from 1: the number of line ends before it, and the number of bytes between the last of them
+-- and it; a place after the end counts as the end
 abbrev pub line_column : List ℕ → ℕ → ℕ × ℕ
 line_column text place = (count_by (λ b. b == 10) (take place text) + 1, suffix_len (λ b. not (b == 10)) (take place text) + 1)
 
--- where a span begins in a text that begins at the offset; the bits above 2 ^ 21 are the index of the text's module
+-- the place in the text where a span begins, for a text at this offset; the bits from 2 ^ 21 on are the index of the text's
+-- module
 abbrev pub span_place : ℕ → Span → ℕ
-span_place offset s = s.start % 2097152 - offset
+span_place offset s = s.start % span_stride - offset
 
 abbrev pub said_behind : List ℕ → List ℕ
 said_behind said = end_line (if length said == 0 then [] else codes ": " ++ said)
@@ -138,11 +140,11 @@ place_lines path text offset message (spans ss) = span_lines path text offset ss
 abbrev pub note_line : List ℕ → List ℕ
 note_line note = end_line (codes "  note: " ++ note)
 
--- the whole, with decorated names as they stand
+-- the report, with decorated names
 unfoldable pub report_text : (path text : List ℕ) → ℕ → Option Fault → List ℕ
 report_text path text offset f =
     end_line (codes "error: " ++ message f) ++ place_lines path text offset (message f) (fault_places f) ++ flat_map note_line (fault_notes f)
 
--- the same with decorated names as a reader knows them
+-- the report, with undecorated names
 unfoldable pub report : (path text : List ℕ) → ℕ → Option Fault → List ℕ
 report path text offset f = undecoration (report_text path text offset f)

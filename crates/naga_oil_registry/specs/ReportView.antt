@@ -1,11 +1,11 @@
--- The places of a fault, and the lines of a text, as the code has them.
+-- The places of an error, and the lines of a text, as the code has them.
 use Rattle.std.specs.Prelude.{ℕ, ◌+◌, ◌==◌, if◌then◌else◌, List, [], ◌∷◌}
 use Rattle.naga_oil_ir.specs.Backend.{labels}
 use Rattle.naga_oil_registry.specs.declared.report.Places as code
 use Rattle.naga_oil_registry.specs.declared.report.Places.TheVariants as c
 use Rattle.naga_oil_registry.specs.Report.{Places, no_place, byte, line, item, spans}
 
--- the places of a fault, as a report has them
+-- the places of an error, as a report has them
 abbrev pub report_places : code.Places → Places
 report_places c.Nowhere = no_place
 report_places (c.Byte place) = byte place
@@ -13,7 +13,7 @@ report_places (c.Line index) = line index
 report_places (c.Item at) = item at
 report_places (c.Spans said) = spans (labels said.now)
 
--- where the lines begin that follow line ends, of a text that begins at the place
+-- where the lines begin that follow line ends, in a text that begins at the place
 abbrev pub starts_behind : ℕ → List ℕ → List ℕ
 starts_behind at [] = []
 starts_behind at (b ∷ more) = if b == 10 then (at + 1) ∷ starts_behind (at + 1) more else starts_behind (at + 1) more

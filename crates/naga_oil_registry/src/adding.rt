@@ -1,10 +1,10 @@
-// What is added: its text, its name, and what it imports.
+// Adding a module: its text, its name, and its imports.
 ghost use Rattle.std.specs.Prelude.{◌≡◌, ℕ, List, IfOk, OnOk, OnErr, map, option_map, string_bytes};
 ghost use Rattle.std.specs.BTreeSet.{contains_text};
 ghost use Rattle.naga_oil_imports.specs.Uses.{use_of};
 ghost use Rattle.naga_oil_conditions.specs.View.{Gives};
 ghost use Rattle.naga_oil_registry.specs.Added.{described, imported_among, new_definition, shown_by, Enters};
-ghost use Rattle.naga_oil_registry.specs.Definition.{definition_of};
+ghost use Rattle.naga_oil_registry.specs.Registered.{definition_of};
 ghost use Rattle.naga_oil_registry.specs.Descriptor.{module_source};
 ghost use Rattle.naga_oil_registry.specs.Registry.{reaches, removed, standing, free_index, IsRegistry};
 ghost use Rattle.naga_oil_registry.specs.DescribedView.{described_of, KnowsRecorded};
@@ -20,15 +20,15 @@ pub struct Described {
     pub metadata: PreprocessorMetaData,
 }
 
-/// What a text says of its module. The name that is given stands for the import path.
+/// The name and metadata of a module's text. A given name replaces the import path.
 #[tactic(auto, unfolding(crate::specs::Added::described))]
-pub fn describe(alloc: Global, given: Option<&String>, text: &str) -> Checked<Described>
+pub fn describe(alloc: Global, given: Option<&String>, text: &str) -> InnerResult<Described>
     ensures value { let path = option_map (λ name. string_bytes name.now) given.entry in
         Gives described_of result (described path text.now) }
     ensures recorded { IfOk result KnowsRecorded }
 {
     let metadata = Preprocessor.get_preprocessor_metadata(alloc, text, false)?;
-    // A set's length tells that its names are in order.
+    // With the length it is known that the names of the set are sorted.
     let _count = metadata.effective_defs.len();
     let Some(name) = given.or(metadata.name.as_ref()) else {
         return Err(Inner::NoModuleName);
@@ -37,13 +37,13 @@ pub fn describe(alloc: Global, given: Option<&String>, text: &str) -> Checked<De
     Ok(Described { name, metadata })
 }
 
-// The modules that are imported, none of which may go, or the first import that is none of these.
+// The imported modules, or the first import whose module isn't registered or is removed.
 fn imported_modules<'a>(
     alloc: Global,
     registry: &'a Registry,
     gone: &Names,
     imports: &[Use],
-) -> Checked<Vec<&'a Definition>>
+) -> InnerResult<Vec<&'a Registered>>
     ensures { let left = standing (contains_text gone.now) registry.now in
         let imported = imported_among left (map use_of imports.now) in
         Gives (λ v. map (λ d. definition_of d.now) v.items) result imported }
@@ -59,7 +59,7 @@ fn imported_modules<'a>(
     Ok(imported)
 }
 
-// The definition that a module is registered by, beside the modules that stay, with the index that is free then.
+// The definition of a new module over the modules that stay, with their smallest free index.
 #[tactic(auto, unfolding(crate::specs::Added::new_definition))]
 fn new_definition(
     alloc: Global,
@@ -68,7 +68,7 @@ fn new_definition(
     free: Option<usize>,
     desc: ComposableModuleDescriptor<'_>,
     described: Described,
-) -> Checked<Definition>
+) -> InnerResult<Registered>
     requires free { free ≡ free_index (standing (contains_text gone.now) registry.now) }
     requires recorded { KnowsRecorded described }
     ensures { let left = standing (contains_text gone.now) registry.now in
@@ -83,7 +83,7 @@ fn new_definition(
     };
     let mut shader_defs = desc.shader_defs;
     take_over(&mut shader_defs, &mut metadata.effective_defs, &imported)?;
-    Ok(Definition {
+    Ok(Registered {
         name,
         sanitized_source: metadata.cleaned_source,
         language: desc.language,
@@ -97,13 +97,14 @@ fn new_definition(
     })
 }
 
-/// Registers a module, and answers its index, with the names of the modules that go for it. A refusal changes nothing.
+/// Registers a module. Returns its index and the names of the modules that it replaces. An error
+/// changes nothing.
 pub fn register(
     alloc: Global,
     registry: &mut Registry,
     desc: ComposableModuleDescriptor<'_>,
     described: Described,
-) -> Checked<(usize, Names)>
+) -> InnerResult<(usize, Names)>
     requires registry { IsRegistry registry.old }
     requires recorded { KnowsRecorded described }
     ensures reply { let of = described_of described in

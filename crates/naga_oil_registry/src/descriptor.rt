@@ -1,11 +1,11 @@
-//! What callers ask for.
+//! The descriptors that callers pass.
 ghost use Rattle.std.specs.Prelude.{◌≡◌, [], None, IfOk};
 ghost use Rattle.naga_oil_ir.specs.declared.language.ShaderLanguage.TheVariants as language;
 ghost use Rattle.naga_oil_registry.specs.declared.descriptor.ShaderType.TheVariants as stage;
 
 use super::*;
 
-/// What a shader is written as.
+/// The language and stage of a shader's text.
 #[derive(Clone, Copy, PartialEq, Eq, Debug, Default, Hash)]
 pub enum ShaderType {
     #[default]
@@ -33,7 +33,7 @@ impl From<ShaderType> for ShaderLanguage {
 pub struct OwnedShaderDefs(Defs);
 
 impl OwnedShaderDefs {
-    ghost use Rattle.naga_oil_registry.specs.Definition.{defs_of};
+    ghost use Rattle.naga_oil_registry.specs.Registered.{defs_of};
     ghost use Rattle.naga_oil_registry.specs.Descriptor.{owned_defs_of};
 
     /// No definitions.
@@ -43,26 +43,26 @@ impl OwnedShaderDefs {
         OwnedShaderDefs(Defs::new(alloc))
     }
 
-    /// Equal definitions.
-    pub fn try_clone(&self) -> Tried<OwnedShaderDefs>
+    /// A copy of the definitions.
+    pub fn try_clone(&self) -> AllocResult<OwnedShaderDefs>
         ensures { IfOk result (λ copy. owned_defs_of copy ≡ owned_defs_of self.now) }
     {
         Ok(OwnedShaderDefs(self.0.clone()?))
     }
 }
 
-/// A module to be added.
+/// A module to add.
 #[derive(Drop)]
 pub struct ComposableModuleDescriptor<'a> {
     pub source: &'a str,
-    /// What reports call the text.
+    /// The text's path, for reports.
     pub file_path: &'a str,
     pub language: ShaderLanguage,
-    /// The module's name, in place of the import path that the text defines.
+    /// The module's name, which replaces the import path that the text defines.
     pub as_name: Option<String>,
-    /// What it imports besides what its text uses.
+    /// Imports besides those that the text uses.
     pub additional_imports: &'a [ImportDefinition],
-    /// The definitions that it is bound to.
+    /// The definitions that the module is bound to.
     pub shader_defs: Defs,
 }
 
@@ -84,16 +84,16 @@ impl<'a> ComposableModuleDescriptor<'a> {
     }
 }
 
-/// A shader to be made.
+/// A shader to build.
 #[derive(Drop)]
 pub struct NagaModuleDescriptor<'a> {
     pub source: &'a str,
-    /// What reports call the text.
+    /// The text's path, for reports.
     pub file_path: &'a str,
     pub shader_type: ShaderType,
-    /// The definitions that it is made under, besides its own defines.
+    /// The definitions that the shader is built under, besides its own defines.
     pub shader_defs: Defs,
-    /// What it imports besides what its text uses.
+    /// Imports besides those that the text uses.
     pub additional_imports: &'a [ImportDefinition],
 }
 

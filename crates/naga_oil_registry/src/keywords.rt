@@ -1,4 +1,4 @@
-// Functions behind keywords that no front end knows, and other characters at places of a text.
+// Functions after keywords that no front end knows, and edits of a text.
 ghost use Rattle.std.specs.Prelude.{◌≡◌, ℕ, ◌+◌, ◌<◌, ◌≤◌, ◌^◌, ◌++◌, List, length, drop, map, option_map, IfSome, IfOk, OnOk, string_bytes};
 ghost use Rattle.std.specs.BTreeMap.{get};
 ghost use Rattle.std.specs.Char.{encode_utf8};
@@ -12,11 +12,11 @@ use super::*;
 use naga_oil_lines::comment_strip_iter::CommentReplaceExt;
 use naga_oil_lines::text::{after_whitespace, past_word, split_first_char, text_before};
 
-/// Other characters at places of a text, in bytes.
+/// Other characters, by their places in a text, in bytes.
 pub type Edits = BTreeMap<usize, char>;
 
-/// The text with its comments covered, and with each line ended.
-pub fn covered(alloc: Global, text: &str) -> Tried<String>
+/// The text with its comments covered and each line ended.
+pub fn covered(alloc: Global, text: &str) -> AllocResult<String>
     ensures { IfOk result (λ t. string_bytes t ≡ covered_text text.now) }
 {
     let mut covered = String::with_capacity(alloc, text.len())?;
@@ -28,7 +28,7 @@ pub fn covered(alloc: Global, text: &str) -> Tried<String>
     Ok(covered)
 }
 
-// What follows white space, if there is some.
+// The text after leading white space, if there is some.
 fn past_spaces(text: &str) -> Option<&str>
     ensures chars { option_map (λ r. chars r.now) result ≡ past_spaces (chars text.now) }
     ensures suffix { IfSome result (λ r. (front : List ℕ) × (text.now ≡ front ++ r.now)) }
@@ -38,7 +38,7 @@ fn past_spaces(text: &str) -> Option<&str>
     first.is_whitespace().then_some(after_whitespace(more))
 }
 
-// What is left of a text behind the name that it begins with.
+// The text after the name that it begins with.
 fn after_name(text: &str) -> &str
     ensures chars { let all = chars text.now in
         chars result.now ≡ drop (prefix_len is_name_char all) all }
@@ -54,7 +54,8 @@ fn after_name(text: &str) -> &str
     rest
 }
 
-// The name in a text that goes on as ` fn NAME (`, with what begins with the name, and what follows the `(`.
+// The name in a text that begins with ` fn NAME (`, the text from the name on, and that after the
+// `(`.
 fn marked_name(text: &str) -> Option<(&str, &str, &str)>
     ensures chars { let found = marked_name (chars text.now) in
         option_map (λ r. (chars r.0.now, chars r.1.now, chars r.2.now)) result ≡ found }
@@ -71,8 +72,8 @@ fn marked_name(text: &str) -> Option<(&str, &str, &str)>
     (!name.is_empty()).then_some((name, onwards, arguments))
 }
 
-/// The functions behind a keyword, from the left.
-pub fn marked_in<'a>(alloc: Global, text: &'a str, keyword: &str) -> Tried<Vec<Marked<'a>>>
+/// The functions after a keyword, from left to right.
+pub fn marked_in<'a>(alloc: Global, text: &'a str, keyword: &str) -> AllocResult<Vec<Marked<'a>>>
     requires { 0 < length keyword.now }
     ensures { IfOk result (λ found. map marked_of found.items ≡ marked_in keyword.now text.now) }
 {
@@ -93,8 +94,8 @@ pub fn marked_in<'a>(alloc: Global, text: &'a str, keyword: &str) -> Tried<Vec<M
     Ok(found)
 }
 
-/// Puts other characters, of one byte each, at a place and those behind it.
-pub fn edit(edits: &mut Edits, place: usize, other: &str) -> Tried
+/// Replaces the characters from a place on by others, of one byte each.
+pub fn edit(edits: &mut Edits, place: usize, other: &str) -> AllocResult
     requires { place + length other.now < 2 ^ 64 }
     ensures { OnOk result (get nat_cmp edits.new ≡ put (get nat_cmp edits.old) place other.now) }
 {
@@ -104,8 +105,8 @@ pub fn edit(edits: &mut Edits, place: usize, other: &str) -> Tried
     Ok(())
 }
 
-/// The text with its edits.
-pub fn with_edits(alloc: Global, text: &str, edits: &Edits) -> Tried<String>
+/// The text with its edits applied.
+pub fn with_edits(alloc: Global, text: &str, edits: &Edits) -> AllocResult<String>
     ensures { let told = edited (get nat_cmp edits.now) 0 (chars text.now) in
         IfOk result (λ t. string_bytes t ≡ flat_map encode_utf8 told) }
 {

@@ -1,13 +1,13 @@
-//! What is registered of shader modules, how it is added, and what is told of it.
+//! The registry of shader modules: how modules are added, and how errors are reported.
 //!
-//! - `descriptor`: what callers ask for.
-//! - `definition`: what is registered of a module.
-//! - `registry`: what is registered, found by name.
-//! - `adding`: what is added, from its text to its definition.
-//! - `sanitize`: a source as it is read.
-//! - `merge`: what a module takes over from those that it imports.
-//! - `keywords`: the functions behind a keyword, each `marked`, and other characters at places of a text.
-//! - `report`: what an error is told as.
+//! - `descriptor`: what callers pass, a module to add or a shader to build.
+//! - `definition`: a registered module.
+//! - `registry`: the registered modules, found by name.
+//! - `adding`: from a module's text to its registration.
+//! - `sanitize`: prepares a source: its marks, line ends and automatic bindings.
+//! - `merge`: what a module inherits from its imports.
+//! - `keywords`: the functions after a keyword, each of them `marked`, and edits of a text.
+//! - `report`: reports of errors.
 #![tactic(auto)]
 
 pub mod adding;
@@ -21,19 +21,19 @@ pub mod report;
 pub mod sanitize;
 
 pub use definition::{
-    Checked, ComposableModuleDefinition, Definition, Defs, Import, Names, Tried, Use,
+    ComposableModuleDefinition, Defs, Import, InnerResult, Names, Registered, Use,
 };
 pub use descriptor::{
     ComposableModuleDescriptor, NagaModuleDescriptor, OwnedShaderDefs, ShaderType,
 };
 pub use marked::Marked;
 use naga_oil_imports::{ImportDefWithOffset, ImportDefinition};
-use naga_oil_ir::{RedirectError, ShaderLanguage, Span};
+use naga_oil_ir::{MAX_MODULES, RedirectError, ShaderLanguage, Span};
 use naga_oil_lines::decorate::undecorate;
 use naga_oil_lines::wgsl_directives::WgslDirectives;
-use naga_oil_marks::{DECORATION_OVERRIDE_PRE, DECORATION_PRE};
 use naga_oil_pre::{
     ComposerErrorInner as Inner, Preprocessor, PreprocessorMetaData, ShaderDefValue,
 };
+use naga_oil_words::{AllocResult, DECORATION_OVERRIDE_PRE, DECORATION_PRE};
 use std::alloc::{AllocError, Global};
 use std::collections::{BTreeMap, BTreeSet};

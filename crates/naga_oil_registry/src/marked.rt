@@ -1,7 +1,7 @@
-// Functions behind keywords.
+// Functions after keywords.
 ghost use Rattle.std.specs.Prelude.{◌+◌, ◌<◌, ◌^◌, length};
 
-/// A function behind a keyword: the keyword's place, its name, and the name's place.
+/// A function after a keyword: the keyword's place, the function's name, and the name's place.
 #[derive(Clone, Copy)]
 pub struct Marked<'a> {
     pub keyword: usize,

@@ -1,16 +1,15 @@
-// What a module takes over from those that it imports.
+// What a module inherits from its imports.
 ghost use Rattle.std.specs.Prelude.{◌≡◌, ◌++◌, map, fold, IfOk, OnOk};
 ghost use Rattle.std.specs.List.{flat_map};
-ghost use Rattle.naga_oil_lines.specs.DirectivesText.{with_name};
+ghost use Rattle.naga_oil_words.specs.Texts.{with_name, texts};
 ghost use Rattle.naga_oil_imports.specs.Uses.{use_of, import_of};
-ghost use Rattle.naga_oil_registry.specs.Definition.{definition_of, defs_of};
-ghost use Rattle.naga_oil_lines.specs.Text.{texts};
+ghost use Rattle.naga_oil_registry.specs.Registered.{definition_of, defs_of};
 ghost use Rattle.naga_oil_registry.specs.Merged.{overwritten, merged, used_at_start};
 
 use super::*;
 
-/// Overwrites definitions by others.
-pub fn overwrite(defs: &mut Defs, others: &Defs) -> Tried
+/// Overwrites definitions with others.
+pub fn overwrite(defs: &mut Defs, others: &Defs) -> AllocResult
     ensures { OnOk result (defs_of defs.new ≡ overwritten (defs_of defs.old) (defs_of others.now)) }
 {
     for (name, value) in others {
@@ -20,7 +19,7 @@ pub fn overwrite(defs: &mut Defs, others: &Defs) -> Tried
 }
 
 // Adds the names of a set.
-fn add_names(names: &mut Names, others: &Names) -> Tried
+fn add_names(names: &mut Names, others: &Names) -> AllocResult
     ensures { let more = texts others.now.keys in
         OnOk result (texts names.new.keys ≡ fold with_name (texts names.old.keys) more) }
 {
@@ -30,8 +29,9 @@ fn add_names(names: &mut Names, others: &Names) -> Tried
     Ok(())
 }
 
-/// Overwrites definitions by those of each module in turn, and adds its effective names.
-pub(crate) fn take_over(defs: &mut Defs, names: &mut Names, imported: &[&Definition]) -> Tried
+/// Overwrites definitions with those of each imported module, one after the other, and adds the
+/// effective names of each.
+pub(crate) fn take_over(defs: &mut Defs, names: &mut Names, imported: &[&Registered]) -> AllocResult
     ensures defs { let others = map (λ d. definition_of d.now) imported.now in
         OnOk result (defs_of defs.new ≡ merged (defs_of defs.old) others) }
     ensures names { let more = flat_map (λ d. (definition_of d.now).effective) imported.now in
@@ -44,8 +44,8 @@ pub(crate) fn take_over(defs: &mut Defs, names: &mut Names, imported: &[&Definit
     Ok(())
 }
 
-/// Imports with further ones behind them, which are asked for at the start of the text.
-pub fn push_additional(imports: &mut Vec<Use>, additional: &[Import]) -> Tried
+/// Adds imports at the end, as used at the start of the text.
+pub fn push_additional(imports: &mut Vec<Use>, additional: &[Import]) -> AllocResult
     ensures { let more = map (λ i. used_at_start (import_of i)) additional.now in
         OnOk result (map use_of imports.new.items ≡ map use_of imports.old.items ++ more) }
 {
@@ -55,8 +55,8 @@ pub fn push_additional(imports: &mut Vec<Use>, additional: &[Import]) -> Tried
     Ok(())
 }
 
-/// Equal imports.
-pub fn clone_imports(alloc: Global, imports: &[Import]) -> Tried<Vec<Import>>
+/// A copy of imports.
+pub fn clone_imports(alloc: Global, imports: &[Import]) -> AllocResult<Vec<Import>>
     ensures { IfOk result (λ copy. map import_of copy.items ≡ map import_of imports.now) }
 {
     let mut copy = Vec::with_capacity(alloc, imports.len())?;
@@ -66,8 +66,8 @@ pub fn clone_imports(alloc: Global, imports: &[Import]) -> Tried<Vec<Import>>
     Ok(copy)
 }
 
-/// What is imported, wherever it is asked for.
-pub fn imports_of(alloc: Global, uses: &[Use]) -> Tried<Vec<Import>>
+/// The imports, without the places that use them.
+pub fn imports_of(alloc: Global, uses: &[Use]) -> AllocResult<Vec<Import>>
     ensures { let imported = map (λ u. (use_of u).import) uses.now in
         IfOk result (λ imports. map import_of imports.items ≡ imported) }
 {

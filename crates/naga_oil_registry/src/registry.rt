@@ -1,10 +1,10 @@
-// What is registered, found by name.
+// The registered modules, found by name.
 ghost use Rattle.std.specs.Prelude.{◌≡◌, ℕ, ◌+◌, ◌-◌, ◌^◌, ◌<◌, ◌≤◌, ◌==◌, [], ◌∷◌, false, not, length, drop, slice_index_or, slice_get, List, filter, ◌||◌, option_map, string_bytes, None, Some, IfNone, IfSome, OnOk, OnErr, IfOk};
 ghost use Rattle.std.specs.BTreeSet.{contains_text};
 ghost use Rattle.std.specs.List.{list_any};
 ghost use Rattle.std.specs.Str.{bytes_eq};
 ghost use Rattle.indexmap.specs.IndexMap.{KeepsRoom};
-ghost use Rattle.naga_oil_registry.specs.Definition.{Definition, definition_of};
+ghost use Rattle.naga_oil_registry.specs.Registered.{Registered, definition_of};
 ghost use Rattle.naga_oil_registry.specs.Registry.{registered, module_named, place_named, module_indexed, reaches, removed, standing, taken, free_index, IsRegistry};
 ghost use Rattle.naga_oil_registry.specs.RegistryView.{AreMarks, MarksMore, IsOnly};
 
@@ -12,32 +12,37 @@ use super::*;
 use indexmap::IndexMap;
 use std::marker::Model;
 
-/// What is registered, found by name. Beside its own cost an add that takes no module's place looks at no more than the marks of
-/// the indices; one that does, and a removal, takes time linear in what is registered.
+// The number of indices: 0 is the shader's, and 1 to 2047 are for modules.
+const INDEX_COUNT: usize = MAX_MODULES + 1;
+
+/// The registered modules, found by name. Besides its own cost, an add that replaces no module only
+/// reads the marks of the indices; one that replaces modules, and a removal, take time linear in
+/// the number of modules.
 #[derive(Drop)]
 pub struct Registry {
     alloc: Global,
-    // The oldest first.
-    modules: IndexMap<String, Definition>,
-    // Which indices are taken; there are no marks before the first addition, and behind a removal.
+    // The modules, the oldest first.
+    modules: IndexMap<String, Registered>,
+    // Marks of the indices that are taken. There are none before the first addition and after a
+    // removal.
     taken: Vec<bool>,
 }
 
 impl Model for Registry {
     ghost use Rattle.std.specs.Prelude.{List};
     ghost use Rattle.indexmap.specs.IndexMap.{values};
-    ghost use Rattle.naga_oil_registry.specs.Definition.{Definition};
+    ghost use Rattle.naga_oil_registry.specs.Registered.{Registered};
     ghost use Rattle.naga_oil_registry.specs.RegistryView.{newest_first, IsKept};
 
-    ghost Value = { List Definition };
+    ghost Value = { List Registered };
 
     ghost view = { λ r. newest_first (values r.modules) };
 
     ghost invariant = { λ r. IsKept r.modules.entries r.taken.items };
 }
 
-// Whether a module goes with those that go: it is the named one, or imports one that goes.
-fn goes(definition: &Definition, gone: &Names, name: &str) -> bool
+// Whether a module is removed along with others: it has the name, or imports a removed module.
+fn goes(definition: &Registered, gone: &Names, name: &str) -> bool
     ensures { let of = definition_of definition.now in
         let imports_one = list_any (λ u. contains_text gone.now u.import.import) of.imports in
         result ≡ (bytes_eq of.name name.now || imports_one) }
@@ -58,14 +63,14 @@ fn goes(definition: &Definition, gone: &Names, name: &str) -> bool
 
 // The smallest index that isn't marked.
 fn first_free(marks: &[bool]) -> Option<usize>
-    ensures { (ds : List Definition) → 0 < length marks.now → AreMarks marks.now ds →
+    ensures { (ds : List Registered) → 0 < length marks.now → AreMarks marks.now ds →
         result ≡ free_index ds }
 {
     marks.iter().position(|is_taken| !*is_taken)
 }
 
-// Marks the index of one module more.
-fn mark(taken: &mut Vec<bool>, of: &Definition)
+// Marks the index of a module, if there is a mark for it.
+fn mark(taken: &mut Vec<bool>, of: &Registered)
     ensures { MarksMore taken.old.items (definition_of of.now) taken.new.items }
 {
     if of.module_index < taken.len() {
@@ -73,8 +78,8 @@ fn mark(taken: &mut Vec<bool>, of: &Definition)
     }
 }
 
-// Takes the modules of some names out.
-fn take_out(modules: &mut IndexMap<String, Definition>, gone: &Names)
+// Removes the modules with some names.
+fn take_out(modules: &mut IndexMap<String, Registered>, gone: &Names)
     ensures entries { let stays = filter (λ e. not (contains_text gone.now (string_bytes e.0))) in
         modules.new.entries ≡ stays modules.old.entries }
     ensures room { KeepsRoom modules.old modules.new }
@@ -83,16 +88,16 @@ fn take_out(modules: &mut IndexMap<String, Definition>, gone: &Names)
         return;
     }
     modules.retain(
-        |name: &String, definition: &mut Definition| -> bool
+        |name: &String, definition: &mut Registered| -> bool
             ensures { let stays = not (contains_text gone.entry.now (string_bytes name.now)) in
                 (result ≡ stays) × (definition.new ≡ definition.old) }
         { !gone.contains(name.as_str()) },
     );
 }
 
-// Without the modules of some names the marks are worth nothing.
+// Removing modules invalidates the marks, so they are cleared.
 fn unmark(taken: &mut Vec<bool>, gone: &Names)
-    ensures { (ds : List Definition) → AreMarks taken.old.items ds →
+    ensures { (ds : List Registered) → AreMarks taken.old.items ds →
         AreMarks taken.new.items (standing (contains_text gone.now) ds) }
 {
     if gone.is_empty() {
@@ -102,7 +107,7 @@ fn unmark(taken: &mut Vec<bool>, gone: &Names)
 }
 
 impl Registry {
-    /// Nothing is registered.
+    /// An empty registry.
     pub fn new(alloc: Global) -> Registry
         ensures { result ≡ [] }
     {
@@ -113,14 +118,14 @@ impl Registry {
         }
     }
 
-    /// How many modules there are.
+    /// The number of modules.
     pub fn len(&self) -> usize
         ensures { result ≡ length self.now }
     {
         self.modules.len()
     }
 
-    // The place of the module of this name, counted from the newest.
+    // The place of the module with a name, counted from the newest.
     fn place(&self, name: &str) -> Option<usize>
         ensures none { IfNone result (registered name.now self.now ≡ false) }
         ensures some { IfSome result (IsOnly (λ d. bytes_eq d.name name.now) self.now) }
@@ -130,24 +135,24 @@ impl Registry {
         Some(self.modules.len() - 1 - older)
     }
 
-    // The module of a place, counted from the newest.
-    fn at(&self, place: usize) -> &Definition
+    // The module at a place, counted from the newest.
+    fn at(&self, place: usize) -> &Registered
         requires { place < length self.now }
         ensures { slice_get self.now place ≡ Some (definition_of result.now) }
     {
         &self.modules[self.modules.len() - 1 - place]
     }
 
-    /// The module of this name.
-    pub fn get(&self, name: &str) -> Option<&Definition>
+    /// The module with a name.
+    pub fn get(&self, name: &str) -> Option<&Registered>
         ensures { option_map (λ d. definition_of d.now) result ≡ module_named name.now self.now }
     {
         let place = self.place(name)?;
         Some(self.at(place))
     }
 
-    /// The module of a name that stands at or behind a place, counted from the newest, with its place.
-    pub fn behind(&self, name: &str, from: usize) -> Option<(usize, &Definition)>
+    /// The module with a name, and its place counted from the newest, if that is `from` or later.
+    pub fn behind(&self, name: &str, from: usize) -> Option<(usize, &Registered)>
         ensures none { IfNone result (place_named name.now (drop from self.now) ≡ None) }
         ensures place { let ahead = place_named name.now (drop from self.now) in
             IfSome result (λ r. (from ≤ r.0) × (ahead ≡ Some (r.0 - from))) }
@@ -160,8 +165,8 @@ impl Registry {
         Some((place, self.at(place)))
     }
 
-    /// The module of this index.
-    pub fn at_index(&self, index: usize) -> Option<&Definition>
+    /// The module with an index.
+    pub fn at_index(&self, index: usize) -> Option<&Registered>
         ensures { option_map (λ d. definition_of d.now) result ≡ module_indexed index self.now }
     {
         let mut place = 0;
@@ -176,7 +181,7 @@ impl Registry {
     }
 
     /// The module that was added last.
-    pub fn newest(&self) -> Option<&Definition>
+    pub fn newest(&self) -> Option<&Registered>
         ensures { option_map (λ d. definition_of d.now) result ≡ slice_get self.now 0 }
     {
         if self.len() == 0 {
@@ -185,9 +190,9 @@ impl Registry {
         Some(self.at(0))
     }
 
-    /// The names of the modules that go with a module: its own, and those of all that reach it by imports. Where it isn't
-    /// registered there are none.
-    pub(crate) fn gone_with(&self, name: &str) -> Tried<Names>
+    /// The names of the modules that are removed with a module: its own, and those of all modules
+    /// that reach it by imports. If the module isn't registered, there are none.
+    pub(crate) fn gone_with(&self, name: &str) -> AllocResult<Names>
         requires { IsRegistry self.now }
         ensures { IfOk result (λ gone. (other : List ℕ) →
             contains_text gone other ≡ reaches self.now other name.now) }
@@ -207,8 +212,8 @@ impl Registry {
         Ok(gone)
     }
 
-    /// The module of a name, unless it is among those that go.
-    pub(crate) fn standing(&self, gone: &Names, name: &str) -> Option<&Definition>
+    /// The module with a name, unless it is among the removed ones.
+    pub(crate) fn standing(&self, gone: &Names, name: &str) -> Option<&Registered>
         ensures { let left = standing (contains_text gone.now) self.now in
             option_map (λ d. definition_of d.now) result ≡ module_named name.now left }
     {
@@ -218,8 +223,8 @@ impl Registry {
         self.get(name)
     }
 
-    // Which indices below the end a module has that doesn't go, as marks; 0 is marked.
-    fn taken_indices(&self, gone: &Names, end: usize) -> Tried<Vec<bool>>
+    // Marks of the indices below `end` that the modules which stay have; index 0 is marked too.
+    fn taken_indices(&self, gone: &Names, end: usize) -> AllocResult<Vec<bool>>
         requires { 0 < end }
         ensures len { IfOk result (λ marks. length marks.items ≡ end) }
         ensures marks { let taken = taken (standing (contains_text gone.now) self.now) in
@@ -239,24 +244,24 @@ impl Registry {
         Ok(taken)
     }
 
-    /// The smallest index from 1 to 2047 that no module has but those that go.
-    pub(crate) fn free_index(&mut self, gone: &Names) -> Tried<Option<usize>>
+    /// The smallest index from 1 to 2047 that is free once the modules in `gone` are removed.
+    pub(crate) fn free_index(&mut self, gone: &Names) -> AllocResult<Option<usize>>
         ensures index { let left = standing (contains_text gone.now) self.old in
             IfOk result (λ index. index ≡ free_index left) }
         ensures same { self.new ≡ self.old }
     {
         if !gone.is_empty() {
-            let taken = self.taken_indices(gone, 2048)?;
+            let taken = self.taken_indices(gone, INDEX_COUNT)?;
             return Ok(first_free(taken.as_slice()));
         }
         if self.taken.is_empty() {
-            self.taken = self.taken_indices(gone, 2048)?;
+            self.taken = self.taken_indices(gone, INDEX_COUNT)?;
         }
         Ok(first_free(self.taken.as_slice()))
     }
 
-    /// Enters a module as the newest in the place of those of some names.
-    pub(crate) fn enter(&mut self, gone: &Names, of: Definition) -> Tried
+    /// Enters a module as the newest, in place of the modules in `gone`.
+    pub(crate) fn enter(&mut self, gone: &Names, of: Registered) -> AllocResult
         requires { let left = standing (contains_text gone.now) self.old in
             registered (definition_of of).name left ≡ false }
         ensures ok { let left = standing (contains_text gone.now) self.old in
@@ -272,8 +277,9 @@ impl Registry {
         Ok(())
     }
 
-    /// Removes a module, and with it all that reach it by imports. Answers the names of those that go.
-    pub fn remove(&mut self, name: &str) -> Tried<Names>
+    /// Removes a module and all modules that reach it by imports. Returns the names of the removed
+    /// modules.
+    pub fn remove(&mut self, name: &str) -> AllocResult<Names>
         requires { IsRegistry self.old }
         ensures ok { OnOk result (self.new ≡ removed name.now self.old) }
         ensures gone { IfOk result (λ gone. (other : List ℕ) →

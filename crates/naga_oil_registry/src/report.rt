@@ -1,4 +1,4 @@
-//! What an error is told as: its message, its places in a text, and notes.
+//! Reports of errors: the message, its places in a text, and notes.
 ghost use Rattle.std.specs.Prelude.{◌≡◌, ◌++◌, Some, map, string_bytes, IfOk, OnOk};
 ghost use Rattle.std.specs.List.{flat_map};
 ghost use Rattle.naga_oil_ir.specs.RedirectFault.{redirect_fault};
@@ -8,24 +8,23 @@ ghost use Rattle.naga_oil_registry.specs.Report.{message, fault_places, fault_no
 ghost use Rattle.naga_oil_registry.specs.ReportView.{line_starts, report_places};
 
 use super::*;
+pub use naga_oil_ir::SPAN_SHIFT;
 
-/// How many of the lowest bits of a span's place are a place in a text. Those above are the index of the text's module.
-pub const SPAN_SHIFT: u32 = 21;
-
-// Where a fault is.
+// The places of an error.
 #[derive(Clone, Copy)]
 enum Places<'a> {
     Nowhere,
     Byte(usize),
     /// The start of a line, by its index from 0.
     Line(usize),
-    /// An item, of which the message is said.
+    /// An item, labelled with the message.
     Item(Span),
-    /// Spans, each with what is said of it.
+    /// Spans, each with its label.
     Spans(&'a [(Span, String)]),
 }
 
-// The text that an error is in: its path, where its lines begin, and where it begins in what spans count in.
+// The text that an error is in: its path, where its lines begin, and its offset in the text that
+// spans count in.
 #[derive(Clone, Copy)]
 struct Source<'a> {
     path: &'a str,
@@ -37,7 +36,7 @@ struct Source<'a> {
 
 // Writes why calls can't be redirected.
 #[rattlefmt::skip]
-fn push_redirection(out: &mut String, error: &RedirectError) -> Tried
+fn push_redirection(out: &mut String, error: &RedirectError) -> AllocResult
     ensures { let told = message (Some (redirection_of (redirect_fault error.now))) in
         OnOk result (string_bytes out.new ≡ string_bytes out.old ++ told) }
 {
@@ -50,9 +49,9 @@ fn push_redirection(out: &mut String, error: &RedirectError) -> Tried
     }
 }
 
-// Writes what is wrong.
+// Writes the message of an error.
 #[rattlefmt::skip]
-fn push_message(out: &mut String, inner: &Inner) -> Tried
+fn push_message(out: &mut String, inner: &Inner) -> AllocResult
     ensures { let told = message (fault_of inner.now) in
         OnOk result (string_bytes out.new ≡ string_bytes out.old ++ told) }
 {
@@ -89,7 +88,7 @@ fn push_message(out: &mut String, inner: &Inner) -> Tried
     }
 }
 
-// Where it is wrong.
+// The places of an error.
 #[rattlefmt::skip]
 fn fault_places(inner: &Inner) -> Places<'_>
     ensures { report_places result ≡ fault_places (fault_of inner.now) }
@@ -113,8 +112,8 @@ fn fault_places(inner: &Inner) -> Places<'_>
     }
 }
 
-// Writes notes.
-fn push_note_lines(out: &mut String, said: &[String]) -> Tried
+// Writes note lines.
+fn push_note_lines(out: &mut String, said: &[String]) -> AllocResult
     ensures { let lines = flat_map note_line (map string_bytes said.now) in
         OnOk result (string_bytes out.new ≡ string_bytes out.old ++ lines) }
 {
@@ -124,9 +123,9 @@ fn push_note_lines(out: &mut String, said: &[String]) -> Tried
     Ok(())
 }
 
-// Writes what is to be noted.
+// Writes the notes of an error.
 #[rattlefmt::skip]
-fn push_notes(out: &mut String, inner: &Inner) -> Tried
+fn push_notes(out: &mut String, inner: &Inner) -> AllocResult
     ensures { let lines = flat_map note_line (fault_notes (fault_of inner.now)) in
         OnOk result (string_bytes out.new ≡ string_bytes out.old ++ lines) }
 {
@@ -141,7 +140,7 @@ fn push_notes(out: &mut String, inner: &Inner) -> Tried
 }
 
 // Where the lines of a text begin.
-fn line_starts(alloc: Global, text: &str) -> Tried<Vec<usize>>
+fn line_starts(alloc: Global, text: &str) -> AllocResult<Vec<usize>>
     ensures { IfOk result (λ starts. starts.items ≡ line_starts text.now) }
 {
     let mut starts = Vec::new(alloc);
@@ -154,8 +153,8 @@ fn line_starts(alloc: Global, text: &str) -> Tried<Vec<usize>>
     Ok(starts)
 }
 
-// Writes what is said of a place, and ends its line.
-fn push_said(out: &mut String, said: &str) -> Tried
+// Writes the label of a place, if it isn't empty, and ends the line.
+fn push_said(out: &mut String, said: &str) -> AllocResult
     ensures { OnOk result (string_bytes out.new ≡ string_bytes out.old ++ said_behind said.now) }
 {
     if !said.is_empty() {
@@ -172,7 +171,7 @@ impl Source<'_> {
         (span.start as usize % (1 << SPAN_SHIFT)).saturating_sub(self.offset)
     }
 
-    // The line and the column of a place, from 1. A place past the end counts as the end.
+    // The line and the column of a place, from 1. A place after the end counts as the end.
     fn line_column(self, place: usize) -> (usize, usize)
         ensures { (result.0, result.1) ≡ line_column self.entry.text.now place }
     {
@@ -181,8 +180,8 @@ impl Source<'_> {
         (line, place - self.starts[line - 1] + 1)
     }
 
-    // Writes a place with what is said of it.
-    fn push_place(self, out: &mut String, place: usize, said: &str) -> Tried
+    // Writes a place with its label.
+    fn push_place(self, out: &mut String, place: usize, said: &str) -> AllocResult
         ensures { let of = self.entry in
             let line = place_line of.path.now (line_column of.text.now place) said.now in
             OnOk result (string_bytes out.new ≡ string_bytes out.old ++ line) }
@@ -192,8 +191,8 @@ impl Source<'_> {
         push_said(out, said)
     }
 
-    // Writes spans with what is said of each.
-    fn push_spans(self, out: &mut String, spans: &[(Span, String)]) -> Tried
+    // Writes spans with their labels.
+    fn push_spans(self, out: &mut String, spans: &[(Span, String)]) -> AllocResult
         ensures { let of = self.entry in
             let lines = span_lines of.path.now of.text.now of.offset (labels spans.now) in
             OnOk result (string_bytes out.new ≡ string_bytes out.old ++ lines) }
@@ -207,8 +206,8 @@ impl Source<'_> {
         Ok(())
     }
 
-    // Writes where something is wrong.
-    fn push_places(self, out: &mut String, places: Places<'_>, message: &str) -> Tried
+    // Writes the places of an error.
+    fn push_places(self, out: &mut String, places: Places<'_>, message: &str) -> AllocResult
         ensures { let of = self.entry in
             let at = report_places places.entry in
             let lines = place_lines of.path.now of.text.now of.offset message.now at in
@@ -223,8 +222,8 @@ impl Source<'_> {
         }
     }
 
-    // What an error is told as, with decorated names as they stand.
-    fn report_text(self, alloc: Global, inner: &Inner) -> Tried<String>
+    // The report of an error, with decorated names.
+    fn report_text(self, alloc: Global, inner: &Inner) -> AllocResult<String>
         ensures { let of = self.entry in
             let told = report_text of.path.now of.text.now of.offset (fault_of inner.now) in
             IfOk result (λ t. string_bytes t ≡ told) }
@@ -240,11 +239,18 @@ impl Source<'_> {
     }
 }
 
-/// What an error is told as, where its places are in this text of this path and spans begin at the offset: its message,
-/// a line for each place (`at PATH:LINE:COLUMN`, counted from 1, columns in bytes; `in PATH` where there is none) and for each
-/// note, with decorated names as a reader knows them. Takes time and memory linear in the text and the error.
+/// The report of an error whose places lie in this text of this path, and whose spans begin at the
+/// offset: the message, a line for each place (`at PATH:LINE:COLUMN`, counted from 1, columns in
+/// bytes; `in PATH` if there is none) and one for each note. Names are undecorated. Takes time and
+/// memory linear in the text and the error.
 #[tactic(auto, unfolding(crate::specs::Report::report))]
-pub fn report(alloc: Global, path: &str, text: &str, offset: usize, inner: &Inner) -> Tried<String>
+pub fn report(
+    alloc: Global,
+    path: &str,
+    text: &str,
+    offset: usize,
+    inner: &Inner,
+) -> AllocResult<String>
     ensures { let told = report path.now text.now offset (fault_of inner.now) in
         IfOk result (λ t. string_bytes t ≡ told) }
 {

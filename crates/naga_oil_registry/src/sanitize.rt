@@ -1,4 +1,4 @@
-// A source as it is read: marks that it may not hold, its line ends, and the bindings that it asks for.
+// Preparing a source: marks that it may not contain, its line ends, and automatic bindings.
 ghost use Rattle.std.specs.Prelude.{◌≡◌, ◌∷◌, ◌++◌, ◌+◌, ◌-◌, ◌≤◌, ◌<◌, length, map, IfOk, option_map, string_bytes};
 ghost use Rattle.naga_oil_conditions.specs.View.{Gives};
 ghost use Rattle.naga_oil_registry.specs.Added.{read_source};
@@ -6,7 +6,7 @@ ghost use Rattle.naga_oil_registry.specs.Sanitized.{first_decoration, line_feeds
 
 use super::*;
 
-// What asks for a binding with the next number.
+// An automatic binding, which is replaced by one with the next number.
 const AUTO_BINDING: &str = "@binding(auto)";
 
 // The place of the first mark of a decoration, of either kind.
@@ -23,7 +23,7 @@ fn first_decoration(source: &str) -> Option<usize>
     }
 }
 
-// What follows a carriage return, without the line feed that ends the same line.
+// The text after a carriage return, without the line feed that belongs to it.
 fn past_line_feed(text: &str) -> &str
     ensures value { line_feeds (13 ∷ text.now) ≡ 10 ∷ line_feeds result.now }
     ensures bound { length result.now ≤ length text.now }
@@ -31,8 +31,8 @@ fn past_line_feed(text: &str) -> &str
     text.strip_prefix('\n').unwrap_or(text)
 }
 
-// The text with every line ended by one line feed, the last line too.
-fn with_line_feeds(alloc: Global, source: &str) -> Tried<String>
+// The text with each line, the last one too, ended by one line feed.
+fn with_line_feeds(alloc: Global, source: &str) -> AllocResult<String>
     ensures { IfOk result (λ text. string_bytes text ≡ end_last_line (line_feeds source.now)) }
 {
     let mut text = String::with_capacity(alloc, source.len() + 1)?;
@@ -50,9 +50,9 @@ fn with_line_feeds(alloc: Global, source: &str) -> Tried<String>
     Ok(text)
 }
 
-// The text with a number for each binding that asks for one, and the number behind them.
-// There is none where a number would pass the greatest.
-fn with_bindings(alloc: Global, text: &str, counter: u32) -> Tried<Option<(String, u32)>>
+// The text with a number for each automatic binding, and the next number; `None` if that would
+// exceed the greatest number.
+fn with_bindings(alloc: Global, text: &str, counter: u32) -> AllocResult<Option<(String, u32)>>
     ensures { let told = within counter (parts_around auto_binding text.now) in
         IfOk result (λ r. option_map (λ s. (string_bytes s.0, s.1)) r ≡ told) }
 {
@@ -72,10 +72,11 @@ fn with_bindings(alloc: Global, text: &str, counter: u32) -> Tried<Option<(Strin
     Ok(Some((numbered, next)))
 }
 
-/// A source as it is read, with the counter behind it: each line ends in a line feed, and each `@binding(auto)` has the next
-/// number. Or the first mark of a decoration, or no number left. Time and memory are linear in the source.
+/// A prepared source, and the counter after it: each line ends in a line feed, and each
+/// `@binding(auto)` has the next number. Fails if the source contains the mark of a decoration, or
+/// if no number is left. Time and memory are linear in the source.
 #[tactic(auto, unfolding(crate::specs::Added::read_source, crate::specs::Sanitized::sanitized))]
-pub fn read_source(alloc: Global, source: &str, counter: u32) -> Checked<(String, u32)>
+pub fn read_source(alloc: Global, source: &str, counter: u32) -> InnerResult<(String, u32)>
     ensures { Gives (λ r. (string_bytes r.0, r.1)) result (read_source counter source.now) }
 {
     if let Some(start) = first_decoration(source) {

@@ -1,9 +1,9 @@
-// The faults of whole shaders by their variants, and where their texts begin.
+// The errors of whole shaders by their variants, and the places where their texts begin.
 use naga_oil::compose::{
     ComposableModuleDescriptor, Composer, ComposerError, ImportDefinition, NagaModuleDescriptor,
     ShaderDefValue,
 };
-use naga_oil_front::Mini;
+use naga_oil_mini_front::Mini;
 use std::alloc::{AllocError, Global};
 use std::process::Abort;
 use std::test::Fail;
@@ -19,7 +19,7 @@ fn adds<'a>(
     Ok(())
 }
 
-// A module of this name with a definition of another name.
+// A module with this name, with a definition of another name.
 fn adds_bound<'a>(
     rt: &(impl Abort + AllocGlobal),
     composer: &mut Composer<Mini>,
@@ -35,7 +35,7 @@ fn adds_bound<'a>(
     Ok(())
 }
 
-// Why a shader isn't made, and where its text begins.
+// The error of a shader, and the place where its text begins.
 fn shown(alloc: Global, refused: Option<ComposerError>) -> Result<String, AllocError> {
     match refused {
         None => String::from_str(alloc, "made"),
@@ -110,7 +110,7 @@ fn refuses_wrong_calls(rt: HostRuntime) -> Result<(), Fail> {
     Ok(())
 }
 
-// The value of a name brings an import that its module doesn't record.
+// The value of a name adds an import that its module doesn't record.
 #[test]
 fn refuses_what_a_module_does_not_record(rt: HostRuntime) -> Result<(), Fail> {
     let mut composer = Composer::new(rt.alloc(), Mini);
@@ -122,7 +122,7 @@ fn refuses_what_a_module_does_not_record(rt: HostRuntime) -> Result<(), Fail> {
     Ok(())
 }
 
-// What only the second reading imports isn't registered, or has a definition that the first one didn't merge.
+// A module that only the second reading imports isn't registered, or has a definition that the first reading didn't merge.
 #[test]
 fn refuses_what_the_second_reading_may_not_import(rt: HostRuntime) -> Result<(), Fail> {
     let mut composer = Composer::new(rt.alloc(), Mini);

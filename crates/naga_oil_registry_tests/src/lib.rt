@@ -1,6 +1,6 @@
-//! Tests of the registry of a composer over the language Mini: adding and removing modules, `faults`, and the `reports` that are told.
+//! Tests of the registry of a composer over the language Mini: adding and removing modules, `faults`, and `reports`.
 //!
-//! They stand here since a check of tests proves the whole crate again, and beside others.
+//! The tests are in a crate of their own, since the check of a crate with tests proves that crate twice.
 #![tactic(auto)]
 
 #[cfg(test)]

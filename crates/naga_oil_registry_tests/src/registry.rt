@@ -5,14 +5,14 @@ use naga_oil::compose::{
     Capabilities, ComposableModuleDescriptor, Composer, ImportDefinition, NagaModuleDescriptor,
     OwnedShaderDefs, ShaderDefValue, ShaderLanguage, ShaderType,
 };
-use naga_oil_front::Mini;
+use naga_oil_mini_front::Mini;
 use naga_oil_registry::sanitize::read_source;
 use std::alloc::{AllocError, Global};
 use std::collections::BTreeMap;
 use std::process::Abort;
 use std::test::Fail;
 
-// What adding a module answers, under a name or, with none, under its import path: its name and its text, or the fault.
+// The result of adding a module, under a name or, without one, under its import path: its name and its text, or the error.
 fn added<'a>(
     alloc: Global,
     composer: &mut Composer<Mini>,
@@ -62,7 +62,7 @@ fn reads_line_ends_and_bindings(rt: HostRuntime) -> Result<(), Fail> {
     Ok(())
 }
 
-// A source as it is read, with the counter behind it, or why it isn't read.
+// A source as it is read, with the counter after it, or the error.
 fn read(alloc: Global, source: &str, counter: u32) -> Result<String, AllocError> {
     let read = read_source(alloc, source, counter);
     format!(in alloc; "{read:?}")
@@ -313,7 +313,7 @@ fn k_defs(alloc: Global, value: i32) -> Result<BTreeMap<String, ShaderDefValue>,
     Ok(defs)
 }
 
-// What is told of a module that isn't added, with a definition of K and additional imports.
+// The report of a module that isn't added, with a definition of K and additional imports.
 fn refusal<'a>(
     alloc: Global,
     composer: &mut Composer<Mini>,

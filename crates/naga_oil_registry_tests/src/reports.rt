@@ -1,11 +1,11 @@
-// What each fault is told as.
+// The report of each error.
 mod told;
 
 use naga_oil::compose::{
     ComposableModuleDescriptor, Composer, ComposerError, ComposerErrorInner, EnsureImportsError,
     ErrSource, NagaModuleDescriptor, ShaderDefValue,
 };
-use naga_oil_front::Mini;
+use naga_oil_mini_front::Mini;
 use std::alloc::{AllocError, Global};
 use std::collections::BTreeMap;
 use std::process::Abort;
@@ -92,7 +92,7 @@ fn shows_the_text_of_a_module(rt: HostRuntime) -> Result<(), Fail> {
     Ok(())
 }
 
-// An error is told so, before and after the module m is removed.
+// An error has this report, before and after the module m is removed.
 fn is_told(
     rt: &(impl Abort + AllocGlobal),
     composer: &mut Composer<Mini>,

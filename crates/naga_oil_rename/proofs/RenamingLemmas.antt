@@ -7,7 +7,7 @@ use Rattle.naga_oil_ir.specs.declared.statement.Statement.{fold-roll-Statement, 
 use Rattle.naga_oil_ir.specs.declared.statement.Statement.TheVariants.{rolls-Loop, rolls-Call, rolls-If, rolls-Block}
 use Rattle.naga_oil_rename.specs.Renames.{Renames, rename_token}
 
--- to put `Some` round what `f` gives is to map `f` inside
+-- `Some` of what `f` returns is `Some` with `f` mapped inside
 pub map-Some-map : {A B : Type 0} (f : A → B) (xs : List A) → map Some (map f xs) ≡ map (option_map f) (map Some xs)
 map-Some-map f [] = refl
 map-Some-map f (x ∷ xs) = ap (λ ys. Some (f x) ∷ ys) (map-Some-map f xs)

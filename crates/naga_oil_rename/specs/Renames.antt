@@ -1,4 +1,4 @@
--- Where handles, ranges and spans go, and what has them renamed.
+-- Maps of handles, ranges and spans, and how they rename expressions, items and bodies.
 use Rattle.std.specs.Prelude.{ℕ, map, Option, Some, None, option_map}
 use Rattle.naga_oil_ir.specs.Parts.{Parts}
 use Rattle.naga_oil_ir.specs.Rows.{Row, Text}
@@ -11,7 +11,7 @@ use Rattle.naga_oil_ir.specs.declared.span.Span.{Span}
 use Rattle.naga_oil_ir.specs.declared.tokens.Token.{Token}
 use Rattle.naga_oil_ir.specs.declared.tokens.Token.TheVariants.{At, Head, Plain, Flag, Absent, Use, Give, GiveCall, Emitted, Callee, Open, Close}
 
--- where handles, emitted ranges and spans go
+-- the maps of handles, emitted ranges and spans
 pub record Renames : Type 0 where
   pub ty : ℕ → ℕ
   pub constant : ℕ → ℕ
@@ -54,7 +54,7 @@ rename_place r (ExpressionItem h) = ExpressionItem (r.expression h)
 abbrev pub rename_row : Renames → Row → Row
 rename_row r w = record { label = w.label; names = map (option_map (rename_place r)) w.names }
 
--- a row under another name, if one is given
+-- a row with another name, if one is given
 abbrev pub under_name : Option Text → Row → Row
 under_name None r = r
 under_name (Some n) r = record { label = record { kind = r.label.kind; name = n; plain = r.label.plain; members = r.label.members }; names = r.names }

@@ -1,4 +1,4 @@
-//! Items, made anew with their handles renamed.
+//! Copies of items with renamed handles.
 ghost use Rattle.std.specs.Prelude.{◌≡◌, Some, IfOk, map, option_map, string_bytes};
 ghost use Rattle.naga_oil_ir.specs.Rows.{Text, inner_row, type_row, constant_row, override_row, global_row, size_plain, size_name, member_label, member_type};
 ghost use Rattle.naga_oil_rename.specs.Renames.{rename_row, rename_place, under_name};
@@ -20,8 +20,11 @@ fn renamed_size<R: Renaming>(names: &R, size: &ArraySize) -> ArraySize
 /// The name of an item, if it has one.
 pub type Name = Option<String>;
 
-/// A copy of a name.
-pub fn copied_name(name: &Name) -> Tried<Name>
+/// Returns a copy of a name.
+///
+/// # Errors
+/// If out of memory.
+pub fn copied_name(name: &Name) -> AllocResult<Name>
     ensures { IfOk result (λ n. option_map string_bytes n ≡ option_map string_bytes name.now) }
 {
     match name {
@@ -33,8 +36,15 @@ pub fn copied_name(name: &Name) -> Tried<Name>
 /// The members of a struct.
 type Members = Vec<StructMember>;
 
-/// Members with their types renamed.
-fn renamed_members<R: Renaming>(names: &R, list: &[StructMember], alloc: Global) -> Tried<Members>
+/// Returns copies of members with renamed types.
+///
+/// # Errors
+/// If out of memory.
+fn renamed_members<R: Renaming>(
+    names: &R,
+    list: &[StructMember],
+    alloc: Global,
+) -> AllocResult<Members>
     ensures labels { IfOk result (λ ms. map member_label ms.items ≡ map member_label list.now) }
     ensures types { let r = R.renames names.now in
         let renamed = map (option_map (rename_place r)) (map member_type list.now) in
@@ -48,9 +58,12 @@ fn renamed_members<R: Renaming>(names: &R, list: &[StructMember], alloc: Global)
     Ok(out)
 }
 
-/// What a type is, with its handles renamed.
+/// Returns a copy of the structure of a type with renamed handles.
+///
+/// # Errors
+/// If out of memory.
 #[rattlefmt::skip]
-fn renamed_inner<R: Renaming>(names: &R, inner: &TypeInner, alloc: Global) -> Tried<TypeInner>
+fn renamed_inner<R: Renaming>(names: &R, inner: &TypeInner, alloc: Global) -> AllocResult<TypeInner>
     ensures { let r = R.renames names.now in
         IfOk result (λ i. (n : Text) → inner_row n i ≡ rename_row r (inner_row n inner.now)) }
 {
@@ -66,8 +79,16 @@ fn renamed_inner<R: Renaming>(names: &R, inner: &TypeInner, alloc: Global) -> Tr
     }
 }
 
-/// The type with its handles renamed, under a name if one is given.
-pub fn renamed_type<R: Renaming>(names: &R, ty: &Type, name: Name, alloc: Global) -> Tried<Type>
+/// Returns a copy of a type with renamed handles, named `name` if a name is given.
+///
+/// # Errors
+/// If out of memory.
+pub fn renamed_type<R: Renaming>(
+    names: &R,
+    ty: &Type,
+    name: Name,
+    alloc: Global,
+) -> AllocResult<Type>
     ensures { let r = R.renames names.now in
         let text = option_map (λ n. Some (string_bytes n)) name in
         IfOk result (λ t. type_row t ≡ under_name text (rename_row r (type_row ty.now))) }
@@ -80,8 +101,11 @@ pub fn renamed_type<R: Renaming>(names: &R, ty: &Type, name: Name, alloc: Global
     Ok(Type { name, inner })
 }
 
-/// The constant with its handles renamed.
-pub fn renamed_constant<R: Renaming>(names: &R, item: &Constant) -> Tried<Constant>
+/// Returns a copy of a constant with renamed handles.
+///
+/// # Errors
+/// If out of memory.
+pub fn renamed_constant<R: Renaming>(names: &R, item: &Constant) -> AllocResult<Constant>
     ensures { let r = R.renames names.now in
         IfOk result (λ c. constant_row c ≡ rename_row r (constant_row item.now)) }
 {
@@ -90,8 +114,11 @@ pub fn renamed_constant<R: Renaming>(names: &R, item: &Constant) -> Tried<Consta
     Ok(Constant { name, ty, init })
 }
 
-/// The override with its handles renamed.
-pub fn renamed_override<R: Renaming>(names: &R, item: &Override) -> Tried<Override>
+/// Returns a copy of an override with renamed handles.
+///
+/// # Errors
+/// If out of memory.
+pub fn renamed_override<R: Renaming>(names: &R, item: &Override) -> AllocResult<Override>
     ensures { let r = R.renames names.now in
         IfOk result (λ c. override_row c ≡ rename_row r (override_row item.now)) }
 {
@@ -103,8 +130,11 @@ pub fn renamed_override<R: Renaming>(names: &R, item: &Override) -> Tried<Overri
     })
 }
 
-/// The global variable with its handles renamed.
-pub fn renamed_global<R: Renaming>(names: &R, item: &GlobalVariable) -> Tried<GlobalVariable>
+/// Returns a copy of a global variable with renamed handles.
+///
+/// # Errors
+/// If out of memory.
+pub fn renamed_global<R: Renaming>(names: &R, item: &GlobalVariable) -> AllocResult<GlobalVariable>
     ensures { let r = R.renames names.now in
         IfOk result (λ c. global_row c ≡ rename_row r (global_row item.now)) }
 {

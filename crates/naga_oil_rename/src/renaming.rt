@@ -1,4 +1,4 @@
-//! Expressions and bodies, made anew with their handles renamed.
+//! Copies of expressions and bodies with renamed handles.
 ghost use Rattle.std.specs.Prelude.{◌≡◌, ℕ, IfOk, map, option_map};
 ghost use Rattle.naga_oil_ir.specs.Parts.{parts, sample_parts, load_parts, math_parts, level_code, level_x, level_y, query_code, query_level};
 ghost use Rattle.naga_oil_ir.specs.Body.{used, given, given_by, block_tokens, statement_tokens, case_tokens, ray_query_tokens};
@@ -8,7 +8,7 @@ ghost use Rattle.std.specs.List.{flat_map};
 
 use super::*;
 
-/// Says where handles, ranges and spans go.
+/// Maps handles, ranges and spans.
 pub trait Renaming {
     ghost renames: { Self → Renames };
 
@@ -37,7 +37,7 @@ pub trait Renaming {
         ensures { result ≡ (renames self.now).span span };
 }
 
-/// An operand that may be absent, renamed.
+/// Returns an operand that may be absent, renamed.
 pub fn renamed_option<R: Renaming>(names: &R, handle: Option<Operand>) -> Option<Operand>
     ensures handle { result ≡ option_map (R.renames names.now).expression handle }
     ensures place { let r = R.renames names.now in
@@ -51,14 +51,21 @@ pub fn renamed_option<R: Renaming>(names: &R, handle: Option<Operand>) -> Option
     handle.map(|handle| names.expression(handle))
 }
 
-/// Operands, renamed.
-pub fn renamed_list<R: Renaming>(names: &R, list: &[Operand], alloc: Global) -> Tried<Vec<Operand>>
+/// Returns a list of operands, renamed.
+///
+/// # Errors
+/// If out of memory.
+pub fn renamed_list<R: Renaming>(
+    names: &R,
+    list: &[Operand],
+    alloc: Global,
+) -> AllocResult<Vec<Operand>>
     ensures { IfOk result (λ v. v.items ≡ map (R.renames names.now).expression list.now) }
 {
     list.iter().map(|h| names.expression(*h)).collect(alloc)
 }
 
-/// A level with its operands renamed.
+/// Returns a level with renamed operands.
 #[rattlefmt::skip]
 fn renamed_level<R: Renaming>(names: &R, level: &SampleLevel) -> SampleLevel
     ensures code { level_code result ≡ level_code level.now }
@@ -74,7 +81,7 @@ fn renamed_level<R: Renaming>(names: &R, level: &SampleLevel) -> SampleLevel
     }
 }
 
-/// A query with its operand renamed.
+/// Returns a query with a renamed operand.
 #[rattlefmt::skip]
 fn renamed_query<R: Renaming>(names: &R, query: &ImageQuery) -> ImageQuery
     ensures code { query_code result ≡ query_code query.now }
@@ -87,7 +94,7 @@ fn renamed_query<R: Renaming>(names: &R, query: &ImageQuery) -> ImageQuery
     }
 }
 
-/// A sample of an image with its operands renamed.
+/// Returns a sample of an image with renamed operands.
 fn renamed_sample<R: Renaming>(names: &R, sample: &ImageSample) -> ImageSample
     ensures { let r = R.renames names.now in
         sample_parts result ≡ rename r (sample_parts sample.now) }
@@ -104,7 +111,7 @@ fn renamed_sample<R: Renaming>(names: &R, sample: &ImageSample) -> ImageSample
     }
 }
 
-/// A texel of an image with its operands renamed.
+/// Returns a load of a texel with renamed operands.
 fn renamed_load<R: Renaming>(names: &R, load: &ImageLoad) -> ImageLoad
     ensures { let r = R.renames names.now in
         load_parts result ≡ rename r (load_parts load.now) }
@@ -118,7 +125,7 @@ fn renamed_load<R: Renaming>(names: &R, load: &ImageLoad) -> ImageLoad
     }
 }
 
-/// A mathematical function with its arguments renamed.
+/// Returns a mathematical function with renamed arguments.
 fn renamed_math<R: Renaming>(names: &R, math: &Math) -> Math
     ensures { let r = R.renames names.now in
         math_parts result ≡ rename r (math_parts math.now) }
@@ -133,7 +140,7 @@ fn renamed_math<R: Renaming>(names: &R, math: &Math) -> Math
 }
 
 /// Renames a value of an enum: first the kinds whose patterns are given, then those that hold one plain value, then a table of
-/// the others, each made again from its plain values, its operands and those that may be absent.
+/// the others, each rebuilt from its plain values, its operands and its operands that may be absent.
 macro_rules! rename_kind {
     ($kinds:ident, $value:expr, $names:ident;
      $($pattern:pat => $made:expr;)*
@@ -153,9 +160,12 @@ macro_rules! rename_kind {
 
 pub(crate) use rename_kind;
 
-/// The expression with its handles renamed.
+/// Returns a copy of an expression with renamed handles.
+///
+/// # Errors
+/// If out of memory.
 #[rattlefmt::skip]
-pub fn renamed_expression<R: Renaming>(names: &R, expression: &Expression, alloc: Global) -> Tried<Expression>
+pub fn renamed_expression<R: Renaming>(names: &R, expression: &Expression, alloc: Global) -> AllocResult<Expression>
     ensures { IfOk result (λ e. parts e ≡ rename (R.renames names.now) (parts expression.now)) }
 {
     rename_kind! { Expression, expression, names;
@@ -198,7 +208,7 @@ pub fn renamed_expression<R: Renaming>(names: &R, expression: &Expression, alloc
     }
 }
 
-/// What is done with a ray query, with its handles renamed.
+/// Returns an operation on a ray query with renamed handles.
 #[rattlefmt::skip]
 fn renamed_ray_query<R: Renaming>(names: &R, fun: &RayQueryFunction) -> RayQueryFunction
     ensures { let r = R.renames names.now in
@@ -217,9 +227,12 @@ fn renamed_ray_query<R: Renaming>(names: &R, fun: &RayQueryFunction) -> RayQuery
     }
 }
 
-/// The block with its handles renamed.
+/// Returns a copy of a block with renamed handles.
+///
+/// # Errors
+/// If out of memory.
 #[cycle(renaming)]
-pub fn renamed_block<R: Renaming>(names: &R, block: &Block, alloc: Global) -> Tried<Block>
+pub fn renamed_block<R: Renaming>(names: &R, block: &Block, alloc: Global) -> AllocResult<Block>
     ensures { let r = R.renames names.now in
         IfOk result (λ b. block_tokens b ≡ rename_tokens r (block_tokens block.now)) }
 {
@@ -234,9 +247,12 @@ pub fn renamed_block<R: Renaming>(names: &R, block: &Block, alloc: Global) -> Tr
 /// The arms of a switch.
 type Cases = Vec<SwitchCase>;
 
-/// The arms of a switch with their handles renamed.
+/// Returns copies of the arms of a switch with renamed handles.
+///
+/// # Errors
+/// If out of memory.
 #[cycle(renaming)]
-fn renamed_cases<R: Renaming>(names: &R, cases: &[SwitchCase], alloc: Global) -> Tried<Cases>
+fn renamed_cases<R: Renaming>(names: &R, cases: &[SwitchCase], alloc: Global) -> AllocResult<Cases>
     ensures { let r = R.renames names.now in
         let renamed = rename_tokens r (flat_map case_tokens cases.now) in
         IfOk result (λ v. flat_map case_tokens v.items ≡ renamed) }
@@ -249,10 +265,13 @@ fn renamed_cases<R: Renaming>(names: &R, cases: &[SwitchCase], alloc: Global) ->
     Ok(copies)
 }
 
-/// The statement with its handles renamed.
+/// Returns a copy of a statement with renamed handles.
+///
+/// # Errors
+/// If out of memory.
 #[cycle(renaming)]
 #[rattlefmt::skip]
-fn renamed_statement<R: Renaming>(names: &R, statement: &Statement, alloc: Global) -> Tried<Statement>
+fn renamed_statement<R: Renaming>(names: &R, statement: &Statement, alloc: Global) -> AllocResult<Statement>
     ensures { let r = R.renames names.now in
         IfOk result (λ s. statement_tokens s ≡ rename_tokens r (statement_tokens statement.now)) }
 {

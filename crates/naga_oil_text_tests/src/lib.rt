@@ -1,11 +1,8 @@
-//! Tests of the crates that read and write texts: `marks`, `lines` and `pre`, each with a module for a module of its crate, and the
-//! `front` end for the language Mini.
+//! Tests of the crates that read and write texts: `lines`, `marks` and `pre`, with a module for each module of the crate tested.
 //!
-//! They stand here since a check of tests proves the whole crate again.
+//! The tests are in a crate of their own, since the check of a crate with tests proves that crate twice.
 #![tactic(auto)]
 
-#[cfg(test)]
-mod front;
 #[cfg(test)]
 mod lines;
 #[cfg(test)]

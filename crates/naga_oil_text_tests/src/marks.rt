@@ -1,4 +1,4 @@
-use naga_oil_marks::{add_decoration, has_module_mark};
+use naga_oil_words::{add_decoration, has_module_mark};
 use std::test::Fail;
 
 /// Names, and what they are with the decoration of the module `a`.

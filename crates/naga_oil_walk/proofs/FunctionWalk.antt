@@ -70,7 +70,7 @@ plain es = record {
   results_name = λ k h. ap (λ o. unwrap_or o []) (slice_get-map (λ (e : Expression × Span). flat_map option_to_list (parts e.0).operands) es k) ∙ res_at (slice_get es k) (ap result_kind (sym (slice_get-map (λ (e : Expression × Span). (parts e.0).kind) es k)) ∙ h);
 }
 
--- ---- a body that may stand names places that are there
+-- ---- a body that may stand names existing places
 
 token_within : (n : ℕ) (ks : List ℕ) (fs : List (Option ℕ)) (ls : Links) (s d : List ℕ) (t : Token) → IsFine n ks fs ls s d t → IsWithin n t
 token_within n ks fs ls s d (Use h) f = f.0

@@ -73,7 +73,7 @@ naming_among ns ls o s closed covers zero k h = tt
 naming_among ns ls o s closed covers (suc n) k h =
     AllAmong-append s (requests_at ns k) (flat_map (naming n ns ls) (linked ls k)) (one_among s (item_of (slice_get ns k)) (λ p e. covers k p h e)) (each_among s (naming n ns ls) (linked ls k) (λ y i. naming_among ns ls o s closed covers n y (closed k y h i)))
 
--- what a listed place and all that it reaches name was requested
+-- the items that a listed place and the places that it reaches name were requested
 pub known_names : (ns : List Named) (ls : Links) (o : List ℕ) (s : List Request) → IsReachOrder ls o → Covers ns o s → (k : ℕ) → has o k ≡ true → Adds s (names_from ns ls k) s
 unfolding names_from
 known_names ns ls o s r covers k h = Adds-known s (naming (suc k) ns ls k) (naming_among ns ls o s (λ j x i. closed ls o r j i x) covers (suc k) k h)
@@ -94,7 +94,7 @@ unfolding names_from
 names-step ns ls a k =
     ap (λ xs. requests_at ns k ++ xs) (naming-same (naming k ns ls) (names_from ns ls) (linked ls k) (All-weaker (λ x. x < k) (λ x. naming k ns ls x ≡ names_from ns ls x) (λ x l. naming-enough ns ls a k (suc x) x l (omega arith)) (linked ls k) (a k)))
 
--- ---- one place more
+-- ---- one more place
 
 pub covers_add : (ns : List Named) (o : List ℕ) (s t : List Request) (k : ℕ) → Covers ns o s → ((y : Request) → IsAmong s y → IsAmong t y) → ((p : ItemPlace) → item_of (slice_get ns k) ≡ Some p → IsAmong t (Item p)) → Covers ns (added o (k ∷ [])) t
 covers_add ns o s t k c f g j p h e =
@@ -103,7 +103,7 @@ covers_add ns o s t k c f g j p h e =
 pub name_known : (ns : List Named) (o : List ℕ) (s : List Request) (k : ℕ) → Covers ns o s → has o k ≡ true → Adds s (requests_at ns k) s
 name_known ns o s k c h = Adds-known s (requests_at ns k) (one_among s (item_of (slice_get ns k)) (λ p e. c k p h e))
 
--- a request that is there after it was added
+-- an added request is among the requests
 pub request_among : (s t : List Request) (o : Option ItemPlace) (p : ItemPlace) → t ≡ s ++ requested o → o ≡ Some p → IsAmong t (Item p)
 request_among s t o p e f = subst (λ q. IsAmong q (Item p)) (sym (e ∙ ap (λ x. s ++ requested x) f)) (among_last s (Item p))
 

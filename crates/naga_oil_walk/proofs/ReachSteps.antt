@@ -1,4 +1,4 @@
--- What is walked over is requested.
+-- The items that visited expressions name are requested.
 use Rattle.std.proofs.Common.{◌≡◌, ℕ, ◌+◌, ◌-◌, ◌<◌, ◌≤◌, true, false, cond, List, [], ◌∷◌, ◌++◌, length, take, get_or, slice_get, Option, Some, None, Result, Ok, Err, OnOk, refl, ap, sym, ◌∙◌, subst, arith}
 use Rattle.std.specs.List.{flat_map}
 use Rattle.std.proofs.lemmas.List.{append-nil, take_more}
@@ -28,9 +28,9 @@ pub ok_then : {A B : Type 0} (r : Result A B) (P Q : Type 0) → (P → Q) → O
 ok_then (Ok x) P Q f h = f h
 ok_then (Err x) P Q f h = tt
 
--- ---- what is listed was asked
+-- ---- the items that listed places name are requested
 
--- more is asked
+-- more items are requested
 pub over_asked : (of : Reading) (v w : Walk) (xs : List Request) → IsOver of v → w.places.items ≡ v.places.items → length w.marks.items ≡ length v.marks.items → w.requests.items ≡ v.requests.items ++ xs → IsOver of w
 over_asked of v w xs o p m q = record {
   earlier = o.earlier;
@@ -39,7 +39,7 @@ over_asked of v w xs o p m q = record {
   covers = λ k x h e. subst (λ (rs : List Request). IsAmong rs (Item x)) (sym q) (among_left v.requests.items xs (Item x) (o.covers k x (ap (λ ps. has ps k) (sym p) ∙ h) e));
 }
 
--- a place is listed whose item was asked
+-- a place is listed whose item was requested
 pub over_list : (of : Reading) (v w : Walk) (k : ℕ) → IsOver of v → w.places.items ≡ added v.places.items (k ∷ []) → length w.marks.items ≡ length v.marks.items → w.requests.items ≡ v.requests.items → ((x : ItemPlace) → item_of (slice_get of.named.items k) ≡ Some x → IsAmong v.requests.items (Item x)) → IsOver of w
 over_list of v w k o p m q f = record {
   earlier = o.earlier;
@@ -48,7 +48,7 @@ over_list of v w k o p m q f = record {
   covers = λ j x h e. subst (λ (rs : List Request). IsAmong rs (Item x)) (sym q) (covers_add of.named.items v.places.items v.requests.items v.requests.items k o.covers (λ y a. a) f j x (ap (λ ps. has ps j) (sym p) ∙ h) e);
 }
 
--- a place is asked and listed
+-- a place's item is requested and the place is listed
 pub over_add : (of : Reading) (v w : Walk) (k : ℕ) → IsOver of v → w.places.items ≡ added v.places.items (k ∷ []) → length w.marks.items ≡ length v.marks.items → w.requests.items ≡ v.requests.items ++ requests_at of.named.items k → IsOver of w
 over_add of v w k o p m q = record {
   earlier = o.earlier;
@@ -128,9 +128,9 @@ stub_requests f no_locals no_tokens s t none asks =
     let same : function_names f ≡ names = ap (λ (ls : List (LocalVariable × Span)). (names ++ flat_map of_local ls) ++ flat_map of_token (block_tokens f.body)) no_locals ∙ ap (λ (ts : Tokens). (names ++ []) ++ flat_map of_token ts) no_tokens ∙ ap (λ (q : List Request). q ++ []) (append-nil names) ∙ append-nil names in
     subst (λ (q : List Request). Thins [] q t) (sym same) thin
 
--- ---- what is asked for a name
+-- ---- the request of a name
 
--- nothing is asked where no item is named
+-- nothing is requested if no item is named
 pub none_asked : (s : List Request) (ns : List Named) (k : ℕ) → item_of (slice_get ns k) ≡ None → s ≡ s ++ requests_at ns k
 none_asked s ns k e = sym (ap (λ (o : Option ItemPlace). s ++ requested o) e ∙ append-nil s)
 

@@ -1,4 +1,4 @@
--- What listing the places that wait comes to, and that it ends.
+-- The result of listing the waiting places, and that the listing ends.
 use Rattle.std.proofs.Common.{◌≡◌, ⊎_elim, ◌⊎◌, inl, inr, ℕ, ◌+◌, ◌*◌, ◌<◌, ◌≤◌, true, List, [], ◌∷◌, ◌++◌, length, drop, take, take_all, get_or, slice_get, Option, Some, None, drop_of_length-le, refl, ap, sym, ◌∙◌, subst, arith, All, append_assoc, Vec, Global}
 use Rattle.std.specs.List.{flat_map, sum_by}
 use Rattle.std.proofs.lemmas.Option.{none-some, same_Some}
@@ -19,7 +19,7 @@ use Rattle.naga_oil_walk.proofs.WalkLemmas.{added-append, added-keeps, added-hol
 use Rattle.naga_oil_walk.proofs.NamingLemmas.{Adds-append, names-step, among_left, request_among}
 use Rattle.naga_oil_walk.proofs.ReachSteps.{adds_all}
 
--- ---- one operand more
+-- ---- one more operand
 
 abbrev pub next : Waiting → Waiting
 next w = record w { done = w.done + 1 }
@@ -47,7 +47,7 @@ finish_next ls o w x e =
     let rest = flat_map (trail ls) (left ls (next w)) in
     ap (λ xs. added o (flat_map (trail ls) xs ++ w.place ∷ [])) e ∙ ap (added o) (append_assoc (trail ls x) rest (w.place ∷ [])) ∙ added-append o (trail ls x) (rest ++ w.place ∷ [])
 
--- a place that waits anew is to be listed behind all that it reaches
+-- a place that begins to wait is listed after all places that it reaches
 pub finish_new : (ls : Links) → AreEarlier ls → (o : List ℕ) (w : Waiting) → w.done ≡ 0 → finish ls o w ≡ added o (trail ls w.place)
 finish_new ls a o w e = ap (λ xs. added o (flat_map (trail ls) xs ++ w.place ∷ [])) (all_left ls w e) ∙ ap (added o) (sym (trail-step ls a w.place))
 
@@ -60,7 +60,7 @@ listed_more ls a o ws w v x e is none =
     let new : finish ls o v ≡ added o (trail ls x) = finish_new ls a o v none ∙ ap (λ k. added o (trail ls k)) is in
     finish_last ls o (ws ++ next w ∷ []) v ∙ finish_last ls (finish ls o v) ws (next w) ∙ ap (λ p. finish_all ls p ws) (ap (λ p. finish ls p (next w)) new ∙ sym (finish_next ls o w x e))
 
--- ---- what is asked
+-- ---- what is requested
 
 pub names_last : (ns : List Named) (ls : Links) (ws : List Waiting) (w : Waiting) → names_left ns ls (ws ++ w ∷ []) ≡ flat_map (names_from ns ls) (left ls w) ++ names_left ns ls ws
 names_last ns ls [] w = sym (append-nil (flat_map (names_from ns ls) (left ls w)))
@@ -96,14 +96,14 @@ asks_more ns ls a ws w v x s t e is none asked us b =
     let whole : names_left ns ls (ws ++ w ∷ []) ≡ requests_at ns x ++ (own ++ rest) = names_next ns ls ws w x e ∙ ap (λ ys. ys ++ rest) (names-step ns ls a x) ∙ append_assoc (requests_at ns x) own rest in
     subst (λ ys. Adds s ys us) (sym whole) d
 
--- a place that waits anew asks for what it reaches
+-- a place that begins to wait requests the items that it reaches
 pub asks_new : (ns : List Named) (ls : Links) → AreEarlier ls → (w : Waiting) (k : ℕ) (s t us : List Request) → w.place ≡ k → w.done ≡ 0 → t ≡ s ++ requests_at ns k → Adds t (names_left ns ls (w ∷ [])) us → Adds s (names_from ns ls k) us
 asks_new ns ls a w k s t us is none asked b =
     let own = flat_map (names_from ns ls) (linked ls k) in
     let c : Adds t own us = subst (λ xs. Adds t (flat_map (names_from ns ls) xs) us) (all_left ls w none ∙ ap (linked ls) is) b in
     subst (λ ys. Adds s ys us) (sym (names-step ns ls a k)) (Adds-append s t us (requests_at ns k) own (adds_all s t (requests_at ns k) asked) c)
 
--- ---- each waits for those behind it
+-- ---- each place waits for those after it
 
 pub waits_last : (of : Reading) (o : List ℕ) (rs : List Request) (ws : List Waiting) (w : Waiting) → AreWaiting of o rs (ws ++ w ∷ []) → Waits of o rs w []
 waits_last of o rs [] w h = h.0
@@ -113,7 +113,7 @@ first_same : (ws : List Waiting) (w v : Waiting) (vs : List Waiting) → w.place
 first_same [] w v vs e = ap Some e
 first_same (u ∷ ws) w v vs e = refl
 
--- in the place of the last come others, of which it is the first, and more is asked
+-- the last place is replaced by others, of which it is the first, and more is requested
 pub waits_more : (of : Reading) (o : List ℕ) (rs ts : List Request) (ws : List Waiting) (w v : Waiting) (vs : List Waiting) → w.place ≡ v.place → ((y : Request) → IsAmong rs y → IsAmong ts y) → AreWaiting of o ts (v ∷ vs) → AreWaiting of o rs (ws ++ w ∷ []) → AreWaiting of o ts (ws ++ v ∷ vs)
 waits_more of o rs ts [] w v vs e f a h = a
 waits_more of o rs ts (x ∷ ws) w v vs e f a h =
@@ -137,7 +137,7 @@ waits_listed of o p rs ts (x ∷ ws) w e same h =
     went_on [] y (inr k) = inl (subst (λ (q : List ℕ). has q y ≡ true) (sym e) (added-holds o (w.place ∷ []) y (ap (λ z. has (z ∷ []) y) (sym (same_Some y w.place k)) ∙ itself y)))
     went_on (u ∷ us) y (inr k) = inr k
 
--- with one operand more, which is listed or waits next, and more is asked
+-- one more operand is listed or waits next, and more is requested
 pub waits_next : (of : Reading) (o : List ℕ) (rs ts : List Request) (w : Waiting) (x : ℕ) (vs : List Waiting) → Waits of o rs w [] → ((y : Request) → IsAmong rs y → IsAmong ts y) → w.done < length (linked (lists of.links.items) w.place) → x ≡ get_or (linked (lists of.links.items) w.place) w.done x → (has o x ≡ true) ⊎ (Some x ≡ next_place vs) → Waits of o ts (next w) vs
 waits_next of o rs ts w x vs i f l e h =
     let xs = linked (lists of.links.items) w.place in

@@ -52,7 +52,7 @@ known_last ks s d k x h =
 keeps_left : (d e : List ℕ) → Holds (d ++ e) d
 keeps_left d e = λ x h. has-append d e x ∙ or_left (has d x) (has e x) h
 
--- ---- one place more
+-- ---- one more place
 
 under_add : (ks : List ℕ) (ls : Links) (s d e o : List ℕ) (k : ℕ) → IsUnder ks ls s d o → Holds o (linked ls k) → Holds e d → ((j : ℕ) → has e j ≡ true → (has d j ≡ true) ⊎ (k ≡ j)) → is_known ks s e k ≡ true → IsUnder ks ls s e (added o (k ∷ []))
 under_add ks ls s d e o k u w f g h = record {
@@ -83,7 +83,7 @@ under_externals ks ls p s d (x ∷ xs) o u =
 
 -- ---- a range
 
--- the external ones of what places name are there
+-- the external operands of places are in the order
 abbrev pub HasExternals : List ℕ → Links → List ℕ → List ℕ → Type 0
 HasExternals ks ls o ps = (x : ℕ) → has (flat_map (linked ls) ps) x ≡ true → is_external ks x ≡ true → has o x ≡ true
 
@@ -99,7 +99,7 @@ rest_externals : (ks : List ℕ) (ls : Links) (o : List ℕ) (k : ℕ) (ps : Lis
 rest_externals ks ls o k ps w x h e =
     added-keeps o (k ∷ []) x (w x (has-append (linked ls k) (flat_map (linked ls) ps) x ∙ or_right (has (linked ls k) x) (has (flat_map (linked ls) ps) x) h) e)
 
--- what a place names is there
+-- the operands of a place are in the order
 operands_there : (ks : List ℕ) (ls : Links) (s d o : List ℕ) (k : ℕ) (ps : List ℕ) → IsUnder ks ls s d o → All (λ h. is_known ks s d h ≡ true) (linked ls k) → HasExternals ks ls o (k ∷ ps) → Holds o (linked ls k)
 operands_there ks ls s d o k ps u a w x h =
     ⊎_elim (λ e. w x (has-append (linked ls k) (flat_map (linked ls) ps) x ∙ or_left (has (linked ls k) x) (has (flat_map (linked ls) ps) x) h) e) (λ r. ⊎_elim (λ l. u.began x l) (λ q. u.kept x q) r) (known_cases ks s d x (All-has (λ h. is_known ks s d h ≡ true) (linked ls k) x a h))
@@ -110,7 +110,7 @@ under_range ks ls s (k ∷ ps) d o u f w =
     let here = under_made ks ls s d o k u (operands_there ks ls s d o k ps u f.0.3 w) in
     subst (λ e. IsUnder ks ls s e (added o (k ∷ ps))) (append_assoc d (k ∷ []) ps) (under_range ks ls s ps (d ++ k ∷ []) (added o (k ∷ [])) here f.1 (rest_externals ks ls o k ps w))
 
--- an emitted place that is there already is reached from an initialiser
+-- an emitted place that is in the order already is reached from an initialiser
 began_only : (ks : List ℕ) (ls : Links) (s d o : List ℕ) (k : ℕ) → IsUnder ks ls s d o → is_external ks k ≡ false → has d k ≡ false → has s k ≡ false → has o k ≡ false
 began_only ks ls s d o k u x n m =
     false_from_ne_true (has o k) (λ h. ⊎_elim (λ l. false≢true (sym x ∙ l)) (λ r. ⊎_elim (λ l. false≢true (sym m ∙ l)) (λ q. false≢true (sym n ∙ q)) r) (known_cases ks s d k (u.only_known k h)))
@@ -127,7 +127,7 @@ others_known s ps k h = ap (λ b. cond (not b) (k ∷ others s ps) (others s ps)
 others_fresh : (s ps : List ℕ) (k : ℕ) → has s k ≡ false → others s (k ∷ ps) ≡ k ∷ others s ps
 others_fresh s ps k h = ap (λ b. cond (not b) (k ∷ others s ps) (others s ps)) h
 
--- an emitted range comes last, less what the initialisers reach
+-- an emitted range comes last, without the places that initialisers reach
 pub stand_range : (ks : List ℕ) (ls : Links) (s ps d o : List ℕ) → IsUnder ks ls s d o → AreEmitted ks ls s d ps → HasExternals ks ls o ps → added o ps ≡ o ++ others s ps
 stand_range ks ls s [] d o u f w = sym (append-nil o)
 stand_range ks ls s (k ∷ ps) d o u f w =
@@ -136,7 +136,7 @@ stand_range ks ls s (k ∷ ps) d o u f w =
 
 -- ---- the externals that a range reaches are those that its places name
 
--- a known place is external, or the external ones that it reaches are there
+-- a known place is external, or the external places that it reaches are in the order
 abbrev pub Covers : List ℕ → Links → List ℕ → List ℕ → List ℕ → Type 0
 Covers ks ls s d o = (x : ℕ) → is_known ks s d x ≡ true → (is_external ks x ≡ true) ⊎ Holds o (externals ks (trail ls x))
 
@@ -156,7 +156,7 @@ or_false_left : (b : Bool) → (b || false) ≡ true → b ≡ true
 or_false_left true h = h
 or_false_left false h = h
 
--- what places reach adds no more than they
+-- the places that places reach add no more than the places
 same_operands : (ks : List ℕ) (ls : Links) → IsPlain ks ls → AreEarlier ls → (s d xs o : List ℕ) → Covers ks ls s d o → ((x : ℕ) → has xs x ≡ true → is_known ks s d x ≡ true) → added o (externals ks (flat_map (trail ls) xs)) ≡ added o (externals ks xs)
 same_operands ks ls p a s d [] o c h = refl
 same_operands ks ls p a s d (x ∷ xs) o c h =
@@ -189,7 +189,7 @@ same_externals ks ls p a s (k ∷ ps) d o c f =
 
 -- ---- a part of a body
 
--- a part of a body adds what it lists, and the walk stands behind it
+-- a part of a body adds what it lists, and the walk goes on after it
 pub record Steps (ks : List ℕ) (ls : Links) (s d o : List ℕ) (t : Token) : Type 0 where
   pub same : added o (brief ks ls t) ≡ added o (listed ks ls t)
   pub under : IsUnder ks ls s (d ++ made t) (added o (brief ks ls t))

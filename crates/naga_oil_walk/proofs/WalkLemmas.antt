@@ -35,7 +35,7 @@ pub added-known : (o xs : List ℕ) → Holds o xs → added o xs ≡ o
 added-known o [] a = refl
 added-known o (x ∷ xs) a = rw (Holds-head o x xs a) (added-known o xs (Holds-right o (x ∷ []) xs a))
 
--- what is there stays, and what was added is there
+-- old places stay, and added places are in the order
 pub added-keeps : (o xs : List ℕ) → Holds (added o xs) o
 added-keeps o xs = λ x h. has-added o xs x ∙ or_left (has o x) (has xs x) h
 
@@ -54,7 +54,7 @@ at_last o k i j h e = same_Some k j (sym (slice_get-append_at o k) ∙ ap (slice
 take_last : (o : List ℕ) (k i : ℕ) → i ≡ length o → take i (o ++ k ∷ []) ≡ o
 take_last o k i h = take_at o (k ∷ []) i (sym h)
 
--- a fact of each place with what stands before it, for one place more
+-- a fact of each place with what stands before it, for one more place
 pub push_each : (P : List ℕ → ℕ → Type 0) (o : List ℕ) (k : ℕ) → ((i j : ℕ) → slice_get o i ≡ Some j → P (take i o) j) → P o k → (i j : ℕ) → slice_get (o ++ k ∷ []) i ≡ Some j → P (take i (o ++ k ∷ [])) j
 push_each P o k f p i j e =
     ⊎_elim (λ q. subst (λ t. P t j) (sym (take_last o k i q)) (subst (P o) (at_last o k i j q e) p)) (⊎_elim (λ q. subst (λ t. P t j) (sym (take-append-le i o (k ∷ []) (omega arith))) (f i j (sym (slice_get-append_within o (k ∷ []) i q) ∙ e))) (λ q. let l : i < length (o ++ k ∷ []) = slice_get_within (o ++ k ∷ []) i j e in absurd (omega (arith, length_push {X = ℕ})))) (cases_order i (length o))
@@ -72,13 +72,13 @@ pub IsReachOrder-add : (ls : Links) (o : List ℕ) (k : ℕ) → IsReachOrder ls
 IsReachOrder-add ls o k r w =
     ⊎_elim (λ h. rw h r) (λ h. rw h (IsReachOrder-push ls o k r h w)) (cases_Bool (has o k))
 
--- what an order has stands somewhere in it
+-- a place that is in an order has a position
 pub place_at : (o : List ℕ) (k : ℕ) → has o k ≡ true → (i : ℕ) × (slice_get o i ≡ Some k)
 place_at [] k h = absurd (false≢true h)
 place_at (x ∷ o) k h =
     ⊎_elim (λ e. (zero, ap Some (only x k (or_left (x == k) false e)))) (λ e. let r = place_at o k e in (suc r.0, r.1)) (or_cases (x == k) (has o k) h)
 
--- what stands somewhere in it an order has
+-- a place that has a position is in the order
 pub has_at : (o : List ℕ) (i k : ℕ) → slice_get o i ≡ Some k → has o k ≡ true
 has_at [] i k e = absurd (none-some k e)
 has_at (x ∷ o) zero k e = or_left (x == k) (has o k) (eq_eqb x k (same_Some x k e))
@@ -98,30 +98,30 @@ reached_in ls o c zero r k h i = absurd (false≢true i)
 reached_in ls o c (suc n) r k h i =
     ⊎_elim (λ e. let y = in_one (reach n ls) (linked ls r) k e in reached_in ls o c n y.0 k (c r y.0 h y.1) y.2) (λ e. subst (λ v. has o v ≡ true) (only r k e) h) (or_cases (has (flat_map (reach n ls) (linked ls r)) k) (has (r ∷ []) k) (sym (has-append (flat_map (reach n ls) (linked ls r)) (r ∷ []) k) ∙ i))
 
--- all that a place reaches is there with it
+-- with a place all places that it reaches are in the order
 pub trail_in : (ls : Links) (o : List ℕ) → IsReachOrder ls o → (k : ℕ) → has o k ≡ true → Holds o (trail ls k)
 unfolding trail
 trail_in ls o r k h = λ x i. reached_in ls o (λ k x a b. closed ls o r k a x b) (suc k) k x h i
 
--- a place that is there adds nothing
+-- a place that is in the order adds nothing
 pub trail-known : (ls : Links) (o : List ℕ) (k : ℕ) → IsReachOrder ls o → has o k ≡ true → o ≡ added o (trail ls k)
 trail-known ls o k r h = sym (added-known o (trail ls k) (trail_in ls o r k h))
 
--- a place comes behind what its links reach
+-- a place comes after the places that its links reach
 pub trail-added : (ls : Links) → AreEarlier ls → (o : List ℕ) (k : ℕ) → added (added o (flat_map (trail ls) (linked ls k))) (k ∷ []) ≡ added o (trail ls k)
 trail-added ls a o k = sym (added-append o (flat_map (trail ls) (linked ls k)) (k ∷ [])) ∙ ap (added o) (sym (trail-step ls a k))
 
--- a place is the last that it reaches
+-- a place is the last of the places that it reaches
 pub ends_trail : (ls : Links) → AreEarlier ls → (x : ℕ) → has (trail ls x) x ≡ true
 ends_trail ls a x = ap (λ t. has t x) (trail-step ls a x) ∙ has-append (flat_map (trail ls) (linked ls x)) (x ∷ []) x ∙ or_right (has (flat_map (trail ls) (linked ls x)) x) (has (x ∷ []) x) (itself x)
 
--- once all that its links reach is there, they are
+-- if all places that its links reach are in the order, so are its links
 pub links_there : (ls : Links) → AreEarlier ls → (o xs : List ℕ) → Holds (added o (flat_map (trail ls) xs)) xs
 links_there ls a o xs = λ x h. added-holds o (flat_map (trail ls) xs) x (in_all (trail ls) xs x x h (ends_trail ls a x))
 
 -- ---- marks
 
--- the marks with one place more
+-- the marks with one more place
 pub marks_more : (fs : List Bool) (o p : List ℕ) (k : ℕ) → AreMarks fs o → k < length fs → p ≡ o ++ k ∷ [] → AreMarks (slice_set fs k true) p
 marks_more fs o p k m h e = λ j. marked-set fs k j h ∙ ap (λ b. b || (k == j)) (m j) ∙ sym (ap (λ q. has q j) e ∙ has-append o (k ∷ []) j ∙ ap (λ b. has o j || b) (or_false (k == j)))
 
@@ -137,7 +137,7 @@ run-next a k h = let e : k + 1 - a ≡ suc (k - a) = omega arith in ap (run a) e
 pub added-run : (o : List ℕ) (a k : ℕ) → a ≤ k → added (added o (run a (k - a))) (k ∷ []) ≡ added o (run a (k + 1 - a))
 added-run o a k h = sym (added-append o (run a (k - a)) (k ∷ [])) ∙ ap (added o) (sym (run-next a k h))
 
--- what one place more of a range gives
+-- one more place of a range
 pub flat_run : (f : ℕ → List ℕ) (a k : ℕ) → a ≤ k → flat_map f (run a (k - a)) ++ f k ≡ flat_map f (run a (k + 1 - a))
 flat_run f a k h = sym (ap (flat_map f) (run-next a k h) ∙ flat_map-append f (run a (k - a)) (k ∷ []) ∙ ap (λ t. flat_map f (run a (k - a)) ++ t) (append-nil (f k)))
 

@@ -1,4 +1,4 @@
--- The notes tell where emitted ranges stand.
+-- The notes give the positions of emitted ranges.
 use Rattle.std.proofs.Common.{◌≡◌, ◌≢◌, ⊎_elim, ◌⊎◌, inl, inr, ℕ, zero, suc, ◌+◌, ◌-◌, ◌<◌, ◌≤◌, true, false, cond, ◌||◌, List, [], ◌∷◌, ◌++◌, length, slice_get, slice_set, Option, Some, None, is_none, nat_lt, refl, ap, sym, ◌∙◌, subst, arith, replicate}
 use Rattle.std.specs.List.{flat_map}
 use Rattle.std.specs.Option.{option_flatten}
@@ -26,7 +26,7 @@ added-grows (x ∷ xs) o =
 pub added-longer : (xs o : List ℕ) → length o ≤ length (added o xs)
 added-longer xs o = let r = added-grows xs o in let e : length (added o xs) ≡ length o + length r.0 = ap length r.1 ∙ length-append o r.0 in omega arith
 
--- ---- one note more
+-- ---- one more note
 
 pub noted_at : (es : Notes) (r p : ℕ × ℕ) → r.0 < r.1 → r.0 < length es → slice_get (noted es r p) r.0 ≡ Some (Some p)
 noted_at es r p h l = ap (λ b. slice_get (cond (b || is_none (option_flatten (slice_get es r.0))) (slice_set es r.0 (Some p)) es) r.0) (lt-ltb r.0 r.1 h) ∙ slice_get-set_same es r.0 (Some p) l
@@ -110,7 +110,7 @@ token_at ks ls p a n fs s d o es (Emitted r) l u w long f =
     }
 token_at ks ls p a n fs s d o es t l u w long f = record { at = grown_at s d o (brief ks ls t) es es (nothing_at s d o es w); stands = tt }
 
--- what the notes tell of a part of a body stays
+-- the notes of a part of a body stay
 noted-later : (s d o xs : List ℕ) (es fs : Notes) (t : Token) → ((r : ℕ × ℕ) → t ≡ Emitted r → r.0 < r.1 → has d r.0 ≡ true) → Keeps d es fs → IsNoted s o es t → IsNoted s (added o xs) fs t
 noted-later s d o xs es fs (Emitted r) f k w =
     λ h. let v = w h in let g = added-grows xs o in let st = v.3 in

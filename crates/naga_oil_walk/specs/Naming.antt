@@ -1,4 +1,4 @@
--- What a function names, in the order of copying.
+-- The items and functions that a function names, in the order of copying.
 use Rattle.std.specs.Prelude.{ℕ, zero, suc, ◌≡◌, List, [], ◌∷◌, ◌++◌, map, Option, Some, None, option_map, option_to_list, slice_get}
 use Rattle.std.specs.List.{flat_map}
 use Rattle.naga_oil_form.specs.Links.{Links, linked}
@@ -17,7 +17,7 @@ use Rattle.naga_oil_ir.specs.declared.tokens.Token.{Token}
 use Rattle.naga_oil_ir.specs.declared.tokens.Token.TheVariants.{Callee}
 use Rattle.naga_oil_walk.specs.Walk.{brief}
 
--- the item that an expression names, if it names one
+-- the request of an item, if there is one
 abbrev pub requested : Option ItemPlace → List Request
 requested None = []
 requested (Some p) = Item p ∷ []
@@ -26,15 +26,15 @@ abbrev pub item_of : Option Named → Option ItemPlace
 item_of None = None
 item_of (Some n) = named_place n
 
--- what is asked for a name, of an item or of a function
+-- the request of a named item or function
 abbrev pub asked : Named → List Request
 asked n = option_to_list (option_map Call (callee n)) ++ requested (named_place n)
 
--- what is asked for the item that the expression at a place names
+-- the request of the item that the expression at a place names
 abbrev pub requests_at : List Named → ℕ → List Request
 requests_at ns k = requested (item_of (slice_get ns k))
 
--- the items that an expression and all that it reaches name; n is more than its place
+-- the items that an expression and all expressions that it reaches name; n is greater than its place
 abbrev pub naming : ℕ → List Named → Links → ℕ → List Request
 naming zero ns ls k = []
 naming (suc n) ns ls k = requests_at ns k ++ flat_map (naming n ns ls) (linked ls k)
@@ -42,11 +42,11 @@ naming (suc n) ns ls k = requests_at ns k ++ flat_map (naming n ns ls) (linked l
 unfoldable pub names_from : List Named → Links → ℕ → List Request
 names_from ns ls k = naming (suc k) ns ls k
 
--- what a local variable names: its type, and what its initialiser reaches
+-- the requests of a local variable: its type, and the items that its initialiser reaches
 abbrev pub local_names : List Named → Links → LocalVariable × Span → List Request
 local_names ns ls l = Item (TypeItem l.0.ty) ∷ flat_map (names_from ns ls) (option_to_list l.0.init)
 
--- what a part of a body names: the function that is called, or the items that the expressions which it lists name
+-- the requests of a part of a body: the called function, or the items that the listed expressions name
 abbrev pub token_names : List ℕ → List Named → Links → Token → List Request
 token_names ks ns ls (Callee f) = Call f ∷ []
 token_names ks ns ls t = flat_map (requests_at ns) (brief ks ls t)
@@ -59,7 +59,7 @@ signature_names f = map (λ a. Item (TypeItem a.ty)) f.arguments.items ++ option
 abbrev pub IsStub : Function → Type 0
 IsStub f = (f.local_variables ≡ []) × (block_tokens f.body ≡ [])
 
--- what a function names, with repeats
+-- the requests of a function, with repeats
 abbrev pub function_names : Function → List Request
 function_names f =
     (signature_names f ++ flat_map (local_names (named_of f.expressions) (operand_links f.expressions)) f.local_variables) ++ flat_map (token_names (kinds f.expressions) (named_of f.expressions) (operand_links f.expressions)) (block_tokens f.body)
@@ -69,12 +69,12 @@ function_names f =
 abbrev pub IsAmong : List Request → Request → Type 0
 IsAmong xs x = (i : ℕ) × (slice_get xs i ≡ Some x)
 
--- ys is xs without some that stand before, there or in s
+-- ys is xs without some elements that occur earlier in xs, or in s
 pub data Thins : List Request → List Request → List Request → Type 0 where
   Ends : {s : List Request} → Thins s [] []
   Keeps : {s xs ys : List Request} {x : Request} → Thins (s ++ x ∷ []) xs ys → Thins s (x ∷ xs) (x ∷ ys)
   Drops : {s xs ys : List Request} {x : Request} → IsAmong s x → Thins s xs ys → Thins s (x ∷ xs) ys
 
--- xs is added to old, without some repeats
+-- new is old followed by xs without some repeats
 abbrev pub Adds : List Request → List Request → List Request → Type 0
 Adds old xs new = (ys : List Request) × (new ≡ old ++ ys) × Thins old xs ys

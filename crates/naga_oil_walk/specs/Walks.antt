@@ -12,7 +12,7 @@ use Rattle.naga_oil_walk.specs.declared.walk.Request.TheVariants.{Item}
 use Rattle.naga_oil_walk.specs.Naming.{item_of, IsAmong, Thins, function_names}
 use Rattle.naga_oil_walk.specs.declared.walk.Walk.{Walk}
 
--- the walk has room for the expressions that were read, each of which names earlier ones alone
+-- the walk is over the expressions that were read, each of which names only earlier ones
 pub record IsOver (of : Reading) (w : Walk) : Type 0 where
   pub earlier : AreEarlier (lists of.links.items)
   pub named : length of.named.items ≡ length of.links.items
@@ -20,8 +20,8 @@ pub record IsOver (of : Reading) (w : Walk) : Type 0 where
   -- the items that the listed expressions name are requested
   pub covers : (k : ℕ) (p : ItemPlace) → has w.places.items k ≡ true → item_of (slice_get of.named.items k) ≡ Some p → IsAmong w.requests.items (Item p)
 
--- o lists expressions of these kinds and links in the order of first reach, the first n of them reached from initialisers;
--- es tells where the emitted ranges stand in it
+-- o lists expressions of these kinds and links in the order of first reach; the initialisers reach the first n; es gives the
+-- positions of the emitted ranges in o
 pub record IsWalkOf (ks : List ℕ) (ls : Links) (is : List ℕ) (ts : Tokens) (o : List ℕ) (n : ℕ) (es : Notes) : Type 0 where
   pub order : o ≡ walked ks ls is ts
   pub began : n ≡ length (started ls is)
@@ -30,7 +30,7 @@ pub record IsWalkOf (ks : List ℕ) (ls : Links) (is : List ℕ) (ts : Tokens) (
   pub noted : AreNoted (started ls is) o es ts
   pub notes : AreWithin (length (started ls is)) o es
 
--- the walk lists the expressions of a function, and what it names without repeats
+-- the walk lists the expressions of a function, and the items that it names without repeats
 pub record Walks (f : Function) (w : Walk) : Type 0 where
   pub listed : IsWalkOf (kinds f.expressions) (operand_links f.expressions) (initialisers f) (block_tokens f.body) w.places.items w.began w.emitted.items
   pub requests : Thins [] (function_names f) w.requests.items

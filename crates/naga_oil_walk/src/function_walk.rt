@@ -12,8 +12,11 @@ ghost use Rattle.naga_oil_form.specs.WellFormed.{initialisers, initialisers_of};
 
 use super::*;
 
-/// Requests what is named, an item or a function.
-fn ask(named: Named, requests: &mut Vec<Request>) -> Tried
+/// Requests a named item or function.
+///
+/// # Errors
+/// If out of memory.
+fn ask(named: Named, requests: &mut Vec<Request>) -> AllocResult
     ensures { OnOk result (requests.new.items ≡ requests.old.items ++ asked named) }
 {
     if let Named::FunctionAt(function) = named {
@@ -25,7 +28,10 @@ fn ask(named: Named, requests: &mut Vec<Request>) -> Tried
 }
 
 /// Requests the item that the expression at a place names, if it names one.
-fn request(of: &Reading, place: usize, requests: &mut Vec<Request>) -> Tried
+///
+/// # Errors
+/// If out of memory.
+fn request(of: &Reading, place: usize, requests: &mut Vec<Request>) -> AllocResult
     ensures { OnOk result
         (requests.new.items ≡ requests.old.items ++ requests_at of.now.named.items place) }
 {
@@ -35,16 +41,19 @@ fn request(of: &Reading, place: usize, requests: &mut Vec<Request>) -> Tried
     }
 }
 
-/// A place that is listed once what it names is.
+/// A place that is listed after its operands.
 #[derive(Clone, Copy)]
 pub struct Waiting {
     pub place: usize,
-    /// How many of its operands are reached.
+    /// The number of its operands that are reached.
     pub done: usize,
 }
 
-/// What reaching a place asks for: it waits, with what it names requested, unless it is listed.
-fn awaited(of: &Reading, place: usize, walk: &mut Walk) -> Tried<Option<Waiting>>
+/// Requests the item that a place names and returns the place as waiting, or `None` if the place is listed already.
+///
+/// # Errors
+/// If out of memory.
+fn awaited(of: &Reading, place: usize, walk: &mut Walk) -> AllocResult<Option<Waiting>>
     ensures places { walk.new.places ≡ walk.old.places }
     ensures marks { walk.new.marks ≡ walk.old.marks }
     ensures emitted { walk.new.emitted ≡ walk.old.emitted }
@@ -60,8 +69,16 @@ fn awaited(of: &Reading, place: usize, walk: &mut Walk) -> Tried<Option<Waiting>
     Ok(Some(Waiting { place, done: 0 }))
 }
 
-/// Goes on to the next operand of a place, or lists the place if none is left.
-fn list_next(of: &Reading, mut top: Waiting, waiting: &mut Vec<Waiting>, walk: &mut Walk) -> Tried
+/// Visits the next operand of a place, or lists the place if no operand is left.
+///
+/// # Errors
+/// If out of memory.
+fn list_next(
+    of: &Reading,
+    mut top: Waiting,
+    waiting: &mut Vec<Waiting>,
+    walk: &mut Walk,
+) -> AllocResult
     requires over { IsOver of.now walk.old }
     requires ready { IsReachOrder (lists of.now.links.items) walk.old.places.items }
     requires waiting { let ws = waiting.old.items ++ top ∷ [] in
@@ -94,8 +111,11 @@ fn list_next(of: &Reading, mut top: Waiting, waiting: &mut Vec<Waiting>, walk: &
     Ok(())
 }
 
-/// Lists the places that wait, the last one first, each behind all that it reaches.
-fn list_waiting(of: &Reading, mut waiting: Vec<Waiting>, walk: &mut Walk) -> Tried
+/// Lists the waiting places, the last one first, each after all places that it reaches.
+///
+/// # Errors
+/// If out of memory.
+fn list_waiting(of: &Reading, mut waiting: Vec<Waiting>, walk: &mut Walk) -> AllocResult
     requires over { IsOver of.now walk.old }
     requires ready { IsReachOrder (lists of.now.links.items) walk.old.places.items }
     requires waiting { let ws = waiting.items in
@@ -116,8 +136,11 @@ fn list_waiting(of: &Reading, mut waiting: Vec<Waiting>, walk: &mut Walk) -> Tri
     Ok(())
 }
 
-/// Lists a place behind all that it reaches.
-pub fn reach(of: &Reading, place: usize, walk: &mut Walk, alloc: Global) -> Tried
+/// Lists a place after all places that it reaches.
+///
+/// # Errors
+/// If out of memory.
+pub fn reach(of: &Reading, place: usize, walk: &mut Walk, alloc: Global) -> AllocResult
     requires in_range { place < length of.now.links.items }
     requires over { IsOver of.now walk.old }
     requires ready { IsReachOrder (lists of.now.links.items) walk.old.places.items }
@@ -140,8 +163,11 @@ pub fn reach(of: &Reading, place: usize, walk: &mut Walk, alloc: Global) -> Trie
     list_waiting(of, waiting, walk)
 }
 
-/// Lists a place and what it names, unless it is there.
-fn add(of: &Reading, place: usize, walk: &mut Walk) -> Tried
+/// Lists a place and requests the item that it names, unless the place is listed already.
+///
+/// # Errors
+/// If out of memory.
+fn add(of: &Reading, place: usize, walk: &mut Walk) -> AllocResult
     requires in_range { place < length of.now.links.items }
     requires over { IsOver of.now walk.old }
     ensures order { OnOk result (walk.new.places.items ≡ added walk.old.places.items (place ∷ [])) }
@@ -159,8 +185,11 @@ fn add(of: &Reading, place: usize, walk: &mut Walk) -> Tried
     Ok(())
 }
 
-/// Lists the external ones of what a place names.
-fn add_externals(of: &Reading, place: usize, walk: &mut Walk) -> Tried
+/// Lists the external operands of a place.
+///
+/// # Errors
+/// If out of memory.
+fn add_externals(of: &Reading, place: usize, walk: &mut Walk) -> AllocResult
     requires in_range { place < length of.now.links.items }
     requires over { IsOver of.now walk.old }
     ensures order { let ls = lists of.now.links.items in
@@ -183,8 +212,11 @@ fn add_externals(of: &Reading, place: usize, walk: &mut Walk) -> Tried
     Ok(())
 }
 
-/// Lists the external ones of what a range names.
-fn add_all_externals(of: &Reading, range: Range<Expression>, walk: &mut Walk) -> Tried
+/// Lists the external operands of the places of a range.
+///
+/// # Errors
+/// If out of memory.
+fn add_all_externals(of: &Reading, range: Range<Expression>, walk: &mut Walk) -> AllocResult
     requires in_range { (range.0 ≤ range.1) × (range.1 ≤ length of.now.links.items) }
     requires over { IsOver of.now walk.old }
     ensures order { let ls = lists of.now.links.items in
@@ -205,8 +237,11 @@ fn add_all_externals(of: &Reading, range: Range<Expression>, walk: &mut Walk) ->
     Ok(())
 }
 
-/// Lists an emitted range behind the external ones of what it names.
-fn add_emitted(of: &Reading, range: Range<Expression>, walk: &mut Walk) -> Tried
+/// Lists an emitted range after the external operands of its places.
+///
+/// # Errors
+/// If out of memory.
+fn add_emitted(of: &Reading, range: Range<Expression>, walk: &mut Walk) -> AllocResult
     requires in_range { (range.0 ≤ range.1) × (range.1 ≤ length of.now.links.items) }
     requires over { IsOver of.now walk.old }
     ensures order { let ls = lists of.now.links.items in
@@ -234,8 +269,11 @@ fn add_emitted(of: &Reading, range: Range<Expression>, walk: &mut Walk) -> Tried
     Ok(())
 }
 
-/// Lists what a part of a body names.
-fn add_token(of: &Reading, token: Token, walk: &mut Walk) -> Tried
+/// Lists the expressions that a part of a body names.
+///
+/// # Errors
+/// If out of memory.
+fn add_token(of: &Reading, token: Token, walk: &mut Walk) -> AllocResult
     requires within { IsWithin (length of.now.links.items) token }
     requires over { IsOver of.now walk.old }
     ensures order { let ls = lists of.now.links.items in
@@ -261,8 +299,11 @@ fn add_token(of: &Reading, token: Token, walk: &mut Walk) -> Tried
     }
 }
 
-/// Lists what a body names.
-pub fn add_tokens(of: &Reading, tokens: &[Token], walk: &mut Walk) -> Tried
+/// Lists the expressions that a body names.
+///
+/// # Errors
+/// If out of memory.
+pub fn add_tokens(of: &Reading, tokens: &[Token], walk: &mut Walk) -> AllocResult
     requires within { All (IsWithin (length of.now.links.items)) tokens.now }
     requires over { IsOver of.now walk.old }
     ensures order { let ls = lists of.now.links.items in
@@ -287,7 +328,10 @@ pub fn add_tokens(of: &Reading, tokens: &[Token], walk: &mut Walk) -> Tried
 }
 
 /// Requests the types of arguments and of the result.
-fn request_types(function: &Function, requests: &mut Vec<Request>) -> Tried
+///
+/// # Errors
+/// If out of memory.
+fn request_types(function: &Function, requests: &mut Vec<Request>) -> AllocResult
     ensures { OnOk result
         (requests.new.items ≡ requests.old.items ++ signature_names function.now) }
 {
@@ -300,13 +344,16 @@ fn request_types(function: &Function, requests: &mut Vec<Request>) -> Tried
     Ok(())
 }
 
-/// Requests the types of local variables and lists what their initialisers reach.
+/// Requests the types of local variables and lists the expressions that their initialisers reach.
+///
+/// # Errors
+/// If out of memory.
 fn reach_locals(
     of: &Reading,
     locals: &[(LocalVariable, Span)],
     walk: &mut Walk,
     alloc: Global,
-) -> Tried
+) -> AllocResult
     requires there { All (λ h. h < length of.now.links.items) (initialisers_of locals.now) }
     requires over { IsOver of.now walk.old }
     requires ready { IsReachOrder (lists of.now.links.items) walk.old.places.items }
@@ -331,16 +378,19 @@ fn reach_locals(
     Ok(())
 }
 
-/// Whether a function has neither local variables nor statements: then it names no more than the types of its arguments and its
-/// result.
+/// Returns whether a function has neither local variables nor statements. Such a function names only the types of its arguments
+/// and its result.
 pub fn is_stub(function: &Function) -> bool
     ensures { IsTrue result ↔ IsStub function.now }
 {
     function.local_variables.len() == 0 && function.body.body.is_empty()
 }
 
-/// Requests the types of arguments and of the result, which are all that such a function names.
-fn walk_stub(function: &Function, alloc: Global) -> Tried<Walk>
+/// Walks over a function without local variables and statements: requests the types of its arguments and its result.
+///
+/// # Errors
+/// If out of memory.
+fn walk_stub(function: &Function, alloc: Global) -> AllocResult<Walk>
     requires { IsStub function.now }
     ensures { IfOk result (Walks function.now) }
 {
@@ -349,9 +399,12 @@ fn walk_stub(function: &Function, alloc: Global) -> Tried<Walk>
     Ok(walk)
 }
 
-/// Lists what a function reaches in the order of copying: the types of its arguments and its result, its local variables,
+/// Returns the walk over a function in the order of copying: the types of its arguments and its result, its local variables,
 /// each with its type and its initialiser, then its body.
-pub fn walk_function(function: &Function, alloc: Global) -> Tried<Walk>
+///
+/// # Errors
+/// If out of memory.
+pub fn walk_function(function: &Function, alloc: Global) -> AllocResult<Walk>
     requires { let es = function.now.expressions in
         let starts = initialisers function.now in
         let tokens = block_tokens function.now.body in

@@ -1,7 +1,7 @@
-//! What a function reaches, in the order of copying.
+//! The expressions and items that a function reaches, in the order of copying.
 //!
-//! `walk` lists expressions and what they name, and notes where emitted ranges stand among them; `function_walk` finds what a
-//! function reaches.
+//! `walk` lists expressions and the items that they name, and notes the positions of emitted ranges in the list;
+//! `function_walk` walks over a function.
 #![tactic(auto)]
 
 pub mod function_walk;
@@ -12,9 +12,7 @@ use naga_oil_form::form::{Reading, is_external, read};
 use naga_oil_form::links::{is_marked, no_marks};
 use naga_oil_ir::names::named_item;
 use naga_oil_ir::*;
+use naga_oil_words::AllocResult;
 use std::alloc::{AllocError, Global};
 use walk::note;
 pub use walk::{Bounds, Request, Walk};
-
-/// An answer, or want of memory.
-pub type Tried<T = ()> = Result<T, AllocError>;

@@ -1,39 +1,42 @@
-//! What a walk over a function lists.
+//! The lists that a walk over a function fills.
 ghost use Rattle.std.specs.Prelude.{◌≡◌, ◌<◌, ◌∷◌, ℕ, [], length, OnOk, IfOk, None, replicate};
 ghost use Rattle.naga_oil_form.specs.Links.{added, has, AreMarks};
 ghost use Rattle.naga_oil_walk.specs.Walk.{noted};
 
 use super::*;
 
-/// What a function names.
+/// An item that a function names, or a function that it calls.
 #[derive(Clone, Copy)]
 pub enum Request {
     Item(ItemPlace),
-    /// A function that it calls.
+    /// A called function.
     Call(Handle<Function>),
 }
 
 /// Where an emitted range begins and ends in the order of copying.
 pub type Bounds = Option<(usize, usize)>;
 
-/// What a walk over a function lists.
+/// The lists that a walk over a function fills.
 #[derive(Drop)]
 pub struct Walk {
-    /// The places of its expressions in the order of first reach, each once.
+    /// The places of the expressions in the order of first reach, each once.
     pub places: Vec<usize>,
     marks: Vec<bool>,
-    /// How many of them the initialisers of local variables reach.
+    /// The number of expressions that the initialisers of local variables reach.
     pub began: usize,
-    /// What the function names, in the order of copying.
+    /// The items that the function names, in the order of copying.
     pub requests: Vec<Request>,
-    /// Where the emitted ranges begin and end in the order, by their first places.
+    /// Where each emitted range begins and ends in the order, indexed by its first place.
     pub emitted: Vec<Bounds>,
     ghost marked: { AreMarks marks.items places.items },
 }
 
 impl Walk {
-    /// The walk that has listed none of so many places.
-    pub fn new(count: usize, alloc: Global) -> Tried<Walk>
+    /// Returns a walk over `count` expressions that has listed none.
+    ///
+    /// # Errors
+    /// If out of memory.
+    pub fn new(count: usize, alloc: Global) -> AllocResult<Walk>
         ensures empty { IfOk result (λ w. (w.places.items ≡ []) × (w.requests.items ≡ [])) }
         ensures began { IfOk result (λ w. w.began ≡ 0) }
         ensures marks { IfOk result (λ w. length w.marks.items ≡ count) }
@@ -48,15 +51,18 @@ impl Walk {
         })
     }
 
-    /// Whether a place is listed.
+    /// Returns whether a place is listed.
     pub fn has(&self, place: usize) -> bool
         ensures { result ≡ has self.now.places.items place }
     {
         is_marked(&self.marks, place)
     }
 
-    /// Lists a place, unless it is there.
-    pub fn list(&mut self, place: usize) -> Tried
+    /// Lists a place, unless it is listed already.
+    ///
+    /// # Errors
+    /// If out of memory.
+    pub fn list(&mut self, place: usize) -> AllocResult
         requires { place < length self.old.marks.items }
         ensures order { let listed = added self.old.places.items (place ∷ []) in
             OnOk result (self.new.places.items ≡ listed) }

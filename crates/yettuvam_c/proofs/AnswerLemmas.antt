@@ -1,4 +1,4 @@
--- What stands on a page for each status, and what is told of a fault.
+-- The page for each status, and the result of an error.
 use Rattle.std.proofs.Common.{◌≡◌, ℕ, ◌≤◌, List, Bool, true, false, refl, sym, ap, ◌∙◌, arith, Option, Some, None, MatchOption, Result, Ok, Err}
 use mathlib.Core.Logic.{⊎_elim, inl, inr}
 use Rattle.std.specs.Prelude.{◌⊎◌, IfOk, IfErr, MatchResult}
@@ -16,23 +16,23 @@ use Rattle.yettuvam_c.specs.declared.page.Page.{Page}
 use Rattle.yettuvam_c.specs.declared.page.Source.{Source}
 use Rattle.yettuvam_c.specs.declared.sheet.Sheet.{Sheet}
 
--- a text that has a fault is told by it
+-- the result of a text with an error
 pub fault_is_told : (path text : List ℕ) (value : Result Output Fault) (o : Option Fault) (told : Told) → MatchOption o (Unit {0}) (λ f. value ≡ Err f) → MatchOption o ⊥ (λ f. told ≡ fault_told path text f) → told ≡ output_told path text value
 fault_is_told path text value None told fails is = absurd is
 fault_is_told path text value (Some f) told fails is = is ∙ sym (ap (output_told path text) fails)
 
--- the same of metadata
+-- the result of metadata with an error
 pub metadata_fault_is_told : (path text : List ℕ) (value : Result Metadata Fault) (o : Option Fault) (told : Told) → MatchOption o (Unit {0}) (λ f. value ≡ Err f) → MatchOption o ⊥ (λ f. told ≡ fault_told path text f)
     → MatchResult value (λ m. (found : PreprocessorMetaData) × (m ≡ metadata_of found) × (told ≡ value_told (metadata_parts found))) (λ f. told ≡ fault_told path text f)
 metadata_fault_is_told path text value None told fails is = absurd is
 metadata_fault_is_told path text value (Some f) told fails is = rw fails is
 
--- metadata that is found is told
+-- the result of metadata
 pub metadata_is_told : (path text : List ℕ) (value : Result Metadata Fault) (found : PreprocessorMetaData) (told : Told) → value ≡ Ok (metadata_of found) → told ≡ value_told (metadata_parts found)
     → MatchResult value (λ m. (found : PreprocessorMetaData) × (m ≡ metadata_of found) × (told ≡ value_told (metadata_parts found))) (λ f. told ≡ fault_told path text f)
 metadata_is_told path text value found told gives is = rw gives (found, refl, is)
 
--- what is told has the status 0 or 1
+-- a result has the status 0 or 1
 output_low : (path text : List ℕ) (value : Result Output Fault) → (output_told path text value).0 ≤ 1
 output_low path text (Ok o) = omega arith
 output_low path text (Err f) = omega arith
@@ -47,7 +47,7 @@ found_low path text (Err f) told is = rw is (omega arith)
 pub metadata_low : (source : Source) (allow_defines : Bool) (told : Told) → IsMetadata source allow_defines told → told.0 ≤ 1
 metadata_low source allow_defines told is = found_low source.path.now source.text.now (metadata allow_defines source.text.now) told is
 
--- an answer on a page, whose statuses are 0 and 1, or a refusal
+-- a result on a page, with the status 0 or 1, or a refusal
 module _ (IsAnswer : Told → Type 0) (R : Refusal → Type 0) (low : (told : Told) → IsAnswer told → told.0 ≤ 1) (status : ℕ) (old new : Page) where
   told_put : (told : Told) (room : Bool) → IsAnswer told → IsToldPut told room status old new → status ≤ 1 → Tells IsAnswer status old new
   told_put told true is put h = (told, is, put.1, put.2)
@@ -65,7 +65,7 @@ module _ (IsAnswer : Told → Type 0) (R : Refusal → Type 0) (low : (told : To
   status_put told true is put = inl (omega (arith, put.1, low told is))
   status_put told false is put = inr put.1
 
-  -- ---- for each answer
+  -- ---- for each result
   pub known : (a : Result (ℕ × Sheet) Refusal) → IfOk a (λ s. IsAnswer (told_of s)) → IsPut a status old new → status ≤ 5
   known (Ok s) is put = ⊎_elim (λ h. omega (arith, h)) (λ h. omega (arith, h)) (status_put (told_of s) put.0 is put.1)
   known (Err Memory) is put = omega (arith, put.0)

@@ -1,4 +1,4 @@
--- Why definitions are refused, where one of them is.
+-- The errors of definitions, by the first with an error.
 use Rattle.std.proofs.Common.{◌≡◌, ℕ, zero, suc, ◌+◌, ◌<◌, List, [], ◌∷◌, length, get_or, drop, sym, ap, ◌∙◌, arith, Option, None, Some, Result, Err}
 use mathlib.Core.Logic.{inl, inr}
 use Rattle.std.specs.Str.{IsUtf8}
@@ -17,16 +17,16 @@ other_at [] i d h other = absurd (omega (arith, h))
 other_at (x ∷ ds) zero d h other = inl other
 other_at (x ∷ ds) (suc i) d h other = inr (other_at ds i d (omega (arith, h)) other)
 
--- what definitions define, by the value of the first
+-- definitions, by the value of the first
 abbrev stop_or : ℕ → Definitions → Definition → List Definition → Option ShaderDefValue → Result Definitions ℕ
 stop_or i defs d more None = Err i
 stop_or i defs d more (Some value) = defined_by (i + 1) (with_definition defs d.name.now value) more
 
--- definitions stop at one that has no value
+-- definitions stop at the first without a value
 stops : (i k : ℕ) (defs : Definitions) (d : Definition) (more : List Definition) → k ≡ i → given_value d.kind d.value ≡ None → defined_by i defs (d ∷ more) ≡ Err k
 stops i k defs d more same none = ap (stop_or i defs d more) none ∙ ap Err (sym same)
 
--- why one of the definitions is refused is why all are
+-- the error of one of the definitions is the error of all
 pub refused_at : (ds : List Definition) (i : ℕ) (d : Definition) (defs : Definitions) (e : Refusal) → i < length ds → defined_by 0 none_defined ds ≡ defined_by i defs (drop i ds) → RefusesOne i (get_or ds i d) e → RefusesGiven ds e
 refused_at ds i d defs Memory h so_far why = absurd why
 refused_at ds i d defs NotUtf8 h so_far why = other_at ds i d h why

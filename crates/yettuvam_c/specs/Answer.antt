@@ -1,4 +1,4 @@
--- What the calls answer.
+-- The results of the calls.
 use Rattle.std.specs.Prelude.{◌≡◌, ℕ, List, [], ◌∷◌, Bool, true, false, if◌then◌else◌, Result, Ok, Err, Some, MatchResult}
 use Rattle.naga_oil_conditions.specs.Fault.{Fault, Definitions}
 use Rattle.naga_oil_pre.specs.Metadata.{none_defined, metadata}
@@ -15,7 +15,7 @@ use Rattle.yettuvam_c.specs.declared.sheet.Sheet.{Sheet}
 use Rattle.yettuvam_c.specs.declared.given.Refusal.{Refusal}
 use Rattle.yettuvam_c.specs.declared.given.Refusal.TheVariants.{Memory, NotUtf8, BadDefinition}
 
--- what is told: the status, 0 for a value and 1 for a fault, and the parts
+-- a result: the status, 0 for a value and 1 for an error, and the parts
 abbrev pub Told : Type 0
 Told = ℕ × Laid
 
@@ -25,7 +25,7 @@ value_told parts = (0, laid parts)
 abbrev pub fault_told : (path text : List ℕ) → Fault → Told
 fault_told path text f = (1, laid (fault_part path text (Some f) ∷ []))
 
--- ---- what a text becomes
+-- ---- a preprocessed text
 abbrev pub output_told : (path text : List ℕ) → Result Output Fault → Told
 output_told path text (Ok o) = value_told (output_parts o)
 output_told path text (Err f) = fault_told path text f
@@ -33,11 +33,11 @@ output_told path text (Err f) = fault_told path text f
 abbrev pub preprocess_told : (path text : List ℕ) → Definitions → Told
 preprocess_told path text defs = output_told path text (preprocessed defs text)
 
--- what is told of a source under the definitions that are given
+-- the result of preprocessing a source under the caller's definitions
 abbrev pub IsPreprocessed : Source → List Definition → Told → Type 0
 IsPreprocessed source given told = (defs : Definitions) × (defined_by 0 none_defined given ≡ Ok defs) × (told ≡ preprocess_told source.path.now source.text.now defs)
 
--- ---- what a text tells before any build
+-- ---- the metadata of a text
 abbrev pub IsMetadataTold : (path text : List ℕ) → (allow_defines : Bool) → Told → Type 0
 IsMetadataTold path text allow_defines told = MatchResult (metadata allow_defines text)
     (λ m. (found : PreprocessorMetaData) × (m ≡ metadata_of found) × (told ≡ value_told (metadata_parts found)))
@@ -52,11 +52,11 @@ told_of a = (a.0, laid_of a.1)
 
 -- ---- on a page
 
--- such an answer stands on the page, under its status
+-- the page has such a result, under its status
 abbrev pub Tells : (Told → Type 0) → (status : ℕ) → (old new : Page) → Type 0
 Tells IsAnswer status old new = (told : Told) × IsAnswer told × (status ≡ told.0) × Stands true told.1 old new
 
--- the page says how much room such an answer takes, which it doesn't have
+-- the page has the counts of such a result, for which it lacks room
 abbrev pub TellsRoom : (Told → Type 0) → (old new : Page) → Type 0
 TellsRoom IsAnswer old new = (told : Told) × IsAnswer told × (fits told.1 old ≡ false) × Stands false told.1 old new
 
@@ -67,7 +67,7 @@ IsUnwritten old new = (new.out.now ≡ old.out.now) × (new.fields.now ≡ old.f
 abbrev pub IsToldPut : Told → (room : Bool) → (status : ℕ) → (old new : Page) → Type 0
 IsToldPut told room status old new = (room ≡ fits told.1 old) × (status ≡ (if room then told.0 else 5)) × Stands room told.1 old new
 
--- an answer is put on a page
+-- a result is written on a page
 abbrev pub IsPut : Result (ℕ × Sheet) Refusal → (status : ℕ) → (old new : Page) → Type 0
 IsPut (Ok a) status old new = (room : Bool) × IsToldPut (told_of a) room status old new
 IsPut (Err Memory) status old new = (status ≡ 2) × IsUnwritten old new

@@ -1,10 +1,11 @@
--- What the definitions that a caller gives define.
+-- The definitions of a caller.
 use Rattle.std.specs.Prelude.{◌≡◌, ℕ, zero, suc, ◌+◌, ◌==◌, ◌⊎◌, nat_lt, if◌then◌else◌, ℤ, pos, negsuc, Bool, true, false, List, [], ◌∷◌, Option, Some, None, Result, Ok, Err, ⊤}
 use Rattle.std.specs.Str.{IsUtf8}
 use Rattle.naga_oil_conditions.specs.Fault.{Definitions}
 use Rattle.naga_oil_pre.specs.Metadata.{none_defined, with_definition}
 use Rattle.naga_oil_conditions.specs.declared.shader_def.ShaderDefValue.{ShaderDefValue}
 use Rattle.naga_oil_conditions.specs.declared.shader_def.ShaderDefValue.TheVariants as def
+use Rattle.yettuvam_c.specs.Kinds.{bool_kind, int_kind, uint_kind}
 use Rattle.yettuvam_c.specs.declared.page.Definition.{Definition}
 use Rattle.yettuvam_c.specs.declared.page.Source.{Source}
 use Rattle.yettuvam_c.specs.declared.given.Refusal.{Refusal}
@@ -15,21 +16,32 @@ is_true (pos zero) = false
 is_true (pos (suc n)) = true
 is_true (negsuc n) = true
 
+-- the number of values of an `i32` from 0 on, and of a `u32`
+abbrev pub i32_values : ℕ
+i32_values = 2147483648
+
+abbrev pub u32_values : ℕ
+u32_values = 4294967296
+
 -- a number that an `i32` holds
 abbrev pub int_value : ℤ → Option ShaderDefValue
-int_value (pos n) = if nat_lt n 2147483648 then Some (def.Int (pos n)) else None
-int_value (negsuc n) = if nat_lt n 2147483648 then Some (def.Int (negsuc n)) else None
+int_value (pos n) = if nat_lt n i32_values then Some (def.Int (pos n)) else None
+int_value (negsuc n) = if nat_lt n i32_values then Some (def.Int (negsuc n)) else None
 
 -- a number that a `u32` holds
 abbrev pub uint_value : ℤ → Option ShaderDefValue
-uint_value (pos n) = if nat_lt n 4294967296 then Some (def.UInt n) else None
+uint_value (pos n) = if nat_lt n u32_values then Some (def.UInt n) else None
 uint_value (negsuc n) = None
 
--- the value of a kind
+-- the value with a kind, if the kind is known and can hold the value
 abbrev pub given_value : (kind : ℕ) → ℤ → Option ShaderDefValue
-given_value kind value = if kind == 5 then Some (def.Bool (is_true value)) else (if kind == 6 then int_value value else (if kind == 7 then uint_value value else None))
+given_value kind value =
+    if kind == bool_kind then Some (def.Bool (is_true value))
+    else (if kind == int_kind then int_value value
+    else (if kind == uint_kind then uint_value value else None))
 
--- the definitions, with these in turn, of which the first has an index; or the index of the first that has no value
+-- the definitions, with these added one after the other, the first of which has the index; or the index of the first without a
+-- value
 abbrev pub defined_by : ℕ → Definitions → List Definition → Result Definitions ℕ
 defined_by index defs [] = Ok defs
 defined_by index defs (d ∷ more) = elim (given_value d.kind d.value) [ None ↦ Err index | Some value ↦ defined_by (index + 1) (with_definition defs d.name.now value) more ]
@@ -43,25 +55,25 @@ HasOther (d ∷ more) = (IsUtf8 d.name.now → ⊥) ⊎ HasOther more
 abbrev pub IsNotText : Source → Type 0
 IsNotText source = (IsUtf8 source.path.now → ⊥) ⊎ (IsUtf8 source.text.now → ⊥)
 
--- why a source is refused
+-- the errors of a source
 abbrev pub RefusesSource : Source → Refusal → Type 0
 RefusesSource source Memory = ⊤
 RefusesSource source NotUtf8 = IsNotText source
 RefusesSource source (BadDefinition index) = ⊥
 
--- why a definition is refused that has the index
+-- the errors of the definition at an index
 abbrev pub RefusesOne : ℕ → Definition → Refusal → Type 0
 RefusesOne index d Memory = ⊥
 RefusesOne index d NotUtf8 = IsUtf8 d.name.now → ⊥
 RefusesOne index d (BadDefinition i) = (i ≡ index) × (given_value d.kind d.value ≡ None)
 
--- why definitions are refused
+-- the errors of definitions
 abbrev pub RefusesGiven : List Definition → Refusal → Type 0
 RefusesGiven definitions Memory = ⊤
 RefusesGiven definitions NotUtf8 = HasOther definitions
 RefusesGiven definitions (BadDefinition index) = defined_by 0 none_defined definitions ≡ Err index
 
--- why a source with definitions is refused
+-- the errors of a source with definitions
 abbrev pub Refuses : Source → List Definition → Refusal → Type 0
 Refuses source given Memory = ⊤
 Refuses source given NotUtf8 = IsNotText source ⊎ HasOther given

@@ -1,3 +1,4 @@
+pub mod Kinds
 pub mod Laid
 pub mod Given
 pub mod Told

@@ -1,4 +1,4 @@
-// What the calls answer.
+// The results of the calls.
 ghost use Rattle.std.specs.Prelude.{◌≡◌, MatchOption, IfOk, IfErr};
 ghost use Rattle.std.specs.BTreeMap.{get_by_text};
 ghost use Rattle.naga_oil_conditions.specs.View.{fault_of};
@@ -9,9 +9,9 @@ use super::given::{Definitions, Refusal, given};
 use super::told::{push_fault, push_metadata, push_output};
 use super::*;
 
-pub const TOLD: u32 = 0;
+pub const OK: u32 = 0;
 
-pub const FAULT_TOLD: u32 = 1;
+pub const FAULTY: u32 = 1;
 
 pub const NO_MEMORY: u32 = 2;
 
@@ -36,7 +36,7 @@ fn texts<'a>(source: &Source<'a>) -> Result<(&'a str, &'a str), Refusal>
     Ok((path, text))
 }
 
-// Tells a fault, unless it is want of memory.
+// The field of an error, or `Err` where memory ran out.
 fn fault(alloc: Global, path: &str, text: &str, inner: Inner) -> Result<(u32, Sheet), AllocError>
     ensures { let told = fault_told path.now text.now in
         IfOk result (λ a. MatchOption (fault_of inner) ⊥ (λ f. told_of a ≡ told f)) }
@@ -46,10 +46,10 @@ fn fault(alloc: Global, path: &str, text: &str, inner: Inner) -> Result<(u32, Sh
     }
     let mut sheet = Sheet::new(alloc);
     push_fault(alloc, &mut sheet, path, text, &inner)?;
-    Ok((FAULT_TOLD, sheet))
+    Ok((FAULTY, sheet))
 }
 
-// What a text becomes under definitions.
+// The fields of a text that is preprocessed under definitions.
 #[tactic(auto, using(crate::proofs::AnswerLemmas::fault_is_told))]
 fn text_told(
     alloc: Global,
@@ -66,10 +66,10 @@ fn text_told(
     };
     let mut sheet = Sheet::new(alloc);
     push_output(&mut sheet, &output)?;
-    Ok((TOLD, sheet))
+    Ok((OK, sheet))
 }
 
-// What a text tells before any build.
+// The fields of a text's metadata.
 #[tactic(auto, using(crate::proofs::AnswerLemmas::metadata_fault_is_told))]
 fn metadata_told(
     alloc: Global,
@@ -85,10 +85,10 @@ fn metadata_told(
     };
     let mut sheet = Sheet::new(alloc);
     push_metadata(alloc, &mut sheet, &found)?;
-    Ok((TOLD, sheet))
+    Ok((OK, sheet))
 }
 
-/// What a source becomes under the definitions.
+/// Preprocesses a source under the definitions, and returns the status and the fields.
 #[tactic(auto, using(crate::proofs::GivenLemmas::source_refused, crate::proofs::GivenLemmas::given_refused))]
 pub fn preprocessed(
     alloc: Global,
@@ -103,7 +103,7 @@ pub fn preprocessed(
     Ok(text_told(alloc, path, text, &defs)?)
 }
 
-/// What a source tells before any build.
+/// Reads the metadata of a source, and returns the status and the fields.
 pub fn metadata(
     alloc: Global,
     source: &Source<'_>,
@@ -116,7 +116,7 @@ pub fn metadata(
     Ok(metadata_told(alloc, path, text, allow_defines)?)
 }
 
-/// Puts an answer on a page. Gives the status.
+/// Writes a result on a page, and returns the status.
 pub fn put(answer: Result<(u32, Sheet), Refusal>, page: &mut Page<'_>) -> u32
     ensures { IsPut answer result page.old page.new }
 {

@@ -1,7 +1,7 @@
-// The definitions that a caller gives.
-ghost use Rattle.std.specs.Prelude.{◌≡◌, Some, Ok, OnOk, IfOk, IfErr, string_bytes};
+// The definitions of a caller.
+ghost use Rattle.std.specs.Prelude.{◌≡◌, Some, Ok, IfOk, IfErr};
 ghost use Rattle.std.specs.BTreeMap.{get_by_text};
-ghost use Rattle.naga_oil_pre.specs.Metadata.{none_defined, with_definition};
+ghost use Rattle.naga_oil_pre.specs.Metadata.{none_defined};
 ghost use Rattle.yettuvam_c.specs.Given.{given_value, defined_by, RefusesOne, RefusesGiven};
 
 use super::told::{BOOL, INT, UINT};
@@ -9,13 +9,13 @@ use super::*;
 
 pub type Definitions = BTreeMap<String, ShaderDefValue>;
 
-/// Why nothing is told.
+/// The errors of a call.
 #[derive(Drop)]
 pub enum Refusal {
     Memory,
-    /// A text or a name isn't UTF-8.
+    /// A path, a text or a name isn't UTF-8.
     NotUtf8,
-    /// The definition of this index, the first of a kind that isn't known or a value that its kind doesn't have.
+    /// The index of the first definition with an unknown kind, or a value that its kind can't hold.
     BadDefinition(usize),
 }
 
@@ -30,7 +30,7 @@ impl From<AllocError> for Refusal {
     }
 }
 
-// The value of a kind.
+// The value with a kind, if the kind is known and can hold the value.
 fn value_of(kind: u32, value: i64) -> Option<ShaderDefValue>
     ensures { result ≡ given_value kind value }
 {
@@ -42,20 +42,7 @@ fn value_of(kind: u32, value: i64) -> Option<ShaderDefValue>
     }
 }
 
-// Defines the name, in place of what it was.
-fn define(
-    definitions: &mut Definitions,
-    name: String,
-    value: ShaderDefValue,
-) -> Result<(), AllocError>
-    ensures { let defined = with_definition (get_by_text definitions.old) (string_bytes name) value in
-        OnOk result (get_by_text definitions.new ≡ defined) }
-{
-    definitions.insert(name, value)?;
-    Ok(())
-}
-
-// A definition's name and value, or why it has none.
+// The name and the value of a definition, or an error.
 fn read<'a>(index: usize, definition: &Definition<'a>) -> Result<(&'a str, ShaderDefValue), Refusal>
     ensures name { IfOk result (λ r. r.0.now ≡ definition.now.name.now) }
     ensures value { let of = definition.now in
@@ -71,7 +58,7 @@ fn read<'a>(index: usize, definition: &Definition<'a>) -> Result<(&'a str, Shade
     Ok((name, value))
 }
 
-/// The definitions. Of one name the last counts.
+/// Reads definitions. The last with a name counts.
 pub fn given(alloc: Global, definitions: &[Definition<'_>]) -> Result<Definitions, Refusal>
     ensures ok { let told = defined_by 0 none_defined definitions.now in
         IfOk result (λ defs. told ≡ Ok (get_by_text defs)) }
@@ -80,7 +67,7 @@ pub fn given(alloc: Global, definitions: &[Definition<'_>]) -> Result<Definition
     let mut defs = BTreeMap::new(alloc);
     for (index, definition) in definitions.iter().enumerate() {
         let (name, value) = read(index, definition)?;
-        define(&mut defs, String::from_str(alloc, name)?, value)?;
+        set_definition(&mut defs, String::from_str(alloc, name)?, value)?;
     }
     Ok(defs)
 }

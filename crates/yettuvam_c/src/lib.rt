@@ -1,11 +1,11 @@
 //! The text layer for programs in C and in Rust: a static library of two calls, which `include/yettuvam.h` declares.
-//! What a call reads and what it writes is the caller's memory, so there is nothing to free. A call keeps nothing.
+//! A call reads and writes the caller's memory, so there is nothing to free, and keeps nothing.
 //!
-//! - `page`: what crosses: texts, definitions, and the caller's page.
-//! - `given`: the definitions that a caller gives.
-//! - `sheet`: what is told, part behind part, and put on a page.
-//! - `told`: the parts that tell a text, its metadata or a fault.
-//! - `answer`: what the calls answer.
+//! - `page`: the types that cross: texts, definitions, and the caller's page.
+//! - `given`: the definitions of a caller.
+//! - `sheet`: the fields of a result, one after the other, before they are written on a page.
+//! - `told`: the fields of a text, of its metadata or of an error.
+//! - `answer`: the results of the calls.
 #![tactic(auto)]
 
 ghost use Rattle.std.specs.Prelude.{◌≡◌, ◌≢◌, ◌≤◌, ◌⊎◌, Err};
@@ -25,7 +25,7 @@ use answer::{metadata, preprocessed, put};
 use naga_oil_imports::ImportDefWithOffset;
 use naga_oil_pre::{
     ComposerErrorInner as Inner, PreprocessOutput, Preprocessor, PreprocessorMetaData,
-    ShaderDefValue,
+    ShaderDefValue, set_definition,
 };
 use naga_oil_registry::report::report;
 use page::{Definition, Field, Page, Source};
@@ -33,7 +33,7 @@ use sheet::{Part, Sheet};
 use std::alloc::{AllocError, Global};
 use std::collections::{BTreeMap, BTreeSet};
 
-/// What the text becomes under the definitions, and what it imports; or its fault.
+/// Preprocesses the text under the definitions. The page gets the text and its imports, or an error.
 #[unsafe(no_mangle)]
 pub extern "C" fn yettuvam_preprocess(
     alloc: Global,
@@ -53,7 +53,7 @@ pub extern "C" fn yettuvam_preprocess(
     put(preprocessed(alloc, source, definitions), page)
 }
 
-/// What the text tells before any build, with or without defines allowed in it; or its fault.
+/// Reads the text's metadata, with or without defines allowed. The page gets the metadata, or an error.
 #[unsafe(no_mangle)]
 pub extern "C" fn yettuvam_metadata(
     alloc: Global,

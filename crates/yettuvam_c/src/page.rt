@@ -1,20 +1,20 @@
-// What crosses between the library and a program.
+// The types that cross between the library and a program.
 use super::*;
 
-/// A part of what is told: `len` bytes of the page from `at`.
+/// A field of a result: `len` bytes of the page from `at`.
 #[repr(C)]
 #[derive(Clone, Copy)]
 pub struct Field {
     pub kind: u32,
     pub at: usize,
     pub len: usize,
-    /// Where it is in the text, in bytes, for kinds that have a place.
+    /// The field's place in the text, in bytes, for kinds that have a place.
     pub place: usize,
     /// The value of a definition.
     pub value: i64,
 }
 
-/// A text, and the name that reports call it by.
+/// A text, and the path by which reports name it.
 #[repr(C)]
 #[derive(Drop)]
 pub struct Source<'a> {
@@ -31,13 +31,13 @@ pub struct Definition<'a> {
     pub value: i64,
 }
 
-/// The memory that a caller lends for what is told.
+/// The memory that a caller lends for a result.
 #[repr(C)]
 #[derive(Drop)]
 pub struct Page<'a> {
     pub out: &'a mut [u8],
     pub fields: &'a mut [Field],
-    /// How many bytes and how many fields are told, or would be in a page of enough room.
+    /// The number of bytes and of fields that are written, or that the page would need.
     pub bytes: usize,
     pub count: usize,
 }

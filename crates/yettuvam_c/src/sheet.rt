@@ -1,10 +1,10 @@
-// What is told, part behind part, before it is put on a page.
+// The fields of a result, one after the other, before they are written on a page.
 ghost use Rattle.std.specs.Prelude.{◌≡◌, ◌≤◌, ◌++◌, drop, length, OnOk};
 ghost use Rattle.yettuvam_c.specs.Laid.{blank, with_part, plain, part_of, laid_of, Stands, fits};
 
 use super::*;
 
-/// A part: its text, where it is, and its value. A kind that has no place or no value has 0.
+/// A part of a result: its text, place and value. A kind without place or value has 0.
 #[derive(Clone, Copy)]
 pub struct Part<'a> {
     pub kind: u32,
@@ -14,7 +14,7 @@ pub struct Part<'a> {
 }
 
 impl<'a> Part<'a> {
-    /// A part of no value.
+    /// A part without value.
     pub fn new(kind: u32, text: &'a str, place: usize) -> Part<'a>
         ensures { part_of result ≡ plain kind text.now place }
     {
@@ -27,7 +27,7 @@ impl<'a> Part<'a> {
     }
 }
 
-// Writes the items over as many at the front.
+// Overwrites the front with the items.
 fn put_front<T: Copy>(to: &mut [T], items: &[T])
     requires { length items.now ≤ length to.old }
     ensures { to.new ≡ items.now ++ drop (length items.now) to.old }
@@ -52,7 +52,7 @@ impl Sheet {
         }
     }
 
-    /// Tells one part more.
+    /// Appends a part.
     pub fn push(&mut self, part: Part<'_>) -> Result<(), AllocError>
         ensures { let more = part_of part.entry in
             OnOk result (laid_of self.new ≡ with_part (laid_of self.old) more) }
@@ -68,7 +68,7 @@ impl Sheet {
         self.bytes.extend_from_slice(part.text.as_bytes())
     }
 
-    /// Puts what is told on the page, if there is room, and says how much it is.
+    /// Writes the parts on the page if there is room, and returns whether there is. The page gets the counts in any case.
     pub fn put(&self, page: &mut Page<'_>) -> bool
         ensures room { result ≡ fits (laid_of self.now) page.old }
         ensures stands { Stands result (laid_of self.now) page.old page.new }

@@ -22,7 +22,7 @@ fn text_of(alloc: Global, out: &[u8], field: Field) -> Result<String, AllocError
     String::from_str(alloc, str::from_utf8(bytes).unwrap_or("?"))
 }
 
-// A status, and what stands on a page: a line for each field.
+// A status and the fields of a page: a line for each field.
 fn shown(alloc: Global, status: u32, page: &Page<'_>) -> Result<String, AllocError> {
     let mut told = format!(in alloc; "{status}: {} bytes, {} fields\n", page.bytes, page.count)?;
     for field in page.fields.iter().filter(|field| field.kind != 0) {
@@ -33,7 +33,7 @@ fn shown(alloc: Global, status: u32, page: &Page<'_>) -> Result<String, AllocErr
     Ok(told)
 }
 
-// What preprocessing a text tells on a page of so much room.
+// The status and the fields of preprocessing a text, on a page with this room.
 fn preprocessed_on(
     alloc: Global,
     text: &[u8],
@@ -56,7 +56,7 @@ fn preprocessed_on(
     shown(alloc, status, &page)
 }
 
-// What a text's metadata tells.
+// The status and the fields of a text's metadata.
 fn metadata_on(alloc: Global, text: &[u8], allow_defines: bool) -> Result<String, AllocError> {
     let mut out = Vec::from_elem(alloc, 0u8, 400)?;
     let mut fields = Vec::from_elem(alloc, NO_FIELD, 16)?;

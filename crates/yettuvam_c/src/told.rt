@@ -1,10 +1,10 @@
-// The parts that tell a text, its metadata or a fault.
+// The fields of a text, of its metadata or of an error.
 ghost use Rattle.std.specs.Prelude.{◌≡◌, ◌++◌, fold, map, flat_map, option_map, string_bytes, OnOk};
-ghost use Rattle.naga_oil_lines.specs.Text.{texts};
+ghost use Rattle.naga_oil_words.specs.Texts.{texts};
 ghost use Rattle.naga_oil_imports.specs.Uses.{use_of};
 ghost use Rattle.naga_oil_pre.specs.KnownView.{output_of};
 ghost use Rattle.naga_oil_conditions.specs.View.{fault_of};
-ghost use Rattle.naga_oil_registry.specs.Definition.{defs_of};
+ghost use Rattle.naga_oil_registry.specs.Registered.{defs_of};
 ghost use Rattle.naga_oil_registry.specs.Report.{fault_places};
 ghost use Rattle.yettuvam_c.specs.Laid.{with_part, laid_of, part_of};
 ghost use Rattle.yettuvam_c.specs.Told.{use_parts, output_parts, define_part, recorded_part, path_parts, metadata_parts, fault_kind, fault_place, fault_part};
@@ -35,7 +35,7 @@ pub const FAULT_LINE: u32 = 11;
 
 pub const FAULT_WHOLE: u32 = 12;
 
-// Tells what is used of a module: its name, and each item.
+// Pushes the use of a module: its name, and each item.
 fn push_use(sheet: &mut Sheet, used: &ImportDefWithOffset) -> Result<(), AllocError>
     ensures { let parts = use_parts (use_of used.now) in
         OnOk result (laid_of sheet.new ≡ fold with_part (laid_of sheet.old) parts) }
@@ -48,7 +48,7 @@ fn push_use(sheet: &mut Sheet, used: &ImportDefWithOffset) -> Result<(), AllocEr
     Ok(())
 }
 
-// Tells what is used of each module.
+// Pushes the uses of modules.
 fn push_uses(sheet: &mut Sheet, uses: &[ImportDefWithOffset]) -> Result<(), AllocError>
     ensures { let parts = flat_map use_parts (map use_of uses.now) in
         OnOk result (laid_of sheet.new ≡ fold with_part (laid_of sheet.old) parts) }
@@ -76,7 +76,7 @@ fn define_part(name: &str, value: ShaderDefValue) -> Part<'_>
     }
 }
 
-// Tells definitions.
+// Pushes definitions.
 fn push_defines(
     sheet: &mut Sheet,
     defines: &BTreeMap<String, ShaderDefValue>,
@@ -90,7 +90,7 @@ fn push_defines(
     Ok(())
 }
 
-// Tells the names that a text records.
+// Pushes the names that a text records.
 fn push_names(sheet: &mut Sheet, names: &BTreeSet<String>) -> Result<(), AllocError>
     ensures { let parts = map recorded_part (texts names.now.keys) in
         OnOk result (laid_of sheet.new ≡ fold with_part (laid_of sheet.old) parts) }
@@ -101,7 +101,7 @@ fn push_names(sheet: &mut Sheet, names: &BTreeSet<String>) -> Result<(), AllocEr
     Ok(())
 }
 
-// Tells the import path that a text defines, if it does.
+// Pushes the import path that a text defines, if there is one.
 fn push_path(sheet: &mut Sheet, path: &Option<String>) -> Result<(), AllocError>
     ensures { let parts = path_parts (option_map string_bytes path.now) in
         OnOk result (laid_of sheet.new ≡ fold with_part (laid_of sheet.old) parts) }
@@ -112,7 +112,7 @@ fn push_path(sheet: &mut Sheet, path: &Option<String>) -> Result<(), AllocError>
     }
 }
 
-/// Tells what a text became, and its imports.
+/// Pushes a preprocessed text and its imports.
 pub fn push_output(sheet: &mut Sheet, output: &PreprocessOutput) -> Result<(), AllocError>
     ensures { let parts = output_parts (output_of output.now) in
         OnOk result (laid_of sheet.new ≡ fold with_part (laid_of sheet.old) parts) }
@@ -121,7 +121,7 @@ pub fn push_output(sheet: &mut Sheet, output: &PreprocessOutput) -> Result<(), A
     push_uses(sheet, output.imports.as_slice())
 }
 
-/// Tells metadata: the cleaned text, its import path, its imports, its defines, the names that it records, and its directives.
+/// Pushes metadata: the cleaned text, its import path, its imports, its defines, the names that it records, and its directives.
 pub fn push_metadata(
     alloc: Global,
     sheet: &mut Sheet,
@@ -139,7 +139,7 @@ pub fn push_metadata(
     sheet.push(Part::new(DIRECTIVES, directives.as_str(), 0))
 }
 
-// What the place of a fault is, and the place.
+// The kind of an error's place, and the place.
 #[rattlefmt::skip]
 fn fault_place(inner: &Inner) -> (u32, usize)
     ensures kind { result.0 ≡ fault_kind (fault_places (fault_of inner.now)) }
@@ -163,7 +163,7 @@ fn fault_place(inner: &Inner) -> (u32, usize)
     }
 }
 
-/// Tells a fault by its report.
+/// Pushes the report of an error.
 pub fn push_fault(
     alloc: Global,
     sheet: &mut Sheet,

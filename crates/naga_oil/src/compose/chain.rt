@@ -1,8 +1,8 @@
-//! Calls that are sent down the functions that override another, and the stages of a shader's entry points.
+//! Redirects calls along the functions that override one, and sets the stages of entry points.
 ghost use Rattle.std.specs.Prelude.{◌≡◌, [], map, string_bytes};
 ghost use Rattle.naga_oil_ir.specs.ModuleValue.{EntryValue, entry_value, module_value};
 ghost use Rattle.naga_oil_form_laws.specs.EntryForm.{IsModuleFormed};
-ghost use Rattle.naga_oil_lines.specs.Text.{texts};
+ghost use Rattle.naga_oil_words.specs.Texts.{texts};
 ghost use Rattle.naga_oil_conditions.specs.View.{Gives};
 ghost use Rattle.naga_oil_link.specs.BuiltModule.{overriding_of};
 ghost use Rattle.naga_oil.specs.Chain.{with_stages, sent_down, all_sent_down, chain_all, chain};
@@ -10,13 +10,14 @@ ghost use Rattle.naga_oil.specs.Chain.{with_stages, sent_down, all_sent_down, ch
 use super::*;
 use naga_oil_redirect::Redirector;
 
-// Sends the calls of a function down those that override it: of each in turn, but for those in its own and earlier ones.
+// Redirects the calls of a function along those that override it: to the first, from there to the
+// second, and so on. Calls in the function that is redirected to, and in earlier ones, stay.
 fn send_down(
     alloc: Global,
     redirector: &mut Redirector,
     base: &String,
     others: &[String],
-) -> Checked
+) -> InnerResult
     ensures { let sent = sent_down redirector.old (string_bytes base.now) (texts others.now) [] in
         Gives (λ done. redirector.new) result sent }
 {
@@ -30,8 +31,8 @@ fn send_down(
     Ok(())
 }
 
-// Sends the calls of each function that is overridden down those that override it.
-fn send_all_down(alloc: Global, redirector: &mut Redirector, all: &Overrides) -> Checked
+// Redirects the calls of each overridden function along those that override it.
+fn send_all_down(alloc: Global, redirector: &mut Redirector, all: &Overrides) -> InnerResult
     ensures { let sent = all_sent_down redirector.old (overriding_of all.now) in
         Gives (λ done. redirector.new) result sent }
 {
@@ -41,8 +42,8 @@ fn send_all_down(alloc: Global, redirector: &mut Redirector, all: &Overrides) ->
     Ok(())
 }
 
-// A module with its calls sent down what overrides functions, and its functions in order.
-fn chain_all(alloc: Global, whole: Module, all: &Overrides) -> Checked<Module>
+// The module with the calls of overridden functions redirected, and its functions sorted.
+fn chain_all(alloc: Global, whole: Module, all: &Overrides) -> InnerResult<Module>
     requires { IsModuleFormed (module_value whole) }
     ensures { Gives module_value result (chain_all (overriding_of all.now) (module_value whole)) }
 {
@@ -51,8 +52,9 @@ fn chain_all(alloc: Global, whole: Module, all: &Overrides) -> Checked<Module>
     Ok(redirector.into_module()?)
 }
 
-/// The same where a function is overridden; else the module stays.
-pub(crate) fn chain(alloc: Global, whole: Module, all: &Overrides) -> Checked<Module>
+/// Returns the module with the calls of overridden functions redirected, and its functions sorted.
+/// Where no function is overridden the module stays as it is.
+pub(crate) fn chain(alloc: Global, whole: Module, all: &Overrides) -> InnerResult<Module>
     requires { IsModuleFormed (module_value whole) }
     ensures { Gives module_value result (chain (overriding_of all.now) (module_value whole)) }
 {
@@ -62,7 +64,7 @@ pub(crate) fn chain(alloc: Global, whole: Module, all: &Overrides) -> Checked<Mo
     chain_all(alloc, whole, all)
 }
 
-// Sets the stage of entry points.
+// Sets the stage of each entry point.
 fn set_stage(entry_points: &mut Vec<EntryPoint>, stage: u64)
     ensures { let staged = λ (e : EntryValue). record e { stage = stage } in
         let old = map entry_value entry_points.old.items in
@@ -73,7 +75,7 @@ fn set_stage(entry_points: &mut Vec<EntryPoint>, stage: u64)
     }
 }
 
-/// Sets the stages of entry points as a shader's type says.
+/// Sets the stage of each entry point to that of the shader's type; a WGSL text states its own.
 pub(crate) fn set_stages(whole: &mut Module, shader_type: ShaderType)
     ensures { module_value whole.new ≡ with_stages shader_type (module_value whole.old) }
 {

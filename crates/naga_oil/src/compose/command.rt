@@ -1,25 +1,25 @@
-//! What is asked of a composer, one command after another.
+//! Runs commands on a composer, one after the other.
 ghost use Rattle.std.specs.Prelude.{◌≡◌, IfOk, OnErr};
 ghost use Rattle.naga_oil.specs.Run.{Step, Run};
 
 use super::*;
 
-/// What is asked of a composer.
+/// A command to a composer.
 #[derive(Drop)]
 pub enum Command<'a> {
     Add(ComposableModuleDescriptor<'a>),
-    /// Removes the module of this name.
+    /// Removes the module with this name, and all that reach it by imports.
     Remove(&'a str),
     Make(NagaModuleDescriptor<'a>),
 }
 
-/// What a command gives.
+/// The result of a command.
 #[derive(Drop)]
 pub enum Reply {
-    /// The index of the module that was added.
-    Added(Told<usize>),
-    Removed(Tried),
-    Made(Told<Module>),
+    /// The index of the added module.
+    Added(ComposerResult<usize>),
+    Removed(AllocResult),
+    Made(ComposerResult<Module>),
 }
 
 fn step<B: Backend>(composer: &mut Composer<B>, command: Command<'_>) -> Reply
@@ -32,9 +32,12 @@ fn step<B: Backend>(composer: &mut Composer<B>, command: Command<'_>) -> Reply
     }
 }
 
-/// Does what commands ask for, one after another, and gives a reply to each. It makes room for the replies first: where there
-/// is none, nothing is done.
-pub fn run<B: Backend>(composer: &mut Composer<B>, commands: Vec<Command<'_>>) -> Tried<Vec<Reply>>
+/// Runs commands one after the other, and returns a reply to each. Memory for the replies is
+/// allocated first: without it no command is run.
+pub fn run<B: Backend>(
+    composer: &mut Composer<B>,
+    commands: Vec<Command<'_>>,
+) -> AllocResult<Vec<Reply>>
     ensures ran { let run = Run B.front composer.old commands.entry.items in
         IfOk result (λ replies. run replies.items composer.new) }
     ensures refused { OnErr result (composer.new ≡ composer.old) }

@@ -1,11 +1,11 @@
-//! The composer.
+//! The composer: its state and its public calls.
 ghost use Rattle.std.specs.Prelude.{◌≡◌, ◌<◌, length, slice_get, Some, [], true, false, option_map, string_bytes, IfOk, IsOk, OnOk, MatchResult};
 ghost use Rattle.std.specs.Borrow.{sem};
 ghost use Rattle.std.specs.Io.BufRead.{Rests};
-ghost use Rattle.naga_oil_registry.specs.Definition.{definition_of, defs_of};
+ghost use Rattle.naga_oil_registry.specs.Registered.{definition_of, defs_of};
 
 use super::error::refused;
-use super::reach::Maker;
+use super::make::Maker;
 use super::store::{Store, forget, has_projection};
 use super::*;
 use naga_oil_registry::adding::{describe, register};
@@ -13,7 +13,7 @@ use naga_oil_registry::registry::Registry;
 use naga_oil_registry::sanitize::read_source;
 use std::marker::Model;
 
-/// Modules, each under its name, over a front end.
+/// Registered modules, each under its name, and the front end that builds them.
 #[derive(Drop)]
 pub struct Composer<B: Backend> {
     alloc: Global,
@@ -21,11 +21,11 @@ pub struct Composer<B: Backend> {
     validate: bool,
     capabilities: Capabilities,
     override_any: bool,
-    // What is registered.
+    // The registered modules.
     modules: Registry,
-    // The number of the next binding.
+    // The number of the next automatic binding.
     counter: u32,
-    // The builds that are kept between makes, and how many were kept in all.
+    // The builds that are kept between makes, and the number of builds ever kept.
     store: Store,
     count: u64,
 }
@@ -67,7 +67,7 @@ impl<B: Backend> Composer<B> {
     ghost use Rattle.naga_oil_registry.specs.Registry.{registered, module_named, module_indexed, IsRegistry, AreReachedNames};
     ghost use Rattle.naga_oil.specs.State.{nothing_registered, Adds, Removes};
 
-    // A composer with nothing registered or kept and the counter at 0.
+    // A composer with no modules, no kept builds and the counter at 0.
     fn empty(
         alloc: Global,
         front: B,
@@ -90,22 +90,23 @@ impl<B: Backend> Composer<B> {
         }
     }
 
-    /// A composer with nothing registered, no capabilities and the counter at 0. It validates what it makes, and lets functions
-    /// be overridden only where they are virtual.
+    /// Returns a composer with no modules, no capabilities and the binding counter at 0. It
+    /// validates what it makes, and only virtual functions can be overridden.
     pub fn new(alloc: Global, front: B) -> Self
         ensures { result ≡ nothing_registered front true (record { 0 = 0 }) false }
     {
         Composer::empty(alloc, front, true, Capabilities(0), false)
     }
 
-    /// The same, but it doesn't validate.
+    /// Returns a composer as `new` does, but one that doesn't validate what it makes.
     pub fn non_validating(alloc: Global, front: B) -> Self
         ensures { result ≡ nothing_registered front false (record { 0 = 0 }) false }
     {
         Composer::empty(alloc, front, false, Capabilities(0), false)
     }
 
-    /// The same front end and settings, but for these capabilities, with nothing registered or kept and the counter at 0.
+    /// Returns a composer with the same front end and settings but these capabilities, with no
+    /// modules, no kept builds and the binding counter at 0.
     pub fn with_capabilities(self, capabilities: Capabilities) -> Self
         ensures { let bare = nothing_registered self.front self.validate in
             result ≡ bare capabilities self.override_any }
@@ -114,8 +115,9 @@ impl<B: Backend> Composer<B> {
         Composer::empty(alloc, self.front, validate, capabilities, self.override_any)
     }
 
-    /// The same front end and settings, but that any function of what is imported may be overridden or, where that isn't allowed,
-    /// only virtual ones, with nothing registered or kept and the counter at 0.
+    /// Returns a composer with the same front end and settings, in which any imported function can
+    /// be overridden (`allow`), or only virtual ones; with no modules, no kept builds and the
+    /// binding counter at 0.
     pub fn with_override_any(self, allow: bool) -> Self
         ensures { let bare = nothing_registered self.front self.validate in
             result ≡ bare self.capabilities allow }
@@ -124,8 +126,13 @@ impl<B: Backend> Composer<B> {
         Composer::empty(alloc, self.front, validate, self.capabilities, allow)
     }
 
-    /// The name of an item of a module, as it stands in what is made. With no module it is the item.
-    pub fn decorated_name(alloc: Global, module_name: Option<&str>, item: &str) -> Tried<String>
+    /// Returns the name that an item of a module has in a made shader; with no module, the item's
+    /// own name.
+    pub fn decorated_name(
+        alloc: Global,
+        module_name: Option<&str>,
+        item: &str,
+    ) -> AllocResult<String>
         ensures { let named = decorated_name (option_map (λ m. m.now) module_name.entry) in
             IfOk result (λ t. string_bytes t ≡ named item.now) }
     {
@@ -136,42 +143,45 @@ impl<B: Backend> Composer<B> {
         self.alloc
     }
 
-    /// Whether it validates what it makes.
+    /// Whether made shaders are validated.
     pub fn validate(&self) -> bool
         ensures { result ≡ self.now.validate }
     {
         self.validate
     }
 
+    /// The capabilities with which headers and made shaders are validated.
     pub fn capabilities(&self) -> Capabilities
         ensures { result ≡ self.now.capabilities }
     {
         self.capabilities
     }
 
-    /// Whether any function of what is imported may be overridden, and not only those that are virtual.
+    /// Whether any imported function can be overridden, and not only virtual ones.
     pub fn override_any(&self) -> bool
         ensures { result ≡ self.now.override_any }
     {
         self.override_any
     }
 
-    /// The number of the next binding that asks for one.
+    /// The number that the next automatic binding gets.
     pub fn binding_counter(&self) -> u32
         ensures { result ≡ self.now.counter }
     {
         self.counter
     }
 
-    /// Whether a module of this name is registered.
+    /// Whether a module with this name is registered.
     pub fn contains_module(&self, module_name: &str) -> bool
         ensures { result ≡ registered module_name.now self.now.registry }
     {
         self.module(module_name).is_some()
     }
 
-    /// The module of this name. What each module imports is registered before it, and no two have one name or one index. The
-    /// names on which its build may depend are those recorded by it and by all that it reaches by imports.
+    /// Returns the module with this name, or `None`. The modules that each module imports are
+    /// registered before it, and no two modules share a name or an index. The names of definitions
+    /// on which its build may depend are those recorded by it and by all that it reaches by
+    /// imports.
     pub fn module(&self, module_name: &str) -> Option<&ComposableModuleDefinition>
         ensures registry { IsRegistry self.now.registry }
         ensures effective { AreReachedNames self.now.registry }
@@ -181,7 +191,7 @@ impl<B: Backend> Composer<B> {
         self.modules.get(module_name)
     }
 
-    /// The module of this index.
+    /// Returns the module with this index, or `None`.
     pub fn module_at(&self, index: usize) -> Option<&ComposableModuleDefinition>
         ensures { let indexed = module_indexed index self.now.registry in
             option_map (λ d. definition_of d.now) result ≡ indexed }
@@ -189,15 +199,16 @@ impl<B: Backend> Composer<B> {
         self.modules.at_index(index)
     }
 
-    /// How many builds makes have kept in all; those of modules that went since are counted too.
+    /// The number of builds that makes have ever kept, also those of modules removed since.
     pub fn builds(&self) -> u64
         ensures { result ≡ self.now.builds }
     {
         self.count
     }
 
-    /// Whether the build of a module under definitions is kept: a make that reaches it under them doesn't build it again. Each
-    /// kept build is what building its module afresh gives, and what it imports is kept.
+    /// Whether the build of a module under these definitions is kept: a make that reaches the
+    /// module under them doesn't build it again. Each kept build is what building its module afresh
+    /// gives, and the builds that it imports are kept too.
     pub fn has_build(&self, module_name: &str, shader_defs: &Defs) -> bool
         ensures kept { let s = settings_of B.front self.now in
             IsStore s self.now.registry self.now.kept }
@@ -211,9 +222,9 @@ impl<B: Backend> Composer<B> {
         store.keys().any(|key| has_projection(of, shader_defs, key))
     }
 
-    /// Removes a module, and with it all that reach it by imports, and forgets their builds. Where it isn't registered nothing
-    /// changes, and no memory is taken.
-    pub fn remove_composable_module(&mut self, module_name: &str) -> Tried
+    /// Removes a module and all that reach it by imports, and forgets their builds. If no module
+    /// has the name, nothing changes and no memory is allocated.
+    pub fn remove_composable_module(&mut self, module_name: &str) -> AllocResult
         ensures { Removes self.old module_name.now result self.new }
     {
         if !self.contains_module(module_name) {
@@ -224,12 +235,12 @@ impl<B: Backend> Composer<B> {
         Ok(())
     }
 
-    /// Adds a module as `add_composable_module` does, and answers its index, which is from 1 to 2047. What stands after it is
-    /// said of the composer itself, which isn't lent on.
+    /// Adds a module as `add_composable_module` does, and returns its index, which is from 1 to
+    /// 2047. The composer stays free to use: the result borrows nothing from it.
     ///
     /// # Errors
     /// Those of `add_composable_module`.
-    pub fn add_module(&mut self, desc: ComposableModuleDescriptor<'_>) -> Told<usize>
+    pub fn add_module(&mut self, desc: ComposableModuleDescriptor<'_>) -> ComposerResult<usize>
         ensures { Adds (λ i. i) (λ d. d.index) self.old (module_source desc.entry) result self.new }
     {
         let (alloc, path, source) = (self.alloc, desc.file_path, desc.source);
@@ -251,10 +262,14 @@ impl<B: Backend> Composer<B> {
         }
     }
 
-    /// Adds a module under the name that it is given, or else under its import path, in the place of the module of that name
-    /// and of all that reach that. Or the first fault, in this order: a mark of a decoration, no number left for a binding,
-    /// the text's own, no name, an import that would not be registered then, no index left; or `Memory`. A refusal changes
-    /// the counter alone, and that by exactly the bindings that were read.
+    /// Adds a module under the name that it is given, or else under its import path, and returns
+    /// it. A module with that name, and all that reach that by imports, are removed.
+    ///
+    /// # Errors
+    /// The first of these, in this order: a mark of a decoration in the text, no number left for an
+    /// automatic binding, an error in the text, no name, an import that isn't registered then, no
+    /// index left; or `Memory`. After an error only the counter differs, by exactly the automatic
+    /// bindings that were read.
     pub fn add_composable_module(
         &mut self,
         desc: ComposableModuleDescriptor<'_>,
@@ -270,18 +285,23 @@ impl<B: Backend> Composer<B> {
         self.newest(added)
     }
 
-    /// Makes one shader out of a text and the registered modules that it imports: the text is read under the definitions that
-    /// are given and its own, and again under those of what it imports; what it imports is built, each module once and behind
-    /// what it imports itself, unless its build is kept; the shader is built over that, linked, and validated where that is asked for.
-    /// However many functions override one, each of these calls the one before it, the first one the function itself, and all other
-    /// callers the last, where none of these is itself overridden and the function overrides none. No function overrides two.
+    /// Makes one shader out of a text and the registered modules that it imports, and returns it.
+    /// The text is read under the given definitions and its own, and a second time under those of
+    /// the modules that it imports too. Each module that it reaches is built once, after the
+    /// modules that it imports itself, unless its build is kept. The shader is built over these,
+    /// linked, and validated if the composer validates.
+    ///
+    /// However many functions override one, each of these calls the one before it, the first one
+    /// calls the overridden function, and all other callers call the last, if none of these is
+    /// itself overridden and the overridden function overrides none. No function overrides two.
     ///
     /// # Errors
-    /// The first fault, in this order: a mark of a decoration, no number left for a binding, the text's own, an import that
-    /// isn't registered, definitions that differ, what is wrong with a module that is imported, with the text, with what
-    /// overrides functions, and with the whole; or `Memory`. Whether refused or not, it changes the counter and what is kept
-    /// alone, and loses no kept build.
-    pub fn make_naga_module(&mut self, desc: NagaModuleDescriptor<'_>) -> Told<Module>
+    /// The first of these, in this order: a mark of a decoration in the text, no number left for an
+    /// automatic binding, an error in the text, an import that isn't registered, definitions that
+    /// differ, an error in an imported module, in the text as it is built, in what overrides
+    /// functions, in the whole; or `Memory`. With or without an error, only the counter and the kept
+    /// builds change, and no kept build is lost.
+    pub fn make_naga_module(&mut self, desc: NagaModuleDescriptor<'_>) -> ComposerResult<Module>
         ensures { Makes B.front self.old (shader_source desc.entry) result self.new }
     {
         let alloc = self.alloc;
@@ -312,8 +332,8 @@ impl<B: Backend> Composer<B> {
         made
     }
 
-    // The module that was added last, or why none was.
-    fn newest(&self, added: Told<usize>) -> Told<&Definition>
+    // The module that was added last, or the error of the addition.
+    fn newest(&self, added: ComposerResult<usize>) -> ComposerResult<&Registered>
         requires { OnOk added (0 < length self.now.registry) }
         ensures { let newest = slice_get self.now.registry 0 in
             MatchResult

@@ -1,8 +1,8 @@
-// Why a call is refused, and where.
+//! Errors of a composer: what is wrong, and in which text.
 ghost use Rattle.std.specs.Prelude.{◌≡◌, MatchOption, Some, None, IfOk, string_bytes};
 ghost use Rattle.std.specs.Cow.{cow_str_bytes};
 ghost use Rattle.naga_oil_conditions.specs.View.{fault_of};
-ghost use Rattle.naga_oil_registry.specs.Definition.{defs_of};
+ghost use Rattle.naga_oil_registry.specs.Registered.{defs_of};
 ghost use Rattle.naga_oil.specs.Refused.{refused_of, place_of, nowhere, in_text, in_module, TellsAt};
 ghost use Rattle.naga_oil_registry.specs.Report.{report};
 ghost use Rattle.naga_oil.specs.Sources.{path_of, text_of, offset_of};
@@ -13,10 +13,10 @@ pub use naga_oil_pre::ComposerErrorInner;
 use std::borrow::CowStr;
 use thiserror::Error;
 
-// An answer, or a fault and where it is.
-pub(crate) type Told<T = ()> = Result<T, ComposerError>;
+/// A result of a composer, or an error with its place.
+pub type ComposerResult<T = ()> = Result<T, ComposerError>;
 
-/// What the offsets of an error count in.
+/// The text that the offsets of an error count in.
 #[derive(Debug, Drop)]
 pub enum ErrSource {
     /// The text of a registered module under these definitions.
@@ -25,7 +25,7 @@ pub enum ErrSource {
         offset: usize,
         defs: Defs,
     },
-    /// A text that was given.
+    /// The text of a call.
     Constructing {
         path: String,
         source: String,
@@ -34,7 +34,8 @@ pub enum ErrSource {
 }
 
 impl ErrSource {
-    /// What reports call the text: the path of a file, or the name of a module that isn't registered any more.
+    /// Returns what reports call the text: its file path, or the name of a module that is no longer
+    /// registered.
     pub fn path<'a, B: Backend>(&'a self, composer: &'a Composer<B>) -> &'a str
         ensures { result.now ≡ path_of composer.now.registry self.now }
     {
@@ -47,9 +48,9 @@ impl ErrSource {
         }
     }
 
-    /// The text: of a module what it is behind preprocessing under the definitions, and nothing where that has a fault or the
-    /// module isn't registered any more.
-    pub fn source<'a, B: Backend>(&'a self, composer: &'a Composer<B>) -> Tried<CowStr<'a>>
+    /// Returns the text. For a module that is its text after preprocessing under the definitions,
+    /// or the empty text if preprocessing fails or the module is no longer registered.
+    pub fn source<'a, B: Backend>(&'a self, composer: &'a Composer<B>) -> AllocResult<CowStr<'a>>
         ensures { let told = text_of composer.now.registry self.now in
             IfOk result (λ text. cow_str_bytes text ≡ told) }
     {
@@ -68,7 +69,7 @@ impl ErrSource {
         }
     }
 
-    /// Where the text begins in what spans count in, in bytes.
+    /// Returns the offset of the text among all that spans count over, in bytes.
     pub fn offset(&self) -> usize
         ensures { result ≡ offset_of self.now }
     {
@@ -78,6 +79,7 @@ impl ErrSource {
     }
 }
 
+/// An error of a composer: what is wrong, and in which text.
 #[derive(Debug, Drop, Error)]
 #[error("{inner}")]
 pub struct ComposerError {
@@ -86,8 +88,8 @@ pub struct ComposerError {
 }
 
 impl ComposerError {
-    /// What the error is told as, with its places in the text.
-    pub fn emit_to_string<B: Backend>(&self, composer: &Composer<B>) -> Tried<String>
+    /// Returns the report of the error, with its places in the text.
+    pub fn emit_to_string<B: Backend>(&self, composer: &Composer<B>) -> AllocResult<String>
         ensures { let registry = composer.now.registry in
             let at = self.now.source in
             let told = report (path_of registry at) (text_of registry at) (offset_of at) in
@@ -100,10 +102,10 @@ impl ComposerError {
     }
 }
 
-/// Why what is imported isn't built.
+/// Why an imported module can't be built.
 #[derive(Debug, Drop)]
 pub enum EnsureImportsError {
-    /// A module that may not be imported there.
+    /// The module with this name can't be imported there.
     MissingImport(String),
     ComposerError(ComposerError),
 }
@@ -119,8 +121,8 @@ impl From<ComposerError> for EnsureImportsError {
     }
 }
 
-// The start of a text that was given.
-fn constructing(alloc: Global, path: &str, source: &str, offset: usize) -> Tried<ErrSource>
+// The place of an error in the text of a call.
+fn constructing(alloc: Global, path: &str, source: &str, offset: usize) -> AllocResult<ErrSource>
     ensures { IfOk result (λ s. place_of s ≡ in_text path.now source.now offset) }
 {
     Ok(ErrSource::Constructing {
@@ -130,7 +132,7 @@ fn constructing(alloc: Global, path: &str, source: &str, offset: usize) -> Tried
     })
 }
 
-/// Want of memory, which is nowhere.
+/// Out of memory, an error that has no place.
 pub(crate) fn memory(alloc: Global) -> ComposerError
     ensures told { refused_of result ≡ None }
     ensures place { place_of result.source ≡ nowhere }
@@ -145,7 +147,7 @@ pub(crate) fn memory(alloc: Global) -> ComposerError
     }
 }
 
-/// What is wrong with a text that was given, unless there is no memory to tell it.
+/// An error in the text of a call; or out of memory, if there is none to report it.
 pub(crate) fn refused(
     alloc: Global,
     inner: Inner,
@@ -164,7 +166,8 @@ pub(crate) fn refused(
     }
 }
 
-/// What is wrong with a registered module under definitions, unless there is no memory to tell it.
+/// An error in a registered module under definitions; or out of memory, if there is none to report
+/// it.
 pub(crate) fn refused_in(
     alloc: Global,
     inner: Inner,
@@ -183,8 +186,8 @@ pub(crate) fn refused_in(
     }
 }
 
-// A place in the text of a registered module.
-fn in_module(alloc: Global, name: &str, offset: usize, defs: &Defs) -> Tried<ErrSource>
+// The place of an error in the text of a registered module.
+fn in_module(alloc: Global, name: &str, offset: usize, defs: &Defs) -> AllocResult<ErrSource>
     ensures { IfOk result (λ s. place_of s ≡ in_module name.now offset (defs_of defs.now)) }
 {
     Ok(ErrSource::Module {

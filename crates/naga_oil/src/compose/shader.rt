@@ -1,10 +1,10 @@
-//! What a make reads of a shader, and the definitions that it merges.
+//! Reads a shader, and merges the definitions of the modules that it imports.
 ghost use Rattle.std.specs.Prelude.{◌≡◌, IfOk, map, Ok, Err, true, string_bytes};
-ghost use Rattle.naga_oil_lines.specs.Text.{texts};
+ghost use Rattle.naga_oil_words.specs.Texts.{texts};
 ghost use Rattle.naga_oil_imports.specs.Uses.{use_of};
 ghost use Rattle.naga_oil_pre.specs.MetadataView.{metadata_of};
 ghost use Rattle.naga_oil_conditions.specs.View.{Gives};
-ghost use Rattle.naga_oil_registry.specs.Definition.{definition_of, defs_of};
+ghost use Rattle.naga_oil_registry.specs.Registered.{definition_of, defs_of};
 ghost use Rattle.naga_oil_registry.specs.Descriptor.{shader_source};
 ghost use Rattle.naga_oil.specs.Shader.{shader_definition, read_shader, imported, agrees, defs_union, defs_union_over, are_among, may_use};
 
@@ -12,17 +12,17 @@ use super::*;
 use naga_oil_registry::merge::clone_imports;
 use naga_oil_registry::registry::Registry;
 
-// The shader as a module of no index and no name.
+// The shader as a module without a name and with index 0.
 fn shader_of(
     alloc: Global,
     desc: &NagaModuleDescriptor<'_>,
     of: PreprocessorMetaData,
-) -> Tried<Definition>
+) -> AllocResult<Registered>
     ensures { let read = shader_definition (shader_source desc.now) (metadata_of of) in
         let told = read (defs_of of.defines) (texts of.effective_defs.keys) in
         IfOk result (λ d. definition_of d ≡ told) }
 {
-    Ok(Definition {
+    Ok(Registered {
         name: String::new(alloc),
         sanitized_source: of.cleaned_source,
         language: ShaderLanguage::from(desc.shader_type),
@@ -36,22 +36,22 @@ fn shader_of(
     })
 }
 
-/// What a shader's text says, as a module of no index and no name.
+/// Reads a shader's text, and returns the shader as a module without a name and with index 0.
 pub(crate) fn read_shader(
     alloc: Global,
     desc: &NagaModuleDescriptor<'_>,
     text: &str,
-) -> Checked<Definition>
+) -> InnerResult<Registered>
     ensures { Gives definition_of result (read_shader (shader_source desc.now) text.now) }
 {
     let metadata = Preprocessor.get_preprocessor_metadata(alloc, text, true)?;
-    // A map's and a set's length tell that their names are in order.
+    // The contract of `len` says that the names of a map or a set are sorted.
     let _lengths = (metadata.defines.len(), metadata.effective_defs.len());
     Ok(shader_of(alloc, desc, metadata)?)
 }
 
-// The module that is imported.
-fn imported<'c>(import: &Use, modules: &'c Registry) -> Checked<&'c Definition>
+// The imported module, or an error if it isn't registered.
+fn imported<'c>(import: &Use, modules: &'c Registry) -> InnerResult<&'c Registered>
     ensures { let told = imported modules.now (use_of import.now) in
         Gives (λ d. definition_of d.now) result told }
 {
@@ -62,7 +62,7 @@ fn imported<'c>(import: &Use, modules: &'c Registry) -> Checked<&'c Definition>
     }
 }
 
-// Whether a name that is defined so may be defined as a value: it has no other.
+// Whether a name may be defined as a value: it has no other value.
 fn agrees(known: Option<ShaderDefValue>, value: ShaderDefValue) -> bool
     ensures { result ≡ agrees value known }
 {
@@ -72,8 +72,8 @@ fn agrees(known: Option<ShaderDefValue>, value: ShaderDefValue) -> bool
     }
 }
 
-// Adds definitions, which may not say another value of a name.
-fn add_consistent(defs: &mut Defs, others: &Defs) -> Checked
+// Adds definitions. A name that has another value already is an error.
+fn add_consistent(defs: &mut Defs, others: &Defs) -> InnerResult
     ensures { let more = defs_union (defs_of defs.old) (defs_of others.now) in
         Gives (λ done. defs_of defs.new) result more }
 {
@@ -86,8 +86,9 @@ fn add_consistent(defs: &mut Defs, others: &Defs) -> Checked
     Ok(())
 }
 
-/// Adds the definitions of what is imported, which all has to be registered.
-pub(crate) fn merge(defs: &mut Defs, imports: &[Use], modules: &Registry) -> Checked
+/// Adds the definitions of the imported modules. A module that isn't registered is an error, and so
+/// is a name with two values.
+pub(crate) fn merge(defs: &mut Defs, imports: &[Use], modules: &Registry) -> InnerResult
     ensures { let merged = defs_union_over modules.now (defs_of defs.old) in
         Gives (λ done. defs_of defs.new) result (merged (map use_of imports.now)) }
 {
@@ -98,7 +99,7 @@ pub(crate) fn merge(defs: &mut Defs, imports: &[Use], modules: &Registry) -> Che
     Ok(())
 }
 
-// Whether definitions are among others.
+// Whether all of these definitions are among others.
 fn are_among(defs: &Defs, others: &Defs) -> bool
     ensures { result ≡ are_among (defs_of defs.now) (defs_of others.now) }
 {
@@ -110,7 +111,8 @@ fn are_among(defs: &Defs, others: &Defs) -> bool
     true
 }
 
-/// Whether the second reading may import a module: one that is registered, with its definitions among these.
+/// Whether the second reading may import a module: it is registered, and its definitions are among
+/// these.
 pub(crate) fn may_use(import: &Use, modules: &Registry, defs: &Defs) -> bool
     ensures { result ≡ may_use modules.now (defs_of defs.now) (use_of import.now) }
 {

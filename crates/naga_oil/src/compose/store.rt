@@ -1,15 +1,16 @@
-//! The builds that a composer keeps between makes, and what they are found by.
+//! The builds that a composer keeps between makes, and their keys.
 ghost use Rattle.std.specs.Prelude.{◌≡◌, not, IfOk, OnOk, OnErr, option_map, string_bytes};
 ghost use Rattle.std.specs.Arc.{arc_value};
 ghost use Rattle.std.specs.BTreeSet.{contains_text};
-ghost use Rattle.naga_oil_registry.specs.Definition.{definition_of, defs_of};
+ghost use Rattle.naga_oil_registry.specs.Registered.{definition_of, defs_of};
 ghost use Rattle.naga_oil_link.specs.BuiltModule.{built_of};
 ghost use Rattle.naga_oil.specs.Store.{forget, keep_build, kept_under, key_under, same_def, same_key};
 ghost use Rattle.naga_oil.specs.StoreView.{def_of, key_of, kept_of};
 
 use super::*;
 
-/// What a build is found by: the name of its module, and the definitions on which it may depend, in the order of their names.
+/// The key of a build: the name of its module, and the definitions on which it may depend, sorted
+/// by name.
 #[derive(PartialEq, Eq, Hash, Drop)]
 pub(crate) struct Key {
     pub(crate) name: String,
@@ -19,8 +20,8 @@ pub(crate) struct Key {
 /// Builds by their keys, in the order of keeping.
 pub(crate) type Store = IndexMap<Key, Arc<Build>>;
 
-/// The key of a module's build under definitions.
-pub(crate) fn project(alloc: Global, of: &Definition, defs: &Defs) -> Tried<Key>
+/// Returns the key of a module's build under definitions.
+pub(crate) fn project(alloc: Global, of: &Registered, defs: &Defs) -> AllocResult<Key>
     ensures { let under = key_under (definition_of of.now) (defs_of defs.now) in
         IfOk result (λ key. key_of key ≡ under) }
 {
@@ -38,15 +39,15 @@ pub(crate) fn project(alloc: Global, of: &Definition, defs: &Defs) -> Tried<Key>
     })
 }
 
-// Whether a definition is that of a name as a value.
+// Whether a definition defines a name as a value.
 fn defines(def: &(String, ShaderDefValue), name: &String, value: ShaderDefValue) -> bool
     ensures { result ≡ same_def (string_bytes name.now, value) (def_of def.now) }
 {
     *name == def.0 && value == def.1
 }
 
-/// Whether a key is that of a module's build under definitions.
-pub(crate) fn has_projection(of: &Definition, defs: &Defs, key: &Key) -> bool
+/// Whether a key is that of a module's build under definitions. No memory is allocated.
+pub(crate) fn has_projection(of: &Registered, defs: &Defs, key: &Key) -> bool
     ensures { let under = key_under (definition_of of.now) (defs_of defs.now) in
         result ≡ same_key under (key_of key.now) }
 {
@@ -69,8 +70,8 @@ pub(crate) fn has_projection(of: &Definition, defs: &Defs, key: &Key) -> bool
     kept.is_empty()
 }
 
-/// The build that is kept under a key.
-pub(crate) fn kept_build(store: &Store, key: &Key) -> Tried<Option<Arc<Build>>>
+/// Returns the build that is kept under a key, or `None`.
+pub(crate) fn kept_build(store: &Store, key: &Key) -> AllocResult<Option<Arc<Build>>>
     ensures { let kept = kept_under (kept_of store.now) (key_of key.now) in
         IfOk result (λ found. option_map (λ b. built_of (arc_value b)) found ≡ kept) }
 {
@@ -80,8 +81,8 @@ pub(crate) fn kept_build(store: &Store, key: &Key) -> Tried<Option<Arc<Build>>>
     }
 }
 
-/// Keeps a build under a key, unless one is kept under it.
-pub(crate) fn keep(store: &mut Store, key: Key, build: Arc<Build>) -> Tried
+/// Keeps a build under a key, unless a build is kept under it already.
+pub(crate) fn keep(store: &mut Store, key: Key, build: Arc<Build>) -> AllocResult
     ensures ok { let built = built_of (arc_value build) in
         let more = keep_build (kept_of store.old) (key_of key) built in
         OnOk result (kept_of store.new ≡ more) }
@@ -93,7 +94,7 @@ pub(crate) fn keep(store: &mut Store, key: Key, build: Arc<Build>) -> Tried
     Ok(())
 }
 
-/// Forgets the builds of the modules of these names.
+/// Forgets the builds of the modules with these names.
 pub(crate) fn forget(store: &mut Store, gone: &Names)
     ensures { kept_of store.new ≡ forget (contains_text gone.now) (kept_of store.old) }
 {

@@ -1,4 +1,4 @@
-//! Entry points that are copied into the module.
+//! Copies entry points into the module.
 ghost use Rattle.std.specs.Prelude.{◌≡◌, ◌∷◌, [], Some, IsSome, IfOk, OnOk, IfSome, All, map, option_map};
 ghost use Rattle.std.specs.Borrow.{Bor};
 ghost use Rattle.naga_oil_ir.specs.ModuleValue.{entry_value};
@@ -60,7 +60,7 @@ fn placed_mesh(maps: &Maps, mesh: Option<MeshInfo>) -> Option<MeshInfo>
 }
 
 impl<'a> DerivedModule<'a> {
-    fn import_some(&mut self, item: Option<ItemPlace>) -> Tried
+    fn import_some(&mut self, item: Option<ItemPlace>) -> AllocResult
         requires { HasNamed self.old item }
         ensures value { OnOk result (self.new ≡ import_items self.old (item ∷ [])) }
         ensures keeps { Keeps self.old self.new }
@@ -71,7 +71,7 @@ impl<'a> DerivedModule<'a> {
         }
     }
 
-    fn import_sizes(&mut self, sizes: Sizes) -> Tried
+    fn import_sizes(&mut self, sizes: Sizes) -> AllocResult
         requires { HasSizes self.old sizes }
         ensures value { OnOk result (self.new ≡ import_items self.old (sizes_names sizes)) }
         ensures keeps { Keeps self.old self.new }
@@ -82,7 +82,7 @@ impl<'a> DerivedModule<'a> {
         self.import_some(sizes[2].map(ItemPlace::ExpressionItem))
     }
 
-    fn import_mesh(&mut self, mesh: Option<MeshInfo>) -> Tried
+    fn import_mesh(&mut self, mesh: Option<MeshInfo>) -> AllocResult
         requires { IfSome mesh (HasMesh self.old) }
         ensures value { OnOk result (self.new ≡ import_items self.old (mesh_names mesh)) }
         ensures keeps { Keeps self.old self.new }
@@ -95,8 +95,8 @@ impl<'a> DerivedModule<'a> {
         self.import_some(mesh.max_primitives.map(ItemPlace::ExpressionItem))
     }
 
-    /// A copy of an entry point over the handles of the source; what it names is copied first.
-    fn copied_entry(&mut self, entry: &EntryPoint) -> Tried<EntryPoint>
+    /// Returns a copy of an entry point of the source, after copying what it names.
+    fn copied_entry(&mut self, entry: &EntryPoint) -> AllocResult<EntryPoint>
         requires { CanCopyEntry self.old (entry_value entry.now) }
         ensures value { let made = copy_entry (entries_state self.old []) (entry_value entry.now) in
             IfOk result (λ e. entries_state self.new (entry_value e ∷ []) ≡ made) }
@@ -120,7 +120,7 @@ impl<'a> DerivedModule<'a> {
         })
     }
 
-    fn copied_entries(&mut self, entries: &[EntryPoint]) -> Tried<Vec<EntryPoint>>
+    fn copied_entries(&mut self, entries: &[EntryPoint]) -> AllocResult<Vec<EntryPoint>>
         requires { All (λ e. CanCopyEntry self.old (entry_value e)) entries.now }
         ensures value { let values = map entry_value entries.now in
             let made = copy_entries (entries_state self.old []) values in
@@ -134,8 +134,8 @@ impl<'a> DerivedModule<'a> {
         Ok(copies)
     }
 
-    /// The module, with copies of the entry points of the source.
-    pub fn into_module_with_entrypoints(mut self) -> Tried<Module>
+    /// Returns the module with copies of the source's entry points.
+    pub fn into_module_with_entrypoints(mut self) -> AllocResult<Module>
         requires set { IsSome self.source }
         requires entries { CanCopyEntries self }
         ensures value { IfOk result (λ m. value_of m ≡ make_module self.entry) }

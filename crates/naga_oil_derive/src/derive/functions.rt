@@ -1,4 +1,4 @@
-//! Functions that are copied into the module.
+//! Copies functions into the module.
 ghost use Rattle.std.specs.Prelude.{◌≡◌, [], Some, IfOk, OnOk};
 ghost use Rattle.std.specs.Cow.{cow_str_bytes};
 ghost use Rattle.naga_oil_ir.specs.ModuleValue.{function_value};
@@ -33,9 +33,9 @@ fn put<'n>(functions: Functions<'n>, target: &mut Module, names: &mut FunctionNa
 }
 
 impl<'a> DerivedModule<'a> {
-    /// A copy of a function over the handles of the source; what it names is copied first, and of the functions that it
-    /// calls those whose names aren't known.
-    pub fn localize_function(&mut self, func: &Function) -> Tried<Function>
+    /// Returns a copy of a function over the handles of the source. The items that the function names are copied first, as are
+    /// the functions that it calls whose names aren't known.
+    pub fn localize_function(&mut self, func: &Function) -> AllocResult<Function>
         requires { CanCopy self.old (function_value func.now) }
         ensures keeps { KeepsFunctions self.old self.new }
         ensures value { let asked = requests_of (function_value func.now) in
@@ -54,8 +54,13 @@ impl<'a> DerivedModule<'a> {
         copy
     }
 
-    // Puts a copy of a function of this name last.
-    fn put_function(&mut self, func: &Function, name: CowStr<'a>, span: Span) -> Placed<Function>
+    /// Appends a copy of a function with this name.
+    fn put_function(
+        &mut self,
+        func: &Function,
+        name: CowStr<'a>,
+        span: Span,
+    ) -> HandleResult<Function>
         requires function { CanImport self.old (function_value func.now) }
         requires name { (function_value func.now).name ≡ Some (cow_str_bytes name) }
         ensures keeps { KeepsFunctions self.old self.new }
@@ -74,8 +79,8 @@ impl<'a> DerivedModule<'a> {
         handle
     }
 
-    /// Puts a copy of a function last, also if its name is known, which then means the copy; and first what it names.
-    pub fn import_function(&mut self, func: &Function, span: Span) -> Placed<Function>
+    /// Appends a copy of a function, after what it names, even if the function's name is known; the name then means the copy.
+    pub fn import_function(&mut self, func: &Function, span: Span) -> HandleResult<Function>
         requires { CanImport self.old (function_value func.now) }
         ensures keeps { KeepsFunctions self.old self.new }
         ensures value { let made = import_function self.old (function_value func.now) span in
@@ -88,9 +93,13 @@ impl<'a> DerivedModule<'a> {
         self.put_function(func, CowStr::Owned(name), span)
     }
 
-    /// The function that the name of one means, copied if the name isn't known. It lives as long as the sources, and its name
-    /// stays there.
-    pub fn import_function_if_new(&mut self, func: &'a Function, span: Span) -> Placed<Function>
+    /// Returns the function that `func`'s name means; `func` is copied if its name isn't known. The name is borrowed from
+    /// `func`, which lives as long as the sources.
+    pub fn import_function_if_new(
+        &mut self,
+        func: &'a Function,
+        span: Span,
+    ) -> HandleResult<Function>
         requires { CanImport self.old (function_value func.now) }
         ensures keeps { KeepsFunctions self.old self.new }
         ensures value { let made = import_function_if_new self.old (function_value func.now) span in
@@ -108,8 +117,8 @@ impl<'a> DerivedModule<'a> {
         }
     }
 
-    /// Where a function of the source went, by its name; it is copied if the name isn't known.
-    pub fn map_function_handle(&mut self, h_func: &Handle<Function>) -> Placed<Function>
+    /// Returns the function that a source function's name means; the function is copied if its name isn't known.
+    pub fn map_function_handle(&mut self, h_func: &Handle<Function>) -> HandleResult<Function>
         requires { CanCall self.old h_func.now }
         ensures means { IfOk result (MeansAt self.new h_func.now) }
         ensures keeps { KeepsFunctions self.old self.new }

@@ -1,7 +1,7 @@
 //! Types that nest deep: each of which points at the one before it, and they are copied without the machine's stack.
 use super::*;
 
-/// How many types point.
+/// The number of pointer types.
 const DEPTH: usize = 10_000;
 
 fn insert(types: &mut UniqueArena<Type>, inner: TypeInner) -> Result<(), AllocError> {
@@ -19,7 +19,7 @@ fn nested(alloc: Global) -> Result<Module, AllocError> {
     Ok(module)
 }
 
-/// Whether the last type is copied last, behind all the others.
+/// Whether the last type is copied last, after all the others.
 fn is_copied(source: &Module, alloc: Global) -> Result<bool, AllocError> {
     let mut derived = DerivedModule::new(alloc);
     set(&mut derived, source, 0, alloc)?;

@@ -1,4 +1,4 @@
-//! Functions that are copied. A test is a case of a table; one driver makes its source, asks, and compares what stands after
+//! Functions that are copied. A test is a case of a table; one driver builds its source, makes the calls, and compares after
 //! each call and in the end.
 ghost use Rattle.std.specs.Prelude.{IfOk};
 ghost use Rattle.naga_oil_ir.specs.ModuleValue.{function_value};
@@ -21,14 +21,14 @@ mod refused;
 
 const NONE: Span = Span::UNDEFINED;
 
-/// What a function is made of.
+/// The parts of a function.
 #[derive(Clone, Copy)]
 enum Row {
     /// A local variable.
     Leaf,
     /// A call of the first function.
     Caller,
-    /// A sum that is emitted behind its operands, and a literal that nothing reaches.
+    /// A sum that is emitted after its operands, and a literal that nothing uses.
     Summed,
     /// An emitted range whose first place an initialiser reaches.
     Initialised,
@@ -43,7 +43,7 @@ use Row::{Caller, Doubled, Initialised, Leaf, Merged, Summed};
 /// What holds of the copy of a function.
 #[derive(Clone, Copy)]
 enum Fact {
-    /// How many expressions it has, and how many names of such.
+    /// The number of the function's expressions, and of their names.
     Length(usize),
     Names(usize),
     Locals(usize),
@@ -92,7 +92,7 @@ fn facts_of(row: Row) -> &'static [Fact] {
     }
 }
 
-/// How a function is asked for: as a copy alone, by its handle, if it is new, or once more.
+/// The request of a function: as a copy alone, by its handle, if it is new, or again.
 #[derive(Clone, Copy)]
 enum Way {
     Alone,
@@ -103,14 +103,14 @@ enum Way {
 
 use Way::{Again, Alone, IfNew, Mapped};
 
-/// How a function is asked for, its place, and the place of its copy.
+/// The request of a function, its place, and the expected place of its copy.
 type Call = (Way, usize, usize);
 
-/// The name of a function and its span, where that is asked for.
+/// The name of a function and its span, where a span is expected.
 type End = (&'static str, Option<Span>);
 
 /// The functions of a source with their names, whether it has an entry point that calls the second, the offset of its text,
-/// what is asked for, and the functions that stand in the end, where those are asked for.
+/// the requests, and the expected functions at the end, where there are any.
 struct Case {
     rows: &'static [(Row, &'static str)],
     is_entered: bool,
@@ -151,7 +151,7 @@ static ONE_DOUBLED: Case = Case {
     ends: Some(&[]),
 };
 
-/// The second function calls the first, and comes twice.
+/// The second function calls the first, and is requested twice.
 static CALLING: Case = Case {
     rows: &[(Leaf, "f"), (Caller, "g")],
     is_entered: true,
@@ -509,7 +509,7 @@ fn is_fact(f: &Function, fact: Fact) -> bool {
     }
 }
 
-/// Whether the copy of a function is as it should be.
+/// Whether the copy of a function is the expected one.
 fn is_row(f: &Function, row: Row) -> bool {
     for fact in facts_of(row) {
         if !is_fact(f, *fact) {
@@ -541,7 +541,7 @@ fn calls_f(module: &Module, f: &Function) -> bool {
     }
 }
 
-/// Whether at a place of a module stands the copy of a row of this name.
+/// Whether a module has the copy of the row with this name at a place.
 fn is_copy(module: &Module, at: usize, row: Row, name: &str) -> bool {
     match module.functions.try_get(Index::new(at)) {
         Some(copy) => is_named(copy, name) && calls_f(module, copy) && is_row(copy, row),
@@ -549,7 +549,7 @@ fn is_copy(module: &Module, at: usize, row: Row, name: &str) -> bool {
     }
 }
 
-/// Where the span of a function starts, what it calls first, and how many expressions it has.
+/// The start of a function's span, its first callee, and the number of its expressions.
 type Noted = Option<(u32, Option<usize>, usize)>;
 
 fn noted(module: &Module, place: usize) -> Noted {
@@ -567,7 +567,7 @@ fn notes_of(module: &Module) -> [Noted; 8] {
     notes
 }
 
-/// Whether what was noted stands as it did.
+/// Whether the noted functions are unchanged.
 fn keeps(module: &Module, notes: &[Noted; 8]) -> bool {
     for place in 0..8 {
         if notes[place].is_some() && notes[place] != noted(module, place) {
@@ -577,7 +577,7 @@ fn keeps(module: &Module, notes: &[Noted; 8]) -> bool {
     true
 }
 
-/// Whether a copy alone is as it should be.
+/// Whether a copy alone is the expected one.
 fn is_alone(copy: &Result<Function, FormFault>, row: Row) -> Option<bool> {
     match copy {
         Ok(copy) => Some(is_row(copy, row)),
@@ -608,7 +608,7 @@ fn placed(
     }
 }
 
-/// Whether a call makes the copy that it should, at its place, or up to so many places behind it; none where it is refused.
+/// Whether a call makes the expected copy, at its place, or up to some places after it; absent where it is refused.
 fn makes(
     derived: &mut DerivedModule<'_>,
     case: &Case,
@@ -626,8 +626,8 @@ fn makes(
     Some(is_there && is_copy(derived.module(), at, row, name))
 }
 
-/// Whether one of so many calls makes the copy, and all leave what stood. A copy whose name found no memory may stand before
-/// it.
+/// Whether one of the calls makes the copy, and all keep the functions before. Before the copy may be one without memory for its
+/// name.
 fn is_made(
     derived: &mut DerivedModule<'_>,
     case: &Case,
@@ -672,7 +672,7 @@ fn is_set<'a>(
     false
 }
 
-/// Whether a function of a name and, where it is asked for, of a span stands at a place.
+/// Whether a function with a name and, where one is expected, a span is at a place.
 fn is_end(module: &Module, place: usize, end: &End) -> bool {
     let span = module.functions.get_span(Index::new(place));
     is_named_at(module, place, end.0) && (end.1.is_none() || end.1 == Some(span))
@@ -701,7 +701,7 @@ fn derives(source: &Module, case: &Case, tries: usize, alloc: Global) -> bool {
         && ends_so(derived.module(), case)
 }
 
-/// Whether a case goes as it should, each of its calls by one of so many.
+/// Whether a case has its expected results, each with at most `tries` calls.
 fn is_case(case: &Case, tries: usize, alloc: Global) -> Result<bool, AllocError> {
     let mut source = Module::new(alloc);
     fill(&mut source, case, alloc)?;

@@ -1,9 +1,9 @@
-//! Where memory is refused, an answer is the one with ample memory, or want of memory, and each item that was there keeps its
+//! Where memory is refused, a result is that with ample memory, or out of memory, and each item that was there keeps its
 //! handle. So these tests pass whichever one allocation is refused. They are to be run with the first allocation refused, then
 //! with the second, and so on until no test comes to the one that is refused.
 use super::*;
 
-/// Equal items merge, and the first ray description stands for the second.
+/// Equal items merge, and the first ray description is used in place of the second.
 static ALL: Case = Case {
     first: Source {
         parts: &[

@@ -78,7 +78,7 @@ fn read<B: Backend>(
     given(front.parse(alloc, language, text))
 }
 
-// A front end says the same of equal texts.
+// A front end reads equal texts alike.
 fn read_twice<B: Backend>(
     alloc: Global,
     front: &B,

@@ -447,13 +447,13 @@ fn is_taken(
     is_filled_taken(&mut module, small, items, decoration, alloc)
 }
 
-/// Whether the test of form takes a module as it should.
+/// Whether the test of form has the expected result for a module.
 fn is_told(small: &[Added], case: Case, alloc: Global) -> bool {
     let (items, decoration, should) = case;
     matches!(is_taken(small, items, decoration, alloc), Ok(taken) if taken == should)
 }
 
-/// Asserts that the test of form takes the small module, with what each case adds, as it should.
+/// Asserts the result of the test of form for the small module, with the additions of each case.
 fn tells(rt: &(impl Abort + AllocGlobal), cases: &[Case]) {
     for case in cases {
         assert!(rt; is_told(&SMALL, *case, rt.alloc()));

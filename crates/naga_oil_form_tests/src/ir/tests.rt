@@ -13,7 +13,7 @@ fn scalar(code: u64) -> Type {
     }
 }
 
-/// A number that is added to a list, whether it goes last without a search, its span, and the place that it gets.
+/// A number that is added to a list, whether it is appended without a search, its span, and its expected place.
 type Addition = (u64, bool, u32, u32, usize);
 
 const ADDED: [Addition; 4] = [
@@ -98,7 +98,7 @@ fn a_unique_arena_keeps_items_once(rt: HostRuntime) {
     assert!(rt; are_inserted(&mut arena) && are_types_kept(&arena));
 }
 
-/// Whether an answer is the place behind the last, which is then one further, or want of memory, which changes nothing.
+/// Whether a result is the place after the last, and the length is one more, or memory ran out, which changes nothing.
 fn is_grown<K>(answer: Result<Index<K>, AllocError>, before: usize, after: usize) -> bool {
     match answer {
         Ok(handle) => handle.index() == before && before < after,
@@ -167,7 +167,7 @@ fn a_refused_unique_arena_is_as_it_was(rt: HostRuntime) {
     assert!(rt; does_set_keep_growing(&mut arena) && does_set_find_each(&mut arena));
 }
 
-/// Whether what an item names is so much, or want of memory.
+/// Whether an item names these items, or memory ran out.
 fn are_so_many<T: Names>(item: &T, count: usize, alloc: Global) -> bool {
     match item.names(alloc) {
         Ok(names) => names.len() == count,
@@ -191,7 +191,7 @@ fn are_so_many_of_type(inner: TypeInner, count: usize, alloc: Global) -> bool {
     are_so_many(&Type { name: None, inner }, count, alloc)
 }
 
-/// Whether a struct of two members names two items, or want of memory.
+/// Whether a struct of two members names two items, or memory ran out.
 fn are_two_of_pair(alloc: Global) -> bool {
     let mut members = Vec::new(alloc);
     let added = add_members(&mut members).is_ok();

@@ -1,9 +1,9 @@
-//! Where memory is refused, an answer is the one with ample memory, or want of memory, and a refused redirection changes
+//! Where memory is refused, a result is that with ample memory, or out of memory, and a refused redirection changes
 //! nothing. So these tests pass whichever one allocation is refused. They are to be run with the first allocation refused, then
 //! with the second, and so on until no test comes to the one that is refused.
 use super::*;
 
-/// That one of two makes of a case answers as it should, each of its calls by one of two.
+/// One of two runs of a case has its expected results, each of its calls by one of two.
 fn holds_refused(case: &Case, alloc: Global) -> Result<(), Fail> {
     for _ in 0..2 {
         if let Ok(Some(is_so)) = is_case(case, 2, alloc) {

@@ -1,4 +1,4 @@
-// What a module that breaks a clause of the test of form is made of.
+// The parts of a module that breaks a clause of the test of form.
 ghost use Rattle.std.specs.Prelude.{◌≡◌, ◌∷◌, ℕ, List, [], Some, None, IfOk, map, option_map, unwrap_or, string_bytes, codes};
 ghost use Rattle.naga_oil_ir.specs.Rows.{Row, TypeKind, row, constant_row, override_row, global_row, type_row};
 ghost use Rattle.naga_oil_ir.specs.Parts.{expr, parts};

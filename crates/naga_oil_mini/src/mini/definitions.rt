@@ -1,21 +1,21 @@
-// Definitions that are given by words.
-ghost use Rattle.std.specs.Prelude.{◌≡◌, Ok, OnOk, IfOk, IfErr, option_map, string_bytes};
+// The definitions of a command line.
+ghost use Rattle.std.specs.Prelude.{◌≡◌, Ok, IfOk, IfErr, option_map};
 ghost use Rattle.std.specs.BTreeMap.{get_by_text};
-ghost use Rattle.naga_oil_lines.specs.Text.{texts};
+ghost use Rattle.naga_oil_words.specs.Texts.{texts};
 ghost use Rattle.naga_oil_mini.specs.Defined.{given_value, definition_word, defined_by};
-ghost use Rattle.naga_oil_pre.specs.Metadata.{none_defined, with_definition};
+ghost use Rattle.naga_oil_pre.specs.Metadata.{none_defined};
 ghost use Rattle.naga_oil_mini.specs.Told.{RefusesDefinitions};
 
 use super::refusal::Refusal;
 use super::words::is_definition;
 use naga_oil_pre::line_kind::is_name;
-use naga_oil_pre::{ShaderDefValue, defined_value};
-use std::alloc::{AllocError, Global};
+use naga_oil_pre::{ShaderDefValue, defined_value, set_definition};
+use std::alloc::Global;
 use std::collections::BTreeMap;
 
 pub type Definitions = BTreeMap<String, ShaderDefValue>;
 
-// The value that a word gives: that of a `#define`, and `true` for the empty text.
+// The value in a word: that of a `#define`, and `true` for the empty text.
 fn value_of(text: &str) -> Option<ShaderDefValue>
     ensures { result ≡ given_value text.now }
 {
@@ -34,20 +34,7 @@ fn definition_word(word: &str) -> Option<(&str, ShaderDefValue)>
     is_name(name).then_some((name, value_of(text)?))
 }
 
-/// Defines the name, in place of what it was.
-pub fn define(
-    definitions: &mut Definitions,
-    name: String,
-    value: ShaderDefValue,
-) -> Result<(), AllocError>
-    ensures { let defined = with_definition (get_by_text definitions.old) (string_bytes name) value in
-        OnOk result (get_by_text definitions.new ≡ defined) }
-{
-    definitions.insert(name, value)?;
-    Ok(())
-}
-
-/// The definitions among the words. Of one name the last counts.
+/// The definitions among the words. The last with a name counts.
 pub fn given(alloc: Global, words: &[String]) -> Result<Definitions, Refusal<'_>>
     ensures ok { let told = defined_by none_defined (texts words.now) in
         IfOk result (λ definitions. told ≡ Ok (get_by_text definitions)) }
@@ -60,7 +47,7 @@ pub fn given(alloc: Global, words: &[String]) -> Result<Definitions, Refusal<'_>
             continue;
         }
         let (name, value) = definition_word(word).ok_or(Refusal::BadDefinition(word))?;
-        define(&mut definitions, String::from_str(alloc, name)?, value)?;
+        set_definition(&mut definitions, String::from_str(alloc, name)?, value)?;
     }
     Ok(definitions)
 }

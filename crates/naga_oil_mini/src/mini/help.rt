@@ -1,6 +1,6 @@
-// What `oil` says of itself.
+// The help text and the version of `oil`.
 
-/// What the commands do, with their options, the statuses and an example.
+/// The commands with their options, the statuses and an example.
 pub const HELP: &str = "\
 oil preprocesses a shader's text, or makes one shader out of several files.
 

@@ -1,13 +1,12 @@
-// What a text tells before any build, as lines.
+// The metadata of a text, as lines.
 ghost use Rattle.std.specs.Prelude.{◌≡◌, ◌++◌, true, OnOk, IfOk, IfErr, map, string_bytes, option_map};
 ghost use Rattle.naga_oil_imports.specs.Uses.{import_of, use_of};
 ghost use Rattle.naga_oil_pre.specs.Metadata.{metadata};
 ghost use Rattle.naga_oil_pre.specs.MetadataView.{metadata_of};
-ghost use Rattle.naga_oil_conditions.specs.Replaced.{value_text};
 ghost use Rattle.naga_oil_conditions.specs.View.{Fails};
-ghost use Rattle.naga_oil_registry.specs.Definition.{defs_of};
-ghost use Rattle.naga_oil_lines.specs.Text.{texts};
-ghost use Rattle.naga_oil_symbols.specs.Names.{texts_of};
+ghost use Rattle.naga_oil_registry.specs.Registered.{defs_of};
+ghost use Rattle.naga_oil_words.specs.Texts.{texts};
+ghost use Rattle.naga_oil_mini_symbols.specs.Names.{texts_of};
 ghost use Rattle.std.specs.List.{flat_map};
 ghost use Rattle.naga_oil_mini.specs.Listing.{escaped_byte, field, line, path_lines, import_line, define_lines, name_lines, IsListing, IsListed};
 ghost use Rattle.naga_oil_mini.specs.Told.{Reports};
@@ -15,15 +14,15 @@ ghost use Rattle.naga_oil_mini.specs.Told.{Reports};
 use super::definitions::Definitions;
 use super::refusal::Refusal;
 use naga_oil::compose::report::report;
+use naga_oil_conditions::replace::push_value;
 use naga_oil_imports::{ImportDefWithOffset, ImportDefinition};
-use naga_oil_pre::{ComposerErrorInner, Preprocessor, PreprocessorMetaData, ShaderDefValue};
-use std::alloc::{AllocError, Global};
+use naga_oil_pre::{ComposerErrorInner, Preprocessor, PreprocessorMetaData};
+use naga_oil_words::AllocResult;
+use std::alloc::Global;
 use std::collections::BTreeSet;
 
-type Tried<T = ()> = Result<T, AllocError>;
-
-// Writes a byte of a field. Tabs, line ends and backslashes are written as a backslash and a character.
-fn push_byte(out: &mut Vec<u8>, byte: u8) -> Tried
+// Pushes a byte of a field. A tab, a line end and a backslash become a backslash and a character.
+fn push_byte(out: &mut Vec<u8>, byte: u8) -> AllocResult
     ensures { OnOk result (out.new.items ≡ out.old.items ++ escaped_byte byte) }
 {
     match byte {
@@ -35,8 +34,8 @@ fn push_byte(out: &mut Vec<u8>, byte: u8) -> Tried
     }
 }
 
-// Writes a field behind a tab.
-fn push_field(out: &mut Vec<u8>, text: &str) -> Tried
+// Pushes a tab and a field.
+fn push_field(out: &mut Vec<u8>, text: &str) -> AllocResult
     ensures { OnOk result (out.new.items ≡ out.old.items ++ field text.now) }
 {
     out.extend_from_slice(b"\t")?;
@@ -46,8 +45,8 @@ fn push_field(out: &mut Vec<u8>, text: &str) -> Tried
     Ok(())
 }
 
-// Writes a line of a kind with fields.
-fn push_line(out: &mut Vec<u8>, kind: &str, fields: &[&str]) -> Tried
+// Pushes a line: its kind and its fields.
+fn push_line(out: &mut Vec<u8>, kind: &str, fields: &[&str]) -> AllocResult
     ensures { OnOk result (out.new.items ≡ out.old.items ++ line kind.now (texts_of fields.now)) }
 {
     out.extend_from_slice(kind.as_bytes())?;
@@ -57,8 +56,8 @@ fn push_line(out: &mut Vec<u8>, kind: &str, fields: &[&str]) -> Tried
     out.extend_from_slice(b"\n")
 }
 
-// Writes the import path, if there is one.
-fn push_path(out: &mut Vec<u8>, path: &Option<String>) -> Tried
+// Pushes the line of the import path, if there is one.
+fn push_path(out: &mut Vec<u8>, path: &Option<String>) -> AllocResult
     ensures { let lines = path_lines (option_map string_bytes path.now) in
         OnOk result (out.new.items ≡ out.old.items ++ lines) }
 {
@@ -68,8 +67,8 @@ fn push_path(out: &mut Vec<u8>, path: &Option<String>) -> Tried
     }
 }
 
-// Writes what is used of a module.
-fn push_import(out: &mut Vec<u8>, import: &ImportDefinition) -> Tried
+// Pushes the line of a module and its items that are used.
+fn push_import(out: &mut Vec<u8>, import: &ImportDefinition) -> AllocResult
     ensures { OnOk result (out.new.items ≡ out.old.items ++ import_line (import_of import.now)) }
 {
     out.extend_from_slice(b"import")?;
@@ -80,8 +79,8 @@ fn push_import(out: &mut Vec<u8>, import: &ImportDefinition) -> Tried
     out.extend_from_slice(b"\n")
 }
 
-// Writes what is used of modules.
-fn push_imports(out: &mut Vec<u8>, imports: &[ImportDefWithOffset]) -> Tried
+// Pushes the lines of the modules that are used.
+fn push_imports(out: &mut Vec<u8>, imports: &[ImportDefWithOffset]) -> AllocResult
     ensures { let used = map (λ u. u.import) (map use_of imports.now) in
         OnOk result (out.new.items ≡ out.old.items ++ flat_map import_line used) }
 {
@@ -91,19 +90,8 @@ fn push_imports(out: &mut Vec<u8>, imports: &[ImportDefWithOffset]) -> Tried
     Ok(())
 }
 
-// Writes a value.
-fn push_value(out: &mut String, value: ShaderDefValue) -> Tried
-    ensures { OnOk result (string_bytes out.new ≡ string_bytes out.old ++ value_text value) }
-{
-    match value {
-        ShaderDefValue::Bool(b) => write!(out, "{b}"),
-        ShaderDefValue::Int(n) => write!(out, "{n}"),
-        ShaderDefValue::UInt(n) => write!(out, "{n}"),
-    }
-}
-
-// Writes defines, in the order of their names.
-fn push_defines(alloc: Global, out: &mut Vec<u8>, defines: &Definitions) -> Tried
+// Pushes the lines of defines, in the order of their names.
+fn push_defines(alloc: Global, out: &mut Vec<u8>, defines: &Definitions) -> AllocResult
     ensures { OnOk result (out.new.items ≡ out.old.items ++ define_lines (defs_of defines.now)) }
 {
     for (name, value) in defines {
@@ -114,8 +102,8 @@ fn push_defines(alloc: Global, out: &mut Vec<u8>, defines: &Definitions) -> Trie
     Ok(())
 }
 
-// Writes names, in their order.
-fn push_names(out: &mut Vec<u8>, names: &BTreeSet<String>) -> Tried
+// Pushes the lines of names, in their order.
+fn push_names(out: &mut Vec<u8>, names: &BTreeSet<String>) -> AllocResult
     ensures { OnOk result (out.new.items ≡ out.old.items ++ name_lines (texts names.now.keys)) }
 {
     for name in names {
@@ -125,10 +113,10 @@ fn push_names(out: &mut Vec<u8>, names: &BTreeSet<String>) -> Tried
 }
 
 /// The lines of metadata.
-pub fn listing(alloc: Global, of: &PreprocessorMetaData) -> Tried<Vec<u8>>
+pub fn listing(alloc: Global, of: &PreprocessorMetaData) -> AllocResult<Vec<u8>>
     ensures { IfOk result (λ t. IsListing (metadata_of of.now) t.items) }
 {
-    // The lengths of a map and of a set tell that their names are in order, so each comes once.
+    // The contracts of `len` say that the names of a map and of a set are sorted and distinct.
     let (_defines, _names) = (of.defines.len(), of.effective_defs.len());
     let mut out = Vec::new(alloc);
     push_path(&mut out, &of.name)?;
@@ -147,7 +135,7 @@ fn listed(alloc: Global, text: &str) -> Result<Vec<u8>, ComposerErrorInner>
     Ok(listing(alloc, &of)?)
 }
 
-/// The lines of a file's metadata; of a fault what is told of the file.
+/// The lines of a file's metadata, or the report of an error.
 pub fn listed_file<'a>(alloc: Global, file: &str, text: &str) -> Result<Vec<u8>, Refusal<'a>>
     ensures ok { IfOk result (λ t. IsListed text.now t.items) }
     ensures err { IfErr result (Reports file.now text.now (metadata true text.now)) }

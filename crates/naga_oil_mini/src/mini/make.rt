@@ -1,8 +1,8 @@
-// Shaders made of files over Mini.
+// Shaders that are built from files over Mini.
 ghost use Rattle.std.specs.Prelude.{◌≡◌, IfErr, IfOk, Some, string_bytes};
 ghost use Rattle.naga_oil_ir.specs.ModuleValue.{module_value};
 ghost use Rattle.naga_oil_mini.specs.Told.{IsOfMaking, IsWritten};
-ghost use Rattle.naga_oil_front_writer.specs.Writer.{module_text};
+ghost use Rattle.naga_oil_mini_writer.specs.Writer.{module_text};
 
 use super::definitions::Definitions;
 use super::refusal::Refusal;
@@ -10,12 +10,12 @@ use super::words::Request;
 use naga_oil::compose::{
     ComposableModuleDescriptor, Composer, ComposerError, NagaModuleDescriptor, ShaderType,
 };
-use naga_oil_front::{Mini, NotWritten, module_text};
 use naga_oil_imports::ImportDefinition;
 use naga_oil_ir::Module;
+use naga_oil_mini_front::{Mini, NotWritten, module_text};
 use std::alloc::{AllocError, Global};
 
-// What is told of an error.
+// The refusal of an error.
 fn told<'a>(composer: &Composer<Mini>, error: ComposerError) -> Refusal<'a>
     ensures { IsOfMaking result }
 {
@@ -25,7 +25,7 @@ fn told<'a>(composer: &Composer<Mini>, error: ComposerError) -> Refusal<'a>
     }
 }
 
-// Registers the modules of files.
+// Registers the modules in files.
 fn add_modules<'a>(
     alloc: Global,
     composer: &mut Composer<Mini>,
@@ -37,15 +37,14 @@ fn add_modules<'a>(
         let mut desc = ComposableModuleDescriptor::new(alloc);
         desc.source = source.as_str();
         desc.file_path = *file_path;
-        let added = composer.add_composable_module(desc).map(|_| ());
-        if let Err(error) = added {
+        if let Err(error) = composer.add_module(desc) {
             return Err(told(composer, error));
         }
     }
     Ok(())
 }
 
-// Imports of no items.
+// Imports of modules without items.
 fn bare_imports(alloc: Global, names: &[&str]) -> Result<Vec<ImportDefinition>, AllocError> {
     let mut imports = Vec::with_capacity(alloc, names.len())?;
     for name in names {
@@ -70,7 +69,7 @@ fn written<'a>(alloc: Global, of: &Module) -> Result<String, Refusal<'a>>
     }
 }
 
-// The module of a file with those of others, under definitions. What stands for the others goes before it is written.
+// Builds the shader of a file with the modules of other files, under definitions.
 fn make_module<'a>(
     alloc: Global,
     top: &(&'a str, String),
@@ -96,8 +95,8 @@ fn make_module<'a>(
     }
 }
 
-/// The shader of a file with the modules of others, under definitions, as Mini writes it. What is imported besides, and whether any
-/// function may be overridden, is asked for.
+/// The shader of a file with the modules of other files, under definitions, as Mini writes it. The request says what is imported
+/// besides, and whether any function may be overridden.
 pub fn made<'a>(
     alloc: Global,
     top: &(&'a str, String),

@@ -1,4 +1,4 @@
-// A text behind preprocessing, under definitions and its own.
+// A text after preprocessing, under definitions and its own.
 ghost use Rattle.std.specs.Prelude.{◌≡◌, Ok, OnOk, IfOk, IfErr, string_bytes};
 ghost use Rattle.std.specs.BTreeMap.{get_by_text};
 ghost use Rattle.naga_oil_conditions.specs.View.{Gives};
@@ -6,26 +6,26 @@ ghost use Rattle.naga_oil_pre.specs.Preprocessed.{preprocessed};
 ghost use Rattle.naga_oil_mini.specs.Printed.{overwritten, text_of, shown_text, printed};
 ghost use Rattle.naga_oil_mini.specs.Told.{Reports};
 
-use super::definitions::{Definitions, define};
+use super::definitions::Definitions;
 use super::refusal::Refusal;
 use naga_oil::compose::report::report;
-use naga_oil_pre::{ComposerErrorInner, Preprocessor};
+use naga_oil_pre::{ComposerErrorInner, Preprocessor, set_definition};
 use std::alloc::{AllocError, Global};
 
-// Defines what the text's own defines say, in place of what was.
+// Adds the text's own definitions, which replace others with their names.
 fn overwrite(definitions: &mut Definitions, own: Definitions) -> Result<(), AllocError>
     ensures { let defined = get_by_text definitions.old in
         OnOk result (get_by_text definitions.new ≡ overwritten defined (get_by_text own)) }
 {
-    // A map's length tells that its names are in order, so each comes once.
+    // The contract of `len` says that the names of a map are sorted and distinct.
     let _names = own.len();
     for (name, value) in own {
-        define(definitions, name, value)?;
+        set_definition(definitions, name, value)?;
     }
     Ok(())
 }
 
-// A cleaned source behind preprocessing, under the definitions overwritten by its own.
+// A cleaned source after preprocessing, under the definitions overwritten by its own.
 fn shown(
     alloc: Global,
     cleaned: &str,
@@ -40,7 +40,7 @@ fn shown(
     Ok(output.preprocessed_source)
 }
 
-/// The cleaned source behind preprocessing, under the definitions overwritten by the text's own.
+/// The cleaned source of a text after preprocessing, under the definitions overwritten by the text's own.
 #[tactic(auto, unfolding(crate::specs::Printed::printed))]
 pub fn preprocessed(
     alloc: Global,
@@ -53,7 +53,7 @@ pub fn preprocessed(
     shown(alloc, cleaned.as_str(), own, definitions)
 }
 
-/// The same; of a fault what is told of the file.
+/// The preprocessed text of a file, or the report of an error.
 pub fn shown_file<'a>(
     alloc: Global,
     file: &str,

@@ -1,6 +1,6 @@
-// What the program does with the words behind its name.
+// The program by its command line.
 ghost use Rattle.std.specs.Prelude.{◌≡◌, ◌≤◌, ℕ, List, None, IsSome, OnOk, IfOk, IfErr, option_map};
-ghost use Rattle.naga_oil_lines.specs.Text.{texts};
+ghost use Rattle.naga_oil_words.specs.Texts.{texts};
 ghost use Rattle.naga_oil_mini.specs.declared.mini.refusal.Refusal.{Refusal};
 ghost use Rattle.naga_oil_mini.specs.Extra.{extra, extra_of, extra_of_word, extra_of_file, metadata_of_file, WritesExtra, RefusesExtra, WritesAny, RefusesAny};
 ghost use Rattle.naga_oil_mini.specs.Listing.{IsListed};
@@ -15,7 +15,7 @@ use super::{oil, read_files, show, tell};
 use std::alloc::{AllocError, Global};
 use std::io::Write;
 
-/// What is asked for by words that ask `oil` for nothing.
+/// The requests that `oil` itself doesn't take.
 #[derive(Clone, Copy)]
 pub enum Extra<'a> {
     Help,
@@ -46,7 +46,7 @@ fn extra_of_file<'a>(command: &str, option: &str, file: &'a str) -> Option<Extra
     }
 }
 
-/// What the words ask for beside what they ask `oil`.
+/// The request of the words, if `oil` itself doesn't take it.
 pub fn extra_asked(words: &[String]) -> Option<Extra<'_>>
     ensures { option_map extra_of result ≡ extra (texts words.now) }
 {
@@ -74,7 +74,7 @@ fn listed<'a, F: FnMut(&str) -> Result<Option<Vec<u8>>, AllocError> + Drop>(
     listed_file(alloc, file, first.1.as_str())
 }
 
-// Writes what is asked for.
+// Writes the text that is requested.
 fn answer_extra<'a, F: FnMut(&str) -> Result<Option<Vec<u8>>, AllocError> + Drop, O: Write>(
     alloc: Global,
     asked: Extra<'a>,
@@ -98,8 +98,8 @@ fn answer_extra<'a, F: FnMut(&str) -> Result<Option<Vec<u8>>, AllocError> + Drop
     }
 }
 
-/// What the program does with the words behind its name, and its status: what `oil` does, and besides it answers
-/// `--help`, `--version` and `pre --metadata FILE`, which ask `oil` for nothing. Statuses, `read` and the streams are those of `oil`.
+/// Runs the program with the words of its command line, and returns its status. The program does what `oil` does, and besides
+/// `--help`, `--version` and `pre --metadata FILE`, which `oil` doesn't take. Statuses, `read` and the streams are those of `oil`.
 #[tactic(auto, using(crate::proofs::ProgramLemmas::is_apart))]
 pub fn program<F: FnMut(&str) -> Result<Option<Vec<u8>>, AllocError> + Drop, O: Write, E: Write>(
     alloc: Global,
@@ -115,7 +115,7 @@ pub fn program<F: FnMut(&str) -> Result<Option<Vec<u8>>, AllocError> + Drop, O: 
         result ≡ 0 → is_written (O.contents out.old) (O.contents out.new) × (err.new ≡ err.old) }
     ensures refused { 1 ≤ result → (e : Refusal) × RefusesAny (texts words.now) e
         × LeavesOut e out.old out.new × TellsFront e (E.contents err.old) (E.contents err.new) }
-    // The words and the files are refused by a line.
+    // A wrong command line and a file that can't be read are reported by a line.
     ensures told { result ≡ 2 → (e : Refusal) × RefusesAny (texts words.now) e × (status_of e ≡ 2)
         × Tells e (E.contents err.old) (E.contents err.new) × LeavesOut e out.old out.new }
 {

@@ -1,4 +1,4 @@
-// Why nothing was written.
+// The errors of the program.
 use std::alloc::AllocError;
 use std::fmt;
 
@@ -8,16 +8,16 @@ const USAGE: &str =
 #[derive(Debug, Drop)]
 pub enum Refusal<'a> {
     Usage,
-    /// The word is no definition that can be read.
+    /// The word isn't a valid definition.
     BadDefinition(&'a str),
     /// The file can't be read, or isn't text.
     CannotRead(&'a str),
-    /// The report of a fault.
+    /// The report of an error.
     Fault(String),
     Memory,
-    /// The shader is none that Mini writes.
+    /// Mini has no text for the shader.
     NotInMini,
-    /// The text can't be written, of which nothing is told.
+    /// The text can't be written. There is no message.
     Write,
 }
 
@@ -25,7 +25,7 @@ impl Refusal<'_> {
     ghost use Rattle.std.specs.Prelude.{◌≡◌, ◌++◌};
     ghost use Rattle.naga_oil_mini.specs.Told.{message_of, status_of};
 
-    /// What is told: three texts, one behind the other.
+    /// The message, in three parts.
     pub fn message(&self) -> (&str, &str, &str)
         ensures { result.0.now ++ result.1.now ++ result.2.now ≡ message_of self.now }
     {
@@ -40,7 +40,7 @@ impl Refusal<'_> {
         }
     }
 
-    /// The status that `oil` ends with.
+    /// The exit status.
     pub fn status(&self) -> u8
         ensures { result ≡ status_of self.now }
     {

@@ -1,4 +1,4 @@
-// Each answer of `oil`, at a reader and writers over memory.
+// The outcomes of `oil`, with a reader and writers in memory.
 mod examples;
 mod program;
 mod projects;
@@ -9,7 +9,7 @@ use std::io::{self, Write};
 use std::process::Abort;
 use std::test::Fail;
 
-// A writer that keeps what it is given, or takes nothing.
+// A writer that keeps the bytes, or fails.
 #[derive(Drop)]
 struct Page {
     text: Vec<u8>,
@@ -39,7 +39,7 @@ impl Write for Page {
     }
 }
 
-// A text of `t.txt`; other files can't be read, and of `m.txt` there is no memory.
+// The text of `t.txt`. Memory runs out for `m.txt`, and other files can't be read.
 fn file(alloc: Global, text: &[u8], name: &str) -> Result<Option<Vec<u8>>, AllocError> {
     if name == "m.txt" {
         return Err(AllocError);
@@ -58,7 +58,7 @@ fn words_of(alloc: Global, line: &str) -> Result<Vec<String>, AllocError> {
     Ok(words)
 }
 
-// The status of `oil` on the words of a line, and what it wrote on both streams.
+// The status of `oil` with the words of a line, and the text on both streams.
 fn run(
     alloc: Global,
     line: &str,
@@ -77,7 +77,7 @@ fn run(
     Ok((status, out, err))
 }
 
-// `oil` answers so.
+// `oil` has this outcome.
 fn answers(
     rt: &(impl Abort + AllocGlobal),
     line: &str,
@@ -156,7 +156,7 @@ fn prints_names_without_their_last_colons(rt: HostRuntime) -> Result<(), Fail> {
     Ok(())
 }
 
-// A define among the lines of an import is none.
+// A define among the lines of an import isn't a define.
 #[test]
 fn takes_no_define_of_an_import(rt: HostRuntime) -> Result<(), Fail> {
     let text = b"#import a::{\"\n#define A\n\"}\n#ifdef A\nx\n#endif";

@@ -1,8 +1,8 @@
-// What the words behind the program's name ask for.
+// The request of a command line.
 ghost use Rattle.std.specs.Prelude.{◌≡◌, ◌<◌, IfOk, IfErr, Some, option_map, length, drop};
-ghost use Rattle.naga_oil_symbols.specs.Names.{texts_of};
+ghost use Rattle.naga_oil_mini_symbols.specs.Names.{texts_of};
 ghost use Rattle.naga_oil_mini.specs.Words.{is_definition, import_of, is_file, task_of, with_option, files, imports, takes, asked, asked_of};
-ghost use Rattle.naga_oil_lines.specs.Text.{texts};
+ghost use Rattle.naga_oil_words.specs.Texts.{texts};
 ghost use Rattle.naga_oil_mini.specs.Told.{RefusesWords};
 
 use super::refusal::Refusal;
@@ -15,7 +15,7 @@ pub fn is_definition(word: &str) -> bool
     word.as_bytes().contains(&b'=')
 }
 
-// The name behind `+`.
+// The name after `+`.
 fn import_of(word: &str) -> Option<&str>
     ensures { option_map (λ r. r.now) result ≡ import_of word.now }
 {
@@ -29,28 +29,28 @@ pub fn is_file(word: &str) -> bool
     !is_definition(word) && import_of(word).is_none()
 }
 
-/// What `oil` is asked to do with files.
+/// The task of `oil`.
 #[derive(Clone, Copy)]
 pub enum Task {
     Preprocess,
     Make,
 }
 
-/// What the words ask for.
+/// The request of the words.
 #[derive(Drop)]
 pub struct Request<'a> {
     pub task: Task,
-    /// Whether any function of what is imported may be overridden, and not only those that are virtual.
+    /// Whether any imported function may be overridden, and not only virtual ones.
     pub override_any: bool,
-    /// The first one is the shader's.
+    /// The files, the shader's first.
     pub files: Vec<&'a str>,
     /// The modules that the shader imports besides what its text uses.
     pub imports: Vec<&'a str>,
-    /// The words behind the command, definitions among them.
+    /// The words after the command, definitions among them.
     pub words: &'a [String],
 }
 
-// The option of `make`, which stands right behind it.
+// The option of `make`, the first word after it.
 const OVERRIDE_ANY: &str = "--override-any";
 
 fn task_of(command: &str) -> Option<Task>
@@ -63,7 +63,7 @@ fn task_of(command: &str) -> Option<Task>
     }
 }
 
-// Whether words begin with the option of a task, and the words behind it.
+// Whether words begin with the option of a task, and the words after the option.
 fn with_option(task: Task, words: &[String]) -> (bool, &[String])
     ensures { (result.0, texts result.1.now) ≡ with_option task (texts words.now) }
 {
@@ -92,7 +92,7 @@ fn sorted(alloc: Global, words: &[String]) -> Result<(Vec<&str>, Vec<&str>), All
     Ok((files, imports))
 }
 
-// How many files and how many imports are among words.
+// The number of files and of imports among words.
 fn counts(words: &[String]) -> (usize, usize)
     ensures files { result.0 ≡ length (files (texts words.now)) }
     ensures imports { result.1 ≡ length (imports (texts words.now)) }
@@ -121,7 +121,7 @@ fn takes(task: Task, files: usize, imports: usize) -> bool
     }
 }
 
-/// What the words ask for, if they do. Words that ask for nothing are found before memory is asked for.
+/// The request of the words. A wrong command line is rejected before anything is allocated.
 pub fn asked(alloc: Global, words: &[String]) -> Result<Request<'_>, Refusal<'_>>
     ensures value { IfOk result (λ a. asked (texts words.now) ≡ Some (asked_of a)) }
     ensures words { IfOk result (λ a. a.words.now ≡ drop 1 words.now) }

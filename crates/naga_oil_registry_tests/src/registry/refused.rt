@@ -1,16 +1,16 @@
-// Where memory is refused, an answer is the one with ample memory, or want of memory, and what stands is as it was. So
+// Where memory is refused, a result is that with ample memory, or out of memory, and the registry is unchanged. So
 // these tests pass whichever allocation is refused.
 use naga_oil::compose::{
     ComposableModuleDescriptor, Composer, ComposerError, ComposerErrorInner, ErrSource,
 };
-use naga_oil_front::Mini;
+use naga_oil_mini_front::Mini;
 use std::alloc::{AllocError, Global};
 
 const FIRST: &str = "#define_import_path a\nenable f16;\nfn f(x) = x + #K\r\n@binding(auto)";
 
 const SECOND: &str = "#define_import_path b\n#import a::{f as g}\nfn h(x) = g(x)";
 
-// Whether adding the text is answered by this index, or by want of memory, and what stands is as the answer says.
+// Whether adding the text returns this index, or is out of memory, and the registry is as the result says.
 fn is_added(
     alloc: Global,
     composer: &mut Composer<Mini>,
@@ -64,7 +64,7 @@ fn a_refused_removal_drops_nothing(rt: HostRuntime) {
     assert!(rt; composer.contains_module("b") == (stays && !removed));
 }
 
-// Whether the error is the fault of this number, or want of memory.
+// Whether the error has this number, or is out of memory.
 fn is_fault(inner: &ComposerErrorInner, number: u64) -> bool {
     match inner {
         ComposerErrorInner::DecorationInSource(range) => number == 0 && range.start == 2,
@@ -98,7 +98,7 @@ fn a_refused_fault_is_no_other(rt: HostRuntime) {
     assert!(rt; composer.binding_counter() == 0);
 }
 
-// A fault of the module m, at its byte 3.
+// An error in the module m, at its byte 3.
 fn fault_of_m(alloc: Global) -> Result<ComposerError, AllocError> {
     Ok(ComposerError {
         inner: ComposerErrorInner::ImportNotFound(String::from_str(alloc, "a::b")?, 3),

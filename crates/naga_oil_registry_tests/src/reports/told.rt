@@ -1,11 +1,11 @@
-// Each variant of the faults of an error, told in a text of its own.
+// The report of each variant of an error.
 use naga_oil::compose::{
     Composer, ComposerError, ComposerErrorInner as Inner, ErrSource, ParseFault, ValidFault,
     WriteFault,
 };
 use naga_oil::redirect::RedirectError;
-use naga_oil_front::Mini;
 use naga_oil_ir::Span;
+use naga_oil_mini_front::Mini;
 use std::alloc::{AllocError, Global};
 use std::process::Abort;
 use std::test::Fail;
@@ -16,7 +16,7 @@ fn text(alloc: Global, text: &str) -> Result<String, AllocError> {
     String::from_str(alloc, text)
 }
 
-// What an error in the text is told as.
+// The report of an error in the text.
 fn told(alloc: Global, inner: Inner) -> Result<String, AllocError> {
     let (path, source) = (text(alloc, "a.txt")?, text(alloc, TEXT)?);
     let source = ErrSource::Constructing {
@@ -148,7 +148,7 @@ fn tells_what_lines_are_wrong(rt: HostRuntime) -> Result<(), Fail> {
     Ok(())
 }
 
-// Two places, of which one has a text, where the front end says so.
+// Two places of a front end's error, of which one has a text.
 fn spans(alloc: Global) -> Result<Vec<(Span, String)>, AllocError> {
     let called = text(alloc, "call of gX_naga_oil_mod_XNUX")?;
     let mut spans = Vec::new(alloc);
@@ -254,7 +254,7 @@ fn tells_what_overrides_are_wrong(rt: HostRuntime) -> Result<(), Fail> {
     Ok(())
 }
 
-// What is told of a redirection, at the text's start and with a note.
+// The report of a redirection, at the text's start and with a note.
 fn tells_redirection(
     rt: &(impl Abort + AllocGlobal),
     error: RedirectError,

@@ -2,7 +2,7 @@ use naga_oil_lines::comment_strip_iter::CommentReplaceExt;
 use std::alloc::{AllocError, Global};
 use std::test::Fail;
 
-// Adds a covered line, behind those before it.
+// Appends a covered line.
 fn push_line(out: &mut String, line: &str) -> Result<(), AllocError> {
     if !out.is_empty() {
         out.push('\n')?;
@@ -27,7 +27,7 @@ fn is(told: Result<String, AllocError>, want: &str) -> bool {
     }
 }
 
-// Texts, each with what covering makes of it.
+// Texts, each with its expected covered text.
 static COVERED: [(&str, &str); 17] = [
     (
         "1.0 /* block comment with a partial line comment on the end *// 2.0",

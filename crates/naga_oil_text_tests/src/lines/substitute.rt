@@ -5,7 +5,7 @@ use std::alloc::{AllocError, Global};
 use std::test::Fail;
 
 // A text, its offset, the declared keys each with a path, whether a key may have several paths, and what is expected:
-// the text or the fault, and the uses.
+// the text or the error, and the uses.
 struct Row {
     text: &'static str,
     offset: usize,
@@ -118,7 +118,7 @@ fn declared_by(
     Ok(declared)
 }
 
-// What a row's text becomes under what is declared, and what it uses.
+// The text and the uses of a row under its declarations.
 fn told_under(
     alloc: Global,
     declared: &IndexMap<String, Vec<String>>,

@@ -14,7 +14,7 @@ fn shown_directives(
     format!(in alloc; "{cleaned:?} {enables:?} {requires_:?} {diagnostics:?}")
 }
 
-// What is left of a text, and its directives, or else its fault.
+// The rest of a text and its directives, or an error.
 fn shown(alloc: Global, source: &str) -> Result<String, AllocError> {
     match Preprocessor.extract_wgsl_directives(alloc, source) {
         Ok((cleaned, found)) => shown_directives(alloc, cleaned.as_str(), &found),

@@ -1,4 +1,4 @@
-// Each front of a text is preprocessed, and has metadata, or a named fault: texts of other tests, and of naga_oil's own.
+// Each front of a text is preprocessed, and has metadata, or a named error: texts of other tests, and of naga_oil's own.
 use naga_oil_pre::{ComposerErrorInner, Preprocessor};
 use std::alloc::Global;
 use std::collections::BTreeMap;
@@ -66,7 +66,7 @@ static IMPORTS: [&str; 16] = [
     "\n        #import a:b\n    ",
 ];
 
-// What stands around each of the texts `TEXTURES`.
+// The text around each of the texts `TEXTURES`.
 #[rattlefmt::skip]
 static VIEW: &str = "\nstruct View {\n    view_proj: mat4x4<f32>,\n    world_position: vec3<f32>,\n};\n@group(0) @binding(0)\nvar<uniform> view: View;\n";
 
@@ -91,7 +91,7 @@ fn is_named<T: Drop>(answer: Result<T, ComposerErrorInner>) -> bool {
     }
 }
 
-// Whether a text has a value or a named fault, preprocessed without definitions, and its metadata with defines and without.
+// Whether a text has a value or a named error, preprocessed without definitions, and its metadata with defines and without.
 fn is_answered(alloc: Global, text: &str) -> bool {
     let processor = Preprocessor::default();
     let preprocessed = is_named(processor.preprocess(alloc, text, &BTreeMap::new(alloc)));
@@ -130,7 +130,7 @@ fn answers_each_front(rt: HostRuntime) -> Result<(), Fail> {
     answers(rt.alloc(), &IMPORTS)
 }
 
-// Whether each front of a shader is answered that has one of the texts `TEXTURES` in it.
+// Whether each front of a shader that contains one of the texts `TEXTURES` has a value or a named error.
 fn answers_shader(alloc: Global, text: &str) -> bool {
     match format!(in alloc; "{VIEW}{text}{VERTEX}") {
         Ok(shader) => answers_fronts(alloc, shader.as_str()),

@@ -10,7 +10,7 @@ fn shown_data(alloc: Global, found: &PreprocessorMetaData) -> Result<String, All
     format!(in alloc; "{name:?} {imports:?} {defines:?} {effective_defs:?}")
 }
 
-// The metadata of a text, or its fault.
+// The metadata of a text, or its error.
 fn shown(alloc: Global, source: &str, allow_defines: bool) -> Result<String, AllocError> {
     match Preprocessor.get_preprocessor_metadata(alloc, source, allow_defines) {
         Ok(found) => shown_data(alloc, &found),
@@ -91,7 +91,7 @@ fn reads_defines(rt: HostRuntime) -> Result<(), Fail> {
     tells(rt.alloc(), true, &DEFINES)
 }
 
-// The cleaned source of a text and its defines, or its fault.
+// The cleaned source of a text and its defines, or its error.
 fn shown_defines(alloc: Global, source: &str, allow_defines: bool) -> Result<String, AllocError> {
     match Preprocessor.get_preprocessor_defines(alloc, source, allow_defines) {
         Ok((cleaned, defines)) => format!(in alloc; "{cleaned:?} {defines:?}"),
@@ -165,13 +165,13 @@ fn keeps_directives_and_the_cleaned_text(rt: HostRuntime) -> Result<(), Fail> {
     }
 }
 
-// How many imports a text's data has, and whether it has neither a name nor defines.
+// The number of imports in a text's data, and whether the data has neither a name nor defines.
 fn data_of(alloc: Global, source: &str) -> Result<(usize, bool), AllocError> {
     let (name, imports, defines) = get_preprocessor_data(alloc, source)?;
     Ok((imports.len(), name.is_none() && defines.is_empty()))
 }
 
-// How many imports a text's metadata has, or whether its fault is one of an import.
+// The number of imports in a text's metadata, or whether its error is that of an import.
 fn metadata_of(alloc: Global, source: &str) -> Result<usize, bool> {
     match Preprocessor.get_preprocessor_metadata(alloc, source, false) {
         Ok(found) => Ok(found.imports.len()),
@@ -179,7 +179,7 @@ fn metadata_of(alloc: Global, source: &str) -> Result<usize, bool> {
     }
 }
 
-// Whether the text has metadata, or the fault of an import and no data.
+// Whether the text has metadata, or the error of an import and no data.
 fn has_metadata_or_fault(alloc: Global, source: &str) -> bool {
     let Ok((imports, is_bare)) = data_of(alloc, source) else {
         return false;

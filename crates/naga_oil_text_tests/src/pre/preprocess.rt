@@ -5,10 +5,10 @@ use std::test::Fail;
 
 type Definition = (&'static str, ShaderDefValue);
 
-// A text, and what it becomes, where `~` is written for a space, or its fault.
+// A text, and its expected text, with `~` for a space, or its expected error.
 type Row = (&'static str, &'static str);
 
-// A text, what it becomes, and what it uses.
+// A text, its expected text, and its expected uses.
 type UsesRow = (&'static str, &'static str, &'static str);
 
 static NONE: &[Definition] = &[];
@@ -77,7 +77,7 @@ fn preprocessed(
     Preprocessor::default().preprocess(alloc, source, &shader_defs)
 }
 
-// What a text becomes, which is empty or ends in a line end, or its fault, which does not.
+// The preprocessed text, which is empty or ends in a line end, or the error, which does not.
 fn shown(alloc: Global, source: &str, definitions: &[Definition]) -> Result<String, AllocError> {
     match preprocessed(alloc, source, definitions) {
         Ok(output) => output.preprocessed_source.replace(alloc, ' ', "~"),
@@ -92,7 +92,7 @@ fn is(told: Result<String, AllocError>, want: &str) -> bool {
     }
 }
 
-// Under the definitions each text becomes what stands beside it, or has that fault.
+// Under the definitions each text has its expected text or error.
 fn tells(alloc: Global, definitions: &[Definition], rows: &[Row]) -> Result<(), Fail> {
     for (source, want) in rows {
         if !is(shown(alloc, source, definitions), want) {
@@ -305,7 +305,7 @@ fn substitutes_what_imports_declare(rt: HostRuntime) -> Result<(), Fail> {
     Ok(())
 }
 
-// A text of so many calls of an imported function, what it becomes, and what it uses.
+// A text of `count` calls of an imported function, its expected text, and its expected uses.
 fn many_calls(alloc: Global, calls: usize) -> Result<(String, String, String), AllocError> {
     let source = "f()\n".repeat(alloc, calls)?;
     let text = "fX_naga_oil_mod_XMEX()\n".repeat(alloc, calls)?;

@@ -60,7 +60,7 @@ fn padded(alloc: Global, text: &str, size: usize) -> Result<String, AllocError> 
     Ok(line)
 }
 
-// Whether a line becomes this, filled up by spaces to the line's length.
+// Whether the line is replaced by this text, padded with spaces to the line's length.
 fn becomes(
     alloc: Global,
     line: &str,

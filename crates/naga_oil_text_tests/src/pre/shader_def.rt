@@ -1,7 +1,7 @@
 use naga_oil_pre::{ShaderDefValue, defined_value};
 use std::test::Fail;
 
-// The texts behind names, each with the value.
+// The texts after names, each with its value.
 static VALUES: [(Option<&str>, Option<ShaderDefValue>); 11] = [
     (None, Some(ShaderDefValue::Bool(true))),
     (Some("7"), Some(ShaderDefValue::UInt(7))),

@@ -1,7 +1,7 @@
 use Rattle.std.proofs.Common.{◌≡◌, ◌∷◌, sym, ap, ◌∙◌}
 use Rattle.std.specs.String.{string_bytes}
 use Rattle.std.proofs.lemmas.Map.Iter.{rest_more}
-use Rattle.naga_oil_lines.specs.Text.{texts}
+use Rattle.naga_oil_words.specs.Texts.{texts}
 use Rattle.naga_oil_build.specs.Overriding.{overriding_of, overridden_by, with_overriding}
 use Rattle.naga_oil_build.proofs.OverridingLemmas.{over}
 use Rattle.naga_oil_build.proofs.builder.add_overrides.Goals as goal

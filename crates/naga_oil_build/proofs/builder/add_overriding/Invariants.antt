@@ -1,5 +1,5 @@
 use Rattle.std.proofs.Common.{◌≡◌, drop}
-use Rattle.naga_oil_lines.specs.Text.{texts}
+use Rattle.naga_oil_words.specs.Texts.{texts}
 use Rattle.naga_oil_build.specs.Overriding.{overriding_of, overridden_by}
 use Rattle.naga_oil_build.proofs.builder.add_overriding.Given as goal
 

@@ -5,7 +5,7 @@ use Rattle.std.specs.Str.{bytes_eq}
 use Rattle.std.specs.String.{string_bytes}
 use Rattle.std.proofs.lemmas.Iterator.{YieldsList-from_slice}
 use Rattle.std.proofs.lemmas.Iterator.Search.{any_from_yields_List}
-use Rattle.naga_oil_lines.specs.Text.{is_among, texts}
+use Rattle.naga_oil_words.specs.Texts.{is_among, texts}
 use Rattle.naga_oil_build.proofs.OverridingLemmas.{there, not_there, any_among}
 use Rattle.naga_oil_build.proofs.virtuals.add_name.Goals as goal
 

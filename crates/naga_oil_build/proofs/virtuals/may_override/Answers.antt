@@ -1,5 +1,5 @@
 use Rattle.std.proofs.Common.{◌||◌, sym, ap, ◌∙◌}
-use Rattle.naga_oil_lines.specs.Text.{is_among}
+use Rattle.naga_oil_words.specs.Texts.{is_among}
 use Rattle.naga_oil_link.specs.BuiltModule.{built_of}
 use Rattle.naga_oil_registry.proofs.NamesLemmas.{among_texts}
 use Rattle.naga_oil_build.proofs.virtuals.may_override.Goals as goal

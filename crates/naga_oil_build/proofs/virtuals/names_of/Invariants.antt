@@ -1,6 +1,5 @@
 use Rattle.std.proofs.Common.{◌≡◌, map, drop, fold}
-use Rattle.naga_oil_lines.specs.DirectivesText.{with_name}
-use Rattle.naga_oil_lines.specs.Text.{texts}
+use Rattle.naga_oil_words.specs.Texts.{with_name, texts}
 use Rattle.naga_oil_registry.specs.KeywordsView.{marked_of}
 use Rattle.naga_oil_build.specs.Virtuals.{names_of}
 use Rattle.naga_oil_build.proofs.virtuals.names_of.Given as goal

@@ -1,6 +1,6 @@
 use Rattle.std.proofs.Common.{◌+◌, length, ap, ◌∙◌}
 use Rattle.std.proofs.lemmas.Result.{on_ok_weaker}
-use Rattle.naga_oil_marks.specs.Marks.{override_mark}
+use Rattle.naga_oil_words.specs.Marks.{override_mark}
 use Rattle.naga_oil_registry.specs.Keywords.{put}
 use Rattle.naga_oil_build.proofs.virtuals.note_override.Goals as goal
 

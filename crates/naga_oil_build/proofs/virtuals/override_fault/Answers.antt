@@ -2,7 +2,7 @@ use Rattle.std.proofs.Common.{◌≡◌, ◌||◌, true, false, Some, None, opti
 use Rattle.std.specs.String.{string_bytes}
 use Rattle.naga_oil_imports.specs.Uses.{import_of}
 use Rattle.naga_oil_conditions.specs.Fault.{not_virtual}
-use Rattle.naga_oil_lines.specs.Text.{is_among}
+use Rattle.naga_oil_words.specs.Texts.{is_among}
 use Rattle.naga_oil_link.specs.BuiltModule.{built_of, builds_of}
 use Rattle.naga_oil_build.specs.Virtuals.{imported_build, unless_virtual}
 use Rattle.naga_oil_build.proofs.OverridingLemmas.{virtual_there, not_virtual_there}

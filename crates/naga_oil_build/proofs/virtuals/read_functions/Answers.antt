@@ -7,7 +7,7 @@ use Rattle.std.specs.Ordering.{nat_cmp}
 use Rattle.std.specs.String.{string_bytes}
 use Rattle.naga_oil_imports.specs.Uses.{import_of}
 use Rattle.naga_oil_link.specs.BuiltModule.{builds_of}
-use Rattle.naga_oil_lines.specs.Text.{texts}
+use Rattle.naga_oil_words.specs.Texts.{texts}
 use Rattle.naga_oil_registry.specs.Keywords.{covered_text, marked_in, with_edits}
 use Rattle.naga_oil_registry.specs.KeywordsView.{marked_of}
 use Rattle.naga_oil_build.specs.Overriding.{overriding_of}

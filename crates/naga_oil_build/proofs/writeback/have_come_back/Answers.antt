@@ -1,6 +1,6 @@
 use Rattle.std.proofs.Common.{◌≡◌, ◌&&◌, ◌∷◌, Bool, true, false, List, Bor, Option, Some, None, not, is_some, option_map, sym, ap, ◌∙◌, String, Global, string_bytes}
 use Rattle.std.proofs.lemmas.Map.Iter.{rest_more}
-use Rattle.naga_oil_lines.specs.Text.{texts}
+use Rattle.naga_oil_words.specs.Texts.{texts}
 use Rattle.naga_oil_build.specs.Writeback.{NamedItem, have_come_back}
 use Rattle.naga_oil_build.specs.WritebackView.{named_of, held}
 use Rattle.naga_oil_build.specs.declared.writeback.NamedItem.{NamedItem as CodeItem}

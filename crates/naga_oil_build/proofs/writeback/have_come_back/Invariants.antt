@@ -1,5 +1,5 @@
 use Rattle.std.proofs.Common.{◌≡◌}
-use Rattle.naga_oil_lines.specs.Text.{texts}
+use Rattle.naga_oil_words.specs.Texts.{texts}
 use Rattle.naga_oil_build.specs.Writeback.{have_come_back}
 use Rattle.naga_oil_build.specs.WritebackView.{held}
 use Rattle.naga_oil_build.proofs.writeback.have_come_back.Given as goal

@@ -5,7 +5,7 @@ use Rattle.naga_oil_link.specs.Owned.{function_values}
 use Rattle.naga_oil_build.specs.Writeback.{named_functions}
 use Rattle.naga_oil_link.specs.BuiltModule.{built_of}
 use Rattle.naga_oil_link.specs.OwnPlaces.{own_of}
-use Rattle.naga_oil_lines.specs.Text.{texts}
+use Rattle.naga_oil_words.specs.Texts.{texts}
 use Rattle.naga_oil_build.specs.WritebackView.{named_of}
 use Rattle.naga_oil_build.proofs.WritebackLemmas.{seen, same_value, same_among, some_first, none_first, lost-is}
 use Rattle.naga_oil_build.proofs.writeback.lost.Goals as goal

@@ -1,5 +1,5 @@
 use Rattle.std.proofs.Common.{◌≡◌, map, drop}
-use Rattle.naga_oil_lines.specs.Text.{texts}
+use Rattle.naga_oil_words.specs.Texts.{texts}
 use Rattle.naga_oil_build.specs.Writeback.{lost_among}
 use Rattle.naga_oil_build.specs.WritebackView.{named_of, held}
 use Rattle.naga_oil_build.proofs.writeback.lost_among.Given as goal

@@ -1,6 +1,6 @@
 use Rattle.std.proofs.Common.{◌≡◌, map, true, sym, ap, ◌∙◌, List, ℕ, Option}
 use Rattle.naga_oil_ir.specs.ModuleValue.{function_value}
-use Rattle.naga_oil_lines.specs.Text.{texts}
+use Rattle.naga_oil_words.specs.Texts.{texts}
 use Rattle.naga_oil_build.specs.Writeback.{NamedItem, have_come_back, last_named}
 use Rattle.naga_oil_build.specs.WritebackView.{named_of}
 use Rattle.naga_oil_build.proofs.WritebackLemmas.{functions_kept}

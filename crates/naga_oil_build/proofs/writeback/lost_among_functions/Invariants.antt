@@ -1,6 +1,6 @@
 use Rattle.std.proofs.Common.{◌≡◌, map, drop, []}
 use Rattle.naga_oil_ir.specs.ModuleValue.{function_value}
-use Rattle.naga_oil_lines.specs.Text.{texts}
+use Rattle.naga_oil_words.specs.Texts.{texts}
 use Rattle.naga_oil_build.specs.Writeback.{lost_among, named_functions}
 use Rattle.naga_oil_build.specs.WritebackView.{held}
 use Rattle.naga_oil_build.proofs.writeback.lost_among_functions.Given as goal

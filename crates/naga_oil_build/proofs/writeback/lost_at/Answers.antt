@@ -1,7 +1,7 @@
 use Rattle.std.proofs.Common.{◌++◌, append-nil, sym, ap, ◌∙◌}
 use borrow.Author.Tests.{eqb-true}
 use Rattle.std.proofs.lemmas.List.{nil_from_length}
-use Rattle.naga_oil_lines.specs.Text.{texts}
+use Rattle.naga_oil_words.specs.Texts.{texts}
 use Rattle.naga_oil_build.specs.Writeback.{lost_by}
 use Rattle.naga_oil_build.specs.WritebackView.{named_of, held}
 use Rattle.naga_oil_build.proofs.writeback.lost_at.Goals as goal

@@ -1,5 +1,5 @@
 use Rattle.std.proofs.Common.{◌≡◌, true, false, Some, None, option_map, sym, ap, ◌∙◌}
-use Rattle.naga_oil_lines.specs.Text.{is_among, texts}
+use Rattle.naga_oil_words.specs.Texts.{is_among, texts}
 use Rattle.naga_oil_build.specs.Writeback.{lost_of}
 use Rattle.naga_oil_build.specs.WritebackView.{named_of, held}
 use Rattle.naga_oil_registry.proofs.NamesLemmas.{among_texts}

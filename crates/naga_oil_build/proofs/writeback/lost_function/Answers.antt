@@ -1,5 +1,5 @@
 use Rattle.std.proofs.Common.{sym, option_map, string_bytes}
-use Rattle.naga_oil_lines.specs.Text.{texts}
+use Rattle.naga_oil_words.specs.Texts.{texts}
 use Rattle.naga_oil_build.specs.WritebackView.{held}
 use Rattle.naga_oil_build.proofs.WritebackLemmas.{unowned_function}
 use Rattle.naga_oil_build.proofs.writeback.lost_function.Goals as goal

@@ -2,7 +2,7 @@ use Rattle.std.proofs.Common.{◌≡◌, ◌∙◌, ap, sym, subst, All}
 use Rattle.std.proofs.lemmas.List.Elements.{All-push, All-weaker}
 use Rattle.naga_oil_derive.specs.World.{value_of}
 use Rattle.naga_oil_derive.specs.Answered.{import_state, import_callee}
-use Rattle.naga_oil_derive.specs.Pending.{IsPending, IsAnswered, IsAnsweredTo, finish, finish_all}
+use Rattle.naga_oil_derive.specs.Pending.{IsPending, IsAnswered, IsAnsweredTo, complete, complete_all}
 use Rattle.naga_oil_derive.specs.Putting.{Adding}
 use Rattle.naga_oil_derive.proofs.AddingLemmas.{Adding-append, copying_added, names_added}
 use Rattle.naga_oil_derive.proofs.ImportSteps.{on_ok}
@@ -62,5 +62,5 @@ returns-clause-value c =
     let rs = c.open.new.pending.items in
     let g : IsAnsweredTo source own d s c.args.top t q h = subst (IsAnswered source own d s c.args.top t q) c.in-Some.is c.in_ok-called.ensures.answered in
     let x = import_callee q.depth m d t h in
-    let same : finish_all m d x qs ≡ finish_all m d (finish m d s c.args.top) ps = ap (finish_all m d x) c.in_ok-push.ensures.items ∙ finish_last m d x ps q ∙ ap (λ y. finish_all m d y ps) g.value in
-    ok_then c.open.result (λ (e : finish_all m now.maps.offset t rs ≡ finish_all m now.maps.offset (import_callee q.depth m now.maps.offset t h) qs). subst (λ z. finish_all m z t rs ≡ finish_all m z (import_callee q.depth m z t h) qs) c.in_ok-called.ensures.offset e ∙ same) c.open.ensures.value
+    let same : complete_all m d x qs ≡ complete_all m d (complete m d s c.args.top) ps = ap (complete_all m d x) c.in_ok-push.ensures.items ∙ finish_last m d x ps q ∙ ap (λ y. complete_all m d y ps) g.value in
+    ok_then c.open.result (λ (e : complete_all m now.maps.offset t rs ≡ complete_all m now.maps.offset (import_callee q.depth m now.maps.offset t h) qs). subst (λ z. complete_all m z t rs ≡ complete_all m z (import_callee q.depth m z t h) qs) c.in_ok-called.ensures.offset e ∙ same) c.open.ensures.value

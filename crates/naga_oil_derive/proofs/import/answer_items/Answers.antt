@@ -7,7 +7,7 @@ use Rattle.naga_oil_derive.specs.World.{value_of}
 use Rattle.naga_oil_derive.specs.Callees.{callee_at}
 use Rattle.naga_oil_derive.specs.Copied.{CopyState, copy_state, copy_item}
 use Rattle.naga_oil_derive.specs.Answered.{ImportState, import_state, import_callee}
-use Rattle.naga_oil_derive.specs.Pending.{left, finish, call_steps, steps}
+use Rattle.naga_oil_derive.specs.Pending.{left_requests, complete, call_steps, pending_steps}
 use Rattle.naga_oil_derive.specs.Putting.{Adding, NothingAdded}
 use Rattle.naga_oil_derive.specs.declared.import.Pending.{Pending}
 use Rattle.naga_oil_derive.proofs.AddingLemmas.{Adding-append, copying_added, items_added}
@@ -19,7 +19,7 @@ use Rattle.naga_oil_derive.proofs.import.answer_items.Goals as goal
 
 -- a request stands at the place of the next one
 abbrev AsksNext : Pending → Request → Type 0
-AsksNext top q = (top.answered < length top.walk.requests.items) × (q ≡ get_or top.walk.requests.items top.answered q) × (left top ≡ q ∷ left (next top))
+AsksNext top q = (top.answered < length top.walk.requests.items) × (q ≡ get_or top.walk.requests.items top.answered q) × (left_requests top ≡ q ∷ left_requests (next top))
 
 asked : (top : Pending) (xs : List Request) (b : Option (Bor Request)) (o : Option Request) (r q : Request) → xs ≡ top.walk.requests.items → IsItemAt xs top.answered b → o ≡ option_map (λ (y : Bor Request). y.now) b → o ≡ Some r → r ≡ q → AsksNext top q
 asked top xs b o r q e h f g is =
@@ -60,7 +60,7 @@ loop-request-smaller-in-Continue-1 c =
     let top = c.loop-request.top in
     let q : Request = Item c.in-Item.item in
     let a = asked top c.deref.result.now c.get.result c.copied.result c.in-Some.request q c.deref.ensures.value c.get.ensures.lookup c.copied.ensures c.in-Some.is c.in-Item.is in
-    less_by (steps m (next top)) (steps m top) 1 (steps_next m top q a.2) (omega arith)
+    less_by (pending_steps m (next top)) (pending_steps m top) 1 (steps_next m top q a.2) (omega arith)
 
 pub loop-request-preserved-in-Continue-1 : goal.loop-request-preserved-in-Continue-1
 loop-request-preserved-in-Continue-1 c =
@@ -82,8 +82,8 @@ loop-request-preserved-in-Continue-1 c =
     let copied : copy_state new.maps new.target ≡ copy_item m d (copy_state now.maps now.target) p = e.copied ∙ ap (λ z. copy_item m z (copy_state now.maps now.target) p) i.offset in
     record {
       pending = next_pending source own top i.pending;
-      value = ap (λ (y : CopyState). finish m d (record s { copying = y }) (next top)) copied ∙ sym (finish_next m d s top q a.2) ∙ i.value;
-      fewer = no_more (steps m (next top)) (steps m top) 1 (steps m c.args.top.now) (steps_next m top q a.2) i.fewer;
+      value = ap (λ (y : CopyState). complete m d (record s { copying = y }) (next top)) copied ∙ sym (finish_next m d s top q a.2) ∙ i.value;
+      fewer = no_more (pending_steps m (next top)) (pending_steps m top) 1 (pending_steps m c.args.top.now) (steps_next m top q a.2) i.fewer;
       adding = Adding-append i.adding (subst (λ z. Adding m z s u) i.offset (items_added e.putting));
       offset = e.offset ∙ i.offset;
     }
@@ -114,7 +114,7 @@ returns-then-is_none-clause-answered c =
     record {
       answerable = request_asks source own top q i.pending a.0 a.1;
       value = sym (finish_next m d s top q a.2) ∙ i.value;
-      fewer = sum_no_more (steps m (next top)) (steps m top) (call_steps top.depth m k) (steps m c.args.top.now) (steps_next m top q a.2) i.fewer;
+      fewer = sum_no_more (pending_steps m (next top)) (pending_steps m top) (call_steps top.depth m k) (pending_steps m c.args.top.now) (steps_next m top q a.2) i.fewer;
     }
 
 -- ---- a call of one whose name is known
@@ -126,7 +126,7 @@ loop-request-smaller c =
     let k = c.in-Call.handle in
     let q : Request = Call k in
     let a = asked top c.deref.result.now c.get.result c.copied.result c.in-Some.request q c.deref.ensures.value c.get.ensures.lookup c.copied.ensures c.in-Some.is c.in-Call.is in
-    less_by (steps m (next top)) (steps m top) (call_steps top.depth m k) (steps_next m top q a.2) (call_some top.depth m k)
+    less_by (pending_steps m (next top)) (pending_steps m top) (call_steps top.depth m k) (steps_next m top q a.2) (call_some top.depth m k)
 
 pub loop-request-preserved : goal.loop-request-preserved
 loop-request-preserved c =
@@ -145,8 +145,8 @@ loop-request-preserved c =
     let same : s ≡ import_callee top.depth m d s k = known top.depth m d s k (ap is_some (callee_value source own k) ∙ there) in
     record {
       pending = next_pending source own top i.pending;
-      value = ap (λ (u : ImportState). finish m d u (next top)) same ∙ sym (finish_next m d s top q a.2) ∙ i.value;
-      fewer = no_more (steps m (next top)) (steps m top) (call_steps top.depth m k) (steps m c.args.top.now) (steps_next m top q a.2) i.fewer;
+      value = ap (λ (u : ImportState). complete m d u (next top)) same ∙ sym (finish_next m d s top q a.2) ∙ i.value;
+      fewer = no_more (pending_steps m (next top)) (pending_steps m top) (call_steps top.depth m k) (pending_steps m c.args.top.now) (steps_next m top q a.2) i.fewer;
       adding = i.adding;
       offset = i.offset;
     }

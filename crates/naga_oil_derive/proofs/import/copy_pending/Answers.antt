@@ -2,7 +2,7 @@ use Rattle.std.proofs.Common.{◌≡◌, ◌∙◌, Some, refl, ap, sym, subst}
 use Rattle.std.proofs.lemmas.List.Elements.{All-pop}
 use Rattle.naga_oil_derive.specs.World.{value_of}
 use Rattle.naga_oil_derive.specs.Answered.{import_state}
-use Rattle.naga_oil_derive.specs.Pending.{IsPending, finish, finish_all}
+use Rattle.naga_oil_derive.specs.Pending.{IsPending, complete, complete_all}
 use Rattle.naga_oil_derive.specs.Putting.{Adding, NothingAdded}
 use Rattle.naga_oil_derive.proofs.AddingLemmas.{Adding-append, copying_added}
 use Rattle.naga_oil_derive.proofs.PendingLemmas.{finish_last}
@@ -35,9 +35,9 @@ loop-top-preserved c =
     let ps = c.pop.new.self.items in
     let qs = c.advance.new.pending.items in
     let top = c.in-Some.top in
-    let is = subst (λ z. finish_all m z u qs ≡ finish_all m z (finish m z s top) ps) i.offset c.in_ok-advance.ensures.value in
+    let is = subst (λ z. complete_all m z u qs ≡ complete_all m z (complete m z s top) ps) i.offset c.in_ok-advance.ensures.value in
     record {
-      value = is ∙ sym (finish_last m d s ps top) ∙ ap (finish_all m d s) (sym c.in-Some.ensures.items) ∙ i.value;
+      value = is ∙ sym (finish_last m d s ps top) ∙ ap (complete_all m d s) (sym c.in-Some.ensures.items) ∙ i.value;
       adding = Adding-append i.adding (subst (λ z. Adding m z s u) i.offset c.in_ok-advance.ensures.adding);
       offset = c.in_ok-advance.ensures.offset ∙ i.offset;
       pending = c.in_ok-advance.ensures.pending;

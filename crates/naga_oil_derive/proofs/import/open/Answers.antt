@@ -7,7 +7,7 @@ use Rattle.naga_oil_derive.specs.World.{value_of}
 use Rattle.naga_oil_derive.specs.Callees.{known_as, callee_at}
 use Rattle.naga_oil_derive.specs.Answered.{import_state}
 use Rattle.naga_oil_derive.specs.Imported.{IsImportable}
-use Rattle.naga_oil_derive.specs.Pending.{IsPending, finish_all, steps}
+use Rattle.naga_oil_derive.specs.Pending.{IsPending, complete_all, pending_steps}
 use Rattle.naga_oil_walk.proofs.OptionLemmas.{none_of}
 use Rattle.naga_oil_derive.proofs.AnsweredValues.{known, called_fresh}
 use Rattle.naga_oil_derive.proofs.FunctionValues.{callee_value, functions_at, known_same, seen}
@@ -26,7 +26,7 @@ returns-then-is_some-clause-value c =
     let d = c.args.copying.now.maps.offset in
     let s = import_state c.args.copying.now.maps c.args.copying.now.target fs in
     let there : is_some (callee_at fs.names source.functions k) ≡ true = ap is_some (callee_from fs.names source.functions k c.in-Some.callee.now c.in-Some.ensures ∙ sym c.known_as.ensures) ∙ sym c.is_some.ensures ∙ c.if-is_some.true in
-    ap (λ u. finish_all m d u c.args.pending.now.items) (known c.args.depth m d s k (ap is_some (callee_value source fs k) ∙ there))
+    ap (λ u. complete_all m d u c.args.pending.now.items) (known c.args.depth m d s k (ap is_some (callee_value source fs k) ∙ there))
 
 pub returns-then-is_some-clause-fewer : goal.returns-then-is_some-clause-fewer
 returns-then-is_some-clause-fewer c = let h = call_some c.args.depth (value_of c.args.source.now) c.args.handle in omega (arith, h)
@@ -82,7 +82,7 @@ returns-clause-value c =
     let form : IsImportable source own n f = subst (λ x. IsImportable source own x f) same there.3 in
     let called = called_fresh c.args.depth n m maps.offset s k (entry_of (function_value f) span) deep (functions_at source k ∙ ap (option_map seen) at) (sym (known_same own.names f.name) ∙ none) in
     let new = new_finish source c.args.copying.now.target maps own maps.offset n f span p c.requires.ranked c.requires.copying form c.in_ok-added.ensures in
-    ap (finish_all m maps.offset s) c.in_ok-push.ensures.items ∙ finish_last m maps.offset s ps p ∙ ap (λ u. finish_all m maps.offset u ps) (new ∙ sym called)
+    ap (complete_all m maps.offset s) c.in_ok-push.ensures.items ∙ finish_last m maps.offset s ps p ∙ ap (λ u. complete_all m maps.offset u ps) (new ∙ sym called)
 
 pub returns-clause-fewer : goal.returns-clause-fewer
 returns-clause-fewer c =
@@ -100,5 +100,5 @@ returns-clause-fewer c =
     let there = unknown_callee source own c.args.depth k (f, span) unknown at c.requires.answerable.1 in
     let deep : c.args.depth ≡ suc (c.args.depth - 1) = omega (arith, there.1) in
     let less = new_steps source (c.args.depth - 1) c.args.depth k f span p c.in_ok-added.ensures deep at in
-    let all : sum_by (steps m) c.push.new.self.items ≡ sum_by (steps m) ps + steps m p = ap (sum_by (steps m)) c.in_ok-push.ensures.items ∙ sum_by_push (steps m) ps p in
+    let all : sum_by (pending_steps m) c.push.new.self.items ≡ sum_by (pending_steps m) ps + pending_steps m p = ap (sum_by (pending_steps m)) c.in_ok-push.ensures.items ∙ sum_by_push (pending_steps m) ps p in
     omega (arith, less, all)

@@ -7,7 +7,7 @@ use Rattle.std.proofs.lemmas.List.{map_more}
 use Rattle.std.proofs.lemmas.Bool.{false≢true}
 use Rattle.naga_oil_ir.specs.declared.module.EntryPoint.{EntryPoint}
 use Rattle.naga_oil_form.specs.NameForm.{entry_name}
-use Rattle.naga_oil_marks.specs.Marks.{with_decoration}
+use Rattle.naga_oil_words.specs.Marks.{with_decoration}
 use Rattle.naga_oil_form.proofs.NameFormLemmas.{AreSeen, seen_none, seen_push, seen_twice, divided, not_yes, not_no}
 use Rattle.naga_oil_form.proofs.form_names.entries_are_distinct.Goals as goal
 

@@ -1,7 +1,7 @@
 use Rattle.std.proofs.Common.{map, take}
 use Rattle.std.specs.Cow.{cow_str_bytes}
 use Rattle.naga_oil_form.specs.NameForm.{entry_name}
-use Rattle.naga_oil_marks.specs.Marks.{with_decoration}
+use Rattle.naga_oil_words.specs.Marks.{with_decoration}
 use Rattle.naga_oil_form.proofs.NameFormLemmas.{AreSeen}
 use Rattle.naga_oil_form.proofs.form_names.entries_are_distinct.Given as goal
 

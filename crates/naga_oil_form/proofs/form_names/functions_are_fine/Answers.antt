@@ -9,7 +9,7 @@ use Rattle.naga_oil_ir.specs.declared.module.Function.{Function}
 use Rattle.naga_oil_ir.specs.declared.span.Span.{Span}
 use Rattle.naga_oil_form.specs.NameForm.{function_name}
 use Rattle.naga_oil_form.specs.WellFormed.{NamedForm}
-use Rattle.naga_oil_marks.specs.Marks.{with_decoration}
+use Rattle.naga_oil_words.specs.Marks.{with_decoration}
 use Rattle.naga_oil_form.proofs.FormLemmas.{at_place}
 use Rattle.naga_oil_form.proofs.FunctionLemmas.{each_more, each_all, list_form, list_each}
 use Rattle.naga_oil_form.proofs.NameFormLemmas.{AreSeen, seen_none, seen_push, seen_twice, divided, not_yes, not_no}

@@ -4,7 +4,7 @@ use Rattle.naga_oil_ir.specs.declared.module.Function.{Function}
 use Rattle.naga_oil_ir.specs.declared.span.Span.{Span}
 use Rattle.naga_oil_form.specs.NameForm.{function_name}
 use Rattle.naga_oil_form.specs.WellFormed.{NamedForm}
-use Rattle.naga_oil_marks.specs.Marks.{with_decoration}
+use Rattle.naga_oil_words.specs.Marks.{with_decoration}
 use Rattle.naga_oil_form.proofs.NameFormLemmas.{AreSeen}
 use Rattle.naga_oil_form.proofs.form_names.functions_are_fine.Given as goal
 

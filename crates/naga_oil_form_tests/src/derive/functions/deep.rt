@@ -1,7 +1,7 @@
-//! Calls that go deep: a chain of functions, each of which calls the one before it, is copied without the machine's stack.
+//! Deep calls: a chain of functions, each of which calls the one before it, is copied without the machine's stack.
 use super::*;
 
-/// How many functions the chain has.
+/// The number of functions in the chain.
 const LENGTH: usize = 100_000;
 
 fn caller(place: usize, alloc: Global) -> Result<Function, AllocError> {
@@ -31,7 +31,7 @@ fn chain(alloc: Global) -> Result<Module, AllocError> {
     Ok(module)
 }
 
-/// Whether the last function of the chain is copied last, behind all the others.
+/// Whether the last function of the chain is copied last, after all the others.
 fn is_copied(source: &Module, alloc: Global) -> bool {
     let mut derived = DerivedModule::new(alloc);
     is_set(&mut derived, source, 0, 1, alloc)

@@ -58,7 +58,7 @@ fn enters(source: &Module, alloc: Global) -> Option<bool> {
     is_entered(&module)
 }
 
-/// Whether one of so many calls makes the module.
+/// Whether one of `tries` calls makes the module.
 fn is_module(source: &Module, tries: usize, alloc: Global) -> bool {
     for _ in 0..tries {
         if let Some(is_so) = enters(source, alloc) {

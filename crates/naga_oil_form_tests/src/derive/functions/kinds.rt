@@ -14,7 +14,7 @@ use std::test::Fail;
 
 const NONE: Span = Span::UNDEFINED;
 
-/// Where each expression of the test's function goes, by hand: in the order in which its body first reaches them.
+/// The expected place of each expression of the test's function: in the order in which its body first uses them.
 static TO: [usize; 33] = [
     2, 4, 8, 9, 3, 7, 0, 1, 5, 6, 10, 11, 12, 14, 15, 16, 17, 18, 19, 20, 21, 22, 23, 24, 25, 26,
     27, 28, 29, 30, 31, 32, 13,
@@ -513,7 +513,7 @@ fn codes(block: &Block, alloc: Global) -> Result<Vec<[usize; 4]>, AllocError> {
     Ok(list)
 }
 
-/// Whether an expression stands where it does by hand.
+/// Whether an expression is at its expected place.
 fn is_by_hand(copy: &Function, kind: usize, by_hand: Maker) -> Result<bool, AllocError> {
     let expected = by_hand.expression(kind)?;
     match copy.expressions.try_get(by_hand.at(kind)) {
@@ -560,7 +560,7 @@ fn counts(module: &Module) -> [usize; 4] {
     ]
 }
 
-/// Whether the copy of the second function of the module with each kind stands as it was written by hand.
+/// Whether the copy of the second function of the module with each kind is the expected one.
 fn is_copied(module: &Module, alloc: Global) -> Result<bool, AllocError> {
     let by_hand = Maker {
         copied: true,

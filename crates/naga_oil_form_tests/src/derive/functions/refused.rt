@@ -1,4 +1,4 @@
-//! Where memory is refused, an answer is the one with ample memory, or want of memory, and each function that was there keeps
+//! Where memory is refused, a result is that with ample memory, or out of memory, and each function that was there keeps
 //! its handle. So these tests pass whichever one allocation is refused. They are to be run with the first allocation refused,
 //! then with the second, and so on until no test comes to the one that is refused.
 use super::entered::is_entry;

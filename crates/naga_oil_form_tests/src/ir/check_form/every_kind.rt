@@ -44,7 +44,7 @@ fn composed(alloc: Global) -> Result<Expression, AllocError> {
     Ok(Expression::Compose { ty, components })
 }
 
-/// Parts of values, and what stands in memory.
+/// Parts of values, and items in memory.
 fn part_of(kind: u64, at: Operand) -> Expression {
     match kind {
         14 => Expression::Access {

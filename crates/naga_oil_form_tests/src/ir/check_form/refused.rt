@@ -1,4 +1,4 @@
-//! Where memory is refused, an answer is the one with ample memory, or want of memory. So these tests pass whichever
+//! Where memory is refused, a result is that with ample memory, or out of memory. So these tests pass whichever
 //! allocation is refused.
 use super::every_kind::{EVERY, EXPRESSIONS, STATEMENTS, block, expression_of, statement_of};
 use super::{Added, Case, Entered, Entry, G, SMALL, Shape, Shaped, Special, is_taken};
@@ -18,7 +18,7 @@ static PARTS: [Case; 6] = [
     (&[Added::Override, Added::Global, EVERY_FUNCTION], "", true),
 ];
 
-/// Whether the test of form tells of a case as it should, or want of memory.
+/// Whether the test of form has the expected result of a case, or is out of memory.
 fn is_part_told(case: Case, alloc: Global) -> bool {
     let (items, decoration, should) = case;
     match is_taken(&SMALL, items, decoration, alloc) {
@@ -34,7 +34,7 @@ fn a_refused_test_of_form_takes_no_other_module(rt: HostRuntime) {
     }
 }
 
-/// Whether an expression is read as one of a kind, or want of memory.
+/// Whether an expression is read as one of a kind, or memory ran out.
 fn is_read_as(expression: &Expression, kind: u64, alloc: Global) -> bool {
     match expression.parts(alloc) {
         Ok(parts) => parts.kind == kind,
@@ -42,7 +42,7 @@ fn is_read_as(expression: &Expression, kind: u64, alloc: Global) -> bool {
     }
 }
 
-/// Whether the expression of a kind is read as one of it, or want of memory.
+/// Whether the expression of a kind is read as one of that kind, or memory ran out.
 fn is_expression_read(kind: u64, alloc: Global) -> bool {
     match expression_of(kind, 0, alloc) {
         Ok(expression) => is_read_as(&expression, kind, alloc),
@@ -62,7 +62,7 @@ fn begin_as(tokens: &[Token], kind: u64) -> bool {
     matches!(tokens.get(1), Some(Token::Head(told)) if *told == kind)
 }
 
-/// Whether the tokens of a block begin as those of a statement of a kind, or want of memory.
+/// Whether the tokens of a block begin as those of a statement of a kind, or memory ran out.
 fn is_of_kind(block: &Block, kind: u64, alloc: Global) -> bool {
     let mut tokens = Vec::new(alloc);
     push_block(block, &mut tokens).is_err() || begin_as(&tokens, kind)
@@ -72,7 +72,7 @@ fn block_of(kind: u64, alloc: Global) -> Result<Block, AllocError> {
     block(statement_of(kind, alloc)?, alloc)
 }
 
-/// Whether the statement of a kind is read as one of it, or want of memory.
+/// Whether the statement of a kind is read as one of that kind, or memory ran out.
 fn is_statement_read(kind: u64, alloc: Global) -> bool {
     match block_of(kind, alloc) {
         Ok(block) => is_of_kind(&block, kind, alloc),

@@ -6,7 +6,7 @@ use Rattle.naga_oil_lines.specs.Decorate.{bits, value_of, bytes_of}
 use Rattle.naga_oil_lines.proofs.Base32Lemmas.{letter_behind, no_byte}
 use Rattle.naga_oil_lines.proofs.decorate.base32_bytes.Goals as goal
 
--- the bits that are left, and those of the letter at a place, before those of the letters behind it
+-- the bits that are left, and those of the letter at a place, before those of the later letters
 next_letter : (code : List ℕ) (i count pending letter v : ℕ) → count < 8 → i < length code → letter ≡ get_or code i 0 → v ≡ value_of letter
     → bits (count + 5) (pending % 256 * 32 + v % 32) ++ flat_map (λ c. bits 5 (value_of c)) (drop (i + 1) code) ≡ bits count pending ++ flat_map (λ c. bits 5 (value_of c)) (drop i code)
 next_letter code i count pending letter v few within is read =

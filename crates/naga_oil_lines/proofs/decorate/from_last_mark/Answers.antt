@@ -6,7 +6,7 @@ use Rattle.std.proofs.lemmas.Str.{chars-nil}
 use Rattle.std.proofs.lemmas.List.{nil_from_length}
 use Rattle.naga_oil_lines.proofs.TokenLemmas.{suffix_more}
 use Rattle.naga_oil_lines.proofs.UndecorateLemmas.{mark_here, no_mark_here, none_marked, from_last_mark-first, read_is_some, spelled_module_mark}
-use Rattle.naga_oil_marks.specs.Marks.{module_mark}
+use Rattle.naga_oil_words.specs.Marks.{module_mark}
 use Rattle.naga_oil_lines.specs.Undecorate.{mark_code}
 use Rattle.naga_oil_lines.proofs.decorate.from_last_mark.Goals as goal
 

@@ -7,7 +7,7 @@ use Rattle.naga_oil_lines.specs.Decorate.{bits, letters}
 use Rattle.naga_oil_lines.proofs.Base32Lemmas.{bits_behind, last_letter}
 use Rattle.naga_oil_lines.proofs.decorate.push_base32.Goals as goal
 
--- the bits that are left, and those of the byte at a place, before those of the bytes behind it
+-- the bits that are left, and those of the byte at a place, before those of the later bytes
 next_byte : (bytes : List ℕ) (i count pending byte : ℕ) → count < 5 → byte < 256 → i < length bytes → byte ≡ get_or bytes i 0
     → bits (count + 8) (pending % 32 * 256 + byte) ++ flat_map (bits 8) (drop (i + 1) bytes) ≡ bits count pending ++ flat_map (bits 8) (drop i bytes)
 next_byte bytes i count pending byte few fits within is =
@@ -25,7 +25,7 @@ loop-byte-preserved c =
       few = c.in_ok-count.ensures.few;
     }
 
--- behind the last byte the bits that are left make the last letter
+-- after the last byte, the bits that are left make the last letter
 at_end : (out goal bytes : List ℕ) (i count pending : ℕ) → length bytes ≤ i → out ++ letters (bits count pending ++ flat_map (bits 8) (drop i bytes)) ≡ goal → out ++ letters (bits count pending ++ []) ≡ goal
 at_end out goal bytes i count pending le h = ap (λ l. out ++ letters (bits count pending ++ flat_map (bits 8) l)) (sym (drop_all i bytes le)) ∙ h
 

@@ -3,7 +3,7 @@ use Rattle.naga_oil_lines.specs.Decorate.{bits, bytes_of}
 use Rattle.naga_oil_lines.proofs.Base32Lemmas.{bytes_step}
 use Rattle.naga_oil_lines.proofs.decorate.push_byte.Goals as goal
 
--- one byte more is pushed, and eight bits fewer are left
+-- one more byte is written, and eight bits fewer are left
 pushed_byte : (old new : List ℕ) (count v byte : ℕ) (more : List ℕ) → 8 ≤ count → new ≡ old ++ byte ∷ [] → byte ≡ v / 2 ^ (count - 8) % 256
     → new ++ bytes_of (bits (count - 8) v ++ more) ≡ old ++ bytes_of (bits count v ++ more)
 pushed_byte old new count v byte more le is byte_is =

@@ -4,7 +4,7 @@ use Rattle.naga_oil_lines.specs.Decorate.{bits, letter, letters}
 use Rattle.naga_oil_lines.proofs.Base32Lemmas.{letters_step}
 use Rattle.naga_oil_lines.proofs.decorate.push_groups.Goals as goal
 
--- one letter more is pushed, and five bits fewer are left
+-- one more letter is written, and five bits fewer are left
 pushed_more : (out new goal : List ℕ) (left count v ch : ℕ) (more : List ℕ) → 5 ≤ left → new ≡ out ++ ch ∷ [] → ch ≡ letter (v / 2 ^ (left - 5) % 32)
     → out ++ letters (bits left v ++ more) ≡ goal → new ++ letters (bits (left - 5) v ++ more) ≡ goal
 pushed_more out new goal left count v ch more le is letter_is before =

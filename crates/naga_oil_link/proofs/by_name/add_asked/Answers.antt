@@ -6,7 +6,7 @@ use Rattle.std.specs.BTreeSet.{insert_key}
 use Rattle.std.specs.List.{flat_map}
 use Rattle.std.specs.Ordering.{nat_cmp}
 use Rattle.std.specs.Vec.{vec_len}
-use Rattle.naga_oil_lines.specs.Text.{texts}
+use Rattle.naga_oil_words.specs.Texts.{texts}
 use Rattle.naga_oil_link.specs.ByName.{with_places, places_named, listed_names}
 use Rattle.naga_oil_link.specs.Linked.{decorated_names}
 use Rattle.naga_oil_link.proofs.IndexLemmas.{nothing_named}

@@ -1,6 +1,6 @@
 use Rattle.std.proofs.Common.{◌≡◌, ◌++◌, drop, map}
 use Rattle.std.specs.List.{flat_map}
-use Rattle.naga_oil_lines.specs.Text.{texts}
+use Rattle.naga_oil_words.specs.Texts.{texts}
 use Rattle.naga_oil_link.specs.ByName.{places_named, with_places, listed_names, MayStart}
 use Rattle.naga_oil_link.specs.Linked.{decorated_names}
 use Rattle.naga_oil_link.proofs.by_name.add_asked.Given as goal

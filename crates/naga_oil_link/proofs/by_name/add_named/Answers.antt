@@ -5,7 +5,7 @@ use Rattle.std.specs.BTreeSet.{insert_key}
 use Rattle.std.specs.List.{flat_map}
 use Rattle.std.specs.Ordering.{nat_cmp}
 use Rattle.naga_oil_link.specs.ByName.{with_places, places_named, listed_names}
-use Rattle.naga_oil_lines.specs.Text.{texts}
+use Rattle.naga_oil_words.specs.Texts.{texts}
 use Rattle.naga_oil_link.proofs.by_name.add_named.Goals as goal
 
 pub loop-name-preserved : goal.loop-name-preserved

@@ -1,7 +1,7 @@
 use Rattle.std.proofs.Common.{◌≡◌, ℕ, nat_eq, Bool, true, List, [], ◌∷◌, ◌&&◌, if◌then◌else◌, sym, ap, ◌∙◌, String, Global, string_bytes}
 use Rattle.std.proofs.lemmas.Map.Iter.{rest_more}
 use Rattle.std.specs.List.{ends_with, list_all}
-use Rattle.naga_oil_lines.specs.Text.{texts}
+use Rattle.naga_oil_words.specs.Texts.{texts}
 use Rattle.naga_oil_link.specs.CopiedBuild.{ending_of}
 use Rattle.naga_oil_link.proofs.copied.ending_of.Goals as goal
 

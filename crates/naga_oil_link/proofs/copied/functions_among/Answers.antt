@@ -4,7 +4,7 @@ use Rattle.std.proofs.lemmas.List.Elements.{All-push}
 use Rattle.naga_oil_ir.specs.ModuleValue.{FunctionValue}
 use Rattle.naga_oil_ir.specs.declared.module.Function.{Function}
 use Rattle.naga_oil_ir.specs.declared.span.Span.{Span}
-use Rattle.naga_oil_lines.specs.Text.{texts}
+use Rattle.naga_oil_words.specs.Texts.{texts}
 use Rattle.naga_oil_link.specs.CopiedBuild.{has_name_among}
 use Rattle.naga_oil_link.specs.CopySources.{IsFunctionOf, shown_function, shown_functions}
 use Rattle.naga_oil_link.proofs.CopiedLemmas.{passing_more, passing_left}

@@ -1,5 +1,5 @@
 use Rattle.std.proofs.Common.{◌≡◌, All, take}
-use Rattle.naga_oil_lines.specs.Text.{texts}
+use Rattle.naga_oil_words.specs.Texts.{texts}
 use Rattle.naga_oil_link.specs.CopiedBuild.{functions_among}
 use Rattle.naga_oil_link.specs.CopySources.{IsFunctionOf, shown_functions}
 use Rattle.naga_oil_link.specs.Owned.{function_values}

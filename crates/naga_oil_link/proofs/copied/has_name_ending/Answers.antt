@@ -1,6 +1,6 @@
 use Rattle.std.proofs.Common.{◌≡◌, nat_eq, false, sym, ap, ◌∙◌}
 use Rattle.std.specs.List.{ends_with}
-use Rattle.naga_oil_lines.specs.Text.{texts}
+use Rattle.naga_oil_words.specs.Texts.{texts}
 use Rattle.naga_oil_link.specs.CopiedBuild.{has_name_among}
 use Rattle.naga_oil_link.proofs.NamesLemmas.{among_texts, ends_apart}
 use Rattle.naga_oil_link.proofs.copied.has_name_ending.Goals as goal

@@ -1,7 +1,7 @@
 use Rattle.std.proofs.Common.{◌≡◌, ◌∷◌, sym, ap, ◌∙◌}
 use Rattle.std.proofs.lemmas.Map.Iter.{rest_more}
 use Rattle.std.proofs.lemmas.Slice.Eq.{bytes_eq-Decides}
-use Rattle.naga_oil_lines.specs.Text.{is_among, texts}
+use Rattle.naga_oil_words.specs.Texts.{is_among, texts}
 use Rattle.naga_oil_link.specs.CopiedBuild.{has_name_among}
 use Rattle.naga_oil_link.proofs.NamesLemmas.{among_texts, first_among, left_among}
 use Rattle.naga_oil_link.proofs.copied.has_name_next.Goals as goal

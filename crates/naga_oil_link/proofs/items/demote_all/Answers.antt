@@ -3,8 +3,7 @@ use Rattle.std.proofs.lemmas.Bool.Decides.{nat_tests}
 use Rattle.std.specs.List.{flat_map}
 use Rattle.std.specs.Vec.Iter.{into_iter_items}
 use Rattle.naga_oil_ir.specs.ModuleValue.{entry_value}
-use Rattle.naga_oil_lines.specs.DirectivesText.{with_name}
-use Rattle.naga_oil_lines.specs.Text.{texts}
+use Rattle.naga_oil_words.specs.Texts.{with_name, texts}
 use Rattle.naga_oil_link.specs.Owned.{demoted, function_names, function_values}
 use Rattle.naga_oil_link.proofs.OwnedLemmas.{demoted-last, demoted-more, demoted-noted, demoted-in_order}
 use Rattle.naga_oil_link.proofs.items.demote_all.Goals as goal

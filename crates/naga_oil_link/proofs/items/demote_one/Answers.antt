@@ -2,8 +2,7 @@ use Rattle.std.proofs.Common.{◌++◌, ◌∷◌, [], ◌∙◌, ap, sym, appen
 use Rattle.std.proofs.lemmas.List.{map-append}
 use Rattle.naga_oil_ir.specs.ModuleValue.{entry_value, function_value}
 use Rattle.naga_oil_ir.specs.Spans.{undefined}
-use Rattle.naga_oil_lines.specs.DirectivesText.{with_name}
-use Rattle.naga_oil_lines.specs.Text.{texts}
+use Rattle.naga_oil_words.specs.Texts.{with_name, texts}
 use Rattle.naga_oil_link.specs.Owned.{demoted_name, function_names, function_values}
 use Rattle.naga_oil_link.proofs.NamesLemmas.{bytes-insert}
 use Rattle.naga_oil_link.proofs.OwnedLemmas.{demoted-none, demoted-one, is_known}

@@ -1,8 +1,7 @@
 use Rattle.std.proofs.Common.{[], ◌∙◌, ap, sym, fold, arith}
 use Rattle.std.proofs.lemmas.List.{drop_all}
 use Rattle.naga_oil_ir.specs.ModuleValue.{function_value}
-use Rattle.naga_oil_lines.specs.DirectivesText.{with_name}
-use Rattle.naga_oil_lines.specs.Text.{texts}
+use Rattle.naga_oil_words.specs.Texts.{with_name, texts}
 use Rattle.naga_oil_link.specs.Owned.{function_names, function_values, with_text}
 use Rattle.naga_oil_link.proofs.OwnedLemmas.{named-more, names-begin}
 use Rattle.naga_oil_link.proofs.items.function_names.Goals as goal

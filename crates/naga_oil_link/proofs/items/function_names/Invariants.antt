@@ -1,6 +1,5 @@
 use Rattle.std.proofs.Common.{◌≡◌, drop, fold}
-use Rattle.naga_oil_lines.specs.DirectivesText.{in_order, with_name}
-use Rattle.naga_oil_lines.specs.Text.{texts}
+use Rattle.naga_oil_words.specs.Texts.{in_order, with_name, texts}
 use Rattle.naga_oil_link.specs.Owned.{function_names, function_values}
 use Rattle.naga_oil_link.proofs.items.function_names.Given as goal
 

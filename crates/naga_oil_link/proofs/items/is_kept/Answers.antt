@@ -1,5 +1,5 @@
 use Rattle.std.proofs.Common.{◌||◌, ap, ◌∙◌}
-use Rattle.naga_oil_lines.specs.Text.{is_among, texts}
+use Rattle.naga_oil_words.specs.Texts.{is_among, texts}
 use Rattle.naga_oil_link.proofs.NamesLemmas.{among_texts}
 use Rattle.naga_oil_link.proofs.items.is_kept.Goals as goal
 

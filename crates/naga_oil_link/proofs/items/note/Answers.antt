@@ -1,6 +1,5 @@
 use Rattle.std.proofs.Common.{◌≡◌, ap, sym, ◌∙◌, option_map, string_bytes, rules}
-use Rattle.naga_oil_lines.specs.DirectivesText.{with_name}
-use Rattle.naga_oil_lines.specs.Text.{texts}
+use Rattle.naga_oil_words.specs.Texts.{with_name, texts}
 use Rattle.naga_oil_link.specs.Owned.{with_text}
 use Rattle.naga_oil_link.proofs.NamesLemmas.{bytes-insert}
 use Rattle.naga_oil_link.proofs.items.note.Goals as goal

@@ -1,5 +1,5 @@
 use Rattle.std.proofs.Common.{◌≡◌, ◌++◌, map, fold, take, drop}
-use Rattle.naga_oil_lines.specs.Text.{texts}
+use Rattle.naga_oil_words.specs.Texts.{texts}
 use Rattle.naga_oil_link.specs.Owned.{constant_rows, is_own_name, item_names, owned_item, with_owned}
 use Rattle.naga_oil_link.proofs.ByNameLemmas.{places_before}
 use Rattle.naga_oil_link.proofs.items.own_constants.Given as goal

@@ -1,6 +1,6 @@
 use Rattle.std.proofs.Common.{◌∙◌, get_or, arith}
 use Rattle.naga_oil_ir.specs.ModuleValue.{function_value}
-use Rattle.naga_oil_lines.specs.Text.{texts}
+use Rattle.naga_oil_words.specs.Texts.{texts}
 use Rattle.naga_oil_link.specs.Owned.{owned_function, with_owned}
 use Rattle.naga_oil_link.proofs.OwnedLemmas.{changed-more, folded-more, function_owned}
 use Rattle.naga_oil_link.proofs.items.own_functions.Goals as goal

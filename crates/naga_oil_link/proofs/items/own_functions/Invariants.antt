@@ -1,5 +1,5 @@
 use Rattle.std.proofs.Common.{◌≡◌, ◌++◌, map, fold, take, drop}
-use Rattle.naga_oil_lines.specs.Text.{texts}
+use Rattle.naga_oil_words.specs.Texts.{texts}
 use Rattle.naga_oil_link.specs.Owned.{function_values, function_texts, owned_function, with_owned}
 use Rattle.naga_oil_link.proofs.items.own_functions.Given as goal
 

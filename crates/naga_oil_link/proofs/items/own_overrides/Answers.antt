@@ -2,7 +2,7 @@ use Rattle.std.proofs.Common.{◌≡◌, ◌+◌, length, get_or, ap, sym, ◌�
 use Rattle.std.proofs.lemmas.List.{drop-set-lt}
 use Rattle.std.proofs.lemmas.Grind.{drop_more_same}
 use Rattle.naga_oil_ir.specs.Rows.{override_row}
-use Rattle.naga_oil_lines.specs.Text.{texts}
+use Rattle.naga_oil_words.specs.Texts.{texts}
 use Rattle.naga_oil_link.specs.Owned.{is_own_name, owned_item, with_owned}
 use Rattle.naga_oil_link.proofs.OwnedLemmas.{changed-more, folded-more, override_owned}
 use Rattle.naga_oil_link.proofs.PlaceLemmas.{item_put, item_left, items_ended}

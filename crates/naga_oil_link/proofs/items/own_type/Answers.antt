@@ -1,6 +1,5 @@
 use Rattle.std.proofs.Common.{◌≡◌, ◌++◌, true, false, if◌then◌else◌, Some, option_map, ap, sym, ◌∙◌, string_bytes}
-use Rattle.naga_oil_lines.specs.DirectivesText.{with_name}
-use Rattle.naga_oil_lines.specs.Text.{texts}
+use Rattle.naga_oil_words.specs.Texts.{with_name, texts}
 use Rattle.naga_oil_link.specs.Owned.{is_own_type, with_own_type}
 use Rattle.naga_oil_link.proofs.NamesLemmas.{bytes-insert}
 use Rattle.naga_oil_link.proofs.OwnedLemmas.{type-own}

@@ -1,7 +1,7 @@
 use Rattle.std.proofs.Common.{◌≡◌, ◌+◌, Some, drop, fold, length, option_map, slice_get, string_bytes, refl, ap, sym, ◌∙◌, arith}
 use Rattle.std.proofs.lemmas.Option.{slice_get_read}
 use Rattle.naga_oil_ir.specs.ModuleValue.{module_value}
-use Rattle.naga_oil_lines.specs.Text.{texts}
+use Rattle.naga_oil_words.specs.Texts.{texts}
 use Rattle.naga_oil_link.specs.Owned.{is_own_type, item_names, with_own_type}
 use Rattle.naga_oil_link.proofs.ByNameLemmas.{place_left, place_put}
 use Rattle.naga_oil_link.proofs.PlaceLemmas.{type_named, types_left}

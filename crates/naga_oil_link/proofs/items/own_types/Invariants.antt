@@ -1,6 +1,6 @@
 use Rattle.std.proofs.Common.{◌≡◌, drop, fold}
 use Rattle.naga_oil_ir.specs.ModuleValue.{module_value}
-use Rattle.naga_oil_lines.specs.Text.{texts}
+use Rattle.naga_oil_words.specs.Texts.{texts}
 use Rattle.naga_oil_link.specs.Owned.{is_own_type, item_names, with_own_type}
 use Rattle.naga_oil_link.proofs.ByNameLemmas.{places_before}
 use Rattle.naga_oil_link.proofs.items.own_types.Given as goal

@@ -1,9 +1,8 @@
 use Rattle.std.proofs.Common.{◌≡◌, drop, fold}
 use Rattle.std.specs.List.{filter_map}
 use Rattle.naga_oil_ir.specs.ModuleValue.{module_value}
-use Rattle.naga_oil_lines.specs.DirectivesText.{in_order, with_name}
+use Rattle.naga_oil_words.specs.Texts.{in_order, with_name, texts}
 use Rattle.naga_oil_link.specs.Owned.{special_names}
-use Rattle.naga_oil_lines.specs.Text.{texts}
 use Rattle.naga_oil_link.specs.Places.{name_in}
 use Rattle.naga_oil_link.proofs.items.special_names.Given as goal
 

@@ -1,7 +1,6 @@
 use Rattle.std.proofs.Common.{◌≡◌, ◌+◌, List, ◌∷◌, drop, fold, sym, ap, ◌∙◌, rules, String, Global}
 use Rattle.std.specs.String.{string_bytes}
-use Rattle.naga_oil_lines.specs.DirectivesText.{with_name}
-use Rattle.naga_oil_lines.specs.Text.{texts}
+use Rattle.naga_oil_words.specs.Texts.{with_name, texts}
 use Rattle.naga_oil_link.proofs.LinkedLemmas.{next_item}
 use Rattle.naga_oil_link.proofs.NamesLemmas.{bytes-insert}
 use Rattle.naga_oil_link.proofs.link.add_names.Goals as goal

@@ -3,7 +3,7 @@ use Rattle.std.proofs.lemmas.Option.{slice_get-get_or, slice_get-map}
 use Rattle.naga_oil_ir.specs.ModuleValue.{FunctionValue, function_value}
 use Rattle.naga_oil_ir.specs.declared.module.Function.{Function}
 use Rattle.naga_oil_ir.specs.declared.span.Span.{Span}
-use Rattle.naga_oil_lines.specs.Text.{is_among}
+use Rattle.naga_oil_words.specs.Texts.{is_among}
 use Rattle.naga_oil_link.specs.BuiltModule.{built_of}
 use Rattle.naga_oil_link.specs.Linked.{passes, link_function}
 use Rattle.naga_oil_link.proofs.LinkedLemmas.{made_there, same_test}

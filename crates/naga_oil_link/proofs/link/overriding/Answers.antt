@@ -2,9 +2,8 @@ use Rattle.std.proofs.Common.{◌≡◌, List, ◌∷◌, fold, sym, ap, ◌∙�
 use Rattle.std.proofs.lemmas.List.Sums.{fold-append}
 use Rattle.std.proofs.lemmas.Map.Iter.{rest_more}
 use Rattle.std.specs.List.{flat_map}
-use Rattle.naga_oil_lines.specs.DirectivesText.{with_name, in_order}
+use Rattle.naga_oil_words.specs.Texts.{with_name, in_order, texts}
 use Rattle.naga_oil_link.specs.BuiltModule.{built_of}
-use Rattle.naga_oil_lines.specs.Text.{texts}
 use Rattle.naga_oil_link.specs.Linked.{overriding_names}
 use Rattle.naga_oil_link.proofs.LinkedLemmas.{names_by_entry}
 use Rattle.naga_oil_link.proofs.link.overriding.Goals as goal

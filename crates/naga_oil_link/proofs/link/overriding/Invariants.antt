@@ -1,8 +1,7 @@
 use Rattle.std.proofs.Common.{◌≡◌, fold}
 use Rattle.std.specs.List.{flat_map}
-use Rattle.naga_oil_lines.specs.DirectivesText.{with_name, in_order}
+use Rattle.naga_oil_words.specs.Texts.{with_name, in_order, texts}
 use Rattle.naga_oil_link.specs.BuiltModule.{built_of}
-use Rattle.naga_oil_lines.specs.Text.{texts}
 use Rattle.naga_oil_link.specs.Linked.{overriding_names}
 use Rattle.naga_oil_link.proofs.link.overriding.Given as goal
 

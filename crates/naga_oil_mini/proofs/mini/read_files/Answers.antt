@@ -7,11 +7,11 @@ use Rattle.std.proofs.lemmas.Grind.{common_steps}
 use Rattle.std.proofs.lemmas.List.Elements.{Contains-get_or}
 use Rattle.std.proofs.lemmas.List.{length-map}
 use Rattle.std.proofs.lemmas.Result.{err_from_is_err_and}
-use Rattle.naga_oil_symbols.specs.Names.{texts_of}
+use Rattle.naga_oil_mini_symbols.specs.Names.{texts_of}
 use Rattle.naga_oil_mini.specs.declared.mini.refusal.Refusal.TheVariants.{CannotRead}
 use Rattle.naga_oil_mini.proofs.mini.read_files.Goals as goal
 
--- a file stands among the texts of all
+-- a file is among the texts of all
 stands : (files : List (Bor (List ℕ))) (i : ℕ) (d : Bor (List ℕ)) → i < length files → Contains (texts_of files) (get_or files i d).now
 stands [] i d h = absurd (omega arith)
 stands (f ∷ fs) zero d h = (0, omega arith, refl)

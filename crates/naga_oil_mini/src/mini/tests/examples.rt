@@ -1,4 +1,4 @@
-// The examples print what stands beside them.
+// The examples print their expected texts.
 use super::projects::answers;
 use std::test::Fail;
 

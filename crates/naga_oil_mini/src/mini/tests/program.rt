@@ -1,4 +1,4 @@
-// The words that the program answers beside those of `oil`.
+// The requests that `oil` itself doesn't take.
 use super::{Page, USAGE, file, words_of};
 use crate::mini::help::{HELP, VERSION};
 use crate::mini::program;
@@ -6,7 +6,7 @@ use std::alloc::AllocError;
 use std::process::Abort;
 use std::test::Fail;
 
-// The program answers so.
+// The program has this outcome.
 fn answers(
     rt: &(impl Abort + AllocGlobal),
     line: &str,
@@ -50,7 +50,7 @@ fn tells_of_itself(rt: HostRuntime) -> Result<(), Fail> {
     Ok(())
 }
 
-// What `oil` understands is what it was: these words are files.
+// `oil` itself is unchanged: these words are files.
 #[test]
 fn takes_its_options_as_files(rt: HostRuntime) -> Result<(), Fail> {
     for (line, err) in [

@@ -1,4 +1,4 @@
-// Shaders made of files: each answer of `oil make`.
+// Shaders that are built from files: the outcomes of `oil make`.
 use super::{Page, USAGE, words_of};
 use crate::mini::oil;
 use std::alloc::{AllocError, Global};
@@ -15,7 +15,7 @@ fn found(alloc: Global, files: &[(&str, &str)], name: &str) -> Result<Option<Vec
     Ok(None)
 }
 
-// `oil` answers so over these files.
+// `oil` has this outcome over these files.
 pub(super) fn answers(
     rt: &(impl Abort + AllocGlobal),
     line: &str,
@@ -135,7 +135,7 @@ entry main = fX_naga_oil_vrt_XMEXX_naga_oil_mod_XMIX(5)
     Ok(())
 }
 
-// Behind a file the option is the name of a file, as for `pre`.
+// After a file the option is the name of a file, as for `pre`.
 #[test]
 fn takes_the_option_right_behind_make(rt: HostRuntime) -> Result<(), Fail> {
     let unread = "cannot read --override-any\n";
@@ -254,7 +254,7 @@ fn tells_faults_of_texts(rt: HostRuntime) -> Result<(), Fail> {
     Ok(())
 }
 
-// Two functions of one name, and two entry points of one.
+// Two functions with the same name, and two entry points with the same name.
 #[test]
 fn tells_modules_of_wrong_form(rt: HostRuntime) -> Result<(), Fail> {
     for (module, source, err) in [

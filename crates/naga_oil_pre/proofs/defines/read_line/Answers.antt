@@ -14,15 +14,15 @@ returns-in-Import-clause-ok c =
     let defs = get_by_text c.args.defines.now in
     let line = line_of c.args.line.now in
     let kind : imports ≡ unversioned_kind_of line.covered = search rules in
-    on_both c.read_import.result _ _ _ (c.read_import.ensures.ok (defining defs)) c.read_import.ensures.left
-    (λ parsed left. line_read c.args.allow_defines defs defs line imports c.args.source.now.left c.read_import.new.source.left kind left parsed)
+    on_both c.skip_import.result _ _ _ (c.skip_import.ensures.ok (defining defs)) c.skip_import.ensures.left
+    (λ parsed left. line_read c.args.allow_defines defs defs line imports c.args.source.now.left c.skip_import.new.source.left kind left parsed)
 
 pub returns-in-Import-clause-err : goal.returns-in-Import-clause-err
 returns-in-Import-clause-err c =
     let defs = get_by_text c.args.defines.now in
     let line = line_of c.args.line.now in
     let kind : imports ≡ unversioned_kind_of line.covered = search rules in
-    if_err c.read_import.result _ _ c.read_import.ensures.err
+    if_err c.skip_import.result _ _ c.skip_import.ensures.err
     (λ e fails. line_refused e c.args.allow_defines defs line imports c.args.source.now.left kind (import_refuses e c.args.allow_defines defs line c.args.source.now.left (fails (defining defs))))
 
 pub returns-in_default-clause-ok : goal.returns-in_default-clause-ok

@@ -1,16 +1,14 @@
-use Rattle.std.proofs.Common.{◌||◌, arith, drop, map, string_bytes, ap, sym, ◌∙◌}
+use Rattle.std.proofs.Common.{◌||◌, drop, map, string_bytes, ap, sym, ◌∙◌}
 use Rattle.std.proofs.lemmas.List.{length-map}
 use Rattle.naga_oil_imports.specs.Declarations.{declared_of}
 use Rattle.naga_oil_imports.specs.Leaves.{import_leaves}
 use Rattle.naga_oil_imports.specs.NameMarks.{has_mark, shares_slot, keys_of}
 use Rattle.naga_oil_imports.proofs.NameMarkLemmas.{covers_import}
-use Rattle.naga_oil_pre.proofs.LoopLemmas.{syntax_within}
+use Rattle.naga_oil_pre.proofs.LoopLemmas.{import_fits}
 use Rattle.naga_oil_pre.proofs.imports.declare.Goals as goal
 
-pub overflow_add-result : goal.overflow_add-result
-overflow_add-result c =
-    let fits = syntax_within c.args.import.now c.in-Err-Syntax.field-0 c.in-Err-Syntax.text c.in-Err-Syntax.place c.utf8.import c.in-Err-Syntax.ensures.fault c.in-Err-Syntax.field-0-is in
-    omega (arith, fits)
+pub import_error-requires : goal.import_error-requires
+import_error-requires c = import_fits c.args.import.now c.in-Err.fault c.args.offset c.utf8.import c.in-Err.ensures.fault c.requires.fits
 
 pub returns-in-Ok-clause-marked : goal.returns-in-Ok-clause-marked
 returns-in-Ok-clause-marked c =

@@ -7,10 +7,10 @@ use Rattle.naga_oil_pre.proofs.metadata.read_kind.Goals as goal
 pub returns-in-Import-clause-ok : goal.returns-in-Import-clause-ok
 returns-in-Import-clause-ok c =
     rw c.in-Import.is
-    (on_both c.read_import.result _ _ _ c.read_import.ensures.ok c.read_import.ensures.left
-    (λ read left. import_read c.args.allow_defines (found_of c.read_import.new.findings) (braces_after 0 (line_of c.args.line.now).covered) c.args.source.now.left c.read_import.new.source.left _ read left))
+    (on_both c.declare_import.result _ _ _ c.declare_import.ensures.ok c.declare_import.ensures.left
+    (λ read left. import_read c.args.allow_defines (found_of c.declare_import.new.findings) (braces_after 0 (line_of c.args.line.now).covered) c.args.source.now.left c.declare_import.new.source.left _ read left))
 
 pub returns-in-Import-clause-names : goal.returns-in-Import-clause-names
 returns-in-Import-clause-names c =
-    on_both c.read_import.result _ _ _ c.read_import.ensures.names c.read_import.ensures.left
-    (λ gains left. import_recorded c.args.findings.now.names c.read_import.new.findings.names (braces_after 0 (line_of c.args.line.now).covered) c.args.source.now.left c.read_import.new.source.left left gains)
+    on_both c.declare_import.result _ _ _ c.declare_import.ensures.names c.declare_import.ensures.left
+    (λ gains left. import_recorded c.args.findings.now.names c.declare_import.new.findings.names (braces_after 0 (line_of c.args.line.now).covered) c.args.source.now.left c.declare_import.new.source.left left gains)

@@ -10,7 +10,7 @@ use Rattle.naga_oil_pre.proofs.metadata.read_uses.Goals as goal
 
 pub unreachable-requires : goal.unreachable-requires
 unreachable-requires c =
-    never_ambiguous (declared_of c.args.imports.now.declared) (usize_sites (sites c.args.line.now.offset (lexemes 0 0 (chars c.as_str.result.now)))) (uses_of c.args.imports.now.used) (uses_of c.record_identifiers.new.used_imports)
+    never_ambiguous (declared_of c.args.imports.now.declared) (usize_sites (sites c.args.line.now.offset (lexemes 0 0 (chars c.as_str.result.now)))) (uses_of c.args.imports.now.used) (uses_of c.walk.new.used_imports)
     c.in-Err-Ambiguous.field-0 c.in-Err-Ambiguous.field-0-0 c.in-Err-Ambiguous.ensures.fault c.in-Err-Ambiguous.field-0-is
 
 pub returns-in-Ok-clause-used : goal.returns-in-Ok-clause-used

@@ -2,7 +2,7 @@ use Rattle.std.proofs.Common.{◌≡◌, map, drop}
 use Rattle.std.specs.BTreeSet.{contains_text}
 use Rattle.naga_oil_imports.specs.Uses.{use_of}
 use Rattle.naga_oil_registry.specs.Added.{imported_among}
-use Rattle.naga_oil_registry.specs.Definition.{definition_of}
+use Rattle.naga_oil_registry.specs.Registered.{definition_of}
 use Rattle.naga_oil_registry.specs.Registry.{standing}
 use Rattle.naga_oil_registry.proofs.AddedLemmas.{with_found}
 use Rattle.naga_oil_registry.proofs.adding.imported_modules.Given as goal

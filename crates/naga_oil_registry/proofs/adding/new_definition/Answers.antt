@@ -2,11 +2,10 @@ use Rattle.std.proofs.Common.{◌≡◌, ◌++◌, map, ap, ◌∙◌, sym, Ok, 
 use Rattle.std.proofs.lemmas.Simd.{map-map}
 use Rattle.std.specs.BTreeSet.{contains_text}
 use Rattle.std.specs.List.{flat_map}
-use Rattle.naga_oil_lines.specs.DirectivesText.{in_order}
+use Rattle.naga_oil_words.specs.Texts.{in_order, texts}
 use Rattle.naga_oil_imports.specs.Uses.{use_of, import_of}
 use Rattle.naga_oil_registry.specs.Added.{all_uses, new_definition}
-use Rattle.naga_oil_registry.specs.Definition.{definition_of, defs_of}
-use Rattle.naga_oil_lines.specs.Text.{texts}
+use Rattle.naga_oil_registry.specs.Registered.{definition_of, defs_of}
 use Rattle.naga_oil_registry.specs.DescribedView.{described_of}
 use Rattle.naga_oil_registry.specs.Descriptor.{module_source}
 use Rattle.naga_oil_registry.specs.Merged.{recorded_names, merged, used_at_start}

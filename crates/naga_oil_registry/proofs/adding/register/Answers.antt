@@ -1,7 +1,7 @@
 use Rattle.std.proofs.Common.{◌≡◌, ◌∷◌, ap, ◌∙◌, sym, ℕ, List, Ok, String, Global}
 use Rattle.std.specs.BTreeSet.{BTreeSet, contains_text}
 use Rattle.naga_oil_registry.specs.Added.{new_definition, shown_by}
-use Rattle.naga_oil_registry.specs.Definition.{definition_of}
+use Rattle.naga_oil_registry.specs.Registered.{definition_of}
 use Rattle.naga_oil_registry.specs.DescribedView.{described_of}
 use Rattle.naga_oil_registry.specs.Descriptor.{module_source}
 use Rattle.naga_oil_registry.specs.Registry.{reaches, registered, removed, standing}

@@ -1,8 +1,7 @@
 use Rattle.std.proofs.Common.{◌≡◌, ◌∷◌, fold, sym, ap, ◌∙◌, rules}
 use Rattle.std.specs.String.{string_bytes}
 use Rattle.std.proofs.lemmas.Map.Iter.{rest_more}
-use Rattle.naga_oil_lines.specs.DirectivesText.{with_name}
-use Rattle.naga_oil_lines.specs.Text.{texts}
+use Rattle.naga_oil_words.specs.Texts.{with_name, texts}
 use Rattle.naga_oil_registry.proofs.MergedLemmas.{bytes-insert}
 use Rattle.naga_oil_registry.proofs.merge.add_names.Goals as goal
 

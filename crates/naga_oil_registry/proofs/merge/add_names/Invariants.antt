@@ -1,6 +1,5 @@
 use Rattle.std.proofs.Common.{◌≡◌, fold}
-use Rattle.naga_oil_lines.specs.DirectivesText.{with_name}
-use Rattle.naga_oil_lines.specs.Text.{texts}
+use Rattle.naga_oil_words.specs.Texts.{with_name, texts}
 use Rattle.naga_oil_registry.proofs.merge.add_names.Given as goal
 
 abbrev pub invariant-loop-name : goal.invariant-loop-name

@@ -1,7 +1,7 @@
 use Rattle.std.proofs.Common.{◌≡◌, ◌∷◌, sym, ap, ◌∙◌, rules}
 use Rattle.std.specs.String.{string_bytes}
 use Rattle.std.proofs.lemmas.Map.Iter.{rest_more}
-use Rattle.naga_oil_registry.specs.Definition.{defs_of}
+use Rattle.naga_oil_registry.specs.Registered.{defs_of}
 use Rattle.naga_oil_registry.specs.Merged.{with_def, overwritten}
 use Rattle.naga_oil_registry.proofs.MergedLemmas.{named, named-insert}
 use Rattle.naga_oil_registry.proofs.merge.overwrite.Goals as goal

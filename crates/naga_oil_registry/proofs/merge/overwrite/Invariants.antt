@@ -1,5 +1,5 @@
 use Rattle.std.proofs.Common.{◌≡◌, map, string_bytes}
-use Rattle.naga_oil_registry.specs.Definition.{defs_of}
+use Rattle.naga_oil_registry.specs.Registered.{defs_of}
 use Rattle.naga_oil_registry.specs.Merged.{overwritten}
 use Rattle.naga_oil_registry.proofs.merge.overwrite.Given as goal
 

@@ -1,8 +1,7 @@
 use Rattle.std.proofs.Common.{◌≡◌, map, drop, fold}
 use Rattle.std.specs.List.{flat_map}
-use Rattle.naga_oil_lines.specs.DirectivesText.{with_name}
-use Rattle.naga_oil_registry.specs.Definition.{defs_of, definition_of}
-use Rattle.naga_oil_lines.specs.Text.{texts}
+use Rattle.naga_oil_words.specs.Texts.{with_name, texts}
+use Rattle.naga_oil_registry.specs.Registered.{defs_of, definition_of}
 use Rattle.naga_oil_registry.specs.Merged.{merged}
 use Rattle.naga_oil_registry.proofs.merge.take_over.Given as goal
 

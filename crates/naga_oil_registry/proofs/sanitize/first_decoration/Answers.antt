@@ -1,6 +1,6 @@
 use Rattle.std.proofs.Common.{Some, None, ap, ◌∙◌, sym, arith}
 use Rattle.naga_oil_registry.specs.Sanitized.{first_decoration, earlier}
-use Rattle.naga_oil_marks.specs.Marks.{module_mark, override_mark}
+use Rattle.naga_oil_words.specs.Marks.{module_mark, override_mark}
 use Rattle.naga_oil_registry.proofs.SanitizedLemmas.{first_of_finds}
 use Rattle.naga_oil_registry.proofs.sanitize.first_decoration.Goals as goal
 

@@ -1,6 +1,6 @@
 use Rattle.std.proofs.Common.{◌≤◌, sym, length, arith}
 use Rattle.naga_oil_registry.specs.Sanitized.{first_decoration}
-use Rattle.naga_oil_marks.specs.Marks.{module_mark, override_mark}
+use Rattle.naga_oil_words.specs.Marks.{module_mark, override_mark}
 use Rattle.naga_oil_registry.proofs.SanitizedLemmas.{first-within}
 use Rattle.naga_oil_registry.proofs.sanitize.read_source.Goals as goal
 

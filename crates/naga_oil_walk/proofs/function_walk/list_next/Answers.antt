@@ -84,7 +84,7 @@ returns-in_default-clause-waiting c =
     let ws = c.args.waiting.now.items in
     ok_then c.list.result (new.places.items ≡ added old.places.items (top.place ∷ [])) (AreWaiting of new.places.items new.requests.items ws) (λ e. waits_listed of old.places.items new.places.items old.requests.items new.requests.items ws top e (ap (λ (v : Vec Request Global). v.items) c.list.ensures.requests) c.requires.waiting) c.list.ensures.order
 
--- ---- one waits next
+-- ---- an operand waits next
 
 pub returns-in_ok-push-2-clause-order : goal.returns-in_ok-push-2-clause-order
 returns-in_ok-push-2-clause-order c =
@@ -166,7 +166,7 @@ returns-in_ok-push-2-clause-fewer c =
     let items : vs ≡ (ws ++ next top ∷ []) ++ v ∷ [] = c.in_ok-push-2.ensures.items ∙ ap (λ (xs : List Waiting). xs ++ v ∷ []) c.in_ok-push.ensures.items in
     subst (λ (xs : List Waiting). sum_by (steps ls) xs < sum_by (steps ls) ws + steps ls top) (sym items) (more_fewer ls c.requires.over.earlier ws top v x (left_next ls top x f.0 f.1) new.0 new.1)
 
--- ---- it is listed
+-- ---- the operand is listed
 
 pub returns-in_default-behind-clause-order : goal.returns-in_default-behind-clause-order
 returns-in_default-behind-clause-order c =

@@ -10,7 +10,7 @@ use Rattle.naga_oil_walk.proofs.ReachSteps.{ok_then, over_asked}
 use Rattle.naga_oil_walk.proofs.WaitingLemmas.{finish_new, asks_new, waits_new}
 use Rattle.naga_oil_walk.proofs.function_walk.reach.Goals as goal
 
--- ---- it is listed
+-- ---- the place is listed
 
 pub returns-in_default-clause-order : goal.returns-in_default-clause-order
 returns-in_default-clause-order c =
@@ -32,7 +32,7 @@ returns-in_default-clause-requests c =
     let known = subst (Awaits ns o rs c.awaited.new.walk.requests.items k) c.in_default.is c.in_ok-first.ensures.waits in
     subst (λ (q : List Request). Adds rs (names_from ns ls k) q) (sym known.1) (known_names ns ls o rs c.requires.ready c.requires.over.covers k known.0)
 
--- ---- it waits
+-- ---- the place waits
 
 pub list_waiting-requires-clause-over : goal.list_waiting-requires-clause-over
 list_waiting-requires-clause-over c =

@@ -1,5 +1,5 @@
 use Rattle.std.proofs.Common.{◌≡◌, fold, map, string_bytes}
-use Rattle.naga_oil_registry.specs.Definition.{defs_of}
+use Rattle.naga_oil_registry.specs.Registered.{defs_of}
 use Rattle.yettuvam_c.specs.Laid.{with_part, laid_of}
 use Rattle.yettuvam_c.specs.Told.{define_part}
 use Rattle.yettuvam_c.proofs.told.push_defines.Given as goal

@@ -1,5 +1,5 @@
 use Rattle.std.proofs.Common.{◌≡◌, fold, map}
-use Rattle.naga_oil_lines.specs.Text.{texts}
+use Rattle.naga_oil_words.specs.Texts.{texts}
 use Rattle.yettuvam_c.specs.Laid.{with_part, laid_of}
 use Rattle.yettuvam_c.specs.Told.{recorded_part}
 use Rattle.yettuvam_c.proofs.told.push_names.Given as goal

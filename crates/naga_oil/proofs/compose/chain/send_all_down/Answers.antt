@@ -3,7 +3,7 @@ use Rattle.std.proofs.lemmas.Map.Iter.{rest_more, rest_all}
 use Rattle.std.proofs.lemmas.Result.{err_from_is_err_and}
 use Rattle.naga_oil_link.specs.BuiltModule.{overriding_of}
 use Rattle.naga_oil.specs.Chain.{sent_down, all_sent_down}
-use Rattle.naga_oil_lines.specs.Text.{texts}
+use Rattle.naga_oil_words.specs.Texts.{texts}
 use Rattle.naga_oil.proofs.ChainLemmas.{all_more, all_refused, all_down, fault_then}
 use Rattle.naga_oil.proofs.compose.chain.send_all_down.Goals as goal
 

@@ -1,7 +1,7 @@
 use Rattle.std.proofs.Common.{◌≡◌, map, string_bytes}
 use Rattle.naga_oil_link.specs.BuiltModule.{overriding_of}
 use Rattle.naga_oil.specs.Chain.{all_sent_down}
-use Rattle.naga_oil_lines.specs.Text.{texts}
+use Rattle.naga_oil_words.specs.Texts.{texts}
 use Rattle.naga_oil.proofs.compose.chain.send_all_down.Given as goal
 
 abbrev pub invariant-loop-base : goal.invariant-loop-base

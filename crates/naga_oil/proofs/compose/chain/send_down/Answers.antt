@@ -3,7 +3,7 @@ use Rattle.std.proofs.lemmas.List.{at_drop_more, at_drop_all}
 use Rattle.std.proofs.lemmas.Result.{err_from_is_err_and}
 use Rattle.std.specs.String.{string_bytes}
 use Rattle.naga_oil_redirect.specs.Redirected.{matched, redirected}
-use Rattle.naga_oil_lines.specs.Text.{is_among, texts}
+use Rattle.naga_oil_words.specs.Texts.{is_among, texts}
 use Rattle.naga_oil.specs.Chain.{sent_down}
 use Rattle.naga_oil.proofs.ChainLemmas.{none_omitted, one_omitted, sent_more, not_sent, all_sent, refused_redirection}
 use Rattle.naga_oil.proofs.compose.chain.send_down.Goals as goal

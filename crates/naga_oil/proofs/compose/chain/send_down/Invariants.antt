@@ -1,6 +1,6 @@
 use Rattle.std.proofs.Common.{◌≡◌, ℕ, List, [], drop, string_bytes}
 use Rattle.std.specs.BTreeSet.{contains_text}
-use Rattle.naga_oil_lines.specs.Text.{is_among, texts}
+use Rattle.naga_oil_words.specs.Texts.{is_among, texts}
 use Rattle.naga_oil.specs.Chain.{sent_down}
 use Rattle.naga_oil.proofs.compose.chain.send_down.Given as goal
 

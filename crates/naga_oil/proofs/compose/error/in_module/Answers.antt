@@ -1,5 +1,5 @@
 use Rattle.std.proofs.Common.{◌≡◌, ap, ◌∙◌, rules}
-use Rattle.naga_oil_registry.specs.Definition.{defs_of}
+use Rattle.naga_oil_registry.specs.Registered.{defs_of}
 use Rattle.naga_oil.specs.Refused.{in_module}
 use Rattle.naga_oil_registry.proofs.MergedLemmas.{map-from_all_zip}
 use Rattle.naga_oil.proofs.compose.error.in_module.Goals as goal

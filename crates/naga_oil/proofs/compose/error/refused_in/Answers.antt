@@ -1,5 +1,5 @@
 use Rattle.naga_oil_conditions.specs.View.{fault_of}
-use Rattle.naga_oil_registry.specs.Definition.{defs_of}
+use Rattle.naga_oil_registry.specs.Registered.{defs_of}
 use Rattle.naga_oil.specs.Refused.{place_of, in_module}
 use Rattle.naga_oil.proofs.RefusedLemmas.{tells_nothing, none_is_memory, tells_fault}
 use Rattle.naga_oil.proofs.compose.error.refused_in.Goals as goal

@@ -2,7 +2,7 @@ use Rattle.std.proofs.Common.{◌≡◌, ◌∷◌, true, false, Err, sym, ap, �
 use Rattle.std.specs.String.{string_bytes}
 use Rattle.std.proofs.lemmas.Map.Iter.{rest_more}
 use Rattle.naga_oil_conditions.specs.Fault.{inconsistent_def}
-use Rattle.naga_oil_registry.specs.Definition.{defs_of}
+use Rattle.naga_oil_registry.specs.Registered.{defs_of}
 use Rattle.naga_oil_registry.specs.Merged.{with_def}
 use Rattle.naga_oil.specs.Shader.{defs_union, agrees, value_of}
 use Rattle.naga_oil_registry.proofs.MergedLemmas.{named, named-insert}

@@ -1,5 +1,5 @@
 use Rattle.std.proofs.Common.{◌≡◌}
-use Rattle.naga_oil_registry.specs.Definition.{defs_of}
+use Rattle.naga_oil_registry.specs.Registered.{defs_of}
 use Rattle.naga_oil.specs.Shader.{defs_union}
 use Rattle.naga_oil_registry.proofs.MergedLemmas.{named}
 use Rattle.naga_oil.proofs.compose.shader.add_consistent.Given as goal

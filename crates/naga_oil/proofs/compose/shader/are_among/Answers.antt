@@ -1,7 +1,7 @@
 use Rattle.std.proofs.Common.{◌≡◌, ◌∷◌, true, false, ◌&&◌, sym, ap, ◌∙◌}
 use Rattle.std.proofs.lemmas.Map.Iter.{rest_more}
 use Rattle.std.specs.String.{string_bytes}
-use Rattle.naga_oil_registry.specs.Definition.{defs_of}
+use Rattle.naga_oil_registry.specs.Registered.{defs_of}
 use Rattle.naga_oil.specs.Shader.{has_value, value_of, are_among}
 use Rattle.naga_oil_registry.proofs.MergedLemmas.{named}
 use Rattle.naga_oil.proofs.MergingLemmas.{has_same, value-texts, not_other, no_other}

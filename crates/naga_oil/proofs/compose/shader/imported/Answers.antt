@@ -2,7 +2,7 @@ use Rattle.std.proofs.Common.{◌≡◌, sym, ap, ◌∙◌, option_map, Some, N
 use Rattle.std.specs.String.{string_bytes}
 use Rattle.naga_oil_imports.specs.Uses.{use_of}
 use Rattle.naga_oil_conditions.specs.Fault.{import_not_found}
-use Rattle.naga_oil_registry.specs.Definition.{definition_of}
+use Rattle.naga_oil_registry.specs.Registered.{definition_of}
 use Rattle.naga_oil.specs.Shader.{module_for}
 use Rattle.naga_oil_registry.specs.Registry.{module_named}
 use Rattle.naga_oil.proofs.compose.shader.imported.Goals as goal

@@ -1,6 +1,6 @@
 use Rattle.std.proofs.Common.{◌≡◌, sym, ap, ◌∙◌, option_map, Some, None}
 use Rattle.naga_oil_imports.specs.Uses.{use_of}
-use Rattle.naga_oil_registry.specs.Definition.{definition_of, defs_of}
+use Rattle.naga_oil_registry.specs.Registered.{definition_of, defs_of}
 use Rattle.naga_oil_registry.specs.Registry.{module_named}
 use Rattle.naga_oil.specs.Shader.{module_for, among_those}
 use Rattle.naga_oil.proofs.compose.shader.may_use.Goals as goal

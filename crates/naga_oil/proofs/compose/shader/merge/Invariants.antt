@@ -1,6 +1,6 @@
 use Rattle.std.proofs.Common.{◌≡◌, map, drop}
 use Rattle.naga_oil_imports.specs.Uses.{use_of}
-use Rattle.naga_oil_registry.specs.Definition.{defs_of}
+use Rattle.naga_oil_registry.specs.Registered.{defs_of}
 use Rattle.naga_oil.specs.Shader.{defs_union_over}
 use Rattle.naga_oil.proofs.compose.shader.merge.Given as goal
 

@@ -1,8 +1,8 @@
 use Rattle.std.proofs.Common.{ℕ, Bool, true, List, ap, string_bytes}
 use Rattle.naga_oil_pre.specs.Metadata.{metadata}
 use Rattle.naga_oil_pre.specs.MetadataView.{metadata_of}
-use Rattle.naga_oil_registry.specs.Definition.{definition_of, defs_of}
-use Rattle.naga_oil_lines.specs.Text.{texts}
+use Rattle.naga_oil_registry.specs.Registered.{definition_of, defs_of}
+use Rattle.naga_oil_words.specs.Texts.{texts}
 use Rattle.naga_oil_registry.specs.Descriptor.{shader_source}
 use Rattle.naga_oil_registry.specs.Merged.{recorded_names}
 use Rattle.naga_oil_registry.proofs.NamesLemmas.{set_names, records-cleaned}

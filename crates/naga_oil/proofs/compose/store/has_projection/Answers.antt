@@ -2,8 +2,8 @@ use Rattle.std.proofs.Common.{◌≡◌, ◌&&◌, ◌∷◌, true, false, map, 
 use Rattle.std.proofs.lemmas.Map.Iter.{rest_more}
 use Rattle.std.specs.Cmp.Lexicographic.{pointwise}
 use Rattle.std.specs.String.{string_bytes}
-use Rattle.naga_oil_lines.specs.Text.{is_among}
-use Rattle.naga_oil_registry.specs.Definition.{definition_of, defs_of}
+use Rattle.naga_oil_words.specs.Texts.{is_among}
+use Rattle.naga_oil_registry.specs.Registered.{definition_of, defs_of}
 use Rattle.naga_oil_registry.proofs.NamesLemmas.{among_texts}
 use Rattle.naga_oil.specs.Store.{project, same_def}
 use Rattle.naga_oil.specs.StoreView.{def_of, key_of}

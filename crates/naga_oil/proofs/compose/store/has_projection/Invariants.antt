@@ -1,6 +1,6 @@
 use Rattle.std.proofs.Common.{◌≡◌, map}
 use Rattle.std.specs.Cmp.Lexicographic.{pointwise}
-use Rattle.naga_oil_registry.specs.Definition.{definition_of, defs_of}
+use Rattle.naga_oil_registry.specs.Registered.{definition_of, defs_of}
 use Rattle.naga_oil.specs.Store.{project, same_def}
 use Rattle.naga_oil.specs.StoreView.{def_of}
 use Rattle.naga_oil.proofs.compose.store.has_projection.Given as goal

@@ -2,8 +2,8 @@ use Rattle.std.proofs.Common.{◌≡◌, [], ◌∷◌, ◌++◌, true, false, m
 use Rattle.std.proofs.lemmas.List.{map-append}
 use Rattle.std.proofs.lemmas.Map.Iter.{rest_more, rest_all}
 use Rattle.std.specs.String.{string_bytes}
-use Rattle.naga_oil_lines.specs.Text.{is_among}
-use Rattle.naga_oil_registry.specs.Definition.{definition_of, defs_of}
+use Rattle.naga_oil_words.specs.Texts.{is_among}
+use Rattle.naga_oil_registry.specs.Registered.{definition_of, defs_of}
 use Rattle.naga_oil_registry.proofs.NamesLemmas.{among_texts}
 use Rattle.naga_oil.specs.Store as spec
 use Rattle.naga_oil.specs.StoreView.{def_of}

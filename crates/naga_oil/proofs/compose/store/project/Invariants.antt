@@ -1,5 +1,5 @@
 use Rattle.std.proofs.Common.{◌≡◌, ◌++◌, map}
-use Rattle.naga_oil_registry.specs.Definition.{definition_of, defs_of}
+use Rattle.naga_oil_registry.specs.Registered.{definition_of, defs_of}
 use Rattle.naga_oil.specs.Store as spec
 use Rattle.naga_oil.specs.StoreView.{def_of}
 use Rattle.naga_oil.proofs.compose.store.project.Given as goal

@@ -1,11 +1,11 @@
 use Rattle.std.proofs.Common.{◌≡◌, ℕ, List, Ok, Err, string_bytes, sym, ap, ◌∙◌, subst}
 use Rattle.naga_oil_pre.specs.KnownView.{output_of}
-use Rattle.naga_oil_registry.specs.Definition.{definition_of}
+use Rattle.naga_oil_registry.specs.Registered.{definition_of}
 use Rattle.naga_oil_link.specs.BuiltModule.{built_of, builds_of}
 use Rattle.naga_oil_build.specs.Build.{WholeText, from_offset, build}
 use Rattle.naga_oil_build.specs.BuildView.{TellsUnbuilt}
 use Rattle.naga_oil_build.specs.Held.{settings, hold}
-use Rattle.naga_oil_build.proofs.WholeLemmas.{given_from, built-refused, begun, build_unbegun, build_is}
+use Rattle.naga_oil_build.proofs.WholeLemmas.{given_from, built-refused, prepared, build_unprepared, build_is}
 use Rattle.naga_oil_build.proofs.builder.Builder.build.Goals as goal
 
 pub returns-in_err-built : goal.returns-in_err-built
@@ -16,7 +16,7 @@ returns-in_err-built g c =
     let out = output_of c.args.output.now in
     let u = c.in_err-built.field-0.0 in
     built-refused built_of c.from_residual.result u (build s d out builds) c.from_residual.ensures.1
-    (build_unbegun s d out builds u (given_from _ 0 c.begun.result (Err u) (begun s d out builds) c.in_err-built.ensures c.begun.ensures))
+    (build_unprepared s d out builds u (given_from _ 0 c.prepare.result (Err u) (prepared s d out builds) c.in_err-built.ensures c.prepare.ensures))
 
 pub returns-in_err-from_offset : goal.returns-in_err-from_offset
 returns-in_err-from_offset g c =
@@ -28,7 +28,7 @@ returns-in_err-from_offset g c =
     let b = built_of c.in_ok-built.built in
     let text = string_bytes c.in_ok-built.whole in
     let whole : WholeText = record { text = text; built = b } in
-    let first = build_is s d out builds whole (given_from _ 0 c.begun.result (Ok (c.in_ok-built.built, c.in_ok-built.whole)) (begun s d out builds) c.in_ok-built.ensures c.begun.ensures) in
+    let first = build_is s d out builds whole (given_from _ 0 c.prepare.result (Ok (c.in_ok-built.built, c.in_ok-built.whole)) (prepared s d out builds) c.in_ok-built.ensures c.prepare.ensures) in
     let second : from_offset c.offset_of-offset.result (hold s d.language c.deref.result.now b) ≡ from_offset b.offset (hold s d.language text b) =
     ap (λ (n : ℕ). from_offset n (hold s d.language c.deref.result.now b)) c.offset_of-offset.ensures ∙ ap (λ (t : List ℕ). from_offset b.offset (hold s d.language t b)) c.deref.ensures in
     let told = given_from _ c.offset_of-offset.result c.hold.result (Err u) (hold s d.language c.deref.result.now b) c.in_err-from_offset.ensures c.hold.ensures in
@@ -43,7 +43,7 @@ returns g c =
     let b = built_of c.in_ok-built.built in
     let text = string_bytes c.in_ok-built.whole in
     let whole : WholeText = record { text = text; built = b } in
-    let first = build_is s d out builds whole (given_from _ 0 c.begun.result (Ok (c.in_ok-built.built, c.in_ok-built.whole)) (begun s d out builds) c.in_ok-built.ensures c.begun.ensures) in
+    let first = build_is s d out builds whole (given_from _ 0 c.prepare.result (Ok (c.in_ok-built.built, c.in_ok-built.whole)) (prepared s d out builds) c.in_ok-built.ensures c.prepare.ensures) in
     let second : from_offset c.offset_of-offset.result (hold s d.language c.deref.result.now b) ≡ from_offset b.offset (hold s d.language text b) =
     ap (λ (n : ℕ). from_offset n (hold s d.language c.deref.result.now b)) c.offset_of-offset.ensures ∙ ap (λ (t : List ℕ). from_offset b.offset (hold s d.language t b)) c.deref.ensures in
     let told = given_from _ c.offset_of-offset.result c.hold.result (Ok tt) (hold s d.language c.deref.result.now b) c.in_ok-from_offset.ensures c.hold.ensures in

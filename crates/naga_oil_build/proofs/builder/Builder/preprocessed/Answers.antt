@@ -4,7 +4,7 @@ use Rattle.std.specs.BTreeMap.{get_by_text}
 use Rattle.naga_oil_imports.specs.Uses.{use_of, import_of}
 use Rattle.naga_oil_pre.specs.KnownView.{output_of}
 use Rattle.naga_oil_pre.specs.Preprocessed.{preprocessed}
-use Rattle.naga_oil_registry.specs.Definition.{definition_of}
+use Rattle.naga_oil_registry.specs.Registered.{definition_of}
 use Rattle.naga_oil_registry.specs.Merged.{used_at_start}
 use Rattle.naga_oil_build.proofs.BuiltLemmas.{is_preprocessed}
 use Rattle.naga_oil_build.proofs.builder.Builder.preprocessed.Goals as goal

@@ -1,10 +1,10 @@
 use Rattle.std.proofs.Common.{◌≡◌, ℕ, List, ◌++◌, length, map, Result, Ok, string_bytes, sym, ap, subst, ◌∙◌}
-use Rattle.naga_oil_lines.specs.Text.{texts}
+use Rattle.naga_oil_words.specs.Texts.{texts}
 use Rattle.naga_oil_imports.specs.Uses.{import_of}
 use Rattle.naga_oil_imports.specs.declared.import_definition.ImportDefinition.{ImportDefinition}
 use Rattle.naga_oil_conditions.specs.Fault.{Fault}
 use Rattle.naga_oil_conditions.specs.View.{Fails}
-use Rattle.naga_oil_registry.specs.Definition.{definition_of}
+use Rattle.naga_oil_registry.specs.Registered.{definition_of}
 use Rattle.naga_oil_registry.proofs.NewDefinitionLemmas.{gives-refused}
 use Rattle.naga_oil_link.specs.BuiltModule.{overriding_of, built_of, builds_of}
 use Rattle.naga_oil_build.specs.Build.{write_heading, write_whole}

@@ -6,7 +6,7 @@ use Rattle.naga_oil_derive.specs.World.{value_of}
 use Rattle.naga_oil_derive.specs.Copying.{goes_under}
 use Rattle.naga_oil_derive.specs.Copied.{copy_state, copy_item}
 use Rattle.naga_oil_derive.specs.Putting.{NothingPut}
-use Rattle.naga_oil_derive.specs.Waiting.{AreWaiting, Awaits, finish_all}
+use Rattle.naga_oil_derive.specs.Waiting.{AreItemsWaiting, AwaitsItem, finish_items}
 use Rattle.naga_oil_derive.specs.declared.copy.Waiting.{Waiting}
 use Rattle.naga_oil_derive.proofs.CopiedLaws.{copied_again}
 use Rattle.naga_oil_derive.proofs.FoundLemmas.{ok_then}
@@ -16,7 +16,7 @@ use Rattle.naga_oil_derive.proofs.copy.Copying.copy_item.Goals as goal
 pub returns-in_err-first-clause-putting : goal.returns-in_err-first-clause-putting
 returns-in_err-first-clause-putting c = NothingPut
 
--- ---- it went somewhere
+-- ---- the item is mapped
 
 gone_to : (o : Option ItemPlace) (b : Bool) → b ≡ is_some o → b ≡ true → (q : ItemPlace) × (o ≡ Some q)
 gone_to None b e f = absurd (false≢true (sym e ∙ f))
@@ -36,12 +36,12 @@ unfolding goes_under
 returns-in_default-clause-copied c =
     let old = c.args.self.now in
     let p = c.args.item.now in
-    sym (copied_again (value_of c.args.source.now) old.maps.offset (copy_state old.maps old.target) p (subst (Awaits c.args.source.now (goes_under old.maps) (Some p)) c.in_default.is c.in_ok-first.ensures))
+    sym (copied_again (value_of c.args.source.now) old.maps.offset (copy_state old.maps old.target) p (subst (AwaitsItem c.args.source.now (goes_under old.maps) (Some p)) c.in_default.is c.in_ok-first.ensures))
 
 pub returns-in_default-clause-putting : goal.returns-in_default-clause-putting
 returns-in_default-clause-putting c = NothingPut
 
--- ---- it waits
+-- ---- the item waits
 
 pub returns-in_err-push-clause-putting : goal.returns-in_err-push-clause-putting
 returns-in_err-push-clause-putting c = NothingPut
@@ -51,9 +51,9 @@ copy_waiting-requires-clause-waiting c =
     let source = c.args.source.now in
     let g = goes_under c.args.self.now.maps in
     let w = c.in-Some.first in
-    let new = subst (Awaits source g (Some c.args.item.now)) c.in-Some.is c.in_ok-first.ensures in
+    let new = subst (AwaitsItem source g (Some c.args.item.now)) c.in-Some.is c.in_ok-first.ensures in
     let items : c.push.new.self.items ≡ w ∷ [] = c.in_ok-push.ensures.items ∙ ap (λ (ws : List Waiting). ws ++ w ∷ []) c.new-waiting.ensures.items in
-    subst (AreWaiting source g) (sym items) (new.1, tt)
+    subst (AreItemsWaiting source g) (sym items) (new.1, tt)
 
 pub returns-clause-copied : goal.returns-clause-copied
 unfolding goes_under
@@ -66,7 +66,7 @@ returns-clause-copied c =
     let s = copy_state old.maps old.target in
     let p = c.args.item.now in
     let w = c.in-Some.first in
-    let new = subst (Awaits source (goes_under old.maps) (Some p)) c.in-Some.is c.in_ok-first.ensures in
+    let new = subst (AwaitsItem source (goes_under old.maps) (Some p)) c.in-Some.is c.in_ok-first.ensures in
     let items : c.push.new.self.items ≡ w ∷ [] = c.in_ok-push.ensures.items ∙ ap (λ (ws : List Waiting). ws ++ w ∷ []) c.new-waiting.ensures.items in
-    let same : finish_all m d s c.push.new.self.items ≡ copy_item m d s p = ap (finish_all m d s) items ∙ new_finish source d s w c.requires.ranked new.1.nowhere new.1.there new.1.names new.2 ∙ ap (copy_item m d s) (sym (same_Some p w.item new.0)) in
-    ok_then c.copy_waiting.result (λ (e : copy_state end.maps end.target ≡ finish_all m d s c.push.new.self.items). e ∙ same) c.copy_waiting.ensures.copied
+    let same : finish_items m d s c.push.new.self.items ≡ copy_item m d s p = ap (finish_items m d s) items ∙ new_finish source d s w c.requires.ranked new.1.nowhere new.1.there new.1.names new.2 ∙ ap (copy_item m d s) (sym (same_Some p w.item new.0)) in
+    ok_then c.copy_waiting.result (λ (e : copy_state end.maps end.target ≡ finish_items m d s c.push.new.self.items). e ∙ same) c.copy_waiting.ensures.copied

@@ -5,7 +5,7 @@ use Rattle.naga_oil_derive.specs.World.{value_of}
 use Rattle.naga_oil_derive.specs.Copying.{goes_under}
 use Rattle.naga_oil_derive.specs.Copied.{copy_state, put}
 use Rattle.naga_oil_derive.specs.Putting.{NothingPut}
-use Rattle.naga_oil_derive.specs.Waiting.{AreWaiting, Awaits, finish_all, steps}
+use Rattle.naga_oil_derive.specs.Waiting.{AreItemsWaiting, AwaitsItem, finish_items, waiting_steps}
 use Rattle.naga_oil_derive.specs.declared.copy.Waiting.{Waiting}
 use Rattle.naga_oil_derive.proofs.FoundLemmas.{item_found, item_past, ok_then}
 use Rattle.naga_oil_derive.proofs.WaitingLemmas.{next, left_next, waits_last, name_below, there_if, put_waits, put_either, gone_waits, gone_copied, gone_fewer, more_waits, more_copied, more_fewer}
@@ -55,7 +55,7 @@ returns-in_err-push-clause-putting c = NothingPut
 pub returns-in_err-push-2-clause-putting : goal.returns-in_err-push-2-clause-putting
 returns-in_err-push-2-clause-putting c = NothingPut
 
--- ---- it waits next
+-- ---- the named item waits next
 
 pub returns-in_ok-push-2-clause-waiting : goal.returns-in_ok-push-2-clause-waiting
 returns-in_ok-push-2-clause-waiting c =
@@ -66,9 +66,9 @@ returns-in_ok-push-2-clause-waiting c =
     let o = c.in-Some.name in
     let v = c.in-Some-behind.behind in
     let found = subst (λ (xs : List (Option ItemPlace)). (top.copied < length xs) × (o ≡ get_or xs top.copied o)) c.deref.ensures.value (item_found c.deref.result.now top.copied c.get.result c.copied.result o c.get.ensures.lookup c.copied.ensures c.in-Some.is) in
-    let new = subst (Awaits source g o) c.in-Some-behind.is c.in_ok-behind.ensures in
+    let new = subst (AwaitsItem source g o) c.in-Some-behind.is c.in_ok-behind.ensures in
     let items : c.push-in-Some-behind.new.self.items ≡ (ws ++ next top ∷ []) ++ v ∷ [] = c.in_ok-push-2.ensures.items ∙ ap (λ (xs : List Waiting). xs ++ v ∷ []) c.in_ok-push.ensures.items in
-    subst (AreWaiting source g) (sym items) (more_waits source g ws top v o c.requires.ranked c.requires.waiting found.0 found.1 new.0 new.1)
+    subst (AreItemsWaiting source g) (sym items) (more_waits source g ws top v o c.requires.ranked c.requires.waiting found.0 found.1 new.0 new.1)
 
 pub returns-in_ok-push-2-clause-copied : goal.returns-in_ok-push-2-clause-copied
 unfolding goes_under
@@ -82,9 +82,9 @@ returns-in_ok-push-2-clause-copied c =
     let v = c.in-Some-behind.behind in
     let s = copy_state old.maps old.target in
     let found = subst (λ (xs : List (Option ItemPlace)). (top.copied < length xs) × (o ≡ get_or xs top.copied o)) c.deref.ensures.value (item_found c.deref.result.now top.copied c.get.result c.copied.result o c.get.ensures.lookup c.copied.ensures c.in-Some.is) in
-    let new = subst (Awaits source g o) c.in-Some-behind.is c.in_ok-behind.ensures in
+    let new = subst (AwaitsItem source g o) c.in-Some-behind.is c.in_ok-behind.ensures in
     let items : c.push-in-Some-behind.new.self.items ≡ (ws ++ next top ∷ []) ++ v ∷ [] = c.in_ok-push-2.ensures.items ∙ ap (λ (xs : List Waiting). xs ++ v ∷ []) c.in_ok-push.ensures.items in
-    ap (finish_all (value_of source) old.maps.offset s) items ∙ more_copied source old.maps.offset s ws top v o c.requires.ranked (left_next top o found.0 found.1) new.0 new.1 new.2
+    ap (finish_items (value_of source) old.maps.offset s) items ∙ more_copied source old.maps.offset s ws top v o c.requires.ranked (left_next top o found.0 found.1) new.0 new.1 new.2
 
 pub returns-in_ok-push-2-clause-fewer : goal.returns-in_ok-push-2-clause-fewer
 returns-in_ok-push-2-clause-fewer c =
@@ -96,14 +96,14 @@ returns-in_ok-push-2-clause-fewer c =
     let o = c.in-Some.name in
     let v = c.in-Some-behind.behind in
     let found = subst (λ (xs : List (Option ItemPlace)). (top.copied < length xs) × (o ≡ get_or xs top.copied o)) c.deref.ensures.value (item_found c.deref.result.now top.copied c.get.result c.copied.result o c.get.ensures.lookup c.copied.ensures c.in-Some.is) in
-    let new = subst (Awaits source g o) c.in-Some-behind.is c.in_ok-behind.ensures in
+    let new = subst (AwaitsItem source g o) c.in-Some-behind.is c.in_ok-behind.ensures in
     let items : c.push-in-Some-behind.new.self.items ≡ (ws ++ next top ∷ []) ++ v ∷ [] = c.in_ok-push-2.ensures.items ∙ ap (λ (xs : List Waiting). xs ++ v ∷ []) c.in_ok-push.ensures.items in
-    subst (λ (xs : List Waiting). sum_by (steps m) xs < sum_by (steps m) ws + steps m top) (sym items) (more_fewer source g ws top v o c.requires.ranked (left_next top o found.0 found.1) new.0 new.1 new.2)
+    subst (λ (xs : List Waiting). sum_by (waiting_steps m) xs < sum_by (waiting_steps m) ws + waiting_steps m top) (sym items) (more_fewer source g ws top v o c.requires.ranked (left_next top o found.0 found.1) new.0 new.1 new.2)
 
 pub returns-in_ok-push-2-clause-putting : goal.returns-in_ok-push-2-clause-putting
 returns-in_ok-push-2-clause-putting c = NothingPut
 
--- ---- it went somewhere
+-- ---- the named item is mapped
 
 pub returns-in_default-behind-clause-waiting : goal.returns-in_default-behind-clause-waiting
 returns-in_default-behind-clause-waiting c =
@@ -113,8 +113,8 @@ returns-in_default-behind-clause-waiting c =
     let ws = c.args.waiting.now.items in
     let o = c.in-Some.name in
     let found = subst (λ (xs : List (Option ItemPlace)). (top.copied < length xs) × (o ≡ get_or xs top.copied o)) c.deref.ensures.value (item_found c.deref.result.now top.copied c.get.result c.copied.result o c.get.ensures.lookup c.copied.ensures c.in-Some.is) in
-    let went = subst (Awaits source g o) c.in_default-behind.is c.in_ok-behind.ensures in
-    subst (AreWaiting source g) (sym c.in_ok-push.ensures.items) (gone_waits source g ws top o c.requires.waiting found.0 found.1 went)
+    let went = subst (AwaitsItem source g o) c.in_default-behind.is c.in_ok-behind.ensures in
+    subst (AreItemsWaiting source g) (sym c.in_ok-push.ensures.items) (gone_waits source g ws top o c.requires.waiting found.0 found.1 went)
 
 pub returns-in_default-behind-clause-copied : goal.returns-in_default-behind-clause-copied
 unfolding goes_under
@@ -128,8 +128,8 @@ returns-in_default-behind-clause-copied c =
     let o = c.in-Some.name in
     let s = copy_state old.maps old.target in
     let found = subst (λ (xs : List (Option ItemPlace)). (top.copied < length xs) × (o ≡ get_or xs top.copied o)) c.deref.ensures.value (item_found c.deref.result.now top.copied c.get.result c.copied.result o c.get.ensures.lookup c.copied.ensures c.in-Some.is) in
-    let went = subst (Awaits source g o) c.in_default-behind.is c.in_ok-behind.ensures in
-    ap (finish_all m old.maps.offset s) c.in_ok-push.ensures.items ∙ gone_copied m old.maps.offset s ws top o (left_next top o found.0 found.1) went
+    let went = subst (AwaitsItem source g o) c.in_default-behind.is c.in_ok-behind.ensures in
+    ap (finish_items m old.maps.offset s) c.in_ok-push.ensures.items ∙ gone_copied m old.maps.offset s ws top o (left_next top o found.0 found.1) went
 
 pub returns-in_default-behind-clause-fewer : goal.returns-in_default-behind-clause-fewer
 returns-in_default-behind-clause-fewer c =
@@ -138,7 +138,7 @@ returns-in_default-behind-clause-fewer c =
     let ws = c.args.waiting.now.items in
     let o = c.in-Some.name in
     let found = subst (λ (xs : List (Option ItemPlace)). (top.copied < length xs) × (o ≡ get_or xs top.copied o)) c.deref.ensures.value (item_found c.deref.result.now top.copied c.get.result c.copied.result o c.get.ensures.lookup c.copied.ensures c.in-Some.is) in
-    subst (λ (xs : List Waiting). sum_by (steps m) xs < sum_by (steps m) ws + steps m top) (sym c.in_ok-push.ensures.items) (gone_fewer m ws top o (left_next top o found.0 found.1))
+    subst (λ (xs : List Waiting). sum_by (waiting_steps m) xs < sum_by (waiting_steps m) ws + waiting_steps m top) (sym c.in_ok-push.ensures.items) (gone_fewer m ws top o (left_next top o found.0 found.1))
 
 pub returns-in_default-behind-clause-putting : goal.returns-in_default-behind-clause-putting
 returns-in_default-behind-clause-putting c = NothingPut

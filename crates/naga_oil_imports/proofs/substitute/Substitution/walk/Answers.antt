@@ -40,7 +40,7 @@ loop-site-preserved c = record {
   rest = c.in-Some.ensures.utf8;
   walk =
       site_passed _ _ _ _ _ _ _ _ _ _ _ c.loop-site.invariant.walk _ _ _ _ c.in-Some.ensures c.saturating_add-place.result c.saturating_add-place.ensures (uses_of c.write_identifier.new.used_imports) _ (string_bytes c.write-in-Some.new.output)
-      (string_bytes c.write_identifier.new.output) c.text_before.ensures c.in_ok-write-2.ensures c.in_ok-write_identifier.ensures.text c.in_ok-write_identifier.ensures.allowed
+      (string_bytes c.write_identifier.new.output) c.text_before.ensures c.in_ok-write-2.ensures.text c.in_ok-write_identifier.ensures.text c.in_ok-write-2.ensures.unwritten c.in_ok-write_identifier.ensures.unwritten c.in_ok-write_identifier.ensures.allowed
       c.in_ok-write_identifier.ensures.used;
 }
 
@@ -49,7 +49,10 @@ returns-in_err-write-3-clause-fault c =
     fault_answer c.from_residual-in_err-write-3.result _ Memory c.from_residual-in_err-write-3.ensures.1 (writing_refused _ _ _ _ _ _ _ _ _ _ c.loop-site.invariant.walk.writing)
 
 pub returns-clause-text : goal.returns-clause-text
-returns-clause-text c = walked_text _ _ _ _ _ _ _ _ _ _ _ c.loop-site.invariant.walk c.in_default.ensures _ c.in_ok-write-3.ensures
+returns-clause-text c = walked_text _ _ _ _ _ _ _ _ _ _ _ c.loop-site.invariant.walk c.in_default.ensures _ c.in_ok-write-3.ensures.text
+
+pub returns-clause-unwritten : goal.returns-clause-unwritten
+returns-clause-unwritten c = λ w. c.in_ok-write-3.ensures.unwritten w ∙ c.loop-site.invariant.walk.untouched w
 
 pub returns-clause-used : goal.returns-clause-used
 returns-clause-used c = written_uses _ _ _ _ _ _ _ _ _ _ c.loop-site.invariant.walk.writing c.in_default.ensures
@@ -60,7 +63,7 @@ returns-clause-allowed c = written_allowed _ _ _ _ _ _ _ _ _ _ c.loop-site.invar
 pub returns-then-lacks_colons-clause-text : goal.returns-then-lacks_colons-clause-text
 returns-then-lacks_colons-clause-text c =
     let nothing : declared_of c.args.self.now.declared_imports.now ≡ [] = ap (map _) (nil_from_length c.args.self.now.declared_imports.now.entries (c.is_empty.ensures.0 (search rules))) in
-    rw nothing (λ w. c.in_ok-write.ensures w ∙ ap (λ l. string_bytes c.args.output.now ++ l) (sym (plain_text c.args.input.now c.utf8.input (c.lacks_colons.ensures c.if-lacks_colons.true)).written))
+    rw nothing (λ w. c.in_ok-write.ensures.text w ∙ ap (λ l. string_bytes c.args.output.now ++ l) (sym (plain_text c.args.input.now c.utf8.input (c.lacks_colons.ensures c.if-lacks_colons.true)).written))
 
 pub returns-then-lacks_colons-clause-used : goal.returns-then-lacks_colons-clause-used
 returns-then-lacks_colons-clause-used c =

@@ -25,14 +25,14 @@ returns-in-Some-clause-used c =
 
 pub returns-then-contains-clause-text : goal.returns-then-contains-clause-text
 returns-then-contains-clause-text c =
-    λ w. rw (written_quoted c.args.identifier.now c.args.path.now c.as_bytes.result.now c.contains.result (path_is_whole c.args.path.now c.in_default.ensures.cases) c.as_bytes.ensures.value c.contains.ensures.value c.if-contains.true) (c.write.ensures w)
+    λ w. rw (written_quoted c.args.identifier.now c.args.path.now c.as_bytes.result.now c.contains.result (path_is_whole c.args.path.now c.in_default.ensures.cases) c.as_bytes.ensures.value c.contains.ensures.value c.if-contains.true) (c.write.ensures.text w)
 
 pub returns-then-contains-clause-used : goal.returns-then-contains-clause-used
 returns-then-contains-clause-used c = rw (no_mention c.args.place c.args.path.now (path_is_whole c.args.path.now c.in_default.ensures.cases)) (search rules)
 
 pub returns-clause-text : goal.returns-clause-text
 returns-clause-text c =
-    λ w. rw (written_plain c.args.identifier.now c.args.path.now c.as_bytes.result.now c.contains.result (path_is_whole c.args.path.now c.in_default.ensures.cases) c.as_bytes.ensures.value c.contains.ensures.value c.if-contains.false) (c.write-2.ensures w)
+    λ w. rw (written_plain c.args.identifier.now c.args.path.now c.as_bytes.result.now c.contains.result (path_is_whole c.args.path.now c.in_default.ensures.cases) c.as_bytes.ensures.value c.contains.ensures.value c.if-contains.false) (c.write-2.ensures.text w)
 
 pub returns-clause-used : goal.returns-clause-used
 returns-clause-used c = rw (no_mention c.args.place c.args.path.now (path_is_whole c.args.path.now c.in_default.ensures.cases)) (search rules)

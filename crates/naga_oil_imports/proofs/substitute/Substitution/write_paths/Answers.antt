@@ -28,6 +28,7 @@ loop-path-preserved c =
       text = λ w.
           text_more (path_text c.args.identifier.now) c.args.behind.now c.args.paths.now c.loop-path.path-index c.path-item.result c.as_str-in-loop-path.result.now
           (string_bytes c.args.output.now) (string_bytes c.loop-path.output) (string_bytes c.write_path.new.output) within c.path-item.is whole (c.loop-path.invariant.text w) (c.in_ok-write_path.ensures.text w);
+      unwritten = λ w. c.in_ok-write_path.ensures.unwritten w ∙ c.loop-path.invariant.unwritten w;
       used =
           uses_more (mentions_at c.args.place) c.args.behind.now c.args.paths.now c.loop-path.path-index c.path-item.result c.as_str-in-loop-path.result.now
           (uses_of c.args.used_imports.now) (uses_of c.loop-path.used_imports) (uses_of c.write_path.new.used_imports) within c.path-item.is whole c.loop-path.invariant.used c.in_ok-write_path.ensures.used;

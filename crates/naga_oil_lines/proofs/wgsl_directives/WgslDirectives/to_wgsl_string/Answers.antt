@@ -2,7 +2,8 @@ use Rattle.std.proofs.Common.{◌++◌, map, ap, ◌∙◌}
 use Rattle.std.specs.List.{flat_map}
 use Rattle.std.specs.String.{string_bytes}
 use Rattle.naga_oil_lines.specs.Directives.{directives_of, enable_of, requires_of, diagnostic_of}
-use Rattle.naga_oil_lines.specs.DirectivesText.{in_order, names_of, diagnostic_line}
+use Rattle.naga_oil_words.specs.Texts.{in_order}
+use Rattle.naga_oil_lines.specs.DirectivesText.{names_of, diagnostic_line}
 use Rattle.naga_oil_lines.proofs.DirectiveLemmas.{text_written, empty_text}
 use Rattle.naga_oil_lines.proofs.wgsl_directives.WgslDirectives.to_wgsl_string.Goals as goal
 

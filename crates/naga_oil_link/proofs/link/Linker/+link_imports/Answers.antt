@@ -72,7 +72,7 @@ loop-import-preserved t c =
     let apart = entries_apart start.builds.now.entries c.len-unique.ensures.unique in
     let at : position (named i.import) bs ≡ Some k = sym (λ j. position (named (c.as_str.ensures.value j)) (builds_of (inv.builds j).now)) ∙ found_at s0.builds.now.entries name k (sym c.in-Some.ensures.index) in
     let is : slice_get bs k ≡ Some e = sym (λ j. slice_get (builds_of (inv.builds j).now) k) ∙ entry_at s0.builds.now.entries name k c.in-Some.field-0-1.now c.in-Some.build.now c.in-Some.ensures.entry in
-    let same = ap built_of c.deref-in-loop-import-3.ensures in
+    let same = ap built_of c.deref-in-loop-import.ensures in
     let rest3 = c.link_asked.ensures.rest in
     let more = import_linked start.of_headers bs end c.args.imports.now c.loop-import.import-index x c.loop-import-test.true c.import-item.is start.derived s0.derived start.descended.keys s0.descended.keys inv.linked s3.derived s3.descended.keys in
     elim c.if-branch.branch [

@@ -1,6 +1,5 @@
 use Rattle.std.proofs.Common.{◌≡◌, ◌++◌, ℕ, List, map, Some, OnOk, subst}
-use Rattle.naga_oil_lines.specs.DirectivesText.{in_order}
-use Rattle.naga_oil_lines.specs.Text.{texts}
+use Rattle.naga_oil_words.specs.Texts.{in_order, texts}
 use Rattle.naga_oil_imports.specs.Uses.{import_of}
 use Rattle.naga_oil_link.specs.BuiltModule.{built_of}
 use Rattle.naga_oil_link.specs.Linked.{link_items}

@@ -4,7 +4,7 @@ use Rattle.std.specs.List.{flat_map}
 use Rattle.naga_oil_ir.specs.ModuleValue.{FunctionValue, module_value}
 use Rattle.naga_oil_ir.specs.declared.span.Span.{Span}
 use Rattle.naga_oil_derive.specs.Derived.{Derived}
-use Rattle.naga_oil_lines.specs.Text.{texts, is_among}
+use Rattle.naga_oil_words.specs.Texts.{texts, is_among}
 use Rattle.naga_oil_link.specs.BuiltModule.{built_of}
 use Rattle.naga_oil_link.specs.ByName.{names_of_functions, places_named, with_places}
 use Rattle.naga_oil_link.specs.Linked.{asked_names, passes, is_wanted_function, link_function}

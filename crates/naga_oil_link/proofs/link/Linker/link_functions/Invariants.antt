@@ -1,7 +1,7 @@
 use Rattle.std.proofs.Common.{◌≡◌, fold, slice_get}
 use Rattle.naga_oil_ir.specs.ModuleValue.{module_value}
 use Rattle.naga_oil_link.specs.BuiltModule.{built_of}
-use Rattle.naga_oil_lines.specs.Text.{texts}
+use Rattle.naga_oil_words.specs.Texts.{texts}
 use Rattle.naga_oil_link.specs.CopiedBuild.{AreAmong}
 use Rattle.naga_oil_link.specs.CopySources.{CopiesFrom}
 use Rattle.naga_oil_link.specs.LinkView.{link_own_function}

@@ -1,6 +1,6 @@
 use Rattle.std.proofs.Common.{◌≡◌, drop}
 use Rattle.std.specs.BTreeMap.{get_by_text}
-use Rattle.naga_oil_lines.specs.Text.{texts}
+use Rattle.naga_oil_words.specs.Texts.{texts}
 use Rattle.naga_oil_pre.specs.Metadata.{none_defined}
 use Rattle.naga_oil_mini.specs.Defined.{defined_by}
 use Rattle.naga_oil_mini.proofs.mini.definitions.given.Given as goal

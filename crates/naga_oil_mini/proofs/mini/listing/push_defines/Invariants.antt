@@ -1,5 +1,5 @@
 use Rattle.std.proofs.Common.{◌≡◌, ◌++◌, map, string_bytes}
-use Rattle.naga_oil_registry.specs.Definition.{defs_of}
+use Rattle.naga_oil_registry.specs.Registered.{defs_of}
 use Rattle.naga_oil_mini.specs.Listing.{define_lines}
 use Rattle.naga_oil_mini.proofs.mini.listing.push_defines.Given as goal
 

@@ -1,5 +1,5 @@
 use Rattle.std.proofs.Common.{◌≡◌, ◌++◌}
-use Rattle.naga_oil_lines.specs.Text.{texts}
+use Rattle.naga_oil_words.specs.Texts.{texts}
 use Rattle.naga_oil_mini.specs.Listing.{name_lines}
 use Rattle.naga_oil_mini.proofs.mini.listing.push_names.Given as goal
 

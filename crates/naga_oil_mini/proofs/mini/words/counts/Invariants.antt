@@ -1,6 +1,6 @@
 use Rattle.std.proofs.Common.{◌≡◌, ◌+◌, ◌≤◌, drop, length}
 use Rattle.naga_oil_mini.specs.Words.{files, imports}
-use Rattle.naga_oil_lines.specs.Text.{texts}
+use Rattle.naga_oil_words.specs.Texts.{texts}
 use Rattle.naga_oil_mini.proofs.mini.words.counts.Given as goal
 
 abbrev pub invariant-loop-word : goal.invariant-loop-word

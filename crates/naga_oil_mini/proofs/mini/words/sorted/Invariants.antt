@@ -1,7 +1,7 @@
 use Rattle.std.proofs.Common.{◌≡◌, ◌++◌, drop}
-use Rattle.naga_oil_symbols.specs.Names.{texts_of}
+use Rattle.naga_oil_mini_symbols.specs.Names.{texts_of}
 use Rattle.naga_oil_mini.specs.Words.{files, imports}
-use Rattle.naga_oil_lines.specs.Text.{texts}
+use Rattle.naga_oil_words.specs.Texts.{texts}
 use Rattle.naga_oil_mini.proofs.mini.words.sorted.Given as goal
 
 abbrev pub invariant-loop-word : goal.invariant-loop-word

@@ -1,6 +1,6 @@
 use Rattle.std.proofs.Common.{◌≡◌, ◌+◌, eqb, cond, drop, Some, true, false, refl, sym, ap, ◌∙◌, rules, arith}
 use Rattle.std.proofs.lemmas.List.{drop_all}
-use Rattle.naga_oil_registry.specs.Definition.{definition_of}
+use Rattle.naga_oil_registry.specs.Registered.{definition_of}
 use Rattle.naga_oil_registry.specs.Registry.{module_indexed}
 use Rattle.naga_oil_registry.proofs.RegistryLemmas.{opened_at}
 use Rattle.naga_oil_registry.proofs.registry.Registry.at_index.Goals as goal

@@ -1,5 +1,5 @@
 use Rattle.std.proofs.Common.{◌≡◌, ◌<◌, ◌≤◌, None, IfNone, drop, bytes_eq, sym, subst, arith}
-use Rattle.naga_oil_registry.specs.Definition.{definition_of}
+use Rattle.naga_oil_registry.specs.Registered.{definition_of}
 use Rattle.naga_oil_registry.specs.Registry.{place_named}
 use Rattle.naga_oil_registry.proofs.KeptLemmas.{none_dropped, none_behind, position_none, position_behind}
 use Rattle.naga_oil_registry.proofs.registry.Registry.behind.Goals as goal

@@ -3,7 +3,7 @@ use Rattle.std.specs.BTreeSet.{contains_text}
 use Rattle.std.specs.Map.{values_of}
 use Rattle.indexmap.specs.IndexMap.{get}
 use Rattle.indexmap.proofs.CallerLemmas.{insert_entry-new}
-use Rattle.naga_oil_registry.specs.Definition.{definition_of}
+use Rattle.naga_oil_registry.specs.Registered.{definition_of}
 use Rattle.naga_oil_registry.specs.Registry.{registered, standing}
 use Rattle.naga_oil_registry.specs.RegistryView.{newest_first, AreUnderNames, AreMarks}
 use Rattle.naga_oil_registry.proofs.KeptLemmas.{kept_entries, stay_named, stay_newest, more_named, more_newest, unkept, marks_more}

@@ -1,6 +1,6 @@
 use Rattle.std.proofs.Common.{option_map, bytes_eq, Some, sym, ap, ◌∙◌}
 use Rattle.std.proofs.lemmas.Option.{get_or_from_slice_get}
-use Rattle.naga_oil_registry.specs.Definition.{definition_of}
+use Rattle.naga_oil_registry.specs.Registered.{definition_of}
 use Rattle.naga_oil_registry.proofs.KeptLemmas.{find_none, find_only}
 use Rattle.naga_oil_registry.proofs.registry.Registry.get.Goals as goal
 

@@ -2,7 +2,7 @@ use Rattle.std.proofs.Common.{◌≡◌, ◌+◌, ◌-◌, ◌||◌, drop, cond,
 use Rattle.std.proofs.lemmas.Map.Text.{btree_set_updates_text}
 use Rattle.std.specs.BTreeSet.{contains_text}
 use Rattle.std.specs.List.{list_any}
-use Rattle.naga_oil_registry.specs.Definition.{definition_of}
+use Rattle.naga_oil_registry.specs.Registered.{definition_of}
 use Rattle.naga_oil_registry.specs.Registry.{reaches}
 use Rattle.naga_oil_registry.proofs.KeptLemmas.{none_behind}
 use Rattle.naga_oil_registry.proofs.RegistryLemmas.{gone-more, gone-same}

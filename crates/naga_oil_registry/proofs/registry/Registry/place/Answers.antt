@@ -1,6 +1,6 @@
 use Rattle.std.proofs.Common.{◌≡◌, ◌-◌, List, IfNone, false, sym, subst, ap, ◌∙◌, bytes_eq}
 use Rattle.std.specs.Map.{values_of}
-use Rattle.naga_oil_registry.specs.Definition.{Definition}
+use Rattle.naga_oil_registry.specs.Registered.{Registered}
 use Rattle.naga_oil_registry.specs.Registry.{registered}
 use Rattle.naga_oil_registry.specs.RegistryView.{newest_first, IsOnly}
 use Rattle.naga_oil_registry.proofs.KeptLemmas.{unregistered, only_named}
@@ -14,7 +14,7 @@ returns-in_err-older-clause-none c =
 pub returns-clause-some : goal.returns-clause-some
 returns-clause-some c =
     let es = c.self.inside.modules.entries in
-    let named : Definition → _ = λ d. bytes_eq d.name c.args.name.now in
+    let named : Registered → _ = λ d. bytes_eq d.name c.args.name.now in
     let only = only_named c.args.name.now es c.self.invariant.under c.len.ensures.unique c.in_ok-older.older (sym c.in_ok-older.ensures.index) in
-    subst (λ (ds : List Definition). IsOnly named ds (c.len.result - 1 - c.in_ok-older.older)) c.self.view_is
+    subst (λ (ds : List Registered). IsOnly named ds (c.len.result - 1 - c.in_ok-older.older)) c.self.view_is
     (subst (λ n. IsOnly named (newest_first (values_of es)) (n - 1 - c.in_ok-older.older)) (sym c.len.ensures.len) only)

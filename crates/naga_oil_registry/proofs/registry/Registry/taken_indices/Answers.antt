@@ -1,7 +1,7 @@
 use Rattle.std.proofs.Common.{◌≡◌, ◌+◌, ◌≤◌, Vec, ◌||◌, true, false, length, get_or, drop, sym, ap, ◌∙◌, arith}
 use Rattle.std.proofs.lemmas.List.{drop_all}
 use Rattle.std.specs.BTreeSet.{contains_text}
-use Rattle.naga_oil_registry.specs.Definition.{definition_of}
+use Rattle.naga_oil_registry.specs.Registered.{definition_of}
 use Rattle.naga_oil_registry.specs.Registry.{standing, taken}
 use Rattle.naga_oil_registry.proofs.KeptLemmas.{or_nothing, taken_on, taken_same}
 use Rattle.naga_oil_registry.proofs.registry.Registry.taken_indices.Goals as goal

@@ -1,4 +1,4 @@
--- `self` is lent to `add_module`, and then shared for good. Assumes `Logic`.
+-- `self` is lent to `add_module`, and then shared until its end. Assumes `Logic`.
 use Rattle.std.proofs.Common.{◌≡◌, ◌<◌, ℕ, List, [], ◌∷◌, refl, sym, subst, length, MutBor, Err, OnOk, IsOk, MatchResult, Some, slice_get}
 use Rattle.std.proofs.raw_atomic.Walks.{proved_at}
 use Rattle.std.proofs.result.Result.TheLaws as outcome
@@ -55,7 +55,7 @@ use Rattle.naga_oil_registry.proofs.definition.ComposableModuleDefinition.TheLaw
 use Rattle.naga_oil_registry.proofs.descriptor.ComposableModuleDescriptor.TheLaws as descriptor-laws
 use Rattle.naga_oil.proofs.compose.error.ComposerError.TheLaws as error-laws
 use Rattle.naga_oil.specs.Addition.{addition}
-use Rattle.naga_oil_registry.specs.Definition.{definition_of}
+use Rattle.naga_oil_registry.specs.Registered.{definition_of}
 use Rattle.naga_oil_registry.specs.Descriptor.{module_source}
 use Rattle.naga_oil.specs.Refused.{Answers}
 use Rattle.naga_oil.specs.State.{Adds}
@@ -67,7 +67,7 @@ use Rattle.naga_oil_registry.specs.contracts.definition.ComposableModuleDefiniti
 use Rattle.naga_oil_registry.specs.contracts.descriptor.ComposableModuleDescriptor as descriptor
 use Rattle.naga_oil.specs.contracts.compose.error.ComposerError as error
 
--- a value of one machine value
+-- two values with one machine value are one
 alone : (vs : List Val) → Lone vs → (v : Val) × (vs ≡ v ∷ [])
 alone [] bad = absurd bad
 alone (v ∷ []) one = (v, refl)

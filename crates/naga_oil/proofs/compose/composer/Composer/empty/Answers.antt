@@ -1,5 +1,5 @@
 use Rattle.std.proofs.Common.{rules, ◌≡◌, List, [], sym, subst}
-use Rattle.naga_oil_registry.specs.Definition.{Definition}
+use Rattle.naga_oil_registry.specs.Registered.{Registered}
 use Rattle.naga_oil_registry.specs.Registry.{IsRegistry}
 use Rattle.naga_oil_build.specs.Held.{settings}
 use Rattle.naga_oil.specs.Store.{Kept}
@@ -12,4 +12,4 @@ pub invariant_of-result : goal.invariant_of-result
 invariant_of-result g c =
     let s = settings (g.B.Backend.front c.args.front) c.args.capabilities c.args.validate c.args.override_any in
     let kept : kept_of c.new-2.result ≡ [] = search rules in
-    subst (λ (ds : List Definition). IsRegistry ds × IsStore s ds (kept_of c.new-2.result)) (sym c.new.ensures) (tt, subst (λ (k : Kept). IsStore s [] k) (sym kept) (store_nothing s []))
+    subst (λ (ds : List Registered). IsRegistry ds × IsStore s ds (kept_of c.new-2.result)) (sym c.new.ensures) (tt, subst (λ (k : Kept). IsStore s [] k) (sym kept) (store_nothing s []))

@@ -2,12 +2,12 @@ use Rattle.std.proofs.Common.{◌≡◌, ◌+◌, ◌-◌, ◌∙◌, [], Err, s
 use Rattle.std.proofs.Math.Path.{transport}
 use Rattle.std.proofs.lemmas.List.{length-map}
 use Rattle.naga_oil_ir.specs.ModuleValue.{module_value}
-use Rattle.naga_oil_registry.specs.Definition.{defs_of}
+use Rattle.naga_oil_registry.specs.Registered.{defs_of}
 use Rattle.naga_oil_registry.specs.Descriptor.{shader_source}
 use Rattle.naga_oil_link.specs.BuiltModule.{builds_of}
 use Rattle.naga_oil.specs.Answer.{make}
 use Rattle.naga_oil.specs.MakeDefs.{defs_of_text}
-use Rattle.naga_oil.specs.MakeView.{KeepsFirst}
+use Rattle.naga_oil.specs.MakeView.{KeepsFirst, ends_with}
 use Rattle.naga_oil.specs.Makes.{Makes, settings_of}
 use Rattle.naga_oil.specs.Refused.{refused_of}
 use Rattle.naga_oil.specs.State.{State}
@@ -39,7 +39,7 @@ returns g c =
     let built = builds_of maker.builder.builds in
     let more = kept_of maker.store in
     let same = same_make s ds m c.as_str.result.now text began c.as_str.ensures.value (ap seen c.new.ensures.empty) in
-    let first = transport (λ i. KeepsFirst s ds refused_of (defs_of_text ds m (c.as_str.ensures.value i)) c.make-made.result (kept_of (c.replace.ensures.value i)) (defs_of maker.defs) built more) c.make-made.ensures.keeps in
+    let first = transport (λ i. KeepsFirst s ds refused_of (defs_of_text ds m (c.as_str.ensures.value i)) c.make-made.result (kept_of (c.replace.ensures.value i)) (ends_with (defs_of maker.defs) built more)) c.make-made.ensures.keeps in
     let count = c.saturating_add-self-inside.result in
     let counts : count ≡ count_kept old.builds old.kept more = counted old.builds count c.len-before.result c.len.result c.saturating_sub-more.result old.kept more (c.len-before.ensures.len ∙ sym (length-map inside.store.entries _)) (c.len.ensures.len ∙ sym (length-map maker.store.entries _)) c.saturating_sub-more.ensures c.saturating_add-self-inside.ensures in
     subst (λ (v : State _). Makes front v m c.make-made.result (record old { counter = c.in-Ok.found.1; kept = more; builds = count })) c.self.view_is

@@ -1,5 +1,5 @@
 use Rattle.std.proofs.Common.{◌≡◌, option_map, subst}
-use Rattle.naga_oil_registry.specs.Definition.{definition_of}
+use Rattle.naga_oil_registry.specs.Registered.{definition_of}
 use Rattle.naga_oil_registry.specs.Registry.{module_indexed}
 use Rattle.naga_oil.specs.State.{State}
 use Rattle.naga_oil.proofs.compose.composer.Composer.module_at.Goals as goal

@@ -1,6 +1,6 @@
 use Rattle.std.proofs.Common.{◌≡◌, ◌∙◌, List, sym, subst, refl}
 use Rattle.std.specs.BTreeSet.{contains_text}
-use Rattle.naga_oil_registry.specs.Definition.{Definition}
+use Rattle.naga_oil_registry.specs.Registered.{Registered}
 use Rattle.naga_oil_registry.specs.Registry.{reaches}
 use Rattle.naga_oil_registry.proofs.RemovedLemmas.{after_removal, removed-unknown}
 use Rattle.naga_oil_build.specs.Held.{settings}
@@ -28,5 +28,5 @@ invariant_of-self-2 g c =
     let stays : Kept = forget (λ other. reaches ds other name) (kept_of inside.store) in
     let left : kept_of c.forget.new.store ≡ stays = c.forget.ensures ∙ forget_same (contains_text c.in_ok-gone.gone) (λ other. reaches ds other name) c.in_ok-gone.ensures.gone (kept_of inside.store) in (
       after_removal c.remove.result name ds c.remove.new.self c.remove.ensures.ok c.remove.ensures.err c.self.invariant.0,
-      subst (λ (k : Kept). IsStore s c.remove.new.self k) (sym left) (subst (λ (es : List Definition). IsStore s es stays) (sym c.in_ok-gone.ensures.ok) (forget_law.removal s ds name (kept_of inside.store) c.self.invariant.0 c.self.invariant.1)),
+      subst (λ (k : Kept). IsStore s c.remove.new.self k) (sym left) (subst (λ (es : List Registered). IsStore s es stays) (sym c.in_ok-gone.ensures.ok) (forget_law.removal s ds name (kept_of inside.store) c.self.invariant.0 c.self.invariant.1)),
     )

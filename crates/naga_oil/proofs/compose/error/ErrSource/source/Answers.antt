@@ -3,7 +3,7 @@ use Rattle.std.specs.BTreeMap.{get_by_text}
 use Rattle.naga_oil_conditions.specs.Fault.{Fault}
 use Rattle.naga_oil_pre.specs.Preprocessed.{Output, preprocessed}
 use Rattle.naga_oil_conditions.specs.View.{fault_of}
-use Rattle.naga_oil_registry.specs.Definition.{definition_of}
+use Rattle.naga_oil_registry.specs.Registered.{definition_of}
 use Rattle.naga_oil_registry.specs.Registry.{module_named}
 use Rattle.naga_oil.specs.Sources.{text_given, text_under}
 use Rattle.naga_oil.proofs.compose.error.ErrSource.source.Goals as goal

@@ -1,5 +1,0 @@
-use Rattle.naga_oil_chain_laws.proofs.OverridingFormLemmas.{name_law}
-use Rattle.naga_oil_chain_laws.proofs.laws.names_tell_what_is_overridden.Goals as goal
-
-pub returns : goal.returns
-returns c = name_law

@@ -1,5 +1,0 @@
-use Rattle.naga_oil_chain_laws.proofs.OverridingFormLemmas.{no_name_shared}
-use Rattle.naga_oil_chain_laws.proofs.laws.no_name_is_shared.Goals as goal
-
-pub returns : goal.returns
-returns c = no_name_shared

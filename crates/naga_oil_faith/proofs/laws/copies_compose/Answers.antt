@@ -1,5 +1,0 @@
-use Rattle.naga_oil_faith.proofs.ComposeLaws.{reflexive, compose, as_copied}
-use Rattle.naga_oil_faith.proofs.laws.copies_compose.Goals as goal
-
-pub returns : goal.returns
-returns c = record { reflexive = reflexive; compose = compose; as_copied = as_copied }

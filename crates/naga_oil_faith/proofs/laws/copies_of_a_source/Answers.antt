@@ -1,6 +1,0 @@
-use Rattle.naga_oil_faith.proofs.AtHand.{at_hand}
-use Rattle.naga_oil_faith.proofs.TreeCopies.{made}
-use Rattle.naga_oil_faith.proofs.laws.copies_of_a_source.Goals as goal
-
-pub returns : goal.returns
-returns c = record { at_hand = at_hand; made = made }

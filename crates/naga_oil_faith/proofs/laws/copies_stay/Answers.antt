@@ -1,6 +1,0 @@
-use Rattle.naga_oil_faith.proofs.FrameLaws.{alike, target, source, keys}
-use Rattle.naga_oil_faith.proofs.ThereLaws.{all_there}
-use Rattle.naga_oil_faith.proofs.laws.copies_stay.Goals as goal
-
-pub returns : goal.returns
-returns c = record { alike = alike; target = target; source = source; there = all_there; keys = keys }

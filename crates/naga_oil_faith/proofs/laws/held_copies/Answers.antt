@@ -1,5 +1,0 @@
-use Rattle.naga_oil_faith.proofs.HeldLaws.{held_copies, localized}
-use Rattle.naga_oil_faith.proofs.laws.held_copies.Goals as goal
-
-pub returns : goal.returns
-returns c = record { held = held_copies; localized = localized }

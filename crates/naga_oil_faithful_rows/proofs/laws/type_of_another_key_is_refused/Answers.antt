@@ -1,5 +1,0 @@
-use Rattle.naga_oil_faithful_rows.proofs.Refused.{of_another_key_refused}
-use Rattle.naga_oil_faithful_rows.proofs.laws.type_of_another_key_is_refused.Goals as goal
-
-pub returns : goal.returns
-returns c = of_another_key_refused

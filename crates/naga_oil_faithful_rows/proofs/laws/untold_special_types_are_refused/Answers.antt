@@ -1,5 +1,0 @@
-use Rattle.naga_oil_faithful_rows.proofs.Refused.{without_special_refused}
-use Rattle.naga_oil_faithful_rows.proofs.laws.untold_special_types_are_refused.Goals as goal
-
-pub returns : goal.returns
-returns c = without_special_refused

@@ -1,4 +1,0 @@
-//! A whole small make, and what its definition refuses.
-#![tactic(auto)]
-
-pub mod laws;

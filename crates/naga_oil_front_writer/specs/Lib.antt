@@ -1,5 +1,0 @@
-pub mod Items
-pub mod NotWritten
-pub mod BodyReader
-pub mod Order
-pub mod Writer

@@ -1,0 +1,23 @@
+-- The lemmas of this crate.
+pub mod Asked
+pub mod Asks
+pub mod Declared
+pub mod Decorates
+pub mod Entries
+pub mod FormedSources
+pub mod Holds
+pub mod Imports
+pub mod KeptScopes
+pub mod Lifts
+pub mod Links
+pub mod Names
+pub mod Orders
+pub mod ParsedShapes
+pub mod Scopes
+pub mod SentForms
+pub mod ShapedFunctions
+pub mod ShapedItems
+pub mod SpecialTypes
+pub mod Stages
+pub mod Throughs
+pub mod Wholes

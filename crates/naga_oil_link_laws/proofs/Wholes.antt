@@ -1,0 +1,130 @@
+-- The whole of a shader's build copies what the builds hold.
+use Rattle.std.proofs.Common.{◌≡◌, ℕ, ◌*◌, List, [], take, reverse, Some, None, false, slice_get, inl, inr, refl, ap, sym, ◌∙◌, subst, arith}
+use Rattle.naga_oil_ir.specs.ModuleValue.{ModuleValue, FunctionValue, EntryValue}
+use Rattle.naga_oil_ir.specs.Rows.{Text}
+use Rattle.naga_oil_ir.specs.declared.names.ItemPlace.{ItemPlace}
+use Rattle.naga_oil_ir.specs.declared.span.Span.{Span}
+use Rattle.naga_oil_derive.specs.CopiedEntry.{module_of}
+use Rattle.naga_oil_derive.specs.Derived.{Derived}
+use Rattle.naga_oil_derive.specs.DerivedValue.{set_source}
+use Rattle.naga_oil_derive.specs.Tree.{World}
+use Rattle.naga_oil_derive.specs.World.{shifted}
+use Rattle.naga_oil_form_laws.specs.EntryForm.{IsModuleFormed}
+use Rattle.naga_oil_link.specs.BuiltModule.{BuiltModule, Builds}
+use Rattle.naga_oil_link.proofs.GoodFormLemmas.{linked_made}
+use Rattle.naga_oil_link.specs.Linked.{link_items, link_imports, nothing_linked, link_header, link_whole}
+use Rattle.naga_oil_copy_laws.specs.Scope.{scope_of}
+use Rattle.naga_oil_copy_laws.proofs.FrameLaws.{alike, item_alike}
+use Rattle.naga_oil_link_laws.specs.ReadIn.{scope_in}
+use Rattle.naga_oil_link_laws.specs.Headers.{HasNamed, HasDeclarations, HaveDeclarations, HaveOwnNames}
+use Rattle.naga_oil_link_laws.specs.LinkedCopies.{IsOneOrLast, header_before, CopiesOfBuild, HeaderOf, CopiesFunctionOfOne, ReadsAsItemOf, CopiesBuilds, AreFormedBuilds, LinkedCopiesLaw}
+use Rattle.naga_oil_link_laws.proofs.Names.{named_stays}
+use Rattle.naga_oil_link_laws.proofs.Asks.{Entry, AllBehind, imports_ask}
+use Rattle.naga_oil_link_laws.proofs.Stages.{behind, read_behind}
+use Rattle.naga_oil_link_laws.proofs.Scopes.{entries_world, entries_in, entries_of}
+use Rattle.naga_oil_link_laws.proofs.Links.{HasBefore, LinkCopy, LinkItem, Linked, items_linked, can, source_begins, made_copies, each_function, each_item}
+use Rattle.naga_oil_link_laws.proofs.Imports.{MayLink, not_back, gathered, imports_linked}
+use Rattle.naga_oil_link_laws.proofs.Entries.{end, entries_come, made_with}
+use Rattle.naga_oil_ir.specs.Spans.{span_stride}
+
+module _ (t : ModuleValue) (es : List EntryValue) where
+  abbrev u : ModuleValue
+  u = record t { entry_points = es }
+
+  with_entries : (b : BuiltModule) (f g : FunctionValue) → CopiesOfBuild b t f g → CopiesOfBuild b u f g
+  with_entries b f g c = record {
+    copies = alike (shifted (b.index * span_stride)) (λ n. n) (scope_in b.value t) (scope_of t) (scope_in b.value u) (scope_of u) f g (entries_in b.value t es) (entries_of t es) c.copies;
+    earlier = c.earlier;
+  }
+
+  -- functions have distinct names, so none has the name of an earlier one
+  not_before : (header : ModuleValue) (k : ℕ) (g : FunctionValue × Span) → IsModuleFormed u → slice_get t.functions k ≡ Some g → HasBefore header t k → HasNamed header g.0.name → ⊥
+  not_before header k g form at before h =
+      let o = before g.0.name h in
+      let same = form.functions.distinct o.0 k o.1 g o.3 at o.4 in
+      let l = o.2 in
+      omega (arith, same, l)
+
+  function_copy : (P : BuiltModule → Type 0) (H : HeaderOf P) (k : ℕ) (g : FunctionValue × Span) → IsModuleFormed u → slice_get t.functions k ≡ Some g → LinkCopy P H t k g.0 → CopiesFunctionOfOne P H u g.0
+  function_copy P H k g form at c = record {
+    build = c.build;
+    among = c.among;
+    copies = record { keys = c.keys; place = c.place; function = c.function; at = c.at; copies = with_entries c.build c.function.0 g.0 c.copies };
+    undeclared = not_before (H c.build c.among) k g form at c.before;
+  }
+
+  item_copy : (P : BuiltModule → Type 0) (q : ItemPlace) → LinkItem P t q → (c : BuiltModule) × P c × ReadsAsItemOf c u q
+  item_copy P q c = (c.build, c.among, (c.item.0, c.item.1, item_alike (scope_in c.build.value t) (scope_of t) (scope_in c.build.value u) (scope_of u) c.item.0 q (entries_in c.build.value t es) (entries_of t es) c.item.2))
+
+-- what is linked after what stood before, with the header of a build known there
+module _ (P : BuiltModule → Type 0) (H : HeaderOf P) (b : BuiltModule) (among : P b) (form : IsModuleFormed b.value) (before : Derived) (l : Linked P H before) (known : (n : Text) → HasNamed (H b among) n → HasNamed before.target n) (shift : ℕ) (moved : shift ≡ b.index * span_stride) where
+  abbrev made : ModuleValue
+  made = module_of (end (behind before b.value shift) (can P H b among form before l known shift moved) (read_behind before b.value) (set_source before b.value shift))
+
+  whole_copies : IsModuleFormed made → CopiesBuilds P H b made
+  whole_copies distinct =
+      let m = b.value in
+      let x = behind before m shift in
+      let w = read_behind before m in
+      let c = can P H b among form before l known shift moved in
+      let d = set_source before m shift in
+      let en = entries_come x c w d (source_begins P H b among form before l known shift moved) in
+      let st = end x c w d in
+      let t = st.derived.target in
+      record {
+        keys = en.stage.keys;
+        functions = λ k g at. function_copy t st.entries P H k g distinct at (each_function P H b among form before l known shift moved st.derived en.stage k g at);
+        items = λ q r at. item_copy t st.entries P q (each_item P H b among form before l known shift moved st.derived en.stage q r (sym (ap (λ (v : World). v q) (entries_world t st.entries)) ∙ at));
+        entry_points = λ i y at.
+            let e = en.each i y at in
+            record { entry = e.entry; at = e.at; copies = with_entries t st.entries b e.entry.function y.function (made_copies P H b among form before l known shift moved st.derived en.stage e.entry.function y.function (c.entry_points i e.entry e.at).0.copyable e.made_of) };
+      }
+
+module _ (bs : Builds) (b : BuiltModule) (forms : AreFormedBuilds bs) (declare : HaveDeclarations bs) (names : HaveOwnNames bs) where
+  abbrev P : BuiltModule → Type 0
+  P = IsOneOrLast bs b
+
+  abbrev H : HeaderOf P
+  H = header_before bs b
+
+  declares_of : (earlier : Builds) (e : Entry) → MayLink P H earlier e → HasDeclarations e.1
+  declares_of earlier e m = m.declares
+
+  -- each of the builds may be linked over those before it
+  all_may_link : AllBehind (MayLink P H) (reverse bs)
+  unfolding link_header
+  all_may_link = gathered (MayLink P H) bs [] one tt
+    where
+      one : (k : ℕ) (e : Entry) → slice_get bs k ≡ Some e → AllBehind (MayLink P H) (reverse (take k bs)) → MayLink P H (reverse (take k bs)) e
+      one k e at a = record {
+        among = inl (k, e, at, refl);
+        form = forms k e at;
+        declares = declare k e at;
+        apart = not_back (take k bs) e.0 (names k e at);
+        header = λ n h. imports_ask (MayLink P H) declares_of (reverse (take k bs)) a e.1.imports n h;
+      }
+
+  -- what the header of the last build declares is there after its imports
+  last_known : (n : Text) → HasNamed (H b (inr refl)) n → HasNamed (link_imports false bs b.imports nothing_linked).derived.target n
+  unfolding link_header
+  last_known n h = (imports_linked P H bs b.imports all_may_link).named n (imports_ask (MayLink P H) declares_of (reverse bs) all_may_link b.imports n h)
+
+pub linked_copies : LinkedCopiesLaw
+unfolding link_whole
+linked_copies bs b zero_index forms declare names form =
+    let P = IsOneOrLast bs b in
+    let H = header_before bs b in
+    let among : P b = inr refl in
+    let imports = imports_linked P H bs b.imports (all_may_link bs b forms declare names) in
+    let d = (link_imports false bs b.imports nothing_linked).derived in
+    let known = last_known bs b forms declare names in
+    let all = items_linked P H b None d among form imports.linked known in
+    let before = link_items false b None d in
+    let moved : 0 ≡ b.index * span_stride = ap (λ n. n * span_stride) (sym zero_index) in
+    let x = behind before b.value 0 in
+    let w = read_behind before b.value in
+    let then = λ (n : Text) (h : HasNamed (H b among) n). named_stays d.target before.target n all.stay (known n h) in
+    let c = can P H b among form before all.linked then 0 moved in
+    let same = made_with x c w (set_source before b.value 0) (source_begins P H b among form before all.linked then 0 moved) in
+    let formed = linked_made b.value 0 before form all.linked.formed in
+    (subst (CopiesBuilds P H b) (sym same) (whole_copies P H b among form before all.linked then 0 moved (subst IsModuleFormed same formed)), formed)

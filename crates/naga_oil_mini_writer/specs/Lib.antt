@@ -1,0 +1,4 @@
+pub mod NotWritten
+pub mod BodyReader
+pub mod Order
+pub mod Writer

@@ -1,0 +1,5 @@
+pub mod Bytes
+pub mod Marks
+pub mod OptionSteps
+pub mod ResultSteps
+pub mod Texts
