@@ -1,6 +1,6 @@
 """Measures what `run.sh` wrote, and prints tables in Markdown.
 
-    measure.py FOLDER OIL BENCH RUNS SIZES
+    measure.py FOLDER OIL PROBE RUNS SIZES
 
 FOLDER holds a folder for each kind of input and each size, and the other program, if it was built. Seconds are those of the
 processor, user and system, the least of RUNS runs (of two, where one takes more than two seconds)."""
@@ -11,7 +11,7 @@ import statistics
 import subprocess
 import sys
 
-FOLDER, OIL, BENCH, RUNS = sys.argv[1], sys.argv[2], sys.argv[3], int(sys.argv[4])
+FOLDER, OIL, PROBE, RUNS = sys.argv[1], sys.argv[2], sys.argv[3], int(sys.argv[4])
 SIZES = [int(size) for size in sys.argv[5].split()]
 PEER = os.path.join(FOLDER, "peer", "peer")
 QUIET = [(os.POSIX_SPAWN_OPEN, stream, os.devnull, os.O_WRONLY, 0) for stream in (1, 2)]
@@ -168,10 +168,10 @@ def makes():
 
 
 def steps(words):
-    """The milliseconds of the steps of `naga_oil_bench`, the least of some runs."""
+    """The milliseconds of the steps of `naga_oil_probe`, the least of some runs."""
     least = {}
     for _ in range(RUNS):
-        done = subprocess.run([BENCH, *words, "--times"], stdout=subprocess.PIPE, text=True, check=True)
+        done = subprocess.run([PROBE, *words, "--times"], stdout=subprocess.PIPE, text=True, check=True)
         for line in done.stdout.splitlines():
             step = re.sub(r"^\d+ (?=modules)", "", re.split(r"[:,]", line)[0])
             taken = int(line.split()[-2])
@@ -181,16 +181,16 @@ def steps(words):
 
 def bench_rows(task, words_of):
     by_size = {size: steps(words_of(size)) for size in SIZES}
-    memory = peak([BENCH, *words_of(SIZES[-1])], "plain", SIZES[-1])
+    memory = peak([PROBE, *words_of(SIZES[-1])], "plain", SIZES[-1])
     for step in by_size[SIZES[-1]]:
         print_row(f"{task}: {step}", [str(by_size[size][step]) for size in SIZES], memory)
 
 
 def kept():
-    if not os.access(BENCH, os.X_OK):
-        tell("no program naga_oil_bench is named; its rows are left out")
+    if not os.access(PROBE, os.X_OK):
+        tell("no program naga_oil_probe is named; its rows are left out")
         return
-    print_head("`naga_oil_bench`, milliseconds", [f"{MODULES[size]:,} modules" for size in SIZES])
+    print_head("`naga_oil_probe`, milliseconds", [f"{MODULES[size]:,} modules" for size in SIZES])
     bench_rows("reload", lambda size: ["reload", str(MODULES[size])])
     recording = {size: str((MODULES[size] + 49) // 50) for size in SIZES}
     bench_rows("variants", lambda size: ["variants", str(MODULES[size]), "10", recording[size]])

@@ -1,8 +1,8 @@
 #!/bin/sh
-# What preprocessing and makes take, beside other programs: `sh bench/run.sh OIL [UPSTREAM [BENCH]]` prints tables in Markdown.
-# OIL is the program `oil`, UPSTREAM the folder of naga_oil's own source (`-` for none), BENCH the program `naga_oil_bench`.
-# What isn't there is left out, and a line on standard error says so. RUNS says how often each is run (5), SIZES which of the
-# sizes 1, 10 and 100 are measured (all), and in the folder KEEP what is built of UPSTREAM stays for a later run.
+# Measures `oil pre` and `oil make` beside other programs: `sh bench/run.sh OIL [UPSTREAM [PROBE]]` prints tables in Markdown.
+# OIL is the program `oil`, UPSTREAM the folder of naga_oil's own source (`-` for none), PROBE the program `naga_oil_probe`.
+# What isn't there is left out, and a line on standard error says so. RUNS is the number of runs of each row (5), SIZES selects
+# among the sizes 1, 10 and 100 (all), and the folder KEEP keeps what is built of UPSTREAM for a later run.
 # `bench/README.md` says what each row measures.
 here=$(CDPATH='' cd -- "$(dirname -- "$0")" && pwd) || exit 1
 upstream=${2:--}
@@ -17,8 +17,8 @@ program() {
 }
 
 oil=$(program "$1")
-bench=$(program "$3")
-[ -x "$oil" ] || { echo 'usage: sh bench/run.sh OIL [UPSTREAM [BENCH]]' >&2; exit 2; }
+probe=$(program "$3")
+[ -x "$oil" ] || { echo 'usage: sh bench/run.sh OIL [UPSTREAM [PROBE]]' >&2; exit 2; }
 folder=$(mktemp -d) || exit 1
 trap 'rm -rf "$folder"' EXIT
 . "$here/projects.sh"
@@ -54,4 +54,4 @@ if [ "$upstream" = - ]; then
 elif ! sh "$here/peer.sh" "$folder/peer" "$upstream" 2> "$folder/why"; then
     echo "bench: naga_oil in Rust isn't built, its rows are left out: $(cat "$folder/why")" >&2
 fi
-python3 "$here/measure.py" "$folder" "$oil" "$bench" "${RUNS:-5}" "$sizes"
+python3 "$here/measure.py" "$folder" "$oil" "$probe" "${RUNS:-5}" "$sizes"

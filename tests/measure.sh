@@ -1,11 +1,11 @@
 #!/bin/sh
-# What `oil make` takes for projects that `bench/projects.sh` writes, and then what reloads and variants cost in one composer, step by
-# step: seconds of the processor, and kilobytes of memory at the peak, as GNU time tells them.
-# `sh tests/measure.sh [PROGRAM [BENCH]]`; without PROGRAM it is `oil` beside this folder, without BENCH `naga_oil_bench`, which
-# is proved and built first where it isn't yet.
+# Measures `oil make` on projects that `bench/projects.sh` writes, and then reloads and variants in one composer, step by step: seconds
+# of processor time, and kilobytes of memory at the peak, as GNU time reports them.
+# `sh tests/measure.sh [PROGRAM [PROBE]]`; PROGRAM is by default `oil` of this repository, PROBE `naga_oil_probe`, which is proved and
+# built first where it isn't yet.
 root=$(CDPATH='' cd -- "$(dirname -- "$0")/.." && pwd) || exit 1
 program=${1:-$root/oil}
-bench=${2:-$root/crates/naga_oil_bench/out/naga_oil_bench}
+probe=${2:-$root/crates/naga_oil_probe/out/naga_oil_probe}
 folder=$(mktemp -d) || exit 1
 trap 'rm -rf "$folder"' EXIT
 cd "$folder" || exit 1
@@ -17,8 +17,8 @@ measure() {
     "$@"
     printf '%s: %s bytes of text, ' "$*" "$(cat ./*.txt top | wc -c)"
     # shellcheck disable=SC2046 # the names of files have no spaces
-    /usr/bin/time -o told -f '%U + %S seconds, %M KB' "$program" make $(cat files) > made || exit 1
-    cat told
+    /usr/bin/time -o used -f '%U + %S seconds, %M KB' "$program" make $(cat files) > made || exit 1
+    cat used
 }
 
 measure tree 2047 8
@@ -28,14 +28,14 @@ measure chain 400 8
 for count in 10 1000 10000; do measure imports 1000 $count; done
 for count in 10 1000 10000; do measure summands $count; done
 
-# What each step parsed and built, and the milliseconds that it took.
+# What each step parsed and built, and its milliseconds.
 costs() {
     echo "$*:"
-    /usr/bin/time -o told -f '%U + %S seconds, %M KB' "$bench" "$@" --times > made || exit 1
-    sed 's/^/    /' made told
+    /usr/bin/time -o used -f '%U + %S seconds, %M KB' "$probe" "$@" --times > made || exit 1
+    sed 's/^/    /' made used
 }
 
-[ -x "$bench" ] || (cd "$root/crates/naga_oil_bench" && rt run -- reload 1) > made || exit 1
+[ -x "$probe" ] || (cd "$root/crates/naga_oil_probe" && rt run -- reload 1) > made || exit 1
 costs reload 500
 costs reload 2047
 costs variants 500 100 10

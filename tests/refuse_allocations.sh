@@ -1,31 +1,31 @@
 #!/bin/sh
-# Runs `oil` on a few inputs, and refuses one allocation after another, alone and with all behind it. Each answer has to be the
-# one with ample memory, or the line `error: out of memory` with status 1 and no output. Then the same of a list of commands in one
-# composer, whose replies have to be those of its commands done one after another where at most one found no memory; and calls that
-# take no memory are done while every allocation is refused (`naga_oil_scarce`).
-# Needs a C compiler, and a loader that knows LD_PRELOAD. The programs are OIL and SCARCE of the environment, else those that `oil`
+# Runs `oil` on a few inputs, and refuses one allocation after another, alone and with all after it. Each output has to be that
+# with ample memory, or the line `error: out of memory` with status 1 and nothing on standard output. Then the same for a list of
+# commands in one composer, whose replies have to be those of the commands run one by one, where at most one ran out of memory. At
+# last every allocation is refused during calls that allocate nothing (`naga_oil_probe`).
+# Needs a C compiler, and a loader that knows LD_PRELOAD. The programs are OIL and PROBE of the environment, else those that `oil`
 # and `rt run` build.
 root=$(CDPATH='' cd -- "$(dirname -- "$0")/.." && pwd) || exit 1
 program=${OIL:-$root/crates/naga_oil_mini/out/naga_oil_mini}
-scarce=${SCARCE:-$root/crates/naga_oil_scarce/out/naga_oil_scarce}
-# A call with no words builds the program, where it isn't built yet.
+probe=${PROBE:-$root/crates/naga_oil_probe/out/naga_oil_probe}
+# A call without words builds the program, where it isn't built yet.
 [ -x "$program" ] || "$root/oil" > /dev/null
 if [ ! -x "$program" ]; then
     "$root/oil"
     exit 1
 fi
-[ -x "$scarce" ] || (cd "$root/crates/naga_oil_scarce" && rt run -- commands) > /dev/null
-if [ ! -x "$scarce" ]; then
-    echo "refuse_allocations.sh: there is no program $scarce" >&2
+[ -x "$probe" ] || (cd "$root/crates/naga_oil_probe" && rt run -- commands) > /dev/null
+if [ ! -x "$probe" ]; then
+    echo "refuse_allocations.sh: there is no program $probe" >&2
     exit 1
 fi
 folder=$(mktemp -d) || exit 1
 trap 'rm -rf "$folder"' EXIT
 
 cat > "$folder/refuse.c" <<'END'
-/* Refuses the allocation of this number, with REFUSED_REST also those behind it, and makes a file to say that it came to that. Of a
-   program that writes `without memory` it refuses each one until that writes something else, with number 0, and makes another file
-   then. */
+/* Refuses the allocation with this number, with REFUSED_REST also those after it, and creates a file when it does. With number 0 it
+   refuses each allocation after the program writes `without memory`, until the program writes something else, and creates another
+   file when that begins. */
 #define _GNU_SOURCE
 #include <dlfcn.h>
 #include <errno.h>
@@ -40,13 +40,13 @@ static int is_without_memory;
 static int is_refused(void)
 {
     const char *wanted = getenv("REFUSED_ALLOCATION");
-    const char *told = getenv("REFUSED_FILE");
-    if (!wanted || !told)
+    const char *file = getenv("REFUSED_FILE");
+    if (!wanted || !file)
         return 0;
     allocations++;
     if (!(atol(wanted) ? allocations == atol(wanted) || (allocations > atol(wanted) && getenv("REFUSED_REST")) : is_without_memory))
         return 0;
-    close(open(told, O_CREAT | O_WRONLY, 0600));
+    close(open(file, O_CREAT | O_WRONLY, 0600));
     errno = ENOMEM;
     return 1;
 }
@@ -118,11 +118,11 @@ is_ample_answer() {
     [ "$1" -eq "$ample" ] && cmp -s "$folder/now.out" "$folder/ample.out" && cmp -s "$folder/now.err" "$folder/ample.err"
 }
 
-is_want_of_memory() {
+is_out_of_memory() {
     [ "$1" -eq 1 ] && [ ! -s "$folder/now.out" ] && [ "$(cat "$folder/now.err")" = 'error: out of memory' ]
 }
 
-# Runs words with one allocation refused; says whether it came to that.
+# Runs a command with one allocation refused; succeeds if that allocation was requested.
 run_refused() {
     number=$1
     shift
@@ -133,7 +133,7 @@ run_refused() {
     [ -e "$folder/refused" ]
 }
 
-# One input: its name, the status that it has with ample memory, and the words behind `oil`.
+# One input: its name, the status with ample memory, and the words after `oil`.
 refuse_each() {
     name=$1
     expected=$2
@@ -145,12 +145,12 @@ refuse_each() {
     [ "$ample" -eq "$expected" ] || wrong_answer "$name" none "$ample"
     allocation=1
     while run_refused $allocation "$program" "$@"; do
-        is_ample_answer "$status" || is_want_of_memory "$status" || wrong_answer "$name" "$allocation" "$status"
+        is_ample_answer "$status" || is_out_of_memory "$status" || wrong_answer "$name" "$allocation" "$status"
         REFUSED_REST=yes
         export REFUSED_REST
         run_refused $allocation "$program" "$@"
         unset REFUSED_REST
-        is_ample_answer "$status" || is_want_of_memory "$status" || wrong_answer "$name" "$allocation and the rest" "$status"
+        is_ample_answer "$status" || is_out_of_memory "$status" || wrong_answer "$name" "$allocation and the rest" "$status"
         allocation=$((allocation + 1))
     done
     is_ample_answer "$status" || wrong_answer "$name" none "$status"
@@ -287,8 +287,8 @@ refuse_each 'overrides in a circle' 1 make top.txt a.txt turning.txt +b
 refuse_each 'a shader that is not valid' 1 make wrong.txt a.txt
 refuse_each 'a module that is not read' 1 make top.txt a.txt b.txt wrong.txt
 
-# ---- Commands in one composer: a module is added, shaders are made of it without X, with X, with X and Y and with X, it is removed,
-# added again, and a shader is made with X. Then one more is made with X.
+# ---- Commands in one composer: a module is added, shaders are built of it without X, with X, with X and Y and with X, the module is
+# removed and added again, and a shader is built with X. Then one more is built with X.
 with='made: "fn gX_naga_oil_mod_XNUX() = 1\nentry main = gX_naga_oil_mod_XNUX()\n"'
 without='made: "fn gX_naga_oil_mod_XNUX() = 2\nentry main = gX_naga_oil_mod_XNUX()\n"'
 missing='not made: ImportNotFound("m", 13) from 0'
@@ -296,8 +296,8 @@ unmade='not made: Memory from 0'
 unadded='not added: Memory'
 outcomes=0
 
-# What may be told: which command found no memory, where the module stands then, how many builds were kept, the shader that is made
-# behind that, and the replies.
+# An output that is right: the command that ran out of memory, the module's index after the run, the number of builds that were kept,
+# the shader that is built after that, and the replies.
 outcome() {
     outcomes=$((outcomes + 1))
     echo "$1" > "$folder/outcome.$outcomes.name"
@@ -326,15 +326,15 @@ outcome 'the sixth command' 'Some(1)' 3 "$with" "$added" "$without" "$with" "$wi
 outcome 'the seventh command' None 2 "$missing" "$added" "$without" "$with" "$with" "$with" removed "$unadded" "$missing"
 outcome 'the last command' 'Some(1)' 2 "$with" "$added" "$without" "$with" "$with" "$with" removed "$added" "$unmade"
 outcome 'the last command, once it was built' 'Some(1)' 3 "$with" "$added" "$without" "$with" "$with" "$with" removed "$added" "$unmade"
-outcome 'the make behind the run' 'Some(1)' 3 "$unmade" "$added" "$without" "$with" "$with" "$with" removed "$added" "$with"
+outcome 'the shader after the run' 'Some(1)' 3 "$unmade" "$added" "$without" "$with" "$with" "$with" removed "$added" "$with"
 
-# Whether what was told is one of these; notes which.
+# Whether the output is one of these; notes which.
 is_outcome() {
     [ "$status" -eq 0 ] || return 1
     number=1
     while [ "$number" -le "$outcomes" ]; do
         if cmp -s "$folder/now.out" "$folder/outcome.$number"; then
-            cat "$folder/outcome.$number.name" >> "$folder/told"
+            cat "$folder/outcome.$number.name" >> "$folder/seen"
             return 0
         fi
         number=$((number + 1))
@@ -342,31 +342,31 @@ is_outcome() {
     return 1
 }
 
-# Whether there was no memory to make the commands, or to tell the replies, which are then those with ample memory.
-is_untold() {
+# Whether memory ran out before the run or while the replies were printed, which are then those with ample memory.
+is_unprinted() {
     [ "$status" -eq 1 ] && [ "$(cat "$folder/now.err")" = 'error: out of memory' ] || return 1
     head -c "$(wc -c < "$folder/now.out")" "$folder/outcome.1" | cmp -s - "$folder/now.out" || return 1
-    echo 'making the commands, or telling the replies' >> "$folder/told"
+    echo 'making the commands, or printing the replies' >> "$folder/seen"
 }
 
-: > "$folder/told"
+: > "$folder/seen"
 allocation=1
-while run_refused $allocation "$scarce" commands; do
-    is_outcome || is_untold || wrong_answer 'commands' "$allocation" "$status"
+while run_refused $allocation "$probe" commands; do
+    is_outcome || is_unprinted || wrong_answer 'commands' "$allocation" "$status"
     allocation=$((allocation + 1))
 done
 [ "$status" -eq 0 ] && cmp -s "$folder/now.out" "$folder/outcome.1" || wrong_answer 'commands' none "$status"
-echo "commands: $((allocation - 1)) allocations refused, by what found no memory:"
-sort "$folder/told" | uniq -c
+echo "commands: $((allocation - 1)) allocations refused, by what ran out of memory:"
+sort "$folder/seen" | uniq -c
 refused=$((refused + allocation - 1))
 
-# ---- Calls that take no memory, where every allocation is refused.
+# ---- Calls that allocate nothing, while every allocation is refused.
 rm -f "$folder/begun"
 printf 'without memory\nwith memory\neach call answered: true\n' > "$folder/ample.out"
-if run_refused 0 "$scarce" calls || [ ! -e "$folder/begun" ] || [ "$status" -ne 0 ] || ! cmp -s "$folder/now.out" "$folder/ample.out"; then
-    wrong_answer 'calls that take no memory' every "$status"
+if run_refused 0 "$probe" calls || [ ! -e "$folder/begun" ] || [ "$status" -ne 0 ] || ! cmp -s "$folder/now.out" "$folder/ample.out"; then
+    wrong_answer 'calls that allocate nothing' every "$status"
 else
-    echo 'calls that take no memory: none asked for any'
+    echo 'calls that allocate nothing: none requested memory'
 fi
 
 echo "$refused allocations refused, $wrong wrong"
