@@ -5,7 +5,7 @@ use Rattle.naga_oil_conditions.specs.View.{fault_of, Fails}
 use Rattle.naga_oil_conditions.specs.declared.fault.ComposerErrorInner.{ComposerErrorInner}
 use Rattle.naga_oil.specs.declared.compose.error.ComposerError.{ComposerError}
 use Rattle.naga_oil_words.specs.ResultSteps.{◌>>=◌}
-use Rattle.naga_oil_registry.specs.Added.{read_source, counter_behind, counter_after, Described, described, new_definition, registry_with, shown_by}
+use Rattle.naga_oil_registry.specs.Added.{read_source, next_counter, counter_after, Described, described, new_definition, registry_with, shown_by}
 use Rattle.naga_oil.specs.Addition.{addition}
 use Rattle.naga_oil_registry.specs.Registered.{Registered}
 use Rattle.naga_oil_registry.specs.Descriptor.{ModuleSource}
@@ -52,7 +52,7 @@ module _ {B X Y : Type 0} (view : X → Y) (shown : Registered → Y) (old : Sta
     reply = tells inner e (in_text m.file_path m.source 0) (read_source old.counter m.source) (shown_by shown (addition old.registry old.counter m)) is fails
         (λ r bad. shown_err r (addition old.registry old.counter m) (ap (λ (v : Result _ Refused). v >>= λ read. placed (in_text m.file_path m.source 0) (described m.as_name read.0) >>= λ d. placed (in_text m.file_path read.0 0) (new_definition (removed d.name old.registry) m d)) bad));
     counter = record {
-      exact = unless_memory inner e (in_text m.file_path m.source 0) (old.counter ≡ counter_after old.counter m.source) is (λ f has. ap (counter_behind old.counter) (sym (failed inner f (read_source old.counter m.source) has fails)));
+      exact = unless_memory inner e (in_text m.file_path m.source 0) (old.counter ≡ counter_after old.counter m.source) is (λ f has. ap (next_counter old.counter) (sym (failed inner f (read_source old.counter m.source) has fails)));
       either = inl refl;
     };
     registry = tt;
@@ -63,18 +63,18 @@ module _ {B X Y : Type 0} (view : X → Y) (shown : Registered → Y) (old : Sta
 
   module _ (text : List ℕ) (counter : ℕ) (read : read_source old.counter m.source ≡ Ok (text, counter)) where
     counted : counter ≡ counter_after old.counter m.source
-    counted = ap (counter_behind old.counter) (sym read)
+    counted = ap (next_counter old.counter) (sym read)
 
     -- after the reading
-    behind_read : addition old.registry old.counter m ≡ (placed (in_text m.file_path m.source 0) (described m.as_name text) >>= λ d. placed (in_text m.file_path text 0) (new_definition (removed d.name old.registry) m d))
+    after_read : addition old.registry old.counter m ≡ (placed (in_text m.file_path m.source 0) (described m.as_name text) >>= λ d. placed (in_text m.file_path text 0) (new_definition (removed d.name old.registry) m d))
     unfolding addition
-    behind_read = ap (λ (v : Result (List ℕ × ℕ) Fault). placed (in_text m.file_path m.source 0) v >>= λ read. placed (in_text m.file_path m.source 0) (described m.as_name read.0) >>= λ d. placed (in_text m.file_path read.0 0) (new_definition (removed d.name old.registry) m d)) read
+    after_read = ap (λ (v : Result (List ℕ × ℕ) Fault). placed (in_text m.file_path m.source 0) v >>= λ read. placed (in_text m.file_path m.source 0) (described m.as_name read.0) >>= λ d. placed (in_text m.file_path read.0 0) (new_definition (removed d.name old.registry) m d)) read
 
     -- the text describes no module
     pub adds-undescribed : IsRefusal inner e (in_text m.file_path m.source 0) → Fails inner (described m.as_name text) → Adds view shown old m (Err e) (record old { counter = counter })
     adds-undescribed is fails = record {
       reply = tells inner e (in_text m.file_path m.source 0) (described m.as_name text) (shown_by shown (addition old.registry old.counter m)) is fails
-          (λ r bad. shown_err r (addition old.registry old.counter m) (behind_read ∙ ap (λ (v : Result Described Refused). v >>= λ d. placed (in_text m.file_path text 0) (new_definition (removed d.name old.registry) m d)) bad));
+          (λ r bad. shown_err r (addition old.registry old.counter m) (after_read ∙ ap (λ (v : Result Described Refused). v >>= λ d. placed (in_text m.file_path text 0) (new_definition (removed d.name old.registry) m d)) bad));
       counter = record { exact = unless_memory inner e (in_text m.file_path m.source 0) (counter ≡ counter_after old.counter m.source) is (λ f has. counted); either = inr counted };
       registry = tt;
       kept = tt;
@@ -83,14 +83,14 @@ module _ {B X Y : Type 0} (view : X → Y) (shown : Registered → Y) (old : Sta
     }
 
     module _ (d : Described) (known : described m.as_name text ≡ Ok d) where
-      behind_described : addition old.registry old.counter m ≡ placed (in_text m.file_path text 0) (new_definition (removed d.name old.registry) m d)
-      behind_described = behind_read ∙ ap (λ (v : Result Described Fault). placed (in_text m.file_path m.source 0) v >>= λ d. placed (in_text m.file_path text 0) (new_definition (removed d.name old.registry) m d)) known
+      after_described : addition old.registry old.counter m ≡ placed (in_text m.file_path text 0) (new_definition (removed d.name old.registry) m d)
+      after_described = after_read ∙ ap (λ (v : Result Described Fault). placed (in_text m.file_path m.source 0) v >>= λ d. placed (in_text m.file_path text 0) (new_definition (removed d.name old.registry) m d)) known
 
       -- the module can't be registered
       pub adds-unregistered : IsRefusal inner e (in_text m.file_path text 0) → Fails inner (shown_by (λ n. n.index) (new_definition (removed d.name old.registry) m d)) → Adds view shown old m (Err e) (record old { counter = counter })
       adds-unregistered is fails = record {
         reply = tells inner e (in_text m.file_path text 0) (shown_by (λ n. n.index) (new_definition (removed d.name old.registry) m d)) (shown_by shown (addition old.registry old.counter m)) is fails
-            (λ r bad. shown_err r (addition old.registry old.counter m) (behind_described ∙ unshown (new_definition (removed d.name old.registry) m d) r bad));
+            (λ r bad. shown_err r (addition old.registry old.counter m) (after_described ∙ unshown (new_definition (removed d.name old.registry) m d) r bad));
         counter = record { exact = unless_memory inner e (in_text m.file_path text 0) (counter ≡ counter_after old.counter m.source) is (λ f has. counted); either = inr counted };
         registry = tt;
         kept = tt;
@@ -110,7 +110,7 @@ adds-registered view shown old m text counter d new x read known added is =
     ap (λ (v : Result (List ℕ × ℕ) Fault). placed (in_text m.file_path m.source 0) v >>= λ read. placed (in_text m.file_path m.source 0) (described m.as_name read.0) >>= λ d. placed (in_text m.file_path read.0 0) (new_definition (removed d.name old.registry) m d)) read
     ∙ ap (λ (v : Result Described Fault). placed (in_text m.file_path m.source 0) v >>= λ d. placed (in_text m.file_path text 0) (new_definition (removed d.name old.registry) m d)) known
     ∙ ap (placed (in_text m.file_path text 0)) added in
-    let counted : counter ≡ counter_after old.counter m.source = ap (counter_behind old.counter) (sym read) in
+    let counted : counter ≡ counter_after old.counter m.source = ap (next_counter old.counter) (sym read) in
     record {
       reply = ap (shown_by shown) whole ∙ ap (λ y. Ok y) (sym is);
       counter = record { exact = counted; either = inr counted };

@@ -65,8 +65,8 @@ some_alike e None None one k known = one
 some_alike e None (Some f) one k known = absurd cc
 some_alike e (Some g) None one k known = absurd one
 some_alike e (Some g) (Some f) one k known =
-    let behind : All (λ i. AlikeIn g.1 f.1 i.import) e.0.imports = subst (λ (b : BuiltModule). All (λ i. AlikeIn g.1 f.1 i.import) b.imports) (k.same ∙ sym one.same) k.imports in
-    record { same = one.same ∙ sym k.same; imports = λ j d l. known g.1 f.1 (slice_index_or e.0.imports j d).import (one.imports j d l) (behind j d l) }
+    let following : All (λ i. AlikeIn g.1 f.1 i.import) e.0.imports = subst (λ (b : BuiltModule). All (λ i. AlikeIn g.1 f.1 i.import) b.imports) (k.same ∙ sym one.same) k.imports in
+    record { same = one.same ∙ sym k.same; imports = λ j d l. known g.1 f.1 (slice_index_or e.0.imports j d).import (one.imports j d l) (following j d l) }
 
 -- names that stand in two rows as in a third stand alike
 both_alike : (ps bs cs : Builds) (name : List ℕ) → AlikeIn ps cs name → AlikeIn bs cs name → AlikeIn ps bs name
@@ -388,19 +388,19 @@ module _ (s : Settings) (ds : List Registered) (defs : Defs) where
   -- ---- registered modules
 
   -- the rest of a registry
-  abbrev IsBehind : List Registered → Type 0
-  IsBehind es = (x : List ℕ) → registered x es ≡ true → (cs : Builds) → reach s defs es x cs ≡ reach s defs ds x cs
+  abbrev IsAfter : List Registered → Type 0
+  IsAfter es = (x : List ℕ) → registered x es ≡ true → (cs : Builds) → reach s defs es x cs ≡ reach s defs ds x cs
 
-  behind_first : (d : Registered) (earlier : List Registered) → registered d.name earlier ≡ false → IsBehind (d ∷ earlier) → IsBehind earlier
-  behind_first d earlier fresh behind x r cs = by (bytes_eq d.name x) refl
+  past_first : (d : Registered) (earlier : List Registered) → registered d.name earlier ≡ false → IsAfter (d ∷ earlier) → IsAfter earlier
+  past_first d earlier fresh following x r cs = by (bytes_eq d.name x) refl
     where
       by : (q : Bool) → bytes_eq d.name x ≡ q → reach s defs earlier x cs ≡ reach s defs ds x cs
       by true q = absurd (true≢false (sym r ∙ ap (λ n. registered n earlier) (sym (bytes_same d.name x q)) ∙ fresh))
-      by false q = sym (reach-past s defs d earlier x q cs) ∙ behind x (ap (λ b. b || registered x earlier) q ∙ r) cs
+      by false q = sym (reach-past s defs d earlier x q cs) ∙ following x (ap (λ b. b || registered x earlier) q ∙ r) cs
 
-  all_go : (es : List Registered) → IsRegistry es → IsBehind es → (name : List ℕ) → registered name es ≡ true → (bs : Builds) → Stand bs → Goes bs name (reach s defs es name bs)
-  all_go [] all behind name r bs st = absurd (true≢false (sym r))
-  all_go (d ∷ earlier) all behind name r bs st = by (bytes_eq d.name name) refl r (all_go earlier all.1 (behind_first d earlier all.0.name behind))
+  all_go : (es : List Registered) → IsRegistry es → IsAfter es → (name : List ℕ) → registered name es ≡ true → (bs : Builds) → Stand bs → Goes bs name (reach s defs es name bs)
+  all_go [] all following name r bs st = absurd (true≢false (sym r))
+  all_go (d ∷ earlier) all following name r bs st = by (bytes_eq d.name name) refl r (all_go earlier all.1 (past_first d earlier all.0.name following))
     where
       f : Reaching
       f = unless_built (reach s defs earlier)
@@ -409,7 +409,7 @@ module _ (s : Settings) (ds : List Registered) (defs : Defs) where
       itself = (bytes_eq-Decides d.name d.name).1 refl
 
       here : ((x : List ℕ) → registered x earlier ≡ true → (cs : Builds) → Stand cs → Goes cs x (reach s defs earlier x cs)) → Goes bs d.name (reach s defs (d ∷ earlier) d.name bs)
-      here known = subst (Goes bs d.name) (sym (reach-first s defs d earlier d.name itself bs)) (module_goes d (unless_built (reach s defs earlier)) (sym (behind d.name (ap (λ b. b || registered d.name earlier) itself) []) ∙ reach-first s defs d earlier d.name itself []) (λ u may cs k. unless_goes (reach s defs earlier) u.import.import cs k (known u.import.import (imported_registered d earlier all.0 u.import.import (allowed d u may)) cs k)) (λ us. leaves_each d.name (as_recorded d) (unless_built (reach s defs earlier)) (leaves_unless d.name (reach s defs earlier) (leaves_reach d.name s defs earlier all.0.name)) us [] refl) bs st)
+      here known = subst (Goes bs d.name) (sym (reach-first s defs d earlier d.name itself bs)) (module_goes d (unless_built (reach s defs earlier)) (sym (following d.name (ap (λ b. b || registered d.name earlier) itself) []) ∙ reach-first s defs d earlier d.name itself []) (λ u may cs k. unless_goes (reach s defs earlier) u.import.import cs k (known u.import.import (imported_registered d earlier all.0 u.import.import (allowed d u may)) cs k)) (λ us. leaves_each d.name (as_recorded d) (unless_built (reach s defs earlier)) (leaves_unless d.name (reach s defs earlier) (leaves_reach d.name s defs earlier all.0.name)) us [] refl) bs st)
 
       by : (q : Bool) → bytes_eq d.name name ≡ q → (q || registered name earlier) ≡ true → ((x : List ℕ) → registered x earlier ≡ true → (cs : Builds) → Stand cs → Goes cs x (reach s defs earlier x cs)) → Goes bs name (reach s defs (d ∷ earlier) name bs)
       by true q r known = subst (λ n. Goes bs n (reach s defs (d ∷ earlier) n bs)) (bytes_same d.name name q) (here known)

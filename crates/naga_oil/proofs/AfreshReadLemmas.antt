@@ -7,8 +7,8 @@ use Rattle.naga_oil_link.specs.BuiltModule.{Builds}
 use Rattle.naga_oil_build.specs.Built.{preprocessed_of}
 use Rattle.naga_oil_build.specs.Held.{Settings}
 use Rattle.naga_oil.specs.AfreshLaw.{Grows, AreBuilt, AllStandAfresh, AreReachedAfresh, SecondLaw, ReadingLaw}
-use Rattle.naga_oil.specs.Answer.{in_shader, refusal, told_as, of_shader, as_merged, reach_uses, read_second}
-use Rattle.naga_oil.specs.Outcome.{Outcome, Doing, given, done_with, ◌>>=◌}
+use Rattle.naga_oil.specs.Answer.{in_shader, refusal, of_shader, as_merged, reach_uses, read_and_build_second}
+use Rattle.naga_oil.specs.Outcome.{Outcome, Doing, given, done_with, fault_as, map_err, ◌>>=◌}
 use Rattle.naga_oil.specs.Reach.{Unreached, defined}
 use Rattle.naga_oil.specs.Refused.{Refused}
 use Rattle.naga_oil.proofs.AfreshLemmas.{afresh_law}
@@ -23,14 +23,14 @@ module _ (s : Settings) (ds : List Registered) (defs : Defs) (text : List ℕ) (
 
   -- after preprocessing
   goes_on : Output → Outcome (Unit {0}) Unreached → Outcome Output Refused
-  goes_on out o = done_with (told_as (refusal shader.file_path text defs) o o.result) (λ done. given (Ok out)) (told_as (refusal shader.file_path text defs) o o.result).result
+  goes_on out o = done_with (fault_as (refusal shader.file_path text defs) o) (λ done. given (Ok out)) (map_err (refusal shader.file_path text defs) o.result)
 
   reached_goes_on : (out : Output) (bs : Builds) (o p : Outcome (Unit {0}) Unreached) → AreReachedAfresh s ds defs (as_merged ds defs) out.uses bs o → o.result ≡ p.result → (r : Result (Unit {0}) Unreached) → p.result ≡ r → Reads (goes_on out p).result bs (goes_on out o)
   unfolding goes_on
   reached_goes_on out bs o p h e (Ok x) k =
       let same : o.result ≡ Ok tt = e ∙ k in
-      let here : goes_on out o ≡ record { builds = o.builds; result = Ok out } = ap (λ r. done_with (told_as (refusal shader.file_path text defs) o r) (λ done. given (Ok out)) (told_as (refusal shader.file_path text defs) o r).result) same in
-      let there : goes_on out p ≡ record { builds = p.builds; result = Ok out } = ap (λ r. done_with (told_as (refusal shader.file_path text defs) p r) (λ done. given (Ok out)) (told_as (refusal shader.file_path text defs) p r).result) k in
+      let here : goes_on out o ≡ record { builds = o.builds; result = Ok out } = ap (λ r. done_with (fault_as (refusal shader.file_path text defs) o) (λ done. given (Ok out)) (map_err (refusal shader.file_path text defs) r)) same in
+      let there : goes_on out p ≡ record { builds = p.builds; result = Ok out } = ap (λ r. done_with (fault_as (refusal shader.file_path text defs) p) (λ done. given (Ok out)) (map_err (refusal shader.file_path text defs) r)) k in
       subst (Reads (goes_on out p).result bs) (sym here) (record {
         result = sym (ap (λ q. q.result) there);
         grows = h.grows;
@@ -39,8 +39,8 @@ module _ (s : Settings) (ds : List Registered) (defs : Defs) (text : List ℕ) (
       })
   reached_goes_on out bs o p h e (Err w) k =
       let told = refusal shader.file_path text defs w in
-      let here : goes_on out o ≡ record { builds = o.builds; result = Err told } = ap (λ r. done_with (told_as (refusal shader.file_path text defs) o r) (λ done. given (Ok out)) (told_as (refusal shader.file_path text defs) o r).result) (e ∙ k) in
-      let there : goes_on out p ≡ record { builds = p.builds; result = Err told } = ap (λ r. done_with (told_as (refusal shader.file_path text defs) p r) (λ done. given (Ok out)) (told_as (refusal shader.file_path text defs) p r).result) k in
+      let here : goes_on out o ≡ record { builds = o.builds; result = Err told } = ap (λ r. done_with (fault_as (refusal shader.file_path text defs) o) (λ done. given (Ok out)) (map_err (refusal shader.file_path text defs) r)) (e ∙ k) in
+      let there : goes_on out p ≡ record { builds = p.builds; result = Err told } = ap (λ r. done_with (fault_as (refusal shader.file_path text defs) p) (λ done. given (Ok out)) (map_err (refusal shader.file_path text defs) r)) k in
       subst (Reads (goes_on out p).result bs) (sym here) (record { result = sym (ap (λ q. q.result) there); grows = h.grows; stand = h.stand; built = λ x i. absurd cc })
 
   module _ (all : IsRegistry ds) (bs : Builds) (st : AllStandAfresh s ds defs bs) where
@@ -58,7 +58,7 @@ module _ (s : Settings) (ds : List Registered) (defs : Defs) (text : List ℕ) (
     read = (in_shader shader.file_path text (preprocessed_of (defined defs) shader) bs).result
 
     second : SecondLaw s ds defs text shader bs
-    unfolding read_second
+    unfolding read_and_build_second
     second =
         let h = goes read in
         record { read = record { result = h.result; grows = h.grows; stand = h.stand }; built = h.built }

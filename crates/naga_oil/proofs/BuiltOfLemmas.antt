@@ -1,6 +1,6 @@
 -- How the builds of a make are built of texts.
-use Rattle.std.proofs.Common.{◌≡◌, ℕ, ◌<◌, ◌≤◌, nat_lt, if◌then◌else◌, Bool, true, false, List, ◌++◌, length, Result, Ok, Err, refl, ap, sym, ◌∙◌, subst, arith}
-use Rattle.std.proofs.lemmas.Bool.{ltb-true}
+use Rattle.std.proofs.Common.{◌≡◌, ℕ, ◌<◌, ◌≤◌, nat_lt, ◌&&◌, if◌then◌else◌, Bool, true, false, List, ◌++◌, length, Result, Ok, Err, refl, ap, sym, ◌∙◌, subst, arith}
+use Rattle.std.proofs.lemmas.Bool.{and_parts, ltb-true}
 use Rattle.naga_oil_ir.specs.Backend.{FrontEnd, FaultValue}
 use Rattle.naga_oil_ir.specs.ModuleValue.{ModuleValue}
 use Rattle.naga_oil_ir.specs.declared.language.ShaderLanguage.{ShaderLanguage}
@@ -13,6 +13,8 @@ use Rattle.naga_oil_form_laws.specs.EntryForm.{IsModuleFormed}
 use Rattle.naga_oil_link.specs.BuiltModule.{BuiltModule, Builds}
 use Rattle.naga_oil_link.specs.CopiedBuild.{copy_build, copy_header, copy_whole}
 use Rattle.naga_oil_form.specs.Form.{is_formed}
+use Rattle.naga_oil_form_laws.specs.ShapeTest.{has_shape}
+use Rattle.naga_oil_form_laws.proofs.ShapeTests.{shape_test}
 use Rattle.naga_oil_link.specs.OwnPlaces.{OwnPlaces}
 use Rattle.naga_oil_link.specs.Owned.{own_places, owned_module, owned_build, owning, owning_demoted, demotable, decorated_items}
 use Rattle.naga_oil_link_laws.proofs.ParsedShapes.{parsed_shape}
@@ -21,7 +23,7 @@ use Rattle.naga_oil_build.specs.Build.{WholeText, begin_build, write_heading, wr
 use Rattle.naga_oil_build.specs.Virtuals.{Functions, functions_in}
 use Rattle.naga_oil_build.specs.Built.{told, parse_fault, parsed_text, preprocessed_of}
 use Rattle.naga_oil_build.specs.Held.{Settings, parse_whole, copy_tested, hold}
-use Rattle.naga_oil.specs.Faithful.{ParsesModules, IsBuiltOf, owned_parse}
+use Rattle.naga_oil.specs.Faithful.{IsBuiltOf, owned_parse}
 use Rattle.naga_oil.specs.Reach.{defined}
 use Rattle.naga_oil_ir.specs.Spans.{span_stride}
 
@@ -39,28 +41,30 @@ formed_back : (b : Bool) (m p : ModuleValue) → (let r : Result ModuleValue Fau
 formed_back true m p e = (refl, cc)
 formed_back false m p e = absurd cc
 
--- a text that was parsed is short, and its parse passes the test
+-- a text that was parsed is short, and its parse passes the tests
 pub record IsParse (front : FrontEnd) (in_language : ShaderLanguage) (text decoration : List ℕ) (m : ModuleValue) : Type 0 where
   pub short : length text < span_stride
   pub parse : front.parse in_language text ≡ Ok m
   pub formed : is_formed m decoration (length text) ≡ true
+  pub shape : has_shape m ≡ true
 
 pub parse_back : (front : FrontEnd) (l : ShaderLanguage) (text decoration : List ℕ) (m : ModuleValue) → parse_whole front l text decoration ≡ Ok m → IsParse front l text decoration m
 unfolding parse_whole
 parse_back front l text decoration m e = one (nat_lt (length text) span_stride) refl (parsed_text front l text) refl e
   where
-    one : (b : Bool) → nat_lt (length text) span_stride ≡ b → (r : Result ModuleValue Fault) → parsed_text front l text ≡ r → ((let u : Result (Unit {0}) Fault = if b then Ok tt else Err text_too_large in u) >>= λ fits. (r >>= λ p. (let v : Result ModuleValue Fault = if is_formed p decoration (length text) then Ok p else Err wrong_form in v))) ≡ Ok m → IsParse front l text decoration m
+    one : (b : Bool) → nat_lt (length text) span_stride ≡ b → (r : Result ModuleValue Fault) → parsed_text front l text ≡ r → ((let u : Result (Unit {0}) Fault = if b then Ok tt else Err text_too_large in u) >>= λ fits. (r >>= λ p. (let v : Result ModuleValue Fault = if is_formed p decoration (length text) && has_shape p then Ok p else Err wrong_form in v))) ≡ Ok m → IsParse front l text decoration m
     one true s (Ok p) t e =
-        let f = formed_back (is_formed p decoration (length text)) p m e in
-        record { short = ltb-true (length text) span_stride s; parse = told_back (parse_fault l) (front.parse l text) m (t ∙ ap (λ (q : ModuleValue). Ok q) f.1); formed = ap (λ q. is_formed q decoration (length text)) (sym f.1) ∙ f.0 }
+        let f = formed_back (is_formed p decoration (length text) && has_shape p) p m e in
+        let both = and_parts (is_formed p decoration (length text)) (has_shape p) f.0 in
+        record { short = ltb-true (length text) span_stride s; parse = told_back (parse_fault l) (front.parse l text) m (t ∙ ap (λ (q : ModuleValue). Ok q) f.1); formed = ap (λ q. is_formed q decoration (length text)) (sym f.1) ∙ both.0; shape = ap has_shape (sym f.1) ∙ both.1 }
     one true s (Err f) t e = absurd cc
     one false s r t e = absurd cc
 
 -- with its own items decorated, the parse is of good form
-pub owned_is_formed : (front : FrontEnd) (l : ShaderLanguage) (text decoration : List ℕ) (m : ModuleValue) (index : ℕ) → ParsesModules front → IsParse front l text decoration m → IsModuleFormed (owned_module index decoration m)
-owned_is_formed front l text decoration m index modules p =
+pub owned_is_formed : (front : FrontEnd) (l : ShaderLanguage) (text decoration : List ℕ) (m : ModuleValue) (index : ℕ) → IsParse front l text decoration m → IsModuleFormed (owned_module index decoration m)
+owned_is_formed front l text decoration m index p =
     let short = p.short in
-    parsed_shape m index decoration (length text) (modules l text m p.parse) (omega (arith, short)) p.formed
+    parsed_shape m index decoration (length text) ((shape_test m).0 p.shape) (omega (arith, short)) p.formed
 
 -- ---- what a build holds of the parse
 
@@ -98,8 +102,8 @@ unfolding copy_build
 copy_same m own b = ((refl, refl), refl, refl)
 
 -- a build that holds a parse holds it with its own items decorated
-pub holds : (s : Settings) (l : ShaderLanguage) (text : List ℕ) (before b : BuiltModule) → ParsesModules s.front → (h : HoldsParse s l text before b) → (b.decoration ≡ before.decoration) × Holds b (owned_parse b h.parse) (own_places h.parse) × (b.index ≡ before.index)
-holds s l text before b modules h =
+pub holds : (s : Settings) (l : ShaderLanguage) (text : List ℕ) (before b : BuiltModule) → (h : HoldsParse s l text before b) → (b.decoration ≡ before.decoration) × Holds b (owned_parse b h.parse) (own_places h.parse) × (b.index ≡ before.index)
+holds s l text before b h =
     let p = h.parse in
     let own = own_places p in
     let c = owned_build before.index p before in
@@ -115,7 +119,7 @@ holds s l text before b modules h =
     let declared : (copy_header m own c.decoration c.functions).derived.target ≡ (copy_header (owned_parse b p) own b.decoration c.functions).derived.target = ap (λ d. (copy_header m own d c.functions).derived.target) (same.0 ∙ sym decoration) ∙ ap (λ x. (copy_header x own b.decoration c.functions).derived.target) (sym module_same) in (
       decoration,
       record {
-        form = subst IsModuleFormed (sym module_same) (owned_is_formed s.front l text before.decoration p before.index modules (parse_back s.front l text before.decoration p h.parsed));
+        form = subst IsModuleFormed (sym module_same) (owned_is_formed s.front l text before.decoration p before.index (parse_back s.front l text before.decoration p h.parsed));
         functions = c.functions;
         value = value ∙ named;
         header = header ∙ declared;
@@ -159,10 +163,10 @@ pub record BuiltOf (s : Settings) (defs : Defs) (d : Registered) (before : Build
   pub is : IsBuiltOf s defs d before b parse
   pub holding : Holds b (owned_parse b parse) (own_places parse)
 
-pub built_of : (s : Settings) (defs : Defs) (d : Registered) (out : Output) (before : Builds) (b : BuiltModule) → ParsesModules s.front → preprocessed_of (defined defs) d ≡ Ok out → build s d out before ≡ Ok b → BuiltOf s defs d before b × (b.index ≡ d.index)
-built_of s defs d out before b modules p e =
+pub built_of : (s : Settings) (defs : Defs) (d : Registered) (out : Output) (before : Builds) (b : BuiltModule) → preprocessed_of (defined defs) d ≡ Ok out → build s d out before ≡ Ok b → BuiltOf s defs d before b × (b.index ≡ d.index)
+built_of s defs d out before b p e =
     let c = build_back s d out before b e in
-    let h = holds s d.language c.whole.text c.whole.built b modules c.holding in (
+    let h = holds s d.language c.whole.text c.whole.built b c.holding in (
       record {
         parse = c.holding.parse;
         is = record { output = out; preprocessed = p; built = e; whole = c.whole; written = c.written; parsed = ap (parse_whole s.front d.language c.whole.text) h.0 ∙ c.holding.parsed };

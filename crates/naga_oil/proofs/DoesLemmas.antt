@@ -5,9 +5,9 @@ use Rattle.naga_oil_conditions.specs.View.{fault_of}
 use Rattle.naga_oil_conditions.specs.declared.fault.ComposerErrorInner.{ComposerErrorInner}
 use Rattle.naga_oil_registry.specs.Registered.{Defs}
 use Rattle.naga_oil_link.specs.BuiltModule.{Builds}
-use Rattle.naga_oil.specs.Answer.{told_as, of_shader, refusal}
+use Rattle.naga_oil.specs.Answer.{of_shader, refusal}
 use Rattle.naga_oil.specs.MakeView.{unreached_of, memory_nowhere, TellsUnreached}
-use Rattle.naga_oil.specs.Outcome.{Outcome, Doing, Does, given, done_with, ◌>>=◌}
+use Rattle.naga_oil.specs.Outcome.{Outcome, Doing, Does, given, done_with, fault_as, ◌>>=◌}
 use Rattle.naga_oil.specs.Reach.{Unreached}
 use Rattle.naga_oil.specs.Refused.{Place, Refused, Answers, refused_of}
 use Rattle.naga_oil.specs.declared.compose.error.ComposerError.{ComposerError}
@@ -77,7 +77,7 @@ told_unreached tell why e inner place reason is tells h =
 -- modules are reached for a shader
 module _ (path text : List ℕ) (defs : Defs) (doing : Doing (Unit {0}) Unreached) (old new : Builds) where
   told : Outcome (Unit {0}) Unreached → Outcome (Unit {0}) Refused
-  told o = told_as (refusal path text defs) o o.result
+  told o = fault_as (refusal path text defs) o
 
   pub reaches_ok : doing old ≡ record { builds = new; result = Ok tt } → of_shader path text defs doing old ≡ record { builds = new; result = Ok tt }
   unfolding told

@@ -13,7 +13,7 @@ use Rattle.naga_oil_link.specs.BuiltModule.{BuiltModule, Builds}
 use Rattle.naga_oil_build.specs.Build.{Unbuilt, build}
 use Rattle.naga_oil_build.specs.Built.{preprocessed_of}
 use Rattle.naga_oil_build.specs.Held.{Settings}
-use Rattle.naga_oil.specs.Answer.{in_shader, told_as, of_shader, refusal, any_use, as_merged, reach_uses, read_first, read_second, make, answer}
+use Rattle.naga_oil.specs.Answer.{in_shader, of_shader, any_use, as_merged, reach_uses, read_and_build_first, read_and_build_second, module_of_text, answer}
 use Rattle.naga_oil.specs.Finish.{finish}
 use Rattle.naga_oil.specs.MakeDefs.{defs_merged, defs_of_text, make_defs}
 use Rattle.naga_oil.specs.Outcome.{Outcome, Doing, given, done_with, ◌>>=◌}
@@ -69,10 +69,6 @@ bound {X} {Y} {F} f g bs y e = one (f bs).result refl e
     one : (r : Result X F) → (f bs).result ≡ r → (done_with (f bs) g r).result ≡ Ok y → Bound f g bs y
     one (Ok x) at q = record { value = x; first = at; same = ap (done_with (f bs) g) at }
     one (Err z) at q = absurd cc
-
-told_keeps : {X F G : Type 0} (tell : F → G) (o : Outcome X F) (r : Result X F) → (told_as tell o r).builds ≡ o.builds
-told_keeps tell o (Ok x) = refl
-told_keeps tell o (Err f) = refl
 
 module _ (s : Settings) (all : List Registered) (defs : Defs) where
   abbrev AreBuilt : Builds → Type 0
@@ -141,19 +137,17 @@ module _ (s : Settings) (all : List Registered) (defs : Defs) where
       one rest false = rest name bs a
 
   uses_keep : (path text : List ℕ) (rule : Rule) (us : List Use) → KeepsBuilt (of_shader path text defs (reach_uses s all defs rule us))
-  uses_keep path text rule us bs a =
-      let o = reach_uses s all defs rule us bs in
-      subst AreBuilt (sym (told_keeps (refusal path text defs) o o.result)) (each_keeps rule (unless_built (reach s defs all)) (unless_keeps (reach s defs all) (reach_keeps all (λ k d at. (k, at)))) us bs a)
+  uses_keep path text rule us bs a = each_keeps rule (unless_built (reach s defs all)) (unless_keeps (reach s defs all) (reach_keeps all (λ k d at. (k, at)))) us bs a
 
 -- ---- reading a shader
 
 -- the first reading gives definitions, and builds under these
 record First (s : Settings) (ds : List Registered) (text : List ℕ) (d : Registered) (own defs : Defs) (bs : Builds) : Type 0 where
   merged : defs_merged ds d own ≡ Ok defs
-  keeps : AllBuilt s ds defs bs → AllBuilt s ds defs (read_first s ds text d own bs).builds
+  keeps : AllBuilt s ds defs bs → AllBuilt s ds defs (read_and_build_first s ds text d own bs).builds
 
-first_read : (s : Settings) (ds : List Registered) (text : List ℕ) (d : Registered) (own defs : Defs) (bs : Builds) → (read_first s ds text d own bs).result ≡ Ok defs → First s ds text d own defs bs
-unfolding read_first
+first_read : (s : Settings) (ds : List Registered) (text : List ℕ) (d : Registered) (own defs : Defs) (bs : Builds) → (read_and_build_first s ds text d own bs).result ≡ Ok defs → First s ds text d own defs bs
+unfolding read_and_build_first
 first_read s ds text d own defs bs e =
     let place = in_text d.file_path text 0 in
     let pre = in_shader d.file_path text (preprocessed_of (defined own) d) in
@@ -182,15 +176,15 @@ first_read s ds text d own defs bs e =
     same_Ok a b q = cc
 
     read_value : Settings → List Registered → List ℕ → Registered → Defs → Doing Defs Refused
-    read_value s ds text d own = read_first s ds text d own
+    read_value s ds text d own = read_and_build_first s ds text d own
 
 -- the second reading gives the preprocessed text, and builds under these definitions too
 record Second (s : Settings) (ds : List Registered) (text : List ℕ) (d : Registered) (defs : Defs) (bs : Builds) (out : Output) : Type 0 where
   preprocessed : preprocessed_of (defined defs) d ≡ Ok out
-  keeps : AllBuilt s ds defs bs → AllBuilt s ds defs (read_second s ds text d defs bs).builds
+  keeps : AllBuilt s ds defs bs → AllBuilt s ds defs (read_and_build_second s ds text d defs bs).builds
 
-second_read : (s : Settings) (ds : List Registered) (text : List ℕ) (d : Registered) (defs : Defs) (bs : Builds) (out : Output) → (read_second s ds text d defs bs).result ≡ Ok out → Second s ds text d defs bs out
-unfolding read_second
+second_read : (s : Settings) (ds : List Registered) (text : List ℕ) (d : Registered) (defs : Defs) (bs : Builds) (out : Output) → (read_and_build_second s ds text d defs bs).result ≡ Ok out → Second s ds text d defs bs out
+unfolding read_and_build_second
 second_read s ds text d defs bs out e =
     let place = in_text d.file_path text 0 in
     let pre = in_shader d.file_path text (preprocessed_of (defined defs) d) in
@@ -212,7 +206,7 @@ second_read s ds text d defs bs out e =
     same_Ok a b q = cc
 
     read_value : Settings → List Registered → List ℕ → Registered → Defs → Doing Output Refused
-    read_value s ds text d defs = read_second s ds text d defs
+    read_value s ds text d defs = read_and_build_second s ds text d defs
 
 -- ---- an answer
 
@@ -227,24 +221,24 @@ record MadeOf (s : Settings) (ds : List Registered) (m : ShaderSource) (text : L
   all : AllBuilt s ds defs bs
   shader : Finished s bs definition output m.shader_type made
 
-make_made : (s : Settings) (ds : List Registered) (m : ShaderSource) (text : List ℕ) (made : ModuleValue) → (make s ds m text []).result ≡ Ok made → MadeOf s ds m text (make s ds m text []).builds made
-unfolding make
+make_made : (s : Settings) (ds : List Registered) (m : ShaderSource) (text : List ℕ) (made : ModuleValue) → (module_of_text s ds m text []).result ≡ Ok made → MadeOf s ds m text (module_of_text s ds m text []).builds made
+unfolding module_of_text
 make_made s ds m text made e =
     let f = in_shader m.file_path text (read_shader m text) in
     let g = λ (d : Registered) (defs : Defs) (out : Output) (cs : Builds). given (finish s defs cs d out m.shader_type) cs in
-    let h = λ (d : Registered) (defs : Defs). read_second s ds text d defs >>= g d defs in
-    let k = λ (d : Registered). read_first s ds text d (overwritten m.defs d.defs) >>= h d in
+    let h = λ (d : Registered) (defs : Defs). read_and_build_second s ds text d defs >>= g d defs in
+    let k = λ (d : Registered). read_and_build_first s ds text d (overwritten m.defs d.defs) >>= h d in
     let one = bound f k [] made e in
     let d = one.value in
     let own = overwritten m.defs d.defs in
     let e1 : (k d []).result ≡ Ok made = ap (λ (o : Outcome ModuleValue Refused). o.result) (sym one.same) ∙ e in
-    let two = bound (read_first s ds text d own) (h d) [] made e1 in
+    let two = bound (read_and_build_first s ds text d own) (h d) [] made e1 in
     let defs = two.value in
-    let cs = (read_first s ds text d own []).builds in
+    let cs = (read_and_build_first s ds text d own []).builds in
     let e2 : (h d defs cs).result ≡ Ok made = ap (λ (o : Outcome ModuleValue Refused). o.result) (sym two.same) ∙ e1 in
-    let three = bound (read_second s ds text d defs) (g d defs) cs made e2 in
+    let three = bound (read_and_build_second s ds text d defs) (g d defs) cs made e2 in
     let out = three.value in
-    let es = (read_second s ds text d defs cs).builds in
+    let es = (read_and_build_second s ds text d defs cs).builds in
     let e3 : finish s defs es d out m.shader_type ≡ Ok made = ap (λ (o : Outcome ModuleValue Refused). o.result) (sym three.same) ∙ e2 in
     let first = first_read s ds text d own defs [] two.first in
     let second = second_read s ds text d defs cs out three.first in
@@ -262,7 +256,7 @@ make_made s ds m text made e =
     })
   where
     make_value : Settings → List Registered → ShaderSource → List ℕ → Doing ModuleValue Refused
-    make_value s ds m text = make s ds m text
+    make_value s ds m text = module_of_text s ds m text
 
 -- the same holds of an answer
 pub record Made (s : Settings) (ds : List Registered) (counter : ℕ) (m : ShaderSource) (bs : Builds) (made : ModuleValue) : Type 0 where
@@ -280,10 +274,10 @@ unfolding answer
 answer_made s ds counter m made e =
     let place = in_text m.file_path m.source 0 in
     let f = given (placed place (read_source counter m.source)) in
-    let g = λ (read : List ℕ × ℕ). make s ds m read.0 in
+    let g = λ (read : List ℕ × ℕ). module_of_text s ds m read.0 in
     let one = bound f g [] made e in
     let read = one.value in
-    let e1 : (make s ds m read.0 []).result ≡ Ok made = ap (λ (o : Outcome ModuleValue Refused). o.result) (sym one.same) ∙ e in
+    let e1 : (module_of_text s ds m read.0 []).result ≡ Ok made = ap (λ (o : Outcome ModuleValue Refused). o.result) (sym one.same) ∙ e in
     let of = make_made s ds m read.0 made e1 in
     let source : read_source counter m.source ≡ Ok read = placed_back place (read_source counter m.source) read one.first in
     let same = made_defs ds counter m read of.defs source of.merged in
@@ -294,6 +288,6 @@ answer_made s ds counter m made e =
       described = of.described;
       output = of.output;
       preprocessed = subst (λ n. preprocessed_of (defined n) of.definition ≡ Ok of.output) same of.preprocessed;
-      all = subst (λ n. AllBuilt s ds n (make s ds m read.0 []).builds) same of.all;
+      all = subst (λ n. AllBuilt s ds n (module_of_text s ds m read.0 []).builds) same of.all;
       shader = of.shader;
     })

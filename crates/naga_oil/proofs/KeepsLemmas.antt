@@ -14,7 +14,7 @@ use Rattle.naga_oil_build.specs.Built.{preprocessed_of}
 use Rattle.naga_oil_build.specs.Held.{Settings}
 use Rattle.naga_oil.specs.AfreshLaw.{AllStandAfresh}
 use Rattle.naga_oil.specs.MakeDefs.{defs_merged, defs_of_text, defs_or_none}
-use Rattle.naga_oil.specs.MakeView.{Keeps, KeepsBuild, KeepsFirst, TellsUnreached, nothing_said, unreached_of, ends_with}
+use Rattle.naga_oil.specs.MakeView.{Keeps, KeepsBuild, KeepsFirst, TellsUnreached, nothing_said, unreached_of, ends_with, state_with}
 use Rattle.naga_oil.specs.Outcome.{Outcome, Does}
 use Rattle.naga_oil.specs.Reach.{Unreached, unbuilt, as_recorded, builds_with, defined, enter_build, preprocess_module, reach, reach_each, unless_built}
 use Rattle.naga_oil.specs.Refused.{Place, Refused, UnlessMemory, placed, nowhere, place_of, refused_of}
@@ -63,7 +63,7 @@ does_lost view told (Err e) bs v h = subst (λ o. MatchOption o (Unit {0}) (λ f
 
 module _ (s : Settings) (ds : List Registered) (defs : Defs) {E F : Type 0} (told : E → Option F) (bs : Builds) (kept : Kept) where
   abbrev Kept_then : {X : Type 0} → Result X E → Builds → Kept → Type 0
-  Kept_then r newer more = Keeps s ds defs told r bs kept newer more
+  Kept_then r newer more = Keeps s ds defs told r (state_with bs kept) (state_with newer more)
 
   pub keeps_same : {X : Type 0} (r : Result X E) → Stands s ds defs bs kept → Kept_then r bs kept
   keeps_same r st = record { stand = st; since = λ begun h. always told r (kept ≡ keep_builds ds defs begun bs) h; all = keeps_none kept }
@@ -77,11 +77,11 @@ module _ (s : Settings) (ds : List Registered) (defs : Defs) {E F : Type 0} (tol
     keeps_still r = record { stand = first.stand; since = λ begun h. always told r (m ≡ keep_builds ds defs begun mid) (first.since begun h); all = first.all }
 
     -- one after the other
-    pub keeps_on : {X : Type 0} (r : Result X E) (newer : Builds) (more : Kept) → Keeps s ds defs told r mid m newer more → Kept_then r newer more
+    pub keeps_on : {X : Type 0} (r : Result X E) (newer : Builds) (more : Kept) → Keeps s ds defs told r (state_with mid m) (state_with newer more) → Kept_then r newer more
     keeps_on r newer more h = record { stand = h.stand; since = λ begun e. h.since begun (first.since begun e); all = keeps_then first.all h.all }
 
     -- the error of the second call ends both
-    pub keeps_ended : {X Y : Type 0} (e : E) (r : Result Y E) (newer : Builds) (more : Kept) → IsErrAnd r (λ o. o ≡ e) → Keeps {X = X} s ds defs told (Err e) mid m newer more → Kept_then r newer more
+    pub keeps_ended : {X Y : Type 0} (e : E) (r : Result Y E) (newer : Builds) (more : Kept) → IsErrAnd r (λ o. o ≡ e) → Keeps {X = X} s ds defs told (Err e) (state_with mid m) (state_with newer more) → Kept_then r newer more
     keeps_ended e r newer more is h = record { stand = h.stand; since = λ begun k. unless_ended told e r (more ≡ keep_builds ds defs begun newer) is (h.since begun (first.since begun k)); all = keeps_then first.all h.all }
 
 on_ok : {X E : Type 0} (r : Result X E) {P : Type 0} → P → OnOk r P
@@ -95,7 +95,7 @@ module _ (s : Settings) (ds : List Registered) (defs : Defs) (all : IsRegistry d
   key = key_under d defs
 
   abbrev Then : Result (Unit {0}) CodeUnreached → Builds → Kept → Type 0
-  Then r newer more = Keeps s ds defs unreached_of r bs kept newer more
+  Then r newer more = Keeps s ds defs unreached_of r (state_with bs kept) (state_with newer more)
 
   module _ (out : Output) (first : AllStandAfresh s ds defs bs) (read : preprocessed_of (defined defs) d ≡ Ok out) (used : reach_each (as_recorded d) (unless_built (reach s defs (drop (place + 1) ds))) out.uses bs ≡ record { builds = mid; result = Ok tt }) (h : Then (Ok tt) mid m) where
     enters : (r : Result (Unit {0}) CodeUnreached) (built : Result BuiltModule Unbuilt) (newer : Builds) (more : Kept) → build s d out mid ≡ built → Does (λ done. done) unreached_of nothing_said r newer (enter_build d.name built mid)
@@ -146,11 +146,11 @@ module _ (s : Settings) (ds : List Registered) {E F : Type 0} (told : E → Opti
       refused (Err e) h = tt
 
   -- the make builds under these definitions
-  pub first_more : {X : Type 0} (r : Result X E) (defs : Result Defs Fault) (under : Defs) (newer : Builds) (more : Kept) → defs ≡ Ok under → Keeps s ds under told r [] kept newer more → KeepsFirst s ds told defs r kept (ends_with under newer more)
+  pub first_more : {X : Type 0} (r : Result X E) (defs : Result Defs Fault) (under : Defs) (newer : Builds) (more : Kept) → defs ≡ Ok under → Keeps s ds under told r (state_with [] kept) (state_with newer more) → KeepsFirst s ds told defs r kept (ends_with under newer more)
   first_more {X} r defs under newer more is h = subst (λ d. KeepsFirst s ds told d r kept (ends_with under newer more)) (sym is) (record { comes = on_ok r refl; stand = h.stand; kept_all = h.since kept refl; all = h.all })
 
   -- the make goes on
-  pub first_then : {X Y : Type 0} (x : X) (r : Result Y E) (defs : Result Defs Fault) (under : Defs) (mid newer : Builds) (m more : Kept) → KeepsFirst s ds told defs (Ok x) kept (ends_with under mid m) → Keeps s ds under told r mid m newer more → KeepsFirst s ds told defs r kept (ends_with under newer more)
+  pub first_then : {X Y : Type 0} (x : X) (r : Result Y E) (defs : Result Defs Fault) (under : Defs) (mid newer : Builds) (m more : Kept) → KeepsFirst s ds told defs (Ok x) kept (ends_with under mid m) → Keeps s ds under told r (state_with mid m) (state_with newer more) → KeepsFirst s ds told defs r kept (ends_with under newer more)
   first_then x r defs under mid newer m more first h =
       subst (λ d. KeepsFirst s ds told d r kept (ends_with under newer more)) (sym first.comes) (record {
         comes = on_ok r refl;
@@ -171,15 +171,15 @@ module _ (s : Settings) (ds : List Registered) {E F : Type 0} (told : E → Opti
 
 module _ (s : Settings) (ds : List Registered) (defs : Defs) (bs : Builds) (kept : Kept) (newer : Builds) (more : Kept) where
   -- what stays kept doesn't depend on the value of an answer
-  pub keeps_ok : {X Y E F G H : Type 0} (told : E → Option F) (tell : G → Option H) (x : X) (y : Y) → Keeps s ds defs told (Ok x) bs kept newer more → Keeps s ds defs tell (Ok y) bs kept newer more
+  pub keeps_ok : {X Y E F G H : Type 0} (told : E → Option F) (tell : G → Option H) (x : X) (y : Y) → Keeps s ds defs told (Ok x) (state_with bs kept) (state_with newer more) → Keeps s ds defs tell (Ok y) (state_with bs kept) (state_with newer more)
   keeps_ok told tell x y h = record { stand = h.stand; since = h.since; all = h.all }
 
   -- what is answered after that changes nothing
-  pub keeps_whatever : {X Y E F : Type 0} (told : E → Option F) (x : X) (r : Result Y E) → Keeps s ds defs told (Ok x) bs kept newer more → Keeps s ds defs told r bs kept newer more
+  pub keeps_whatever : {X Y E F : Type 0} (told : E → Option F) (x : X) (r : Result Y E) → Keeps s ds defs told (Ok x) (state_with bs kept) (state_with newer more) → Keeps s ds defs told r (state_with bs kept) (state_with newer more)
   keeps_whatever told x r h = record { stand = h.stand; since = λ begun e. always told r (more ≡ keep_builds ds defs begun newer) (h.since begun e); all = h.all }
 
   -- an error reports why a module can't be reached
-  pub keeps_told : {X Y : Type 0} (tell : Unreached → Refused) (why : CodeUnreached) (e : ComposerError) → TellsUnreached tell why e → Keeps {X = X} s ds defs unreached_of (Err why) bs kept newer more → Keeps {X = Y} s ds defs refused_of (Err e) bs kept newer more
+  pub keeps_told : {X Y : Type 0} (tell : Unreached → Refused) (why : CodeUnreached) (e : ComposerError) → TellsUnreached tell why e → Keeps {X = X} s ds defs unreached_of (Err why) (state_with bs kept) (state_with newer more) → Keeps {X = Y} s ds defs refused_of (Err e) (state_with bs kept) (state_with newer more)
   keeps_told tell why e tells h = record { stand = h.stand; since = λ begun k. go (refused_of e) (more ≡ keep_builds ds defs begun newer) tells (h.since begun k); all = h.all }
     where
       go : (o : Option Refused) (P : Type 0) → MatchOption o (place_of e.source ≡ nowhere) (λ r. (w : Unreached) × (unreached_of why ≡ Some w) × (tell w ≡ r)) → MatchOption (unreached_of why) (Unit {0}) (λ f. P) → MatchOption o (Unit {0}) (λ f. P)

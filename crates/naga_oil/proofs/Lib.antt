@@ -28,10 +28,14 @@ pub mod StoreStepLemmas
 pub mod ForgetLemmas
 pub mod KeepsLemmas
 pub mod PlacesLemmas
+pub mod EnsureLemmas
 pub mod StoreNewLemmas
 pub mod BuiltOfLemmas
 pub mod FinishedLemmas
 pub mod EachBuiltLemmas
+pub mod MadeAfreshLemmas
+pub mod ReportedLemmas
+pub mod RunLemmas
 pub mod MadeOverridingLemmas
 pub mod SentDownLemmas
 pub mod FaithfulLemmas

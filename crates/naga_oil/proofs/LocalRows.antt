@@ -36,10 +36,10 @@ built_alike = record { same = refl; imports = All-nil (λ i. AlikeIn [] ((codes 
 
 over_alike : AlikeIn short long (codes "b")
 unfolding AlikeIn
-over_alike = record { same = refl; imports = All-cons (λ i. AlikeIn ((codes "a", leaf 1) ∷ []) ((codes "y", leaf 8) ∷ (codes "a", leaf 1) ∷ (codes "x", leaf 7) ∷ []) i.import) of_a [] behind (All-nil (λ i. AlikeIn ((codes "a", leaf 1) ∷ []) ((codes "y", leaf 8) ∷ (codes "a", leaf 1) ∷ (codes "x", leaf 7) ∷ []) i.import)) }
+over_alike = record { same = refl; imports = All-cons (λ i. AlikeIn ((codes "a", leaf 1) ∷ []) ((codes "y", leaf 8) ∷ (codes "a", leaf 1) ∷ (codes "x", leaf 7) ∷ []) i.import) of_a [] following (All-nil (λ i. AlikeIn ((codes "a", leaf 1) ∷ []) ((codes "y", leaf 8) ∷ (codes "a", leaf 1) ∷ (codes "x", leaf 7) ∷ []) i.import)) }
   where
-    behind : AlikeIn ((codes "a", leaf 1) ∷ []) ((codes "y", leaf 8) ∷ (codes "a", leaf 1) ∷ (codes "x", leaf 7) ∷ []) (codes "a")
-    behind = record { same = refl; imports = All-nil (λ i. AlikeIn [] ((codes "x", leaf 7) ∷ []) i.import) }
+    following : AlikeIn ((codes "a", leaf 1) ∷ []) ((codes "y", leaf 8) ∷ (codes "a", leaf 1) ∷ (codes "x", leaf 7) ∷ []) (codes "a")
+    following = record { same = refl; imports = All-nil (λ i. AlikeIn [] ((codes "x", leaf 7) ∷ []) i.import) }
 
 -- one build over imports that differ doesn't stand alike
 over_another : AlikeIn short other (codes "b") → ⊥

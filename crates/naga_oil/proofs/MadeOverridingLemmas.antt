@@ -14,13 +14,14 @@ use Rattle.naga_oil_link.specs.Owned.{own_places, owned_module, owned_build, own
 use Rattle.naga_oil_redirect.specs.ChainLaw.{is_in_chain}
 use Rattle.naga_oil_build.specs.Build.{build}
 use Rattle.naga_oil_build.specs.Held.{Settings}
-use Rattle.naga_oil_build.specs.OverridingForm.{OverridesEachOnce, BuildsOverrideOnce, ShareNoName, NoNameShared}
+use Rattle.naga_oil_build.specs.OverridingForm.{OverridesEachOnce, BuildsOverrideOnce, ShareNoName, NoNameShared, BasesLackMark, BuildsLackMark, OverridesOriginals}
 use Rattle.naga_oil_build.proofs.OverridingFormLemmas.{no_name_shared}
+use Rattle.naga_oil_build.proofs.OriginalsLemmas.{originals}
 use Rattle.naga_oil_build.proofs.WholeTextLemmas.{whole_text}
 use Rattle.naga_oil.specs.ChainsLaw.{IsApart, StandsApart, NoneIsBoth, MadeOverridingLaw}
 use Rattle.naga_oil.specs.Faithful.{made_builds}
 use Rattle.naga_oil.specs.MakeDefs.{make_defs}
-use Rattle.naga_oil.proofs.BuiltOfLemmas.{build_back}
+use Rattle.naga_oil.proofs.BuiltOfLemmas.{Comes, build_back}
 use Rattle.naga_oil.proofs.EachBuiltLemmas.{AllBuilt, answer_made}
 
 -- ---- one build
@@ -37,14 +38,16 @@ copied_overriding : (m : ModuleValue) (own : OwnPlaces) (b : BuiltModule) → (c
 unfolding copy_build
 copied_overriding m own b = refl
 
+held_overriding : (s : Settings) (d : Registered) (out : Output) (before : Builds) (b : BuiltModule) → (c : Comes s d out before b) → b.overriding ≡ c.whole.built.overriding
+held_overriding s d out before b c =
+    let x = c.whole.built in
+    let p = c.holding.parse in
+    ap (λ (y : BuiltModule). y.overriding) (sym c.holding.copies) ∙ copied_overriding (owned_module x.index x.decoration p) (own_places p) (owned_build x.index p x) ∙ owned_overriding x.index p x
+
 pub built_once : (s : Settings) (d : Registered) (out : Output) (before : Builds) (b : BuiltModule) → BuildsOverrideOnce before → build s d out before ≡ Ok b → OverridesEachOnce b.overriding
 built_once s d out before b h e =
     let c = build_back s d out before b e in
-    let x = c.whole.built in
-    let p = c.holding.parse in
-    let held : b.overriding ≡ x.overriding =
-    ap (λ (y : BuiltModule). y.overriding) (sym c.holding.copies) ∙ copied_overriding (owned_module x.index x.decoration p) (own_places p) (owned_build x.index p x) ∙ owned_overriding x.index p x in
-    subst OverridesEachOnce (sym held) (whole_text s d before out.uses out.text c.whole h c.written)
+    subst OverridesEachOnce (sym (held_overriding s d out before b c)) (whole_text s d before out.uses out.text c.whole h c.written)
 
 -- ---- all builds
 
@@ -64,6 +67,30 @@ module _ (s : Settings) (ds : List Registered) (defs : Defs) (bs : Builds) (all 
 
   all_once : BuildsOverrideOnce bs
   all_once i e at = first_once (suc i) i e (omega arith) at
+
+pub shader_once : (s : Settings) (ds : List Registered) (defs : Defs) (bs : Builds) (d : Registered) (out : Output) (b : BuiltModule) → AllBuilt s ds defs bs → build s d out bs ≡ Ok b → OverridesEachOnce b.overriding
+shader_once s ds defs bs d out b all e = built_once s d out bs b (all_once s ds defs bs all) e
+
+-- ---- texts that override no overriding function
+
+built_lacks : (s : Settings) (d : Registered) (out : Output) (before : Builds) (b : BuiltModule) → BuildsLackMark before → OverridesOriginals out.text → build s d out before ≡ Ok b → BasesLackMark b.overriding
+built_lacks s d out before b h l e =
+    let c = build_back s d out before b e in
+    subst BasesLackMark (sym (held_overriding s d out before b c)) (originals s d before out.uses out.text c.whole h l c.written)
+
+module _ (s : Settings) (ds : List Registered) (defs : Defs) (bs : Builds) (all : AllBuilt s ds defs bs) (texts : (i : ℕ) (e : List ℕ × BuiltModule) (at : slice_get bs i ≡ Some e) → OverridesOriginals (all i e at).output.text) where
+  first_lack : (n i : ℕ) (e : List ℕ × BuiltModule) → i < n → slice_get bs i ≡ Some e → BasesLackMark e.1.overriding
+  first_lack zero i e lt at = absurd (omega (arith, lt))
+  first_lack (suc n) i e lt at =
+      let b = all i e at in
+      let before : BuildsLackMark (take i bs) = λ j x there. (let q = there_before bs i j x there in let less = q.0 in first_lack n j x (omega (arith, lt, less)) q.1) in
+      built_lacks s b.definition b.output (take i bs) e.1 before (texts i e at) b.built
+
+  all_lack : BuildsLackMark bs
+  all_lack i e at = first_lack (suc i) i e (omega arith) at
+
+pub shader_lacks : (s : Settings) (ds : List Registered) (defs : Defs) (bs : Builds) (d : Registered) (out : Output) (b : BuiltModule) (all : AllBuilt s ds defs bs) → ((i : ℕ) (e : List ℕ × BuiltModule) (at : slice_get bs i ≡ Some e) → OverridesOriginals (all i e at).output.text) → OverridesOriginals out.text → build s d out bs ≡ Ok b → BasesLackMark b.overriding
+shader_lacks s ds defs bs d out b all texts text e = built_lacks s d out bs b (all_lack s ds defs bs all texts) text e
 
 pub shader_shares : (s : Settings) (ds : List Registered) (defs : Defs) (bs : Builds) (d : Registered) (out : Output) (b : BuiltModule) → AllBuilt s ds defs bs → build s d out bs ≡ Ok b → NoNameShared b.overriding
 shader_shares s ds defs bs d out b all e = no_name_shared b.overriding (built_once s d out bs b (all_once s ds defs bs all) e)

@@ -49,10 +49,10 @@ dropped_on xs zero j = ap (λ n. drop n xs) (let e : j ≡ zero + j = omega arit
 dropped_on [] (suc i) j = drop_none j ∙ sym (drop_none (suc i + j))
 dropped_on (x ∷ xs) (suc i) j = dropped_on xs i j ∙ ap (λ n. drop n (x ∷ xs)) (let e : suc (i + j) ≡ suc i + j = omega arith in e)
 
-got_behind : {A : Type 0} (xs : List A) (i j : ℕ) → slice_get (drop i xs) j ≡ slice_get xs (i + j)
-got_behind xs zero j = ap (slice_get xs) (let e : j ≡ zero + j = omega arith in e)
-got_behind [] (suc i) j = refl
-got_behind (x ∷ xs) (suc i) j = got_behind xs i j ∙ ap (slice_get (x ∷ xs)) (let e : suc (i + j) ≡ suc i + j = omega arith in e)
+got_after : {A : Type 0} (xs : List A) (i j : ℕ) → slice_get (drop i xs) j ≡ slice_get xs (i + j)
+got_after xs zero j = ap (slice_get xs) (let e : j ≡ zero + j = omega arith in e)
+got_after [] (suc i) j = refl
+got_after (x ∷ xs) (suc i) j = got_after xs i j ∙ ap (slice_get (x ∷ xs)) (let e : suc (i + j) ≡ suc i + j = omega arith in e)
 
 module _ (s : Settings) (defs : Defs) (name : List ℕ) (bs : Builds) (absent : is_built bs name ≡ false) (ds : List Registered) (from : ℕ) where
   -- no module from the place on has the name
@@ -65,7 +65,7 @@ module _ (s : Settings) (defs : Defs) (name : List ℕ) (bs : Builds) (absent : 
   first_from place d at is =
       let here : from + (place - from) ≡ place = omega (arith, at.0) in
       let next : from + (place - from + 1) ≡ place + 1 = omega (arith, at.0) in
-      first_reached s defs name bs absent (drop from ds) (place - from) d at.1 (got_behind ds from (place - from) ∙ ap (slice_get ds) here ∙ is)
+      first_reached s defs name bs absent (drop from ds) (place - from) d at.1 (got_after ds from (place - from) ∙ ap (slice_get ds) here ∙ is)
       ∙ ap (λ (rest : List Registered). reach_module s defs d (unless_built (reach s defs rest)) bs) (dropped_on ds from (place - from + 1) ∙ ap (λ n. drop n ds) next)
 
 -- the next of the remaining imports

@@ -185,8 +185,8 @@ projection s ds name m d e builds all at agree = all_alike s d e ds all name m a
 abbrev IsFoundBy : (List ℕ → Option Registered) → List Registered → Type 0
 IsFoundBy look es = (x : List ℕ) → registered x es ≡ true → module_named x es ≡ look x
 
-found_behind : (look : List ℕ → Option Registered) (e : Registered) (es : List Registered) → registered e.name es ≡ false → IsFoundBy look (e ∷ es) → IsFoundBy look es
-found_behind look e es fresh found x r = by (bytes_eq e.name x) refl (found x)
+found_after : (look : List ℕ → Option Registered) (e : Registered) (es : List Registered) → registered e.name es ≡ false → IsFoundBy look (e ∷ es) → IsFoundBy look es
+found_after look e es fresh found x r = by (bytes_eq e.name x) refl (found x)
   where
     by : (b : Bool) → bytes_eq e.name x ≡ b → ((b || registered x es) ≡ true → cond b (Some e) (module_named x es) ≡ look x) → module_named x es ≡ look x
     by true q k = absurd (true≢false (sym r ∙ ap (λ n. registered n es) (sym (bytes_same e.name x q)) ∙ fresh))
@@ -230,29 +230,29 @@ module _ (s : Settings) (defs : Defs) where
 
   -- a module of a registry, with the rest of the registry after it
   record Stands (look : List ℕ → Option Registered) (name : List ℕ) (d : Registered) (es : List Registered) : Type 0 where
-    behind : List Registered
-    follows : MayFollow d behind
-    all : IsRegistry behind
-    found : IsFoundBy look behind
-    reached : (bs : Builds) → reach s defs es name bs ≡ reach_module s defs d (unless_built (reach s defs behind)) bs
+    following : List Registered
+    follows : MayFollow d following
+    all : IsRegistry following
+    found : IsFoundBy look following
+    reached : (bs : Builds) → reach s defs es name bs ≡ reach_module s defs d (unless_built (reach s defs following)) bs
 
   stands : (look : List ℕ → Option Registered) (name : List ℕ) (d : Registered) (es : List Registered) → IsRegistry es → IsFoundBy look es → module_named name es ≡ Some d → Stands look name d es
   stands look name d [] all found at = absurd cc
-  stands look name d (e ∷ es) all found at = by (bytes_eq e.name name) refl at (stands look name d es all.1 (found_behind look e es all.0.name found))
+  stands look name d (e ∷ es) all found at = by (bytes_eq e.name name) refl at (stands look name d es all.1 (found_after look e es all.0.name found))
     where
       by : (b : Bool) → bytes_eq e.name name ≡ b → cond b (Some e) (module_named name es) ≡ Some d → (module_named name es ≡ Some d → Stands look name d es) → Stands look name d (e ∷ es)
       by true q here known =
           let same : e ≡ d = cc in
           record {
-            behind = es;
+            following = es;
             follows = subst (λ (x : Registered). MayFollow x es) same all.0;
             all = all.1;
-            found = found_behind look e es all.0.name found;
+            found = found_after look e es all.0.name found;
             reached = λ bs. reach-first e es name q bs ∙ ap (λ x. reach_module s defs x (unless_built (reach s defs es)) bs) same;
           }
       by false q there known =
           let k = known there in
-          record { behind = k.behind; follows = k.follows; all = k.all; found = k.found; reached = λ bs. reach-past e es name q bs ∙ k.reached bs }
+          record { following = k.following; follows = k.follows; all = k.all; found = k.found; reached = λ bs. reach-past e es name q bs ∙ k.reached bs }
 
   -- from one registry to another, in which each reached module is found
   abbrev IsReachedAs : List Registered → Type 0
@@ -268,16 +268,16 @@ module _ (s : Settings) (defs : Defs) where
       first : bytes_eq d.name name ≡ true → module_named name es ≡ Some d
       first q = found name r' ∙ alike name (reaches-itself (d ∷ earlier) name r) ∙ ap (λ b. cond b (Some d) (module_named name earlier)) q
 
-      imported : bytes_eq d.name name ≡ true → IsReachedAs earlier → (k : Stands look name d es) (u : Use) → as_recorded d u ≡ None → (cs : Builds) → unless_built (reach s defs earlier) u.import.import cs ≡ unless_built (reach s defs k.behind) u.import.import cs
+      imported : bytes_eq d.name name ≡ true → IsReachedAs earlier → (k : Stands look name d es) (u : Use) → as_recorded d u ≡ None → (cs : Builds) → unless_built (reach s defs earlier) u.import.import cs ≡ unless_built (reach s defs k.following) u.import.import cs
       imported q known k u may cs =
           let x = u.import.import in
           let here = allowed d u may in
-          built_alike (reach s defs earlier) (reach s defs k.behind) x cs (known k.behind look x k.all k.found (imported_registered d k.behind k.follows x here) (imported_registered d earlier all.0 x here) (λ other h. alike other (reaches-first d earlier name other q ∙ ap (λ b. bytes_eq name other || b) (of_one (λ y. reaches earlier y other) d.imports x here h) ∙ or_true (bytes_eq name other)) ∙ past x other h) cs)
+          built_alike (reach s defs earlier) (reach s defs k.following) x cs (known k.following look x k.all k.found (imported_registered d k.following k.follows x here) (imported_registered d earlier all.0 x here) (λ other h. alike other (reaches-first d earlier name other q ∙ ap (λ b. bytes_eq name other || b) (of_one (λ y. reaches earlier y other) d.imports x here h) ∙ or_true (bytes_eq name other)) ∙ past x other h) cs)
 
       by : (b : Bool) → bytes_eq d.name name ≡ b → (b || registered name earlier) ≡ true → IsReachedAs earlier → reach s defs (d ∷ earlier) name bs ≡ reach s defs es name bs
       by true q here known =
           let k = stands look name d es all' found (first q) in
-          reach-first d earlier name q bs ∙ module_alike s defs defs d (unless_built (reach s defs earlier)) (unless_built (reach s defs k.behind)) refl (imported q known k) bs ∙ sym (k.reached bs)
+          reach-first d earlier name q bs ∙ module_alike s defs defs d (unless_built (reach s defs earlier)) (unless_built (reach s defs k.following)) refl (imported q known k) bs ∙ sym (k.reached bs)
       by false q there known =
           reach-past d earlier name q bs ∙ known es look name all' found r' there (λ other h. alike other (reaches-past d earlier name other q ∙ h) ∙ past name other h) bs
 

@@ -22,7 +22,7 @@ use Rattle.naga_oil_pre.specs.Extracted.{extracted}
 use Rattle.naga_oil_conditions.specs.Fault.{Fault, Definitions}
 use Rattle.naga_oil_conditions.specs.Kind.{LineKind, version, condition, endif, imports, import_path, define, other, unversioned_kind_of}
 use Rattle.naga_oil_conditions.specs.Line.{Line, source_lines}
-use Rattle.naga_oil_pre.specs.Metadata.{Found, Metadata, metadata, metadata_behind, metadata_with, found_in, found_behind, nothing_found, defined_as, defined_behind, with_defines, with_import, going_on, left_open}
+use Rattle.naga_oil_pre.specs.Metadata.{Found, Metadata, metadata, metadata_after, metadata_with, found_in, found_after, nothing_found, defined_as, defined_after, with_defines, with_import, going_on, left_open}
 use Rattle.naga_oil_pre.specs.Reading.{braces_after}
 use Rattle.naga_oil_conditions.specs.declared.shader_def.ShaderDefValue.{ShaderDefValue}
 use Rattle.naga_oil_words.specs.ResultSteps.{◌>>=◌}
@@ -64,12 +64,12 @@ first_defined : (d : List ℕ × ShaderDefValue) (defs : Defs) → defined (d �
 first_defined d defs = ap (λ b. cond b (Some d.1) (defined defs d.0)) (is_eq-slice_cmp d.0 d.0 ∙ (bytes_eq-Decides d.0 d.0).1 refl)
 
 -- of names above the first, the other definitions say the same
-behind_first : (d : List ℕ × ShaderDefValue) (defs : Defs) (names : List (List ℕ)) → Above d.0 names → defs_among (defined (d ∷ defs)) names ≡ defs_among (defined defs) names
-behind_first d defs [] h = refl
-behind_first d defs (n ∷ names) h =
+past_first : (d : List ℕ × ShaderDefValue) (defs : Defs) (names : List (List ℕ)) → Above d.0 names → defs_among (defined (d ∷ defs)) names ≡ defs_among (defined defs) names
+past_first d defs [] h = refl
+past_first d defs (n ∷ names) h =
     let apart : order n d.0 ≡ Greater = nat_list_cmp_total.antisymm n d.0 ∙ ap ordering_reverse h.0 in
     ap (λ o. cons_option (option_map (λ v. (n, v)) (cond (is_eq o) (Some d.1) (defined defs n))) (defs_among (defined (d ∷ defs)) names)) apart
-    ∙ ap (λ (ds : Defs). cons_option (option_map (λ v. (n, v)) (defined defs n)) ds) (behind_first d defs names h.1)
+    ∙ ap (λ (ds : Defs). cons_option (option_map (λ v. (n, v)) (defined defs n)) ds) (past_first d defs names h.1)
 
 -- what isn't among names isn't defined
 abbrev Covers : List (List ℕ) → Defs → Type 0
@@ -94,19 +94,19 @@ from_names (n ∷ names) (d ∷ defs) s t h = by (order n d.0) refl (λ k. from_
     asked m k e = h m (ap (λ b. b || is_among names m) e ∙ k)
 
     by : (o : Ordering) → order n d.0 ≡ o → (Covers names defs → defs_among (defined defs) names ≡ defs) → (Covers names (d ∷ defs) → defs_among (defined (d ∷ defs)) names ≡ d ∷ defs) → defs_among (defined (d ∷ defs)) (n ∷ names) ≡ d ∷ defs
-    by Less e behind rest =
+    by Less e following rest =
         let none : defined (d ∷ defs) n ≡ None = undefined_above n (d ∷ defs) (e, above_more n d.0 (names_in defs) e t.0) in
         ap (λ o. cons_option (option_map (λ v. (n, v)) o) (defs_among (defined (d ∷ defs)) names)) none
         ∙ rest (λ m k. but_first (λ x. defined (d ∷ defs) x ≡ None) m none (asked m k))
-    by Equal e behind rest =
+    by Equal e following rest =
         let same : n ≡ d.0 = exact_bytes n d.0 e in
         let none : defined defs n ≡ None = ap (defined defs) same ∙ undefined_above d.0 defs t.0 in
         let apart = λ (m : List ℕ) (f : bytes_eq m n ≡ false). ap (λ b. cond b (Some d.1) (defined defs m)) (is_eq-slice_cmp m d.0 ∙ ap (bytes_eq m) (sym same) ∙ f) in
         let more : defs_among (defined (d ∷ defs)) names ≡ defs =
-        behind_first d defs names (subst (λ x. Above x names) same s.0) ∙ behind (λ m k. but_first (λ x. defined defs x ≡ None) m none (λ f. sym (apart m f) ∙ asked m k f)) in
+        past_first d defs names (subst (λ x. Above x names) same s.0) ∙ following (λ m k. but_first (λ x. defined defs x ≡ None) m none (λ f. sym (apart m f) ∙ asked m k f)) in
         ap (λ o. cons_option (option_map (λ v. (n, v)) (cond (is_eq o) (Some d.1) (defined defs n))) (defs_among (defined (d ∷ defs)) names)) e
         ∙ ap (λ (ds : Defs). (n, d.1) ∷ ds) more ∙ ap (λ x. (x, d.1) ∷ defs) same
-    by Greater e behind rest =
+    by Greater e following rest =
         let below : order d.0 n ≡ Less = nat_list_cmp_total.antisymm d.0 n ∙ ap ordering_reverse e in
         let none = h d.0 (not_above d.0 (n ∷ names) (below, above_more d.0 n names below s.0)) in
         let some = first_defined d defs in
@@ -120,9 +120,9 @@ module _ (name : List ℕ) where
   Undefined (Ok found) = found.defines name ≡ None
   Undefined (Err f) = Unit {0}
 
-  behind_import : (found : Found) (at : ℕ) (r : Result (List Leaf) SyntaxFault) → found.defines name ≡ None → Undefined (with_import found at r)
-  behind_import found at (Ok leaves) h = h
-  behind_import found at (Err f) h = tt
+  after_import : (found : Found) (at : ℕ) (r : Result (List Leaf) SyntaxFault) → found.defines name ≡ None → Undefined (with_import found at r)
+  after_import found at (Ok leaves) h = h
+  after_import found at (Err f) h = tt
 
   apart_names : (named_so : List ℕ) → is_among (named_so ∷ []) name ≡ false → bytes_eq named_so name ≡ false
   apart_names named_so h = go (bytes_eq named_so name) refl
@@ -131,22 +131,22 @@ module _ (name : List ℕ) where
       go false e = refl
       go true e = let is : name ≡ named_so = sym ((bytes_eq-Decides named_so name).0 e) in absurd (true≢false (sym (ap (λ b. b || false) ((bytes_eq-Decides name named_so).1 is)) ∙ h))
 
-  behind_value : (found : Found) (at : ℕ) (named_so : List ℕ) (text : Option (List ℕ)) (value : Option ShaderDefValue) → found.defines name ≡ None → bytes_eq named_so name ≡ false → Undefined (with_defines found (defined_as found.defines at named_so text value))
-  behind_value found at named_so text (Some value) h e = ap (λ b. cond b (Some value) (found.defines name)) e ∙ h
-  behind_value found at named_so text None h e = tt
+  after_value : (found : Found) (at : ℕ) (named_so : List ℕ) (text : Option (List ℕ)) (value : Option ShaderDefValue) → found.defines name ≡ None → bytes_eq named_so name ≡ false → Undefined (with_defines found (defined_as found.defines at named_so text value))
+  after_value found at named_so text (Some value) h e = ap (λ b. cond b (Some value) (found.defines name)) e ∙ h
+  after_value found at named_so text None h e = tt
 
-  behind_define : (allow_defines : Bool) (found : Found) (at : ℕ) (named_so : List ℕ) (text : Option (List ℕ)) → found.defines name ≡ None → bytes_eq named_so name ≡ false → Undefined (with_defines found (defined_behind allow_defines found.defines at named_so text))
-  behind_define true found at named_so text h e = behind_value found at named_so text (defined_value text) h e
-  behind_define false found at named_so text h e = tt
+  after_define : (allow_defines : Bool) (found : Found) (at : ℕ) (named_so : List ℕ) (text : Option (List ℕ)) → found.defines name ≡ None → bytes_eq named_so name ≡ false → Undefined (with_defines found (defined_after allow_defines found.defines at named_so text))
+  after_define true found at named_so text h e = after_value found at named_so text (defined_value text) h e
+  after_define false found at named_so text h e = tt
 
-  behind_line : (allow_defines : Bool) (found : Found) (l : Line) (k : LineKind) (more : List Line) → found.defines name ≡ None → is_among (name_defined k) name ≡ false → Undefined (found_behind allow_defines found l k more)
-  behind_line allow_defines found l (condition is_else c) more h e = h
-  behind_line allow_defines found l endif more h e = h
-  behind_line allow_defines found l imports more h e = behind_import found l.at _ h
-  behind_line allow_defines found l (import_path path) more h e = h
-  behind_line allow_defines found l (define named_so text) more h e = behind_define allow_defines found l.at named_so text h (apart_names named_so e)
-  behind_line allow_defines found l (version known) more h e = h
-  behind_line allow_defines found l other more h e = h
+  after_line : (allow_defines : Bool) (found : Found) (l : Line) (k : LineKind) (more : List Line) → found.defines name ≡ None → is_among (name_defined k) name ≡ false → Undefined (found_after allow_defines found l k more)
+  after_line allow_defines found l (condition is_else c) more h e = h
+  after_line allow_defines found l endif more h e = h
+  after_line allow_defines found l imports more h e = after_import found l.at _ h
+  after_line allow_defines found l (import_path path) more h e = h
+  after_line allow_defines found l (define named_so text) more h e = after_define allow_defines found l.at named_so text h (apart_names named_so e)
+  after_line allow_defines found l (version known) more h e = h
+  after_line allow_defines found l other more h e = h
 
   abbrev line_names : Line → List (List ℕ)
   line_names l = name_defined (unversioned_kind_of l.covered)
@@ -159,15 +159,15 @@ module _ (name : List ℕ) where
       go false b e = (refl, e)
 
   -- the lines that an import takes define nothing
-  behind_lines : (allow_defines : Bool) (found : Found) (braces : ℕ) (lines : List Line) → found.defines name ≡ None → is_among (flat_map line_names lines) name ≡ false → Undefined (found_in allow_defines found braces lines)
-  behind_lines allow_defines found braces [] h e = h
-  behind_lines allow_defines found zero (l ∷ more) h e =
-      go (found_behind allow_defines found l (unversioned_kind_of l.covered) more) (behind_line allow_defines found l (unversioned_kind_of l.covered) more h (parts_of l more e).0) (λ next k. behind_lines allow_defines next (left_open l (unversioned_kind_of l.covered)) more k (parts_of l more e).1)
+  after_lines : (allow_defines : Bool) (found : Found) (braces : ℕ) (lines : List Line) → found.defines name ≡ None → is_among (flat_map line_names lines) name ≡ false → Undefined (found_in allow_defines found braces lines)
+  after_lines allow_defines found braces [] h e = h
+  after_lines allow_defines found zero (l ∷ more) h e =
+      go (found_after allow_defines found l (unversioned_kind_of l.covered) more) (after_line allow_defines found l (unversioned_kind_of l.covered) more h (parts_of l more e).0) (λ next k. after_lines allow_defines next (left_open l (unversioned_kind_of l.covered)) more k (parts_of l more e).1)
     where
       go : (r : Result Found Fault) → Undefined r → ((next : Found) → next.defines name ≡ None → Undefined (found_in allow_defines next (left_open l (unversioned_kind_of l.covered)) more)) → Undefined (going_on r (λ next. found_in allow_defines next (left_open l (unversioned_kind_of l.covered)) more))
       go (Ok next) k rest = rest next k
       go (Err f) k rest = tt
-  behind_lines allow_defines found (suc n) (l ∷ more) h e = behind_lines allow_defines found (braces_after (suc n) l.covered) more h (parts_of l more e).1
+  after_lines allow_defines found (suc n) (l ∷ more) h e = after_lines allow_defines found (braces_after (suc n) l.covered) more h (parts_of l more e).1
 
   -- metadata defines what lines of its cleaned text define
   abbrev DefinesOwn : Result Metadata Fault → Type 0
@@ -178,13 +178,13 @@ module _ (name : List ℕ) where
   found-defines cleaned directives (Ok found) h = h
   found-defines cleaned directives (Err f) h = tt
 
-  behind-defines : (allow_defines : Bool) (r : Result (List ℕ × Directives) Fault) → DefinesOwn (metadata_behind allow_defines r)
-  behind-defines allow_defines (Ok r) = found-defines r.0 r.1 (found_in allow_defines nothing_found 0 (source_lines r.0)) (behind_lines allow_defines nothing_found 0 (source_lines r.0) refl)
-  behind-defines allow_defines (Err f) = tt
+  following-defines : (allow_defines : Bool) (r : Result (List ℕ × Directives) Fault) → DefinesOwn (metadata_after allow_defines r)
+  following-defines allow_defines (Ok r) = found-defines r.0 r.1 (found_in allow_defines nothing_found 0 (source_lines r.0)) (after_lines allow_defines nothing_found 0 (source_lines r.0) refl)
+  following-defines allow_defines (Err f) = tt
 
   undefined-cleaned : (allow_defines : Bool) (text : List ℕ) (m : Metadata) → metadata allow_defines text ≡ Ok m → is_among (flat_map line_names (source_lines m.cleaned)) name ≡ false → m.defines name ≡ None
   unfolding metadata
-  undefined-cleaned allow_defines text m e = subst DefinesOwn e (behind-defines allow_defines (extracted text))
+  undefined-cleaned allow_defines text m e = subst DefinesOwn e (following-defines allow_defines (extracted text))
 
 -- ---- reading a text
 

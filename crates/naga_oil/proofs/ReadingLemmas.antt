@@ -11,7 +11,7 @@ use Rattle.naga_oil_registry.specs.Merged.{overwritten}
 use Rattle.naga_oil_link.specs.BuiltModule.{Builds}
 use Rattle.naga_oil_build.specs.Built.{preprocessed_of}
 use Rattle.naga_oil_build.specs.Held.{Settings}
-use Rattle.naga_oil.specs.Answer.{in_shader, of_shader, any_use, as_merged, reach_uses, read_first, read_second, make}
+use Rattle.naga_oil.specs.Answer.{in_shader, of_shader, any_use, as_merged, reach_uses, read_and_build_first, read_and_build_second, module_of_text}
 use Rattle.naga_oil.specs.Finish.{finish}
 use Rattle.naga_oil.specs.MakeView.{memory_nowhere}
 use Rattle.naga_oil.specs.Outcome.{Doing, Does, given, ◌>>=◌}
@@ -35,100 +35,100 @@ module _ (s : Settings) (ds : List Registered) (text : List ℕ) (d : Registered
   abbrev merges : Output → Result Defs Fault
   merges out = defs_union_over ds own out.uses
 
-  abbrev behind_merging : Output → Defs → Doing Defs Refused
-  behind_merging out defs = reached defs any_use out >>= λ done. given (Ok defs)
+  abbrev after_merging : Output → Defs → Doing Defs Refused
+  after_merging out defs = reached defs any_use out >>= λ done. given (Ok defs)
 
   abbrev in_first : Output → Doing Defs Refused
-  in_first out = in_shader d.file_path text (merges out) >>= behind_merging out
+  in_first out = in_shader d.file_path text (merges out) >>= after_merging out
 
   abbrev in_second : Output → Doing Output Refused
   in_second out = reached own (as_merged ds own) out >>= λ done. given (Ok out)
 
   module _ {Z : Type 0} (e : ComposerError) (result : Result Z ComposerError) (is : IsErrAnd result (λ o. o ≡ e)) where
     -- the text can't be preprocessed
-    pub first_unread : (view : Z → Defs) → Tells e (placed place becomes) → Does view refused_of memory_nowhere result bs (read_first s ds text d own bs)
-    unfolding read_first
+    pub first_unread : (view : Z → Defs) → Tells e (placed place becomes) → Does view refused_of memory_nowhere result bs (read_and_build_first s ds text d own bs)
+    unfolding read_and_build_first
     first_unread view h =
-        does_end view e result bs (in_shader d.file_path text becomes bs) (read_first s ds text d own bs) (λ r k. bind_err (in_shader d.file_path text becomes) in_first bs bs r k)
+        does_end view e result bs (in_shader d.file_path text becomes bs) (read_and_build_first s ds text d own bs) (λ r k. bind_err (in_shader d.file_path text becomes) in_first bs bs r k)
         (does_given (λ (x : Output). x) (Err e) (placed place becomes) bs h) is
 
-    pub second_unread : (view : Z → Output) → Tells e (placed place becomes) → Does view refused_of memory_nowhere result bs (read_second s ds text d own bs)
-    unfolding read_second
+    pub second_unread : (view : Z → Output) → Tells e (placed place becomes) → Does view refused_of memory_nowhere result bs (read_and_build_second s ds text d own bs)
+    unfolding read_and_build_second
     second_unread view h =
-        does_end view e result bs (in_shader d.file_path text becomes bs) (read_second s ds text d own bs) (λ r k. bind_err (in_shader d.file_path text becomes) in_second bs bs r k)
+        does_end view e result bs (in_shader d.file_path text becomes bs) (read_and_build_second s ds text d own bs) (λ r k. bind_err (in_shader d.file_path text becomes) in_second bs bs r k)
         (does_given (λ (x : Output). x) (Err e) (placed place becomes) bs h) is
 
   module _ (out : Output) (read : placed place becomes ≡ Ok out) where
-    behind_first : read_first s ds text d own bs ≡ in_first out bs
-    unfolding read_first
-    behind_first = bind_ok (in_shader d.file_path text becomes) in_first bs bs out (ap (λ r. given r bs) read)
+    past_first : read_and_build_first s ds text d own bs ≡ in_first out bs
+    unfolding read_and_build_first
+    past_first = bind_ok (in_shader d.file_path text becomes) in_first bs bs out (ap (λ r. given r bs) read)
 
-    behind_second : read_second s ds text d own bs ≡ in_second out bs
-    unfolding read_second
-    behind_second = bind_ok (in_shader d.file_path text becomes) in_second bs bs out (ap (λ r. given r bs) read)
+    after_second : read_and_build_second s ds text d own bs ≡ in_second out bs
+    unfolding read_and_build_second
+    after_second = bind_ok (in_shader d.file_path text becomes) in_second bs bs out (ap (λ r. given r bs) read)
 
     module _ {Z : Type 0} (e : ComposerError) (result : Result Z ComposerError) (is : IsErrAnd result (λ o. o ≡ e)) where
       -- definitions differ
-      pub first_unmerged : (view : Z → Defs) → Tells e (placed place (merges out)) → Does view refused_of memory_nowhere result bs (read_first s ds text d own bs)
+      pub first_unmerged : (view : Z → Defs) → Tells e (placed place (merges out)) → Does view refused_of memory_nowhere result bs (read_and_build_first s ds text d own bs)
       first_unmerged view h =
-          does_end view e result bs (in_shader d.file_path text (merges out) bs) (read_first s ds text d own bs) (λ r k. behind_first ∙ bind_err (in_shader d.file_path text (merges out)) (behind_merging out) bs bs r k)
+          does_end view e result bs (in_shader d.file_path text (merges out) bs) (read_and_build_first s ds text d own bs) (λ r k. past_first ∙ bind_err (in_shader d.file_path text (merges out)) (after_merging out) bs bs r k)
           (does_given (λ (x : Defs). x) (Err e) (placed place (merges out)) bs h) is
 
       -- an imported module can't be built
-      pub second_ended : (view : Z → Output) (new : Builds) → Ends e new (reached own (as_merged ds own) out bs) → Does view refused_of memory_nowhere result new (read_second s ds text d own bs)
+      pub second_ended : (view : Z → Output) (new : Builds) → Ends e new (reached own (as_merged ds own) out bs) → Does view refused_of memory_nowhere result new (read_and_build_second s ds text d own bs)
       second_ended view new h =
-          does_end view e result new (reached own (as_merged ds own) out bs) (read_second s ds text d own bs) (λ r k. behind_second ∙ bind_err (reached own (as_merged ds own) out) (λ done. given (Ok out)) bs new r k) h is
+          does_end view e result new (reached own (as_merged ds own) out bs) (read_and_build_second s ds text d own bs) (λ r k. after_second ∙ bind_err (reached own (as_merged ds own) out) (λ done. given (Ok out)) bs new r k) h is
 
     -- the imported modules are built, or one can't be
     pub first_read : (defs : Defs) (result : Result (Unit {0}) ComposerError) (view : Unit {0} → Defs) (new : Builds) → placed place (merges out) ≡ Ok defs → view tt ≡ defs → Does (λ done. done) refused_of memory_nowhere result new (reached defs any_use out bs)
-        → Does view refused_of memory_nowhere result new (read_first s ds text d own bs)
+        → Does view refused_of memory_nowhere result new (read_and_build_first s ds text d own bs)
     first_read defs result view new merged is does =
-        does_same view result new (behind_merging out defs bs) (read_first s ds text d own bs) (behind_first ∙ bind_ok (in_shader d.file_path text (merges out)) (behind_merging out) bs bs defs (ap (λ r. given r bs) merged))
+        does_same view result new (after_merging out defs bs) (read_and_build_first s ds text d own bs) (past_first ∙ bind_ok (in_shader d.file_path text (merges out)) (after_merging out) bs bs defs (ap (λ r. given r bs) merged))
         (does_then view result (reached defs any_use out) (λ done. done) defs bs new (λ done. is) does)
 
-    pub second_read : (new : Builds) → reached own (as_merged ds own) out bs ≡ record { builds = new; result = Ok tt } → read_second s ds text d own bs ≡ record { builds = new; result = Ok out }
-    second_read new h = behind_second ∙ bind_ok (reached own (as_merged ds own) out) (λ done. given (Ok out)) bs new tt h
+    pub second_read : (new : Builds) → reached own (as_merged ds own) out bs ≡ record { builds = new; result = Ok tt } → read_and_build_second s ds text d own bs ≡ record { builds = new; result = Ok out }
+    second_read new h = after_second ∙ bind_ok (reached own (as_merged ds own) out) (λ done. given (Ok out)) bs new tt h
 
 module _ (s : Settings) (ds : List Registered) (m : ShaderSource) (text : List ℕ) (bs : Builds) where
   abbrev shader_place : Place
   shader_place = in_text m.file_path text 0
 
   abbrev read_again : Registered → Defs → Doing ModuleValue Refused
-  read_again d defs = read_second s ds text d defs >>= λ out. λ builds. given (finish s defs builds d out m.shader_type) builds
+  read_again d defs = read_and_build_second s ds text d defs >>= λ out. λ builds. given (finish s defs builds d out m.shader_type) builds
 
   abbrev read_twice : Registered → Doing ModuleValue Refused
-  read_twice d = read_first s ds text d (overwritten m.defs d.defs) >>= read_again d
+  read_twice d = read_and_build_first s ds text d (overwritten m.defs d.defs) >>= read_again d
 
   -- the text can't be read
-  pub make_unread : {Z : Type 0} (view : Z → ModuleValue) (e : ComposerError) (result : Result Z ComposerError) → IsErrAnd result (λ o. o ≡ e) → Tells e (placed shader_place (read_shader m text)) → Does view refused_of memory_nowhere result bs (make s ds m text bs)
-  unfolding make
+  pub make_unread : {Z : Type 0} (view : Z → ModuleValue) (e : ComposerError) (result : Result Z ComposerError) → IsErrAnd result (λ o. o ≡ e) → Tells e (placed shader_place (read_shader m text)) → Does view refused_of memory_nowhere result bs (module_of_text s ds m text bs)
+  unfolding module_of_text
   make_unread view e result is h =
-      does_end view e result bs (in_shader m.file_path text (read_shader m text) bs) (make s ds m text bs) (λ r k. bind_err (in_shader m.file_path text (read_shader m text)) read_twice bs bs r k)
+      does_end view e result bs (in_shader m.file_path text (read_shader m text) bs) (module_of_text s ds m text bs) (λ r k. bind_err (in_shader m.file_path text (read_shader m text)) read_twice bs bs r k)
       (does_given (λ (x : Registered). x) (Err e) (placed shader_place (read_shader m text)) bs h) is
 
   module _ (d : Registered) (read : placed shader_place (read_shader m text) ≡ Ok d) where
-    behind_shader : make s ds m text bs ≡ read_twice d bs
-    unfolding make
-    behind_shader = bind_ok (in_shader m.file_path text (read_shader m text)) read_twice bs bs d (ap (λ r. given r bs) read)
+    after_shader : module_of_text s ds m text bs ≡ read_twice d bs
+    unfolding module_of_text
+    after_shader = bind_ok (in_shader m.file_path text (read_shader m text)) read_twice bs bs d (ap (λ r. given r bs) read)
 
     -- the first reading ends in a fault
-    pub make_not_first : {Z : Type 0} (view : Z → ModuleValue) (e : ComposerError) (result : Result Z ComposerError) (new : Builds) → IsErrAnd result (λ o. o ≡ e) → Ends e new (read_first s ds text d (overwritten m.defs d.defs) bs) → Does view refused_of memory_nowhere result new (make s ds m text bs)
+    pub make_not_first : {Z : Type 0} (view : Z → ModuleValue) (e : ComposerError) (result : Result Z ComposerError) (new : Builds) → IsErrAnd result (λ o. o ≡ e) → Ends e new (read_and_build_first s ds text d (overwritten m.defs d.defs) bs) → Does view refused_of memory_nowhere result new (module_of_text s ds m text bs)
     make_not_first view e result new is h =
-        does_end view e result new (read_first s ds text d (overwritten m.defs d.defs) bs) (make s ds m text bs) (λ r k. behind_shader ∙ bind_err (read_first s ds text d (overwritten m.defs d.defs)) (read_again d) bs new r k) h is
+        does_end view e result new (read_and_build_first s ds text d (overwritten m.defs d.defs) bs) (module_of_text s ds m text bs) (λ r k. after_shader ∙ bind_err (read_and_build_first s ds text d (overwritten m.defs d.defs)) (read_again d) bs new r k) h is
 
-    module _ (defs : Defs) (mid : Builds) (first : read_first s ds text d (overwritten m.defs d.defs) bs ≡ record { builds = mid; result = Ok defs }) where
-      behind_reading : make s ds m text bs ≡ read_again d defs mid
-      behind_reading = behind_shader ∙ bind_ok (read_first s ds text d (overwritten m.defs d.defs)) (read_again d) bs mid defs first
+    module _ (defs : Defs) (mid : Builds) (first : read_and_build_first s ds text d (overwritten m.defs d.defs) bs ≡ record { builds = mid; result = Ok defs }) where
+      after_reading : module_of_text s ds m text bs ≡ read_again d defs mid
+      after_reading = after_shader ∙ bind_ok (read_and_build_first s ds text d (overwritten m.defs d.defs)) (read_again d) bs mid defs first
 
       -- the second reading ends in a fault
-      pub make_not_second : {Z : Type 0} (view : Z → ModuleValue) (e : ComposerError) (result : Result Z ComposerError) (new : Builds) → IsErrAnd result (λ o. o ≡ e) → Ends e new (read_second s ds text d defs mid) → Does view refused_of memory_nowhere result new (make s ds m text bs)
+      pub make_not_second : {Z : Type 0} (view : Z → ModuleValue) (e : ComposerError) (result : Result Z ComposerError) (new : Builds) → IsErrAnd result (λ o. o ≡ e) → Ends e new (read_and_build_second s ds text d defs mid) → Does view refused_of memory_nowhere result new (module_of_text s ds m text bs)
       make_not_second view e result new is h =
-          does_end view e result new (read_second s ds text d defs mid) (make s ds m text bs) (λ r k. behind_reading ∙ bind_err (read_second s ds text d defs) (λ out. λ builds. given (finish s defs builds d out m.shader_type) builds) mid new r k) h is
+          does_end view e result new (read_and_build_second s ds text d defs mid) (module_of_text s ds m text bs) (λ r k. after_reading ∙ bind_err (read_and_build_second s ds text d defs) (λ out. λ builds. given (finish s defs builds d out m.shader_type) builds) mid new r k) h is
 
       -- the shader is finished, or can't be
-      pub make_finished : {Z : Type 0} (view : Z → ModuleValue) (result : Result Z ComposerError) (out : Output) (new : Builds) → read_second s ds text d defs mid ≡ record { builds = new; result = Ok out } → Answers view result (finish s defs new d out m.shader_type) → Does view refused_of memory_nowhere result new (make s ds m text bs)
+      pub make_finished : {Z : Type 0} (view : Z → ModuleValue) (result : Result Z ComposerError) (out : Output) (new : Builds) → read_and_build_second s ds text d defs mid ≡ record { builds = new; result = Ok out } → Answers view result (finish s defs new d out m.shader_type) → Does view refused_of memory_nowhere result new (module_of_text s ds m text bs)
       make_finished view result out new second h =
-          does_same view result new (given (finish s defs new d out m.shader_type) new) (make s ds m text bs) (behind_reading ∙ bind_ok (read_second s ds text d defs) (λ out. λ builds. given (finish s defs builds d out m.shader_type) builds) mid new out second)
+          does_same view result new (given (finish s defs new d out m.shader_type) new) (module_of_text s ds m text bs) (after_reading ∙ bind_ok (read_and_build_second s ds text d defs) (λ out. λ builds. given (finish s defs builds d out m.shader_type) builds) mid new out second)
           (does_given view result (finish s defs new d out m.shader_type) new h)
 
 -- a shader's index is 0

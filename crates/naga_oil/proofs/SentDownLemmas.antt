@@ -1,9 +1,10 @@
 -- Functions whose calls are redirected copy the functions that they were.
 use mathlib.Core.Path.{fun_ext}
-use Rattle.std.proofs.Common.{◌≡◌, ℕ, suc, ◌+◌, ◌==◌, ◌||◌, if◌then◌else◌, not, Bool, true, false, List, [], ◌∷◌, Option, Some, None, option_map, Result, Ok, Err, slice_get, nat_eq, bytes_eq, refl, ap, sym, ◌∙◌, subst, arith}
+use Rattle.std.proofs.Common.{◌≡◌, ℕ, suc, ◌+◌, ◌==◌, ◌||◌, if◌then◌else◌, not, Bool, true, false, List, [], ◌∷◌, length, Option, Some, None, option_map, Result, Ok, Err, slice_get, nat_eq, bytes_eq, refl, ap, sym, ◌∙◌, subst, arith}
 use Rattle.std.specs.Option.{option_flatten}
 use Rattle.std.specs.Cmp.Lexicographic.{pointwise}
 use Rattle.std.proofs.lemmas.Bool.{false≢true}
+use Rattle.std.proofs.lemmas.List.{length-map}
 use Rattle.std.proofs.lemmas.Option.{none-some, same_Some, slice_get-map, slice_get_within}
 use Rattle.std.proofs.lemmas.Slice.Eq.{bytes_eq-Decides}
 use Rattle.naga_oil_ir.specs.ModuleValue.{ModuleValue, FunctionValue, EntryValue}
@@ -21,9 +22,11 @@ use Rattle.naga_oil_redirect.specs.Redirected.{send, send_entry, redirected, is_
 use Rattle.naga_oil_copy_laws.specs.Scope.{name_of_function, scope_of}
 use Rattle.naga_oil_copy_laws.specs.ByTree.{CopiesByTree}
 use Rattle.naga_oil_copy_laws.specs.ByTreeLaw.{IsAsCopied}
+use Rattle.naga_oil_copy_laws.specs.EntryByTree.{EntryAlike}
 use Rattle.naga_oil_copy_laws.specs.SentByTree.{instead_of, IsOnlyOfItsName, sends_at, AreAsCopied}
 use Rattle.naga_oil_copy_laws.proofs.ComposeLaws.{compose}
-use Rattle.naga_oil_copy_laws.proofs.SentLaws.{redirected_law, entry_law, world_same}
+use Rattle.naga_oil_copy_laws.proofs.EntryLaws.{entry_same, entry_then}
+use Rattle.naga_oil_copy_laws.proofs.SentLaws.{redirected_law, entry_law, scopes_alike, world_same}
 use Rattle.naga_oil_link_laws.specs.OrderedCopies.{CallsAnywhere, MaySend}
 use Rattle.naga_oil_link_laws.proofs.SentForms.{sent_calls}
 use Rattle.naga_oil.specs.CallsSent.{call_sent, call_sent_down, call_goes}
@@ -122,22 +125,23 @@ if_sends false true f g e h n = absurd (false≢true e)
 
 -- ---- redirected calls
 
--- m is t with its calls redirected, by the name of the caller
-pub record IsSent (t m : ModuleValue) (sends : Text → Text → Text) : Type 0 where
+-- m is t with its calls redirected, by the name of the caller, and with other stages
+pub record IsSent (t m : ModuleValue) (sends : Text → Text → Text) (stages : ℕ → ℕ) : Type 0 where
   pub calls : CallsAnywhere m
   pub same_world : world m ≡ world t
   pub special : m.special_types ≡ t.special_types
   pub functions : (k : ℕ) (g : FunctionValue × Span) → slice_get m.functions k ≡ Some g →
-      (x : FunctionValue × Span) × (slice_get t.functions k ≡ Some x) × (g.0.name ≡ x.0.name) × CopiesByTree (λ s. s) (sends x.0.name) (scope_of t) x.0 (scope_of m) g.0 × IsAsCopied g.0
+      (x : FunctionValue × Span) × (slice_get t.functions k ≡ Some x) × (g.0.name ≡ x.0.name) × CopiesByTree (λ s. s) (sends x.0.name) (scope_of t) x.0 (scope_of m) g.0 × IsAsCopied g.0 × (g.1 ≡ x.1)
   pub entry_points : (i : ℕ) (y : EntryValue) → slice_get m.entry_points i ≡ Some y →
-      (x : EntryValue) × (slice_get t.entry_points i ≡ Some x) × CopiesByTree (λ s. s) (sends None) (scope_of t) x.function (scope_of m) y.function × IsAsCopied y.function
+      (x : EntryValue) × (slice_get t.entry_points i ≡ Some x) × CopiesByTree (λ s. s) (sends None) (scope_of t) x.function (scope_of m) y.function × IsAsCopied y.function × EntryAlike stages (scope_of t) (scope_of m) x y
+  pub as_many : length m.entry_points ≡ length t.entry_points
 
 -- the parts of m are copies
 pub record AllAsCopied (t : ModuleValue) : Type 0 where
   pub functions : AreAsCopied t
   pub entry_points : (i : ℕ) (x : EntryValue) → slice_get t.entry_points i ≡ Some x → IsAsCopied x.function
 
-module _ (t m : ModuleValue) (sends : Text → Text → Text) (start : AllAsCopied t) (h : IsSent t m sends) (base other : List ℕ) (omitted : List (List ℕ)) (pair : ℕ × ℕ) (w : IsMatched m.functions base other pair) where
+module _ (t m : ModuleValue) (sends : Text → Text → Text) (stages : ℕ → ℕ) (start : AllAsCopied t) (h : IsSent t m sends stages) (base other : List ℕ) (omitted : List (List ℕ)) (pair : ℕ × ℕ) (w : IsMatched m.functions base other pair) where
   abbrev from : ℕ
   from = pair.0
 
@@ -175,19 +179,19 @@ module _ (t m : ModuleValue) (sends : Text → Text → Text) (start : AllAsCopi
   abbrev sends_then : Text → Text → Text
   sends_then caller c = call_sent caller base other omitted (sends caller c)
 
-  function_sent : (k : ℕ) (g : FunctionValue × Span) → slice_get n.functions k ≡ Some g → (x : FunctionValue × Span) × (slice_get t.functions k ≡ Some x) × (g.0.name ≡ x.0.name) × CopiesByTree (λ s. s) (sends_then x.0.name) (scope_of t) x.0 (scope_of n) g.0 × IsAsCopied g.0
+  function_sent : (k : ℕ) (g : FunctionValue × Span) → slice_get n.functions k ≡ Some g → (x : FunctionValue × Span) × (slice_get t.functions k ≡ Some x) × (g.0.name ≡ x.0.name) × CopiesByTree (λ s. s) (sends_then x.0.name) (scope_of t) x.0 (scope_of n) g.0 × IsAsCopied g.0 × (g.1 ≡ x.1)
   function_sent k g at =
       let r = redirected_law m from to (is_among omitted) as_copied only k g at in
       let y = r.source in
       let x = h.functions k y r.at in
       let name : y.0.name ≡ x.0.0.name = x.2 in
       let second : CopiesByTree (λ s. s) (call_sent x.0.0.name base other omitted) (scope_of m) y.0 (scope_of n) g.0 = subst (λ p. CopiesByTree (λ s. s) p (scope_of m) y.0 (scope_of n) g.0) (one_sends k y r.at ∙ ap (λ c. call_sent c base other omitted) name) r.copies in
-      (x.0, x.1, r.copies.name ∙ name, compose (λ s. s) (λ s. s) (sends x.0.0.name) (call_sent x.0.0.name base other omitted) (scope_of t) (scope_of m) (scope_of n) x.0.0 y.0 g.0 (start.functions k x.0 x.1).earlier x.4.earlier x.3 second, r.as_copied)
+      (x.0, x.1, r.copies.name ∙ name, compose (λ s. s) (λ s. s) (sends x.0.0.name) (call_sent x.0.0.name base other omitted) (scope_of t) (scope_of m) (scope_of n) x.0.0 y.0 g.0 (start.functions k x.0 x.1).earlier x.4.earlier x.3 second, r.as_copied, r.span ∙ x.5)
 
-  entry_sent : (i : ℕ) (y : EntryValue) → slice_get n.entry_points i ≡ Some y → (x : EntryValue) × (slice_get t.entry_points i ≡ Some x) × CopiesByTree (λ s. s) (sends_then None) (scope_of t) x.function (scope_of n) y.function × IsAsCopied y.function
+  entry_sent : (i : ℕ) (y : EntryValue) → slice_get n.entry_points i ≡ Some y → (x : EntryValue) × (slice_get t.entry_points i ≡ Some x) × CopiesByTree (λ s. s) (sends_then None) (scope_of t) x.function (scope_of n) y.function × IsAsCopied y.function × EntryAlike stages (scope_of t) (scope_of n) x y
   entry_sent i y at = one (slice_get m.entry_points i) refl (sym (slice_get-map (send_entry from to) m.entry_points i) ∙ at)
     where
-      one : (o : Option EntryValue) → slice_get m.entry_points i ≡ o → option_map (send_entry from to) o ≡ Some y → (x : EntryValue) × (slice_get t.entry_points i ≡ Some x) × CopiesByTree (λ s. s) (sends_then None) (scope_of t) x.function (scope_of n) y.function × IsAsCopied y.function
+      one : (o : Option EntryValue) → slice_get m.entry_points i ≡ o → option_map (send_entry from to) o ≡ Some y → (x : EntryValue) × (slice_get t.entry_points i ≡ Some x) × CopiesByTree (λ s. s) (sends_then None) (scope_of t) x.function (scope_of n) y.function × IsAsCopied y.function × EntryAlike stages (scope_of t) (scope_of n) x y
       one None p e = absurd (none-some y e)
       one (Some v) p e =
           let x = h.entry_points i v p in
@@ -195,11 +199,13 @@ module _ (t m : ModuleValue) (sends : Text → Text → Text) (start : AllAsCopi
           let c = entry_law m from to (is_among omitted) v.function x.3 only in
           let second : CopiesByTree (λ s. s) (call_sent None base other omitted) (scope_of m) v.function (scope_of n) (send from to v.function) = subst (λ q. CopiesByTree (λ s. s) q (scope_of m) v.function (scope_of n) (send from to v.function)) sends_instead c.0 in
           let both = compose (λ s. s) (λ s. s) (sends None) (call_sent None base other omitted) (scope_of t) (scope_of m) (scope_of n) x.0.function v.function (send from to v.function) (start.entry_points i x.0 x.1).earlier x.3.earlier x.2 second in
+          let own = entry_same (scope_of m) (scope_of n) ((scopes_alike m from to (is_among omitted)).reads) (λ s. s) v (send from to v.function) in
+          let whole = entry_then (scope_of t) (scope_of m) (scope_of n) stages (λ s. s) x.0 v (send_entry from to v) x.4 own in
           let pair = subst (λ (z : EntryValue). CopiesByTree (λ s. s) (sends_then None) (scope_of t) x.0.function (scope_of n) z.function × IsAsCopied z.function) same (both, c.1) in
-          (x.0, x.1, pair.0, pair.1)
+          (x.0, x.1, pair.0, pair.1, subst (EntryAlike stages (scope_of t) (scope_of n) x.0) same whole)
 
   -- one pair more
-  pub sent_once : IsSent t n sends_then
+  pub sent_once : IsSent t n sends_then stages
   sent_once =
       let worlds : world n ≡ world m = λ i p. world_same m from to (is_among omitted) p i in
       record {
@@ -208,33 +214,34 @@ module _ (t m : ModuleValue) (sends : Text → Text → Text) (start : AllAsCopi
         special = h.special;
         functions = function_sent;
         entry_points = entry_sent;
+        as_many = length-map m.entry_points (send_entry from to) ∙ h.as_many;
       }
 
 -- ---- steps, one after the other
 
-sent_back : (t m n : ModuleValue) (sends : Text → Text → Text) → AllAsCopied t → (base other : List ℕ) (omitted : List (List ℕ)) → IsSent t m sends → sent_to m base other omitted ≡ Ok n → IsSent t n (λ caller c. call_sent caller base other omitted (sends caller c))
-sent_back t m n sends start base other omitted h e = one (matched m.functions base other) refl e
+sent_back : {stages : ℕ → ℕ} (t m n : ModuleValue) (sends : Text → Text → Text) → AllAsCopied t → (base other : List ℕ) (omitted : List (List ℕ)) → IsSent t m sends stages → sent_to m base other omitted ≡ Ok n → IsSent t n (λ caller c. call_sent caller base other omitted (sends caller c)) stages
+sent_back {stages} t m n sends start base other omitted h e = one (matched m.functions base other) refl e
   where
-    one : (r : Result (ℕ × ℕ) RedirectFault) → matched m.functions base other ≡ r → redirected_to m omitted r ≡ Ok n → IsSent t n (λ caller c. call_sent caller base other omitted (sends caller c))
+    one : (r : Result (ℕ × ℕ) RedirectFault) → matched m.functions base other ≡ r → redirected_to m omitted r ≡ Ok n → IsSent t n (λ caller c. call_sent caller base other omitted (sends caller c)) stages
     one (Ok pair) p q =
         let same : redirected m pair.0 pair.1 (is_among omitted) ≡ n = cc in
-        subst (λ u. IsSent t u (λ caller c. call_sent caller base other omitted (sends caller c))) same (sent_once t m sends start h base other omitted pair (matched_back m.functions base other pair p))
+        subst (λ u. IsSent t u (λ caller c. call_sent caller base other omitted (sends caller c)) stages) same (sent_once t m sends stages start h base other omitted pair (matched_back m.functions base other pair p))
     one (Err f) p q = absurd cc
 
-down_sent : (t : ModuleValue) → AllAsCopied t → (others : List (List ℕ)) (m n : ModuleValue) (sends : Text → Text → Text) (base : List ℕ) (omitted : List (List ℕ)) → IsSent t m sends → sent_down m base others omitted ≡ Ok n → IsSent t n (λ caller c. call_sent_down caller base others omitted (sends caller c))
+down_sent : {stages : ℕ → ℕ} (t : ModuleValue) → AllAsCopied t → (others : List (List ℕ)) (m n : ModuleValue) (sends : Text → Text → Text) (base : List ℕ) (omitted : List (List ℕ)) → IsSent t m sends stages → sent_down m base others omitted ≡ Ok n → IsSent t n (λ caller c. call_sent_down caller base others omitted (sends caller c)) stages
 unfolding sent_down
-down_sent t start [] m n sends base omitted h e = let same : m ≡ n = cc in subst (λ u. IsSent t u sends) same h
-down_sent t start (other ∷ more) m n sends base omitted h e = one (λ k g. down_sent t start more k n (λ caller c. call_sent caller base other omitted (sends caller c)) other (other ∷ omitted) g) (sent_to m base other omitted) refl e
+down_sent {stages} t start [] m n sends base omitted h e = let same : m ≡ n = cc in subst (λ u. IsSent t u sends stages) same h
+down_sent {stages} t start (other ∷ more) m n sends base omitted h e = one (λ k g. down_sent t start more k n (λ caller c. call_sent caller base other omitted (sends caller c)) other (other ∷ omitted) g) (sent_to m base other omitted) refl e
   where
-    one : ((k : ModuleValue) → IsSent t k (λ caller c. call_sent caller base other omitted (sends caller c)) → sent_down k other more (other ∷ omitted) ≡ Ok n → IsSent t n (λ caller c. call_sent_down caller base (other ∷ more) omitted (sends caller c))) → (r : Result ModuleValue Fault) → sent_to m base other omitted ≡ r → (r >>= λ k. sent_down k other more (other ∷ omitted)) ≡ Ok n → IsSent t n (λ caller c. call_sent_down caller base (other ∷ more) omitted (sends caller c))
+    one : ((k : ModuleValue) → IsSent t k (λ caller c. call_sent caller base other omitted (sends caller c)) stages → sent_down k other more (other ∷ omitted) ≡ Ok n → IsSent t n (λ caller c. call_sent_down caller base (other ∷ more) omitted (sends caller c)) stages) → (r : Result ModuleValue Fault) → sent_to m base other omitted ≡ r → (r >>= λ k. sent_down k other more (other ∷ omitted)) ≡ Ok n → IsSent t n (λ caller c. call_sent_down caller base (other ∷ more) omitted (sends caller c)) stages
     one rest (Ok k) p q = rest k (sent_back t m k sends start base other omitted h p) q
     one rest (Err f) p q = absurd cc
 
-pub all_down_sent : (t : ModuleValue) → AllAsCopied t → (all : Overriding) (m n : ModuleValue) (sends : Text → Text → Text) → IsSent t m sends → all_sent_down m all ≡ Ok n → IsSent t n (λ caller c. call_goes all caller (sends caller c))
+pub all_down_sent : {stages : ℕ → ℕ} (t : ModuleValue) → AllAsCopied t → (all : Overriding) (m n : ModuleValue) (sends : Text → Text → Text) → IsSent t m sends stages → all_sent_down m all ≡ Ok n → IsSent t n (λ caller c. call_goes all caller (sends caller c)) stages
 unfolding all_sent_down
-all_down_sent t start [] m n sends h e = let same : m ≡ n = cc in subst (λ u. IsSent t u sends) same h
-all_down_sent t start (o ∷ more) m n sends h e = one (λ k g. all_down_sent t start more k n (λ caller c. call_sent_down caller o.0 o.1 [] (sends caller c)) g) (sent_down m o.0 o.1 []) refl e
+all_down_sent {stages} t start [] m n sends h e = let same : m ≡ n = cc in subst (λ u. IsSent t u sends stages) same h
+all_down_sent {stages} t start (o ∷ more) m n sends h e = one (λ k g. all_down_sent t start more k n (λ caller c. call_sent_down caller o.0 o.1 [] (sends caller c)) g) (sent_down m o.0 o.1 []) refl e
   where
-    one : ((k : ModuleValue) → IsSent t k (λ caller c. call_sent_down caller o.0 o.1 [] (sends caller c)) → all_sent_down k more ≡ Ok n → IsSent t n (λ caller c. call_goes (o ∷ more) caller (sends caller c))) → (r : Result ModuleValue Fault) → sent_down m o.0 o.1 [] ≡ r → (r >>= λ k. all_sent_down k more) ≡ Ok n → IsSent t n (λ caller c. call_goes (o ∷ more) caller (sends caller c))
+    one : ((k : ModuleValue) → IsSent t k (λ caller c. call_sent_down caller o.0 o.1 [] (sends caller c)) stages → all_sent_down k more ≡ Ok n → IsSent t n (λ caller c. call_goes (o ∷ more) caller (sends caller c)) stages) → (r : Result ModuleValue Fault) → sent_down m o.0 o.1 [] ≡ r → (r >>= λ k. all_sent_down k more) ≡ Ok n → IsSent t n (λ caller c. call_goes (o ∷ more) caller (sends caller c)) stages
     one rest (Ok k) p q = rest k (down_sent t start o.1 m k sends o.0 [] h p) q
     one rest (Err f) p q = absurd cc

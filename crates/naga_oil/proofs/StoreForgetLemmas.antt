@@ -100,11 +100,11 @@ module _ (s : Settings) (ds es : List Registered) (all : IsRegistry ds) (all' : 
   left_under x defs g (Some k) e h = is_left k (ap goes (key_name ds x defs k e) ∙ g) h
 
   module _ (k : Key) (b : BuiltModule) (here : goes k.name ≡ false) (old : IsKeptAfresh s ds kept k b) (d : Registered) (named : module_named k.name ds ≡ Some d) where
-    behind : List Registered
-    behind = (place_of ds k.name d all named).0
+    following : List Registered
+    following = (place_of ds k.name d all named).0
 
-    at : StandsAt ds d behind
-    unfolding behind
+    at : StandsAt ds d following
+    unfolding following
     at = (place_of ds k.name d all named).1
 
     is_name : d.name ≡ k.name
@@ -124,13 +124,13 @@ module _ (s : Settings) (ds es : List Registered) (all : IsRegistry ds) (all' : 
     same_afresh = what_is_reached s k.defs ds es k.name [] all all' known alike
 
     may : All (λ i. imports_name d i.import ≡ true) b.imports
-    may = imports_may s ds k.defs d behind at b (built_from s ds k.defs d behind at b
+    may = imports_may s ds k.defs d following at b (built_from s ds k.defs d following at b
         (ap (λ n. (afresh s ds k.defs n).result) is_name ∙ old.reached)
         ((λ i. build_named (afresh s ds k.defs (is_name i)).builds (is_name i)) ∙ old.built))
 
     -- the modules that it imports are among those that it reaches
     reaches_it : (x : List ℕ) → imports_name d x ≡ true → reaches ds k.name x ≡ true
-    reaches_it x m = ap (λ n. reaches ds n x) (sym is_name) ∙ reaches_import ds d behind at x m
+    reaches_it x m = ap (λ n. reaches ds n x) (sym is_name) ∙ reaches_import ds d following at x m
 
     import_left : (x : List ℕ) → imports_name d x ≡ true → IsKeptUnder s ds kept k.defs x → IsKeptUnder s es left k.defs x
     import_left x m h =

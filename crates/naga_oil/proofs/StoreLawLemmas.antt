@@ -27,7 +27,7 @@ use Rattle.naga_oil.proofs.LocalLemmas.{build_alike}
 use Rattle.naga_oil.proofs.ReachLawLemmas.{projection, imports_name}
 use Rattle.naga_oil.proofs.ReachLemmas.{bind_ok, module_over}
 use Rattle.naga_oil.proofs.StoreKeyLemmas.{key-Decides, key_equiv, lookup_last, lookup_absent, keep_there, keep_last, keep_all, kept_stays, kept_now, projection_one, project_within, project_twice}
-use Rattle.naga_oil.proofs.StoreReachLemmas.{StandsAt, stands_at, place_of, imports_module, behind_it, uses_behind, IsBuiltFrom, built_from, imports_may, imports_reached}
+use Rattle.naga_oil.proofs.StoreReachLemmas.{StandsAt, stands_at, place_of, imports_module, after_it, uses_after, IsBuiltFrom, built_from, imports_may, imports_reached}
 
 -- ---- kept builds stay kept
 
@@ -57,26 +57,26 @@ module _ (s : Settings) (ds : List Registered) where
 
 -- ---- a build over builds that are as built afresh
 
-module _ (s : Settings) (ds : List Registered) (defs : Defs) (all : IsRegistry ds) (d : Registered) (behind : List Registered) (at : StandsAt ds d behind) where
+module _ (s : Settings) (ds : List Registered) (defs : Defs) (all : IsRegistry ds) (d : Registered) (following : List Registered) (at : StandsAt ds d following) where
   abbrev pub key_here : Key
   key_here = key_under d defs
 
   abbrev reaching : Reaching
-  reaching = behind_it s ds defs d behind at
+  reaching = after_it s ds defs d following at
 
   -- the module is built alike under the projection
   same_afresh : afresh s ds (project d defs) d.name ≡ afresh s ds defs d.name
   same_afresh = projection s ds d.name d (project d defs) defs [] all at.named (projection_one d defs)
 
   -- how a kept build was made
-  pub kept_from : (kept : Kept) (b : BuiltModule) → IsKeptAfresh s ds kept key_here b → IsBuiltFrom s ds defs d behind at b
-  kept_from kept b h = built_from s ds defs d behind at b (ap (λ o. o.result) (sym same_afresh) ∙ h.reached) (ap (λ o. build_named o.builds d.name) (sym same_afresh) ∙ h.built)
+  pub kept_from : (kept : Kept) (b : BuiltModule) → IsKeptAfresh s ds kept key_here b → IsBuiltFrom s ds defs d following at b
+  kept_from kept b h = built_from s ds defs d following at b (ap (λ o. o.result) (sym same_afresh) ∙ h.reached) (ap (λ o. build_named o.builds d.name) (sym same_afresh) ∙ h.built)
 
   -- the uses are reached as in the whole registry
   pub reached_so : (out : Output) (bs : Builds) → AllStandAfresh s ds defs bs → AreReachedAfresh s ds defs (as_recorded d) out.uses bs (reach_each (as_recorded d) reaching out.uses bs)
-  reached_so out bs st = subst (AreReachedAfresh s ds defs (as_recorded d) out.uses bs) (sym (uses_behind s ds defs d behind at out.uses bs)) ((afresh_law s ds defs all).each (as_recorded d) out.uses bs st)
+  reached_so out bs st = subst (AreReachedAfresh s ds defs (as_recorded d) out.uses bs) (sym (uses_after s ds defs d following at out.uses bs)) ((afresh_law s ds defs all).each (as_recorded d) out.uses bs st)
 
-  module _ (b : BuiltModule) (k : IsBuiltFrom s ds defs d behind at b) (bs : Builds) (st : AllStandAfresh s ds defs bs) where
+  module _ (b : BuiltModule) (k : IsBuiltFrom s ds defs d following at b) (bs : Builds) (st : AllStandAfresh s ds defs bs) where
     abbrev over : Outcome (Unit {0}) Unreached
     over = reach_each (as_recorded d) reaching k.out.uses bs
 
@@ -101,7 +101,7 @@ module _ (s : Settings) (ds : List Registered) (defs : Defs) (all : IsRegistry d
 
     -- its imports are reached, and the build is entered
     pub kept_so : reach_kept reaching d.name b bs ≡ record { builds = builds_with over.builds d.name b; result = Ok tt }
-    kept_so = bind_ok (reach_imports reaching b.imports) (λ done. enter_build d.name (Ok b)) bs over.builds tt (imports_reached s ds defs d behind at b k bs ∙ over_is)
+    kept_so = bind_ok (reach_imports reaching b.imports) (λ done. enter_build d.name (Ok b)) bs over.builds tt (imports_reached s ds defs d following at b k bs ∙ over_is)
 
 pub kept_law : KeptLaw
 kept_law s ds defs place d b builds kept all at st found =
@@ -111,11 +111,11 @@ kept_law s ds defs place d b builds kept all at st found =
 
 -- ---- one more build
 
-module _ (s : Settings) (ds : List Registered) (defs : Defs) (all : IsRegistry ds) (d : Registered) (behind : List Registered) (at : StandsAt ds d behind) where
+module _ (s : Settings) (ds : List Registered) (defs : Defs) (all : IsRegistry ds) (d : Registered) (following : List Registered) (at : StandsAt ds d following) where
   -- the key of an import
   import_key : (x : List ℕ) → imports_name d x ≡ true → key_named ds (project d defs) x ≡ key_named ds defs x
   import_key x may =
-      let o = imports_module ds d behind at x may in
+      let o = imports_module ds d following at x may in
       ap (option_map (λ e. key_under e (project d defs))) o.1 ∙ (λ i. Some (record { name = o.0.name; defs = project_within o.0 d defs o.2 i })) ∙ ap (option_map (λ e. key_under e defs)) (sym o.1)
 
   -- the key of the module
@@ -183,13 +183,13 @@ module _ (s : Settings) (ds : List Registered) (defs : Defs) (all : IsRegistry d
       afresh_so = sym (one.built refl).same ∙ named_so
 
       may : All (λ i. imports_name d i.import ≡ true) b.imports
-      may = imports_may s ds defs d behind at b (built_from s ds defs d behind at b (sym one.result) afresh_so)
+      may = imports_may s ds defs d following at b (built_from s ds defs d following at b (sym one.result) afresh_so)
 
       kept_afresh : IsKeptAfresh s ds more key b
       kept_afresh = record {
         key = own_key;
-        reached = ap (λ o. o.result) (same_afresh s ds defs all d behind at) ∙ sym one.result;
-        built = ap (λ o. build_named o.builds d.name) (same_afresh s ds defs all d behind at) ∙ afresh_so;
+        reached = ap (λ o. o.result) (same_afresh s ds defs all d following at) ∙ sym one.result;
+        built = ap (λ o. build_named o.builds d.name) (same_afresh s ds defs all d following at) ∙ afresh_so;
         imports = λ j e l.
             let x = (slice_index_or b.imports j e).import in
             under_stays s ds kept more grows (project d defs) x (subst (λ o. IsSomeAnd o (λ k. is_kept kept k ≡ true)) (sym (import_key x (may j e l))) (st.each x (imports j e l)));

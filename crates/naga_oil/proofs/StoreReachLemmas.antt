@@ -34,14 +34,14 @@ use Rattle.naga_oil.proofs.StoreKeyLemmas.{lookup_last, lookup_absent}
 -- ---- the place of a module
 
 -- a module of a registry, with the rest of the registry after it
-pub record StandsAt (ds : List Registered) (d : Registered) (behind : List Registered) : Type 0 where
-  pub follows : MayFollow d behind
-  pub rest : IsRegistry behind
+pub record StandsAt (ds : List Registered) (d : Registered) (following : List Registered) : Type 0 where
+  pub follows : MayFollow d following
+  pub rest : IsRegistry following
   pub named : module_named d.name ds ≡ Some d
-  pub found : (x : List ℕ) → registered x behind ≡ true → module_named x ds ≡ module_named x behind
-  pub reached : (s : Settings) (defs : Defs) (bs : Builds) → reach s defs ds d.name bs ≡ reach_module s defs d (unless_built (reach s defs behind)) bs
-  pub further : (s : Settings) (defs : Defs) (x : List ℕ) → registered x behind ≡ true → (bs : Builds) → reach s defs behind x bs ≡ reach s defs ds x bs
-  pub reaches : (x : List ℕ) → reaches ds d.name x ≡ (bytes_eq d.name x || list_any (λ u. reaches behind u.import.import x) d.imports)
+  pub found : (x : List ℕ) → registered x following ≡ true → module_named x ds ≡ module_named x following
+  pub reached : (s : Settings) (defs : Defs) (bs : Builds) → reach s defs ds d.name bs ≡ reach_module s defs d (unless_built (reach s defs following)) bs
+  pub further : (s : Settings) (defs : Defs) (x : List ℕ) → registered x following ≡ true → (bs : Builds) → reach s defs following x bs ≡ reach s defs ds x bs
+  pub reaches : (x : List ℕ) → reaches ds d.name x ≡ (bytes_eq d.name x || list_any (λ u. reaches following u.import.import x) d.imports)
 
 itself : (xs : List ℕ) → bytes_eq xs xs ≡ true
 itself xs = (bytes_eq-Decides xs xs).1 refl
@@ -65,8 +65,8 @@ here e es follows all = record {
 }
 
 -- one more module before it
-there : (e : Registered) (es : List Registered) (d : Registered) (behind : List Registered) → registered e.name es ≡ false → StandsAt es d behind → StandsAt (e ∷ es) d behind
-there e es d behind fresh k = record {
+there : (e : Registered) (es : List Registered) (d : Registered) (following : List Registered) → registered e.name es ≡ false → StandsAt es d following → StandsAt (e ∷ es) d following
+there e es d following fresh k = record {
   follows = k.follows;
   rest = k.rest;
   named = ap (λ b. cond b (Some e) (module_named d.name es)) mine ∙ k.named;
@@ -79,8 +79,8 @@ there e es d behind fresh k = record {
     mine : bytes_eq e.name d.name ≡ false
     mine = apart e es fresh d.name (registered_named d.name es d k.named)
 
-    other : (x : List ℕ) → registered x behind ≡ true → bytes_eq e.name x ≡ false
-    other x r = apart e es fresh x (sym (named-registered x es) ∙ ap is_some (k.found x r) ∙ named-registered x behind ∙ r)
+    other : (x : List ℕ) → registered x following ≡ true → bytes_eq e.name x ≡ false
+    other x r = apart e es fresh x (sym (named-registered x es) ∙ ap is_some (k.found x r) ∙ named-registered x following ∙ r)
 
 pub stands_at : (ds : List Registered) (place : ℕ) (d : Registered) → IsRegistry ds → slice_get ds place ≡ Some d → StandsAt ds d (drop (suc place) ds)
 stands_at [] place d all at = absurd cc
@@ -108,24 +108,24 @@ key_name ds x defs k h = by (module_named x ds) refl h
     by (Some d) e h = let same : key_under d defs ≡ k = cc in ap (λ (l : Key). l.name) (sym same) ∙ name_found x ds d e
 
 -- the place of the module with a name
-pub place_of : (ds : List Registered) (x : List ℕ) (d : Registered) → IsRegistry ds → module_named x ds ≡ Some d → (behind : List Registered) × StandsAt ds d behind
+pub place_of : (ds : List Registered) (x : List ℕ) (d : Registered) → IsRegistry ds → module_named x ds ≡ Some d → (following : List Registered) × StandsAt ds d following
 place_of ds x d all h =
     let place = position_or_len (λ e. bytes_eq e.name x) ds in
     (drop (suc place) ds, stands_at ds place d all (sym (find_at (λ e. bytes_eq e.name x) ds) ∙ h))
 
-module _ (ds : List Registered) (d : Registered) (behind : List Registered) (at : StandsAt ds d behind) (x : List ℕ) (may : imports_name d x ≡ true) where
-  registered_behind : registered x behind ≡ true
-  registered_behind = imported_registered d behind at.follows x may
+module _ (ds : List Registered) (d : Registered) (following : List Registered) (at : StandsAt ds d following) (x : List ℕ) (may : imports_name d x ≡ true) where
+  registered_after : registered x following ≡ true
+  registered_after = imported_registered d following at.follows x may
 
   -- an imported module is registered, and its effective names are effective names of the importing module
   pub imports_module : (o : Registered) × (module_named x ds ≡ Some o) × ((n : List ℕ) → is_among o.effective n ≡ true → is_among d.effective n ≡ true)
   imports_module =
-      let o = named x behind registered_behind in
-      (o.0, at.found x registered_behind ∙ o.1, imported_effective d behind at.follows x may o.0 o.1)
+      let o = named x following registered_after in
+      (o.0, at.found x registered_after ∙ o.1, imported_effective d following at.follows x may o.0 o.1)
 
   -- a module reaches the modules that it imports
   pub reaches_import : reaches ds d.name x ≡ true
-  reaches_import = at.reaches x ∙ ap (λ b. bytes_eq d.name x || b) (of_one (λ y. reaches behind y x) d.imports x may (reaches-itself behind x registered_behind)) ∙ or_true (bytes_eq d.name x)
+  reaches_import = at.reaches x ∙ ap (λ b. bytes_eq d.name x || b) (of_one (λ y. reaches following y x) d.imports x may (reaches-itself following x registered_after)) ∙ or_true (bytes_eq d.name x)
 
 -- ---- reached modules
 
@@ -159,17 +159,17 @@ imports_as_uses rule f (u ∷ us) all bs =
     (ap (λ o. unless_refused o (f u.import.import) bs) (sym (All-head (λ (v : Use). rule v ≡ None) u us all)))
     (λ done cs. imports_as_uses rule f us (All-tail (λ (v : Use). rule v ≡ None) u us all) cs)
 
-module _ (s : Settings) (ds : List Registered) (defs : Defs) (d : Registered) (behind : List Registered) (at : StandsAt ds d behind) where
+module _ (s : Settings) (ds : List Registered) (defs : Defs) (d : Registered) (following : List Registered) (at : StandsAt ds d following) where
   -- how the modules after it are reached
-  abbrev pub behind_it : Reaching
-  behind_it = unless_built (reach s defs behind)
+  abbrev pub after_it : Reaching
+  after_it = unless_built (reach s defs following)
 
   -- a module that it may use is reached alike in the whole registry
-  pub uses_behind : (us : List Use) (bs : Builds) → reach_each (as_recorded d) behind_it us bs ≡ reach_each (as_recorded d) (unless_built (reach s defs ds)) us bs
-  uses_behind us bs = each_alike (as_recorded d) behind_it (unless_built (reach s defs ds)) alike us bs
+  pub uses_after : (us : List Use) (bs : Builds) → reach_each (as_recorded d) after_it us bs ≡ reach_each (as_recorded d) (unless_built (reach s defs ds)) us bs
+  uses_after us bs = each_alike (as_recorded d) after_it (unless_built (reach s defs ds)) alike us bs
     where
-      alike : (u : Use) → as_recorded d u ≡ None → (cs : Builds) → behind_it u.import.import cs ≡ unless_built (reach s defs ds) u.import.import cs
-      alike u may cs = built_alike (reach s defs behind) (reach s defs ds) u.import.import cs (at.further s defs u.import.import (imported_registered d behind at.follows u.import.import (allowed d u may)) cs)
+      alike : (u : Use) → as_recorded d u ≡ None → (cs : Builds) → after_it u.import.import cs ≡ unless_built (reach s defs ds) u.import.import cs
+      alike u may cs = built_alike (reach s defs following) (reach s defs ds) u.import.import cs (at.further s defs u.import.import (imported_registered d following at.follows u.import.import (allowed d u may)) cs)
 
   -- how a build was made from no builds
   pub record IsBuiltFrom (b : BuiltModule) : Type 0 where
@@ -177,7 +177,7 @@ module _ (s : Settings) (ds : List Registered) (defs : Defs) (d : Registered) (b
     pub read : preprocessed_of (defined defs) d ≡ Ok out
     pub may : All (λ u. as_recorded d u ≡ None) out.uses
     pub mid : Builds
-    pub used : reach_each (as_recorded d) behind_it out.uses [] ≡ record { builds = mid; result = Ok tt }
+    pub used : reach_each (as_recorded d) after_it out.uses [] ≡ record { builds = mid; result = Ok tt }
     pub built : build s d out mid ≡ Ok b
 
   pub imports_are : (b : BuiltModule) (k : IsBuiltFrom b) → b.imports ≡ map (λ u. u.import) k.out.uses
@@ -188,14 +188,14 @@ module _ (s : Settings) (ds : List Registered) (defs : Defs) (d : Registered) (b
   imports_may b k = All-same (λ (i : Import). imports_name d i.import ≡ true) b.imports (map (λ u. u.import) k.out.uses) (imports_are b k) (All-map (λ (i : Import). imports_name d i.import ≡ true) (λ (u : Use). u.import) k.out.uses (All-weaker (λ (u : Use). as_recorded d u ≡ None) (λ (u : Use). imports_name d u.import.import ≡ true) (λ u may. allowed d u may) k.out.uses k.may))
 
   -- the imports of a build are reached as the uses of its text
-  pub imports_reached : (b : BuiltModule) (k : IsBuiltFrom b) (bs : Builds) → reach_imports behind_it b.imports bs ≡ reach_each (as_recorded d) behind_it k.out.uses bs
-  imports_reached b k bs = ap (λ is. reach_imports behind_it is bs) (imports_are b k) ∙ imports_as_uses (as_recorded d) behind_it k.out.uses k.may bs
+  pub imports_reached : (b : BuiltModule) (k : IsBuiltFrom b) (bs : Builds) → reach_imports after_it b.imports bs ≡ reach_each (as_recorded d) after_it k.out.uses bs
+  imports_reached b k bs = ap (λ is. reach_imports after_it is bs) (imports_are b k) ∙ imports_as_uses (as_recorded d) after_it k.out.uses k.may bs
 
   module _ (b : BuiltModule) (result : (afresh s ds defs d.name).result ≡ Ok tt) (found : build_named (afresh s ds defs d.name).builds d.name ≡ Some b) where
-    first : afresh s ds defs d.name ≡ reach_module s defs d behind_it []
+    first : afresh s ds defs d.name ≡ reach_module s defs d after_it []
     first = at.reached s defs []
 
-    not_ended : (bs : Builds) (w : Unreached) → reach_module s defs d behind_it [] ≡ record { builds = bs; result = Err w } → IsBuiltFrom b
+    not_ended : (bs : Builds) (w : Unreached) → reach_module s defs d after_it [] ≡ record { builds = bs; result = Err w } → IsBuiltFrom b
     not_ended bs w h = let not : ◌≡◌ {A = Result (Unit {0}) Unreached} (Err w) (Ok tt) = ap (λ o. o.result) (sym (first ∙ h)) ∙ result in absurd cc
 
     module _ (out : Output) (read : preprocessed_of (defined defs) d ≡ Ok out) where
@@ -203,17 +203,17 @@ module _ (s : Settings) (ds : List Registered) (defs : Defs) (d : Registered) (b
       begun = ap (λ r. preprocess_module defs d r []) read
 
       abbrev used_so : Outcome (Unit {0}) Unreached
-      used_so = reach_each (as_recorded d) behind_it out.uses []
+      used_so = reach_each (as_recorded d) after_it out.uses []
 
       unbuilt_name : is_built used_so.builds d.name ≡ false
-      unbuilt_name = leaves_each d.name (as_recorded d) behind_it (leaves_unless d.name (reach s defs behind) (leaves_reach d.name s defs behind at.follows.name)) out.uses [] refl
+      unbuilt_name = leaves_each d.name (as_recorded d) after_it (leaves_unless d.name (reach s defs following) (leaves_reach d.name s defs following at.follows.name)) out.uses [] refl
 
       module _ (q : used_so.result ≡ Ok tt) where
         used : used_so ≡ record { builds = used_so.builds; result = Ok tt }
         used = outcome_is used_so (Ok tt) q
 
-        whole : reach_module s defs d behind_it [] ≡ enter_build d.name (build s d out used_so.builds) used_so.builds
-        whole = module_over s defs d behind_it [] out begun used_so.builds used
+        whole : reach_module s defs d after_it [] ≡ enter_build d.name (build s d out used_so.builds) used_so.builds
+        whole = module_over s defs d after_it [] out begun used_so.builds used
 
         entered : (r : Result BuiltModule Unbuilt) → build s d out used_so.builds ≡ r → IsBuiltFrom b
         entered (Err u) e = not_ended used_so.builds (unbuilt d.name u) (whole ∙ ap (λ r. enter_build d.name r used_so.builds) e)
@@ -221,7 +221,7 @@ module _ (s : Settings) (ds : List Registered) (defs : Defs) (d : Registered) (b
             let last : (afresh s ds defs d.name).builds ≡ used_so.builds ++ (d.name, c) ∷ [] = ap (λ o. o.builds) (first ∙ whole ∙ ap (λ r. enter_build d.name r used_so.builds) e) ∙ with_last used_so.builds d.name c unbuilt_name in
             let is : Some c ≡ Some b = sym (newest c) ∙ ap (λ bs. build_named bs d.name) (sym last) ∙ found in
             let same : c ≡ b = cc in
-            record { out = out; read = read; may = all_allowed (as_recorded d) behind_it out.uses [] q; mid = used_so.builds; used = used; built = e ∙ ap (λ x. Ok x) same }
+            record { out = out; read = read; may = all_allowed (as_recorded d) after_it out.uses [] q; mid = used_so.builds; used = used; built = e ∙ ap (λ x. Ok x) same }
           where
             newest : (c : BuiltModule) → build_named (used_so.builds ++ (d.name, c) ∷ []) d.name ≡ Some c
             newest c =
@@ -230,7 +230,7 @@ module _ (s : Settings) (ds : List Registered) (defs : Defs) (d : Registered) (b
                 ∙ ap (λ p. cond p (Some c) None) (itself d.name)
 
       used_up : (r : Result (Unit {0}) Unreached) → used_so.result ≡ r → IsBuiltFrom b
-      used_up (Err w) q = not_ended used_so.builds w (module_ended s defs d behind_it [] out begun used_so.builds w (outcome_is used_so (Err w) q))
+      used_up (Err w) q = not_ended used_so.builds w (module_ended s defs d after_it [] out begun used_so.builds w (outcome_is used_so (Err w) q))
       used_up (Ok x) q = entered q (build s d out used_so.builds) refl
 
     -- a build reached from no builds was made in this way
@@ -238,5 +238,5 @@ module _ (s : Settings) (ds : List Registered) (defs : Defs) (d : Registered) (b
     built_from = by (preprocessed_of (defined defs) d) refl
       where
         by : (r : Result Output Fault) → preprocessed_of (defined defs) d ≡ r → IsBuiltFrom b
-        by (Err fault) e = not_ended [] (unbuilt d.name (record { fault = fault; offset = 0 })) (module_unread s defs d behind_it [] (unbuilt d.name (record { fault = fault; offset = 0 })) (ap (λ r. preprocess_module defs d r []) e))
+        by (Err fault) e = not_ended [] (unbuilt d.name (record { fault = fault; offset = 0 })) (module_unread s defs d after_it [] (unbuilt d.name (record { fault = fault; offset = 0 })) (ap (λ r. preprocess_module defs d r []) e))
         by (Ok out) e = used_up out e (used_so out e).result refl

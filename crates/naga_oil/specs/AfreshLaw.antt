@@ -8,7 +8,7 @@ use Rattle.naga_oil_registry.specs.Registry.{IsRegistry}
 use Rattle.naga_oil_link.specs.BuiltModule.{Builds}
 use Rattle.naga_oil_build.specs.Held.{Settings}
 use Rattle.naga_oil_build.specs.Overriding.{build_named}
-use Rattle.naga_oil.specs.Answer.{read_second}
+use Rattle.naga_oil.specs.Answer.{read_and_build_second}
 use Rattle.naga_oil.specs.LocalLaw.{AlikeIn, BuildsDiffer, UsesAlike}
 use Rattle.naga_oil.specs.Outcome.{Outcome}
 use Rattle.naga_oil.specs.Reach.{Unreached, Rule, is_built, reach, reach_each, unless_built}
@@ -82,8 +82,8 @@ pub record IsReadAfresh {X : Type 0} (s : Settings) (ds : List Registered) (defs
 
 -- LAW: the second reading of a shader is as it is over no builds, and the modules that the shader uses are built after it
 pub record SecondLaw (s : Settings) (ds : List Registered) (defs : Defs) (text : List ℕ) (shader : Registered) (bs : Builds) : Type 0 where
-  pub read : IsReadAfresh s ds defs bs (read_second s ds text shader defs []) (read_second s ds text shader defs bs)
-  pub built : (out : Output) → (read_second s ds text shader defs bs).result ≡ Ok out → AreBuilt (read_second s ds text shader defs bs).builds out.uses
+  pub read : IsReadAfresh s ds defs bs (read_and_build_second s ds text shader defs []) (read_and_build_second s ds text shader defs bs)
+  pub built : (out : Output) → (read_and_build_second s ds text shader defs bs).result ≡ Ok out → AreBuilt (read_and_build_second s ds text shader defs bs).builds out.uses
 
 abbrev pub ReadingLaw : Type 0
 ReadingLaw = (s : Settings) (ds : List Registered) (defs : Defs) (text : List ℕ) (shader : Registered) (bs : Builds) → IsRegistry ds → AllStandAfresh s ds defs bs → SecondLaw s ds defs text shader bs

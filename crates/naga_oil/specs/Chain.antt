@@ -40,6 +40,12 @@ with_stages shader.Wgsl m = m
 with_stages shader.GlslVertex m = staged 0 m
 with_stages shader.GlslFragment m = staged 1 m
 
+-- the stage of an entry point, by the shader's type
+abbrev pub stage_in : ShaderType → ℕ → ℕ
+stage_in shader.Wgsl = λ stage. stage
+stage_in shader.GlslVertex = λ stage. 0
+stage_in shader.GlslFragment = λ stage. 1
+
 -- ---- the whole chain
 
 abbrev pub put_in_order_as : Result ModuleValue RedirectFault → Result ModuleValue Fault

@@ -3,11 +3,10 @@ use Rattle.std.specs.Prelude.{ℕ, ◌≡◌, true, false, List, slice_get, Some
 use Rattle.naga_oil_form_laws.specs.EntryForm.{IsModuleFormed}
 use Rattle.naga_oil_ir.specs.ModuleValue.{ModuleValue}
 use Rattle.naga_oil_ir.specs.Rows.{Text}
-use Rattle.naga_oil_words.specs.Texts.{is_among}
 use Rattle.naga_oil_link.specs.BuiltModule.{BuiltModule, Builds, Overriding}
 use Rattle.naga_oil_link.specs.Linked.{link_whole}
 use Rattle.naga_oil_build.specs.Held.{Settings}
-use Rattle.naga_oil_build.specs.OverridingForm.{OverridesEachOnce, BuildsOverrideOnce, NoNameShared}
+use Rattle.naga_oil_build.specs.OverridingForm.{OverridesEachOnce, BuildsOverrideOnce, NeitherOverrides, NoNameShared, OverridesOriginals}
 use Rattle.naga_oil_redirect.specs.Chain.{destination, IsSentDown}
 use Rattle.naga_oil_redirect.specs.ChainLaw.{is_in_chain}
 use Rattle.naga_oil_registry.specs.Registered.{Registered, Defs}
@@ -16,7 +15,7 @@ use Rattle.naga_oil_registry.specs.declared.descriptor.ShaderType.{ShaderType}
 use Rattle.naga_oil.specs.Answer.{answer}
 use Rattle.naga_oil.specs.CallsSent.{call_goes}
 use Rattle.naga_oil.specs.Chain.{chain, with_stages}
-use Rattle.naga_oil.specs.Faithful.{ParsesModules, made_builds, IsBuiltShader}
+use Rattle.naga_oil.specs.Faithful.{made_builds, IsBuilt, IsBuiltShader, text_of}
 use Rattle.naga_oil.specs.Finish.{compose}
 use Rattle.naga_oil.specs.Refused.{Place}
 
@@ -54,27 +53,35 @@ CallsLaw = (all : Overriding) (i : ℕ) (a : List ℕ × List (List ℕ)) (calle
 
 -- no function of a chain both overrides and is overridden
 abbrev pub NoneIsBoth : Overriding → List ℕ × List (List ℕ) → Type 0
-NoneIsBoth all a = (j : ℕ) (b : List ℕ × List (List ℕ)) → slice_get all j ≡ Some b → (is_among a.1 b.0 ≡ false) × (is_among b.1 a.0 ≡ false)
+NoneIsBoth all a = (j : ℕ) (b : List ℕ × List (List ℕ)) → slice_get all j ≡ Some b → NeitherOverrides a b
 
 module _ (s : Settings) (ds : List Registered) (counter : ℕ) (m : ShaderSource) where
   -- a shader's build as linked after what it imports, with the stage of its entry points
   abbrev pub linked_shader : BuiltModule → ModuleValue
   linked_shader shader = with_stages m.shader_type (link_whole (made_builds s ds counter m) shader)
 
+  -- no preprocessed text of the make overrides a function that overrides another: no name after the keyword of an override has the
+  -- mark of one in it
+  abbrev pub TextsOverrideOriginals : Type 0
+  TextsOverrideOriginals = (b : BuiltModule) (parse : ModuleValue) (is : IsBuilt s ds counter m b parse) → OverridesOriginals (text_of s ds counter m b parse is)
+
   -- No function overrides two. made has the functions and entry points of the linked shader, and each call of an overridden function is
-  -- a call of its destination, if no function of its chain both overrides and is overridden.
+  -- a call of its destination: of all overridden functions, if no text overrides an overriding function; and anyhow of one of whose
+  -- chain no function both overrides and is overridden.
   pub record CallsGoDown (made : ModuleValue) : Type 0 where
     pub shader : BuiltModule
     pub parse : ModuleValue
     pub is : IsBuiltShader s ds counter m shader parse
     pub shares : NoNameShared shader.overriding
-    pub chains : (i : ℕ) (a : List ℕ × List (List ℕ)) →
+    pub chains : TextsOverrideOriginals → (i : ℕ) (a : List ℕ × List (List ℕ)) →
+        slice_get shader.overriding i ≡ Some a → IsSentDown a.0 a.1 (linked_shader shader) made
+    pub one_chain : (i : ℕ) (a : List ℕ × List (List ℕ)) →
         slice_get shader.overriding i ≡ Some a → NoneIsBoth shader.overriding a → IsSentDown a.0 a.1 (linked_shader shader) made
 
 -- LAW: CallsGoDown holds of each module that a make answers
 abbrev pub CallsGoDownLaw : Type 0
 CallsGoDownLaw = (s : Settings) (ds : List Registered) (counter : ℕ) (m : ShaderSource) (made : ModuleValue) →
-    ParsesModules s.front → (answer s ds counter m).result ≡ Ok made → CallsGoDown s ds counter m made
+    (answer s ds counter m).result ≡ Ok made → CallsGoDown s ds counter m made
 
 -- LAW: in the builds of a make, and in its shader's build, each overridden function is listed once
 abbrev pub MadeOverridingLaw : Type 0

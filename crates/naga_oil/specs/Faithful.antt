@@ -1,25 +1,25 @@
 -- A made module is faithful: its functions, items and entry points are copies of those that the front end parsed.
 use mathlib.Core.Logic.{inl, inr}
-use Rattle.std.specs.Prelude.{ℕ, ◌≡◌, ◌*◌, ◌⊎◌, List, take, slice_get, Some, None, Ok}
-use Rattle.naga_oil_ir.specs.Backend.{FrontEnd}
+use Rattle.std.specs.Prelude.{ℕ, ◌≡◌, ◌*◌, ◌⊎◌, List, length, take, slice_get, Some, None, Ok}
 use Rattle.naga_oil_ir.specs.ModuleValue.{ModuleValue, FunctionValue, EntryValue}
 use Rattle.naga_oil_ir.specs.Rows.{Row, Text}
-use Rattle.naga_oil_ir.specs.declared.language.ShaderLanguage.{ShaderLanguage}
 use Rattle.naga_oil_ir.specs.declared.names.ItemPlace.{ItemPlace}
+use Rattle.naga_oil_ir.specs.declared.names.ItemPlace.TheVariants.{TypeItem}
 use Rattle.naga_oil_ir.specs.declared.span.Span.{Span}
 use Rattle.naga_oil_derive.specs.CopiedLaw.{HasAt}
 use Rattle.naga_oil_derive.specs.Tree.{World}
-use Rattle.naga_oil_derive.specs.World.{world, shifted}
+use Rattle.naga_oil_derive.specs.World.{world, shifted, special_at}
+use Rattle.naga_oil_derive.specs.declared.special.SpecialKey.{SpecialKey}
 use Rattle.naga_oil_pre.specs.Preprocessed.{Output}
 use Rattle.naga_oil_registry.specs.Added.{read_source}
 use Rattle.naga_oil_registry.specs.Registered.{Registered, Defs}
 use Rattle.naga_oil_registry.specs.Descriptor.{ShaderSource}
-use Rattle.naga_oil_form_laws.specs.Shape.{HasModuleShape}
 use Rattle.naga_oil_link.specs.BuiltModule.{BuiltModule, Builds}
 use Rattle.naga_oil_link.specs.Linked.{link_header}
 use Rattle.naga_oil_link.specs.Owned.{own_places, owned_module}
 use Rattle.naga_oil_copy_laws.specs.Scope.{ReadAlike, scope_of}
 use Rattle.naga_oil_copy_laws.specs.ByTree.{CopiesByTree}
+use Rattle.naga_oil_copy_laws.specs.EntryByTree.{EntryAlike}
 use Rattle.naga_oil_link_laws.specs.Headers.{HasNamed}
 use Rattle.naga_oil_link_laws.specs.HeldBuild.{DecoratesTypes}
 use Rattle.naga_oil_link_laws.specs.KeptAlike.{scope_alike}
@@ -29,15 +29,11 @@ use Rattle.naga_oil_build.specs.Build.{WholeText, begin_build, write_whole, buil
 use Rattle.naga_oil_build.specs.Held.{Settings, parse_whole}
 use Rattle.naga_oil.specs.Answer.{answer}
 use Rattle.naga_oil.specs.CallsSent.{call_goes}
+use Rattle.naga_oil.specs.Chain.{stage_in}
 use Rattle.naga_oil.specs.MakeDefs.{make_defs}
 use Rattle.naga_oil.specs.Reach.{defined}
 use Rattle.naga_oil.specs.Shader.{read_shader}
 use Rattle.naga_oil_ir.specs.Spans.{span_stride}
-
--- each module that a front end parses has the shape of modules
-abbrev pub ParsesModules : FrontEnd → Type 0
-ParsesModules front = (in_language : ShaderLanguage) (text : List ℕ) (m : ModuleValue) →
-    front.parse in_language text ≡ Ok m → HasModuleShape m
 
 -- ---- parses
 
@@ -72,11 +68,13 @@ pub record CopiesParsed (b : BuiltModule) (parse : ModuleValue) (sends : Text �
   pub decorated : DecoratesTypes (owned_parse b parse) (own_places parse) b.decoration reads
   pub copies : CopiesByTree (shifted (b.index * span_stride)) sends (scope_alike reads (owned_parse b parse) made) f (scope_of made) g
 
--- the function of y copies that of the entry point at i of the shader's parse, with its calls redirected
-pub record EntryComes (shader : BuiltModule) (parse made : ModuleValue) (i : ℕ) (y : EntryValue) : Type 0 where
+-- y copies the entry point at i of the shader's parse, with its calls redirected: its function, and everything else, whose items read
+-- alike; its stage is that of the shader's type
+pub record EntryComes (shader : BuiltModule) (parse : ModuleValue) (stages : ℕ → ℕ) (made : ModuleValue) (i : ℕ) (y : EntryValue) : Type 0 where
   pub entry : EntryValue
   pub at : slice_get (owned_parse shader parse).entry_points i ≡ Some entry
   pub copies : CopiesParsed shader parse (call_goes shader.overriding None) made entry.function y.function
+  pub whole : EntryAlike stages (scope_alike copies.reads (owned_parse shader parse) made) (scope_of made) entry y
 
 -- ---- the whole
 
@@ -108,20 +106,26 @@ module _ (s : Settings) (ds : List Registered) (counter : ℕ) (m : ShaderSource
     pub parse : ModuleValue
     pub is : IsBuilt b parse
 
+  -- the preprocessed text that a parse comes from
+  abbrev pub text_of : (b : BuiltModule) (parse : ModuleValue) → IsBuilt b parse → List ℕ
+  text_of b parse (inl reached) = reached.is.output.text
+  text_of b parse (inr shader) = shader.is.output.text
+
   -- the header before the source in the parsed text: it declares what the source imports
   abbrev pub header_of : ParseOf → ModuleValue
   header_of of = link_header (builds_before of.b of.parse of.is) of.b.imports
 
-  -- g copies a function of a parse, with its calls redirected. It is none that the header declares: the body of such a function is in
-  -- another parse. Each special type of the parse has one with its key in made.
-  pub record FunctionComes (shader : BuiltModule) (made : ModuleValue) (g : FunctionValue) : Type 0 where
+  -- g copies a function of a parse, with its calls redirected, and has its span, which counts over all texts. It is none that the
+  -- header declares: the body of such a function is in another parse. Each special type of the parse has one with its key in made.
+  pub record FunctionComes (shader : BuiltModule) (made : ModuleValue) (g : FunctionValue × Span) : Type 0 where
     pub of : ParseOf
     pub special : HasKeysOf (owned_parse of.b of.parse) made
     pub place : ℕ
     pub function : FunctionValue × Span
     pub at : slice_get (owned_parse of.b of.parse).functions place ≡ Some function
     pub undeclared : HasNamed (header_of of) function.0.name → ⊥
-    pub copies : CopiesParsed of.b of.parse (call_goes shader.overriding function.0.name) made function.0 g
+    pub copies : CopiesParsed of.b of.parse (call_goes shader.overriding function.0.name) made function.0 g.0
+    pub span : g.1 ≡ shifted (of.b.index * span_stride) function.1
 
   -- the item at q of made reads as an item of a parse
   pub record ItemComes (made : ModuleValue) (q : ItemPlace) : Type 0 where
@@ -132,18 +136,21 @@ module _ (s : Settings) (ds : List Registered) (counter : ℕ) (m : ShaderSource
     pub stands : HasAt (owned_parse of.b of.parse) place
     pub alike : ReadAlike (scope_alike reads (owned_parse of.b of.parse) made) (scope_of made) place q
 
-  -- Each function, item and entry point of a made module is a copy of one that was parsed of a reached module or of the shader, and each
-  -- special type of the shader's parse has one with its key in made.
+  -- Each function, item and entry point of a made module is a copy of one that was parsed of a reached module or of the shader; the
+  -- entry points are as many as the shader's, in their order. Each special type of the shader's parse has one with its key in made,
+  -- and what a special key of made names is there.
   pub record IsFaithful (made : ModuleValue) : Type 0 where
     pub shader : BuiltModule
     pub parse : ModuleValue
     pub is : IsBuiltShader shader parse
     pub special : HasKeysOf (owned_parse shader parse) made
-    pub functions : (k : ℕ) (g : FunctionValue × Span) → slice_get made.functions k ≡ Some g → FunctionComes shader made g.0
+    pub special_there : (key : SpecialKey) (q : ℕ) → special_at made.special_types key ≡ Some q → HasAt made (TypeItem q)
+    pub functions : (k : ℕ) (g : FunctionValue × Span) → slice_get made.functions k ≡ Some g → FunctionComes shader made g
     pub items : (q : ItemPlace) (r : Row) → world made q ≡ Some r → ItemComes made q
-    pub entry_points : (i : ℕ) (y : EntryValue) → slice_get made.entry_points i ≡ Some y → EntryComes shader parse made i y
+    pub entry_points : (i : ℕ) (y : EntryValue) → slice_get made.entry_points i ≡ Some y → EntryComes shader parse (stage_in m.shader_type) made i y
+    pub as_many : length made.entry_points ≡ length (owned_parse shader parse).entry_points
 
 -- LAW: each module that a make answers is faithful
 abbrev pub FaithfulLaw : Type 0
-FaithfulLaw = (s : Settings) (ds : List Registered) (counter : ℕ) (m : ShaderSource) (made : ModuleValue) → ParsesModules s.front →
+FaithfulLaw = (s : Settings) (ds : List Registered) (counter : ℕ) (m : ShaderSource) (made : ModuleValue) →
     (answer s ds counter m).result ≡ Ok made → IsFaithful s ds counter m made

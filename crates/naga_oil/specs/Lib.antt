@@ -9,6 +9,7 @@ mod FaithfulRows
 pub mod ChainsLaw
 pub mod Finish
 pub mod LocalLaw
+pub mod MadeAfreshLaw
 pub mod MakeDefs
 pub mod MakeView
 pub mod Makes
@@ -18,6 +19,7 @@ pub mod Reach
 pub mod ReachLaw
 pub mod Refused
 pub mod Run
+pub mod RunLaw
 pub mod Shader
 pub mod Sources
 pub mod State

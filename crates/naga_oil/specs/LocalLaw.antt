@@ -25,9 +25,9 @@ newest name [] = None
 newest name (e ∷ earlier) = if bytes_eq name e.0 then Some (e.1, earlier) else newest name earlier
 
 -- b and c are one build, and what it imports stands alike in both rows
-pub record AreOne (AlikeBehind : (name : List ℕ) → Type 0) (b c : BuiltModule) : Type 0 where
+pub record AreOne (AlikeAfter : (name : List ℕ) → Type 0) (b c : BuiltModule) : Type 0 where
   pub same : b ≡ c
-  pub imports : All (λ i. AlikeBehind i.import) b.imports
+  pub imports : All (λ i. AlikeAfter i.import) b.imports
 
 -- a name stands alike in two rows of builds, the newest first: it has the same build in both, over imports that stand alike, or none
 unfoldable pub AlikeIn : (bs cs : Builds) → (name : List ℕ) → Type 0

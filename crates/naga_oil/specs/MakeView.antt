@@ -82,15 +82,26 @@ pub record IsReady {B : Type 0} (front : B → FrontEnd) (m : Maker B) (from : �
   pub stand : Stands (settings_by front m) (modules_in m) (defs_in m) (builds_in m) (kept_in m)
   pub within : from ≤ length m.modules.now
 
+-- the builds of a make, and those that are kept
+pub record MakeState : Type 0 where
+  pub builds : Builds
+  pub kept : Kept
+
+abbrev pub state_with : Builds → Kept → MakeState
+state_with builds kept = record { builds = builds; kept = kept }
+
+abbrev pub state_of : {B : Type 0} → Maker B → MakeState
+state_of m = state_with (builds_in m) (kept_in m)
+
 -- Whatever the result, each build stands as built afresh, and no kept build is lost. Unless memory ran out, the kept builds are those of
 -- the beginning with the builds of this make kept one after the other, if they were so before.
-pub record Keeps {X E F : Type 0} (s : Settings) (ds : List Registered) (defs : Defs) (reported : E → Option F) (result : Result X E) (builds_before : Builds) (kept_before : Kept) (builds_after : Builds) (kept_after : Kept) : Type 0 where
-  pub stand : Stands s ds defs builds_after kept_after
-  pub since : (begun : Kept) → kept_before ≡ keep_builds ds defs begun builds_before → UnlessMemory reported result (kept_after ≡ keep_builds ds defs begun builds_after)
-  pub all : KeepsAll kept_before kept_after
+pub record Keeps {X E F : Type 0} (s : Settings) (ds : List Registered) (defs : Defs) (reported : E → Option F) (result : Result X E) (before after : MakeState) : Type 0 where
+  pub stand : Stands s ds defs after.builds after.kept
+  pub since : (begun : Kept) → before.kept ≡ keep_builds ds defs begun before.builds → UnlessMemory reported result (after.kept ≡ keep_builds ds defs begun after.builds)
+  pub all : KeepsAll before.kept after.kept
 
 abbrev pub KeepsMore : {B X E F : Type 0} → (front : B → FrontEnd) → (reported : E → Option F) → Result X E → (old new : Maker B) → Type 0
-KeepsMore front reported result old new = Keeps (settings_by front old) (modules_in old) (defs_in old) reported result (builds_in old) (kept_in old) (builds_in new) (kept_in new)
+KeepsMore front reported result old new = Keeps (settings_by front old) (modules_in old) (defs_in old) reported result (state_of old) (state_of new)
 
 -- what a make ends with: the definitions that it built under, its builds, and the builds kept then
 pub record MakeEnd : Type 0 where

@@ -63,7 +63,8 @@ unfoldable pub reach_each : Rule → Reaching → List Use → Doing (Unit {0}) 
 reach_each rule reaching [] = given (Ok tt)
 reach_each rule reaching (u ∷ us) = unless_refused (rule u) (reaching u.import.import) >>= λ done. reach_each rule reaching us
 
--- an import has to be recorded of the text of the importing module, or listed in addition to it
+-- An import has to be recorded of the text of the importing module, or listed in addition to it. Any other is missing at offset 0 of the
+-- shader's text, which needn't name it: the text of the shader is the one that its fault is reported in.
 abbrev pub as_recorded : Registered → Rule
 as_recorded d u = if list_any (λ i. bytes_eq i.import.import u.import.import) d.imports then None else Some (missing u.import.import 0)
 

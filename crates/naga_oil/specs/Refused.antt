@@ -13,6 +13,18 @@ pub data Place : Type 0 where
   in_module : (name : List ℕ) (offset : ℕ) (defs : Defs) → Place
   in_text : (path source : List ℕ) (offset : ℕ) → Place
 
+-- The texts of a shader that places count in. First the source, as it is given.
+abbrev pub in_given : (path source : List ℕ) → Place
+in_given path source = in_text path source 0
+
+-- then the text as it is read, with a number for each automatic binding
+abbrev pub in_read : (path text : List ℕ) → Place
+in_read path text = in_text path text 0
+
+-- last the text as it is preprocessed, which is parsed after a header; spans count over both, so the text begins at an offset
+abbrev pub in_preprocessed : (path text : List ℕ) → (offset : ℕ) → Place
+in_preprocessed path text offset = in_text path text offset
+
 abbrev pub place_of : ErrSource → Place
 place_of (code.Module name offset defs) = in_module (string_bytes name) offset (defs_of defs)
 place_of (code.Constructing path source offset) = in_text (string_bytes path) (string_bytes source) offset

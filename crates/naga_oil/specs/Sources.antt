@@ -5,6 +5,9 @@ use Rattle.naga_oil_conditions.specs.Fault.{Fault, Definitions}
 use Rattle.naga_oil_pre.specs.Preprocessed.{Output, preprocessed}
 use Rattle.naga_oil_registry.specs.Registered.{Registered}
 use Rattle.naga_oil_registry.specs.Registry.{module_named}
+use Rattle.naga_oil_registry.specs.Report.{report}
+use Rattle.naga_oil.specs.Reach.{defined}
+use Rattle.naga_oil.specs.Refused.{Place, Refused, in_module, in_text}
 use Rattle.naga_oil.specs.declared.compose.error.ErrSource.{ErrSource}
 use Rattle.naga_oil.specs.declared.compose.error.ErrSource.TheVariants as code
 
@@ -37,3 +40,21 @@ text_of ds (code.Module name offset defs) = text_under (get_by_text defs) (modul
 abbrev pub offset_of : ErrSource → ℕ
 offset_of (code.Constructing path source offset) = offset
 offset_of (code.Module name offset defs) = offset
+
+-- ---- the report of what a call is refused for
+
+abbrev pub path_at : List Registered → Place → List ℕ
+path_at ds (in_module name offset defs) = path_or_name name (module_named name ds)
+path_at ds (in_text path source offset) = path
+
+abbrev pub text_at : List Registered → Place → List ℕ
+text_at ds (in_module name offset defs) = text_under (defined defs) (module_named name ds)
+text_at ds (in_text path source offset) = source
+
+abbrev pub offset_at : Place → ℕ
+offset_at (in_module name offset defs) = offset
+offset_at (in_text path source offset) = offset
+
+-- the report, by the registered modules, which have the texts
+abbrev pub report_of : List Registered → Refused → List ℕ
+report_of ds r = report (path_at ds r.place) (text_at ds r.place) (offset_at r.place) (Some r.fault)

@@ -1,7 +1,7 @@
 -- The state of a composer as callers see it, and how calls change it.
-use Rattle.std.specs.Prelude.{◌≡◌, ℕ, List, [], Bool, false, Option, Result, Ok, OnOk, OnErr, ◌⊎◌}
+use Rattle.std.specs.Prelude.{◌≡◌, ℕ, List, [], false, Option, Result, Ok, OnOk, OnErr, ◌⊎◌}
 use Rattle.std.specs.declared.alloc.AllocError.{AllocError}
-use Rattle.naga_oil_ir.specs.declared.backend.Capabilities.{Capabilities}
+use Rattle.naga_oil_build.specs.declared.settings.Settings.{Settings}
 use Rattle.naga_oil.specs.declared.compose.error.ComposerError.{ComposerError}
 use Rattle.naga_oil_conditions.specs.View.{fault_of}
 use Rattle.naga_oil_registry.specs.Added.{counter_after, shown_by, Enters}
@@ -12,25 +12,19 @@ use Rattle.naga_oil.specs.Refused.{Answers, UnlessMemory}
 use Rattle.naga_oil_registry.specs.Registry.{reaches, registered, removed}
 use Rattle.naga_oil.specs.Store.{Kept, forget}
 
--- the front end, the settings, the registered modules, the number of the next automatic binding, the kept builds, and the number of builds
--- ever kept
+-- the settings with the front end, the registered modules, the number of the next automatic binding, the kept builds, and the number of
+-- builds ever kept
 pub record State (B : Type 0) : Type 0 where
-  pub front : B
-  pub validate : Bool
-  pub capabilities : Capabilities
-  pub override_any : Bool
+  pub settings : Settings B
   pub registry : List Registered
   pub counter : ℕ
   pub kept : Kept
   pub builds : ℕ
 
 -- nothing is registered yet
-abbrev pub nothing_registered : {B : Type 0} → (front : B) → (validate : Bool) → Capabilities → (override_any : Bool) → State B
-nothing_registered front validate capabilities override_any = record {
-  front = front;
-  validate = validate;
-  capabilities = capabilities;
-  override_any = override_any;
+abbrev pub nothing_registered : {B : Type 0} → Settings B → State B
+nothing_registered settings = record {
+  settings = settings;
   registry = [];
   counter = 0;
   kept = [];
@@ -45,16 +39,16 @@ forget_with ds name kept = forget (λ other. reaches ds other name) kept
 abbrev pub ForgetsFor : {F : Type 0} → List Registered → Result Registered F → (old new : Kept) → Type 0
 ForgetsFor ds value old new = (d : Registered) × (value ≡ Ok d) × (new ≡ forget_with ds d.name old)
 
--- The counter is the one after the source; if memory ran out it may be the old one.
-pub record Counts {X E F : Type 0} (told : E → Option F) (result : Result X E) (source : List ℕ) (old new : ℕ) : Type 0 where
-  pub exact : UnlessMemory told result (new ≡ counter_after old source)
-  pub either : (new ≡ old) ⊎ (new ≡ counter_after old source)
+-- The counter is the one after; if memory ran out it may be the old one.
+pub record Counts {X E F : Type 0} (told : E → Option F) (result : Result X E) (after old new : ℕ) : Type 0 where
+  pub exact : UnlessMemory told result (new ≡ after)
+  pub either : (new ≡ old) ⊎ (new ≡ after)
 
 -- An addition answers its definition, as shown, and registers it, and the builds of removed modules are forgotten; a refused one changes
 -- only the counter.
 pub record Adds {B X Y : Type 0} (view : X → Y) (shown : Registered → Y) (old : State B) (m : ModuleSource) (result : Result X ComposerError) (new : State B) : Type 0 where
   pub reply : Answers view result (shown_by shown (addition old.registry old.counter m))
-  pub counter : Counts (λ e. fault_of e.inner) result m.source old.counter new.counter
+  pub counter : Counts (λ e. fault_of e.inner) result (counter_after old.counter m.source) old.counter new.counter
   pub registry : OnOk result (Enters old.registry (addition old.registry old.counter m) new.registry)
   pub kept : OnOk result (ForgetsFor old.registry (addition old.registry old.counter m) old.kept new.kept)
   pub refused : OnErr result (new ≡ record old { counter = new.counter })

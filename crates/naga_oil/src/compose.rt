@@ -22,7 +22,7 @@ pub use command::{Command, Reply, run};
 pub use composer::Composer;
 pub use error::{ComposerError, ComposerErrorInner, ComposerResult, EnsureImportsError, ErrSource};
 use indexmap::IndexMap;
-use naga_oil_build::{Builder, Unbuilt};
+use naga_oil_build::{Builder, Settings, Unbuilt};
 pub use naga_oil_imports::{ImportDefWithOffset, ImportDefinition, parse_imports};
 pub use naga_oil_ir::{
     Backend, BackendRefusal, Capabilities, ParseFault, ShaderLanguage, ValidFault, WriteFault,
@@ -45,8 +45,8 @@ pub use naga_oil_registry::{
     ComposableModuleDefinition, ComposableModuleDescriptor, NagaModuleDescriptor, OwnedShaderDefs,
     ShaderType, report,
 };
-use naga_oil_registry::{Defs, InnerResult, Names, Registered, Use};
-use naga_oil_words::AllocResult;
+use naga_oil_registry::{Defs, InnerResult, Registered, Use};
+use naga_oil_words::{AllocResult, NameSet};
 use std::alloc::{AllocError, AllocFailed, Global};
 use std::mem;
 use std::sync::Arc;

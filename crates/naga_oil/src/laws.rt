@@ -1,11 +1,16 @@
 //! Laws of makes: what a build depends on, which builds are kept, and where the calls of
 //! overridden functions are redirected.
 ghost use Rattle.naga_oil.specs.AfreshLaw.{AfreshLaw, ReadingLaw};
-ghost use Rattle.naga_oil.specs.ChainsLaw.{CallsLaw, ChainsLaw, ComposedLaw, MadeOverridingLaw};
+ghost use Rattle.naga_oil.specs.ChainsLaw.{CallsGoDownLaw, CallsLaw, ChainsLaw, ComposedLaw, MadeOverridingLaw};
+ghost use Rattle.naga_oil.specs.Faithful.{FaithfulLaw};
 ghost use Rattle.naga_oil.specs.LocalLaw.{BuildLaw, FinishLaw, ImportLaw, LinkLaw};
+ghost use Rattle.naga_oil.specs.MadeAfreshLaw.{MadeAfreshLaw, MadeKeptLaw};
 ghost use Rattle.naga_oil.specs.NewlyKeptLaw.{NewlyKeptLaw};
 ghost use Rattle.naga_oil.specs.ReachLaw.{ProjectionLaw, RegistryLaw};
+ghost use Rattle.naga_oil.specs.RunLaw.{EachMakeLaw};
 ghost use Rattle.naga_oil.specs.StoreLaw.{EnterLaw, ForgetLaw, KeptLaw};
+
+use naga_oil_ir::Backend;
 
 /// A module's build, or the error in its place, depends on the shader definitions only through
 /// their values of the module's effective names.
@@ -39,6 +44,22 @@ pub fn builds_used_decide()
 pub fn earlier_builds_change_nothing()
     ensures reached { AfreshLaw }
     ensures read { ReadingLaw }
+{}
+
+/// Each build of a make is what building its module afresh gives, and none is built twice. Of these
+/// builds exactly those are newly kept that weren't kept yet.
+pub fn makes_build_afresh()
+    ensures built { MadeAfreshLaw }
+    ensures kept { MadeKeptLaw }
+{}
+
+/// After any list of adds, removals and builds, the composer returns one value of its settings, the
+/// registered modules, the binding counter and the inputs: the shader, or the first error. What is
+/// kept from earlier builds never shows.
+///
+/// A build here is a call of `make_naga_module`, for which memory didn't run out.
+pub fn makes_return_one_value<B: Backend>()
+    ensures { EachMakeLaw B.front }
 {}
 
 /// A module whose build is kept is reached without building it again, and each build is kept as it
@@ -75,4 +96,15 @@ pub fn calls_go_down_chains()
 /// In the builds of a make each overridden function is listed once, and no function overrides two.
 pub fn builds_override_each_once()
     ensures { MadeOverridingLaw }
+{}
+
+/// Each module that a make answers is faithful to what was parsed for it.
+pub fn made_modules_are_faithful()
+    ensures { FaithfulLaw }
+{}
+
+/// In each module that a make answers, calls of overridden functions are redirected along their
+/// chains.
+pub fn made_calls_go_down()
+    ensures { CallsGoDownLaw }
 {}

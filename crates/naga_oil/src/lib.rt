@@ -2,9 +2,8 @@
 #![tactic(auto)]
 
 pub mod compose;
+pub mod ir;
 pub mod laws;
-
-pub use naga_oil_ir as ir;
 
 /// Copies items and functions from one module into another.
 pub mod derive {

@@ -15,6 +15,7 @@ use Rattle.naga_oil_registry.proofs.NewDefinitionLemmas.{fails-through}
 use Rattle.naga_oil_link.specs.BuiltModule.{BuiltModule}
 use Rattle.naga_oil_link.specs.CopiedBuild.{copy_build, copies_special}
 use Rattle.naga_oil_form.specs.Form.{is_formed}
+use Rattle.naga_oil_form_laws.specs.ShapeTest.{has_shape}
 use Rattle.naga_oil_form.specs.FormView.{GivesFormed}
 use Rattle.naga_oil_link.specs.OwnPlaces.{OwnPlaces}
 use Rattle.naga_oil_link.specs.Owned.{own_places, owned_module, owned_build}
@@ -52,6 +53,11 @@ not_passed : (b : Bool) (m : ModuleValue) (f : Fault) → passed b ≡ Err f →
 not_passed true m f e = absurd cc
 not_passed false m f e = cc
 
+-- a test with one that passes
+with_passed : {X : Type 0} (b c : Bool) (x y : X) → c ≡ true → cond (b && c) x y ≡ cond b x y
+with_passed true c x y e = ap (λ t. cond t x y) e
+with_passed false c x y e = refl
+
 module _ (front : FrontEnd) (language : ShaderLanguage) (text decoration : List ℕ) where
   pub whole_too_large : span_stride ≤ length text → parse_whole front language text decoration ≡ Err text_too_large
   unfolding parse_whole
@@ -61,13 +67,17 @@ module _ (front : FrontEnd) (language : ShaderLanguage) (text decoration : List 
   unfolding parse_whole
   whole_unparsed lt e h = fails-through e (parsed_text front language text) _ h (λ f p. rw (lt-ltb (length text) span_stride lt, p) refl)
 
-  pub whole_misformed : length text < span_stride → (m : ModuleValue) → parsed_text front language text ≡ Ok m → (e : ComposerErrorInner) → Fails e (passed (is_formed m decoration (length text))) → Fails e (parse_whole front language text decoration)
+  pub whole_misformed : length text < span_stride → (m : ModuleValue) → has_shape m ≡ true → parsed_text front language text ≡ Ok m → (e : ComposerErrorInner) → Fails e (passed (is_formed m decoration (length text))) → Fails e (parse_whole front language text decoration)
   unfolding parse_whole
-  whole_misformed lt m q e h = fails-through e (passed (is_formed m decoration (length text))) _ h (λ f p. rw (lt-ltb (length text) span_stride lt, q) (not_passed (is_formed m decoration (length text)) m f p))
+  whole_misformed lt m shape q e h =
+      let formed = is_formed m decoration (length text) in
+      fails-through e (passed formed) _ h (λ f p. rw (lt-ltb (length text) span_stride lt, q) (with_passed formed (has_shape m) (Ok m) (Err wrong_form) shape ∙ not_passed formed m f p))
 
-  pub whole_parsed : length text < span_stride → (m : ModuleValue) → parsed_text front language text ≡ Ok m → passed (is_formed m decoration (length text)) ≡ Ok tt → parse_whole front language text decoration ≡ Ok m
+  pub whole_parsed : length text < span_stride → (m : ModuleValue) → has_shape m ≡ true → parsed_text front language text ≡ Ok m → passed (is_formed m decoration (length text)) ≡ Ok tt → parse_whole front language text decoration ≡ Ok m
   unfolding parse_whole
-  whole_parsed lt m q p = rw (lt-ltb (length text) span_stride lt, q) (is_passed (is_formed m decoration (length text)) m p)
+  whole_parsed lt m shape q p =
+      let formed = is_formed m decoration (length text) in
+      rw (lt-ltb (length text) span_stride lt, q) (with_passed formed (has_shape m) (Ok m) (Err wrong_form) shape ∙ is_passed formed m p)
 
 -- ---- copies
 
@@ -88,17 +98,17 @@ is_unasked index validate special e = by (nat_lt 0 index) validate (not special)
 
 module _ (s : Settings) (m : ModuleValue) (own : OwnPlaces) (b : BuiltModule) (functions : ℕ) where
   module _ (c : BuiltModule) (special : Bool) (copied : c ≡ copy_build m own b) (knows : special ≡ copies_special m own b.decoration b.functions) where
-    behind_copy : copy_tested s m own b functions ≡ (names_back s special m own c functions >>= λ done. Ok c)
-    behind_copy = sym (λ i. names_back s (knows i) m own (copied i) functions >>= λ done. Ok (copied i))
+    after_copy : copy_tested s m own b functions ≡ (names_back s special m own c functions >>= λ done. Ok c)
+    after_copy = sym (λ i. names_back s (knows i) m own (copied i) functions >>= λ done. Ok (copied i))
 
     pub untested : is_tested c.index s.validate special ≡ false → copy_tested s m own b functions ≡ Ok c
-    untested q = behind_copy ∙ ap (λ (x : Bool). if_tested x (came_back s.front s.capabilities m own c functions) >>= λ done. Ok c) q
+    untested q = after_copy ∙ ap (λ (x : Bool). if_tested x (came_back s.front s.capabilities m own c functions) >>= λ done. Ok c) q
 
     pub tested : is_tested c.index s.validate special ≡ true → (r : Result (Unit {0}) ComposerErrorInner) → Gives (λ done. done) r (came_back s.front s.capabilities m own c functions) → Gives (λ done. c) r (copy_tested s m own b functions)
     tested q r g = by r g
       where
         whole : copy_tested s m own b functions ≡ (came_back s.front s.capabilities m own c functions >>= λ done. Ok c)
-        whole = behind_copy ∙ ap (λ (x : Bool). if_tested x (came_back s.front s.capabilities m own c functions) >>= λ done. Ok c) q
+        whole = after_copy ∙ ap (λ (x : Bool). if_tested x (came_back s.front s.capabilities m own c functions) >>= λ done. Ok c) q
 
         by : (r : Result (Unit {0}) ComposerErrorInner) → Gives (λ done. done) r (came_back s.front s.capabilities m own c functions) → Gives (λ done. c) r (copy_tested s m own b functions)
         by (Ok x) g = whole ∙ ap (λ (v : Result (Unit {0}) Fault). v >>= λ done. Ok c) g

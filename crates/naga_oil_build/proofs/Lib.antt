@@ -3,6 +3,7 @@ pub mod FunctionsLemmas
 pub mod HeldLemmas
 pub mod NameLemmas
 mod OnceRows
+pub mod OriginalsLemmas
 pub mod OverridingFormLemmas
 pub mod OverridingLemmas
 pub mod SplitLemmas

@@ -12,11 +12,11 @@ use Rattle.naga_oil_lines.specs.Decorate.{base32, decoded, decorated_name}
 use Rattle.naga_oil_words.specs.Texts.{is_among}
 use Rattle.naga_oil_words.specs.OptionSteps.{◌>>=◌}
 use Rattle.naga_oil_lines.proofs.DecorateLemmas.{coded_text}
-use Rattle.naga_oil_words.specs.Marks.{module_mark}
+use Rattle.naga_oil_words.specs.Marks.{module_mark, override_mark}
 use Rattle.naga_oil_link.specs.BuiltModule.{Overriding}
 use Rattle.naga_oil_build.specs.Overriding.{with_new, overridden, overridden_by, with_overriding}
 use Rattle.naga_oil_build.specs.Virtuals.{override_name, around_last, without_end, are_parts, item_and_code, item_and_module}
-use Rattle.naga_oil_build.specs.OverridingForm.{IsOverrideName, NameLaw, is_overridden, OverridesEachOnce, NoNameSharedLaw}
+use Rattle.naga_oil_build.specs.OverridingForm.{IsOverrideName, NameLaw, is_overridden, OverridesEachOnce, NoNameSharedLaw, LacksOverrideMark, BasesLackMark, NoneOverridesLaw}
 use Rattle.naga_oil_build.proofs.NameLemmas.{plain_override, plain_tells, decorated_tells, never_alike}
 
 -- the decoration of a build: nothing for a shader, and for a module what its name decorates with
@@ -188,3 +188,28 @@ override_named name decoration p d e = one (item_and_code name) refl e
     one : (o : Option (List ℕ × List ℕ)) → item_and_code name ≡ o → (o >>= λ p. option_map (λ module_name. (p.0, p.1, module_name)) (decoded p.1)) ≡ Some p → IsOverrideName name (override_name p.0 p.1 decoration)
     one (Some q) f e = two q f (decoded q.1) refl e
     one None f e = absurd (none-some p e)
+
+-- ---- names without the mark of an override
+
+marked_so : (base n : List ℕ) → IsOverrideName base n → LacksOverrideMark n → ⊥
+marked_so base n h l =
+    let code = base32 h.module_name in
+    let after = decorated_name h.within [] in
+    l h.item (code ++ (codes "X" ++ after))
+    (h.named ∙ append_assoc ((h.item ++ override_mark) ++ code) (codes "X") after ∙ append_assoc (h.item ++ override_mark) code (codes "X" ++ after))
+
+not_among : (base : List ℕ) (names : List (List ℕ)) (n : List ℕ) → All (IsOverrideName base) names → LacksOverrideMark n → is_among names n ≡ false
+not_among base names n h l = one (is_among names n) refl
+  where
+    one : (t : Bool) → is_among names n ≡ t → is_among names n ≡ false
+    one true e = absurd (marked_so base n (named_so base names n h e) l)
+    one false e = e
+
+lacks_at : (all : Overriding) (j : ℕ) (b : List ℕ × List (List ℕ)) → BasesLackMark all → slice_get all j ≡ Some b → LacksOverrideMark b.0
+lacks_at [] j b h at = absurd (none-some b at)
+lacks_at (o ∷ more) zero b h at = subst (λ (x : List ℕ × List (List ℕ)). LacksOverrideMark x.0) (same_Some o b at) (All-head (λ (x : List ℕ × List (List ℕ)). LacksOverrideMark x.0) o more h)
+lacks_at (o ∷ more) (suc j) b h at = lacks_at more j b (All-tail (λ (x : List ℕ × List (List ℕ)). LacksOverrideMark x.0) o more h) at
+
+pub none_overrides : NoneOverridesLaw
+none_overrides all once lacks i j a b at there =
+    (not_among a.0 a.1 b.0 (all_named all i a once at) (lacks_at all j b lacks there), not_among b.0 b.1 a.0 (all_named all j b once there) (lacks_at all i a lacks at))

@@ -33,8 +33,8 @@ module _ (k : ℕ) (ks : List ℕ) where
   last_at [] (suc i) back none at = absurd cc
   last_at (b ∷ more) zero back none at =
       let here : starts_with eqb (b ∷ more) (k ∷ ks) ≡ true = ap (λ t. starts_with eqb t (k ∷ ks)) at ∙ begins (k ∷ ks) back in
-      let behind : drop (length (k ∷ ks)) (b ∷ more) ≡ back = ap (drop (length (k ∷ ks))) at ∙ drop-append_seam (k ∷ ks) back in
-      rw (no_last more (λ j le. none (suc j) (omega arith) (omega (arith, le))), here) (ap (λ l. Some ([], l)) behind)
+      let following : drop (length (k ∷ ks)) (b ∷ more) ≡ back = ap (drop (length (k ∷ ks))) at ∙ drop-append_seam (k ∷ ks) back in
+      rw (no_last more (λ j le. none (suc j) (omega arith) (omega (arith, le))), here) (ap (λ l. Some ([], l)) following)
   last_at (b ∷ more) (suc i) back none at = rw (last_at more i back (λ j lt le. none (suc j) (omega (arith, lt)) (omega (arith, le))) at) refl
 
 -- what a cut at the last mark returns

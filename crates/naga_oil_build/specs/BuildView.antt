@@ -1,5 +1,5 @@
 -- The settings of a builder, and the results of a build.
-use Rattle.std.specs.Prelude.{◌≡◌, ℕ, Result, Ok, Err, MatchOption, String, string_bytes}
+use Rattle.std.specs.Prelude.{◌≡◌, ℕ, Bool, false, Result, Ok, Err, MatchOption, String, string_bytes}
 use Rattle.std.specs.declared.alloc.Global.{Global}
 use Rattle.naga_oil_ir.specs.Backend.{FrontEnd}
 use Rattle.naga_oil_conditions.specs.View.{fault_of}
@@ -10,10 +10,19 @@ use Rattle.naga_oil_build.specs.Build.{Unbuilt, WholeText}
 use Rattle.naga_oil_build.specs.Held.{Settings, settings}
 use Rattle.naga_oil_build.specs.declared.builder.Builder.{Builder}
 use Rattle.naga_oil_build.specs.declared.builder.Unbuilt.{Unbuilt as CodeUnbuilt}
+use Rattle.naga_oil_build.specs.declared.settings.Settings.{Settings as CodeSettings}
+
+-- settings, with the front end as a value
+abbrev pub settings_with : {B : Type 0} → (front : B → FrontEnd) → CodeSettings B → Settings
+settings_with front s = settings (front s.front) s.capabilities s.validate s.override_any
+
+-- settings with no capabilities, under which only virtual functions may be overridden
+abbrev pub bare_settings : {B : Type 0} → (front : B) → (validate : Bool) → CodeSettings B
+bare_settings front validate = record { front = front; capabilities = record { 0 = 0 }; validate = validate; override_any = false }
 
 -- the settings of a builder
 abbrev pub settings_in : {B : Type 0} → (front : B → FrontEnd) → Builder B → Settings
-settings_in front b = settings (front b.front.now) b.capabilities b.validate b.override_any
+settings_in front b = settings_with front b.settings.now
 
 -- a whole text, and what was built of it
 abbrev pub whole_with : ComposableModule → String Global → WholeText

@@ -9,6 +9,7 @@ use Rattle.naga_oil_words.specs.ResultSteps.{◌>>=◌}
 use Rattle.naga_oil_link.specs.BuiltModule.{BuiltModule}
 use Rattle.naga_oil_link.specs.CopiedBuild.{copy_build, copies_special}
 use Rattle.naga_oil_form.specs.Form.{is_formed}
+use Rattle.naga_oil_form_laws.specs.ShapeTest.{has_shape}
 use Rattle.naga_oil_link.specs.OwnPlaces.{OwnPlaces}
 use Rattle.naga_oil_link.specs.Owned.{own_places, owned_module, owned_build}
 use Rattle.naga_oil_build.specs.Built.{parsed_text}
@@ -37,12 +38,13 @@ settings front capabilities validate override_any = record {
 abbrev pub unless_too_large : (text : List ℕ) → Result (Unit {0}) Fault
 unless_too_large text = if nat_lt (length text) span_stride then Ok tt else Err text_too_large
 
--- the module that a whole text is parsed to, which must be of good form under a decoration
+-- the module that a whole text is parsed to, which must be of good form under a decoration, and in the shape of modules: plain data
+-- that a front end's specification returns has this shape wherever a module says it
 unfoldable pub parse_whole : FrontEnd → ShaderLanguage → (text decoration : List ℕ) → Result ModuleValue Fault
 parse_whole front in_language text decoration = do
   fits ← unless_too_large text
   m ← parsed_text front in_language text
-  if is_formed m decoration (length text) then Ok m else Err wrong_form
+  if is_formed m decoration (length text) && has_shape m then Ok m else Err wrong_form
 
 -- ---- what is held of that module
 

@@ -18,15 +18,11 @@ use super::virtuals::{Over, add_override, read_functions};
 use super::*;
 use naga_oil_registry::merge::{imports_of, push_additional};
 
-/// A front end with its settings, and the builds over it.
+/// The settings of builds, and the builds so far.
 #[derive(Drop)]
 pub struct Builder<'c, B: Backend> {
     pub alloc: Global,
-    pub front: &'c B,
-    pub validate: bool,
-    pub capabilities: Capabilities,
-    // Whether any imported function may be overridden, and not only one that is virtual.
-    pub override_any: bool,
+    pub settings: &'c Settings<B>,
     pub builds: Builds,
 }
 
@@ -127,17 +123,17 @@ impl<B: Backend> Builder<'_, B> {
 
     /// The text that the front end writes for a header, if the header is valid.
     pub fn written(&self, header: &Module, language: ShaderLanguage) -> InnerResult<String>
-        ensures { let front = B.front self.now.front.now in
+        ensures { let s = settings_in B.front self.now in
             let m = module_value header.now in
-            Gives string_bytes result (header_text front self.now.capabilities language m) }
+            Gives string_bytes result (header_text s.front s.capabilities language m) }
     {
-        let valid = self.front.validate(self.alloc, header, self.capabilities);
+        let settings = self.settings;
+        let front = &settings.front;
+        let valid = front.validate(self.alloc, header, settings.capabilities);
         if let Err(fault) = answered(valid)? {
             return Err(Inner::HeaderValidationError(fault));
         }
-        let text = self
-            .front
-            .write(self.alloc, header, language, self.capabilities);
+        let text = front.write(self.alloc, header, language, settings.capabilities);
         match (answered(text)?, language) {
             (Ok(text), _) => Ok(text),
             (Err(fault), ShaderLanguage::Wgsl) => Err(Inner::WgslBackError(fault)),
@@ -147,10 +143,10 @@ impl<B: Backend> Builder<'_, B> {
 
     /// The module that a text is parsed to.
     pub fn parsed(&self, text: &str, language: ShaderLanguage) -> InnerResult<Module>
-        ensures { let front = B.front self.now.front.now in
+        ensures { let front = (settings_in B.front self.now).front in
             Gives module_value result (parsed_text front language text.now) }
     {
-        let parsed = answered(self.front.parse(self.alloc, language, text))?;
+        let parsed = answered(self.settings.front.parse(self.alloc, language, text))?;
         match (parsed, language) {
             (Ok(parsed), _) => Ok(parsed),
             (Err(fault), ShaderLanguage::Wgsl) => Err(Inner::WgslParseError(fault)),
@@ -221,7 +217,7 @@ impl<B: Backend> Builder<'_, B> {
             builds: &self.builds,
             imports: &built.imports,
             decoration: built.decorated_name.as_str(),
-            override_any: self.override_any,
+            override_any: self.settings.override_any,
         };
         let overriding = &mut built.override_functions;
         let (virtuals, text) = read_functions(self.alloc, text, over, overriding)?;

@@ -13,6 +13,7 @@ ghost use Rattle.naga_oil_ir.specs.Spans.{span_stride};
 
 use super::*;
 use naga_oil_form::check_form::check_form;
+use naga_oil_form_laws::shape::modules_pass_the_test_of_shape;
 use naga_oil_link::copied::copy_build;
 use naga_oil_link::items::own;
 
@@ -28,7 +29,8 @@ fn or_wrong_form<T>(answer: FormResult<T>) -> InnerResult<T>
 }
 
 impl<B: Backend> Builder<'_, B> {
-    // The module that a whole text is parsed to, which must be of good form under a decoration.
+    // The module that a whole text is parsed to, which must be of good form under a decoration. That its
+    // plain data has the shape of modules is a law.
     fn parse_whole(
         &self,
         language: ShaderLanguage,
@@ -37,13 +39,14 @@ impl<B: Backend> Builder<'_, B> {
     ) -> InnerResult<Module>
         ensures form { IfOk result (λ m. WellFormed m decoration.now (length text.now)) }
         ensures fits { IfOk result (λ m. length text.now < span_stride) }
-        ensures value { let read = parse_whole (B.front self.now.front.now) in
+        ensures value { let read = parse_whole (settings_in B.front self.now).front in
             Gives module_value result (read language text.now decoration.now) }
     {
         if text.len() >= 1 << SPAN_SHIFT {
             return Err(Inner::TextTooLarge);
         }
         let source = self.parsed(text, language)?;
+        modules_pass_the_test_of_shape(&source);
         or_wrong_form(check_form(&source, self.alloc, decoration, text.len()))?;
         Ok(source)
     }
@@ -64,7 +67,7 @@ impl<B: Backend> Builder<'_, B> {
             Gives (λ done. built_of built.new) result copied }
     {
         let special = copy_build(self.alloc, source, own, built)?;
-        if (index_of(built) > 0) & self.validate & !special {
+        if (index_of(built) > 0) & self.settings.validate & !special {
             return self.came_back(source, own, built, functions);
         }
         Ok(())

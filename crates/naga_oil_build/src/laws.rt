@@ -1,5 +1,5 @@
 //! No function overrides two others.
-ghost use Rattle.naga_oil_build.specs.OverridingForm.{NameLaw, NoNameSharedLaw, WholeTextLaw};
+ghost use Rattle.naga_oil_build.specs.OverridingForm.{NameLaw, NoNameSharedLaw, NoneOverridesLaw, OriginalsLaw, WholeTextLaw};
 
 /// The name of a function that overrides another determines which one.
 pub fn names_tell_what_is_overridden()
@@ -16,4 +16,15 @@ pub fn no_name_is_shared()
 /// accordingly.
 pub fn texts_override_each_once()
     ensures { WholeTextLaw }
+{}
+
+/// Of overridden functions without the mark of an override in their names, none overrides another.
+pub fn none_overrides_another()
+    ensures { NoneOverridesLaw }
+{}
+
+/// If no text overrides an overriding function, no overridden function of a build has the mark of an
+/// override in its name.
+pub fn originals_are_overridden()
+    ensures { OriginalsLaw }
 {}

@@ -60,10 +60,10 @@ pub(crate) fn add_override(
 }
 
 // The names of functions.
-fn names_of(alloc: Global, functions: &[Marked<'_>]) -> AllocResult<Names>
+fn names_of(alloc: Global, functions: &[Marked<'_>]) -> AllocResult<NameSet>
     ensures { IfOk result (λ names. texts names.keys ≡ names_of (map marked_of functions.now)) }
 {
-    let mut names = Names::new(alloc);
+    let mut names = NameSet::new(alloc);
     for function in functions {
         names.insert(String::from_str(alloc, function.name)?)?;
     }
@@ -239,7 +239,7 @@ pub(crate) fn read_functions(
     text: &str,
     over: Over<'_>,
     overriding: &mut Overrides,
-) -> InnerResult<(Names, String)>
+) -> InnerResult<(NameSet, String)>
     ensures { let told = functions_over over.entry (overriding_of overriding.old) text.now in
         Gives (functions_with overriding.new) result told }
 {

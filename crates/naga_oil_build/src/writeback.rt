@@ -7,6 +7,7 @@ ghost use Rattle.naga_oil_link.specs.BuiltModule.{built_of};
 ghost use Rattle.naga_oil_link.specs.CopiedBuild.{EndWith};
 ghost use Rattle.naga_oil_link.specs.OwnPlaces.{own_of};
 ghost use Rattle.naga_oil_words.specs.Texts.{texts};
+ghost use Rattle.naga_oil_build.specs.BuildView.{settings_in};
 ghost use Rattle.naga_oil_build.specs.Writeback.{named_item, named_items, named_functions, struct_members, last_named, lost_member, lost_of, lost_by, lost_at, lost_among, have_come_back, lost, unless_lost, came_back};
 ghost use Rattle.naga_oil_build.specs.WritebackView.{labels_of, named_of, held, seen_lost, is_asked, items_asked};
 
@@ -61,7 +62,7 @@ fn push_named<'m>(
 }
 
 // Whether a place is requested: it is among some places, or all are.
-fn is_asked(at: Option<&Places>, place: usize) -> bool
+fn is_asked(at: Option<&PlaceSet>, place: usize) -> bool
     ensures { result ≡ is_asked at.entry place }
 {
     at.is_none_or(|places| places.contains(&place))
@@ -71,7 +72,7 @@ fn is_asked(at: Option<&Places>, place: usize) -> bool
 fn named_types<'m>(
     alloc: Global,
     of: &'m UniqueArena<Type>,
-    at: Option<&Places>,
+    at: Option<&PlaceSet>,
 ) -> AllocResult<Vec<NamedItem<'m>>>
     ensures { let rows = map (λ e. (type_row e.0, e.1)) of.now in
         let told = named_items (items_asked at.entry rows) in
@@ -91,7 +92,7 @@ fn named_types<'m>(
 fn named_constants<'m>(
     alloc: Global,
     of: &'m Arena<Constant>,
-    at: Option<&Places>,
+    at: Option<&PlaceSet>,
 ) -> AllocResult<Vec<NamedItem<'m>>>
     ensures { let rows = map (λ e. (constant_row e.0, e.1)) of.now in
         let told = named_items (items_asked at.entry rows) in
@@ -110,7 +111,7 @@ fn named_constants<'m>(
 fn named_globals<'m>(
     alloc: Global,
     of: &'m Arena<GlobalVariable>,
-    at: Option<&Places>,
+    at: Option<&PlaceSet>,
 ) -> AllocResult<Vec<NamedItem<'m>>>
     ensures { let rows = map (λ e. (global_row e.0, e.1)) of.now in
         let told = named_items (items_asked at.entry rows) in
@@ -185,7 +186,7 @@ fn lost_of<'m>(ours: &NamedItem<'m>, theirs: Option<&NamedItem<'_>>) -> Option<&
 }
 
 // What is lost of an item, with its span, if the name to look for is owned.
-fn lost_by<'m>(item: &NamedItem<'m>, by: &str, back: &Back<'_>, owned: &Names) -> Lost<'m>
+fn lost_by<'m>(item: &NamedItem<'m>, by: &str, back: &Back<'_>, owned: &NameSet) -> Lost<'m>
     ensures { let told = lost_by (texts owned.now.keys) by.now (held back.now) in
         seen_lost result ≡ told (named_of item.now) }
 {
@@ -203,7 +204,7 @@ fn lost_at<'m>(
     alloc: Global,
     item: &NamedItem<'m>,
     back: &Back<'_>,
-    owned: &Names,
+    owned: &NameSet,
     decoration: &str,
 ) -> AllocResult<Lost<'m>>
     ensures { let names = texts owned.now.keys in
@@ -223,7 +224,7 @@ fn lost_among<'m>(
     alloc: Global,
     items: &[NamedItem<'m>],
     back: &[NamedItem<'_>],
-    owned: &Names,
+    owned: &NameSet,
     decoration: &str,
 ) -> AllocResult<Lost<'m>>
     ensures { let names = texts owned.now.keys in
@@ -246,7 +247,7 @@ fn lost_function<'m>(
     function: &'m Function,
     span: Span,
     back: &Back<'_>,
-    owned: &Names,
+    owned: &NameSet,
     ending: &str,
 ) -> Lost<'m>
     requires { EndWith (texts owned.now.keys) ending.now }
@@ -267,7 +268,7 @@ fn lost_function<'m>(
 }
 
 // Whether there is an item of each of these names.
-fn have_come_back(names: &Names, back: &Back<'_>) -> bool
+fn have_come_back(names: &NameSet, back: &Back<'_>) -> bool
     ensures { result ≡ have_come_back (held back.now) (texts names.now.keys) }
 {
     for name in names.iter() {
@@ -284,7 +285,7 @@ fn lost_among_functions<'m>(
     alloc: Global,
     functions: &'m [(Function, Span)],
     back: &[NamedItem<'_>],
-    owned: &Names,
+    owned: &NameSet,
     decoration: &str,
 ) -> AllocResult<Lost<'m>>
     ensures { let ours = named_functions (map (λ e. (function_value e.0, e.1)) functions.now) in
@@ -378,9 +379,9 @@ impl<B: Backend> Builder<'_, B> {
         built: &Build,
         functions: usize,
     ) -> InnerResult
-        ensures { let front = B.front self.now.front.now in
+        ensures { let s = settings_in B.front self.now in
             let ours = module_value source.now in
-            let told = came_back front self.now.capabilities ours (own_of own.now) in
+            let told = came_back s.front s.capabilities ours (own_of own.now) in
             Gives (λ done. done) result (told (built_of built.now) functions) }
     {
         let header = header_of(built);

@@ -4,8 +4,8 @@ use Rattle.std.specs.Prelude.{◌↔◌}
 use Rattle.std.specs.Str.{chars}
 use Rattle.naga_oil_words.specs.OptionSteps.{◌>>=◌}
 use Rattle.naga_oil_conditions.specs.LineKinds as grammar
-use Rattle.naga_oil_conditions.specs.Kind.{LineKind, version, condition, import_path, define, other, defined, undefined, compares, ◌or_else◌, read_as, kind_behind_hash, unversioned_kind_of, kind_of}
-use Rattle.naga_oil_conditions.specs.KindGrammar.{◌above◌, IfdefRow, IfndefRow, IfRow, ImportPathRow, DefineRow, OtherRow, IsKindBehindHash, HashRow, VersionRow, IsUnversionedKind, IsKind}
+use Rattle.naga_oil_conditions.specs.Kind.{LineKind, version, condition, import_path, define, other, defined, undefined, compares, ◌or_else◌, read_as, kind_after_hash, unversioned_kind_of, kind_of}
+use Rattle.naga_oil_conditions.specs.KindGrammar.{◌above◌, IfdefRow, IfndefRow, IfRow, ImportPathRow, DefineRow, OtherRow, IsKindAfterHash, HashRow, VersionRow, IsUnversionedKind, IsKind}
 use Rattle.naga_oil_conditions.proofs.RunLemmas.{some_is, bind_some}
 use Rattle.naga_oil_conditions.proofs.LineGrammarLemmas.{hash-reads, hash-is, version-reads, version-is, ifdef-reads, ifdef-is, ifndef-reads, ifndef-is, if-reads, if-is, begins-reads, begins-is, import-reads, import-is, import_path-reads, import_path-is, define-reads, define-is}
 
@@ -90,20 +90,20 @@ define_row cs = record {
 other_row : GivesKind other OtherRow
 other_row = record { here = refl; only = λ k e. e }
 
-kind_given : (cs : List ℕ) → GivesKind (kind_behind_hash cs) (IsKindBehindHash cs)
-unfolding kind_behind_hash
+kind_given : (cs : List ℕ) → GivesKind (kind_after_hash cs) (IsKindAfterHash cs)
+unfolding kind_after_hash
 kind_given cs =
     row_above _ _ _ _ (ifdef_row cs) (row_above _ _ _ _ (ifndef_row cs) (row_above _ _ _ _ (if_row cs)
     (test_above _ _ _ _ _ (λ h. begins-reads (codes "else") cs h.0 h.1) (begins-is (codes "else") cs)
     (test_above _ _ _ _ _ (λ h. begins-reads (codes "endif") cs h.0 h.1) (begins-is (codes "endif") cs)
     (test_above _ _ _ _ _ (import-reads cs) (import-is cs) (row_above _ _ _ _ (path_row cs) (row_above _ _ _ _ (define_row cs) other_row)))))))
 
-hash_row : (line : List ℕ) → ReadsRow (read_as kind_behind_hash (grammar.past_hash (chars line))) (HashRow line)
+hash_row : (line : List ℕ) → ReadsRow (read_as kind_after_hash (grammar.past_hash (chars line))) (HashRow line)
 hash_row line = record {
-  reads = λ k h. ap (read_as kind_behind_hash) (hash-reads (chars line) h.0 h.1) ∙ ap Some (sym ((kind_given h.0).only k h.2));
+  reads = λ k h. ap (read_as kind_after_hash) (hash-reads (chars line) h.0 h.1) ∙ ap Some (sym ((kind_given h.0).only k h.2));
   is = λ k e.
-      let r = read_is kind_behind_hash (grammar.past_hash (chars line)) k e in
-      (r.0, hash-is (chars line) r.0 r.1, subst (IsKindBehindHash r.0) r.2 (kind_given r.0).here);
+      let r = read_is kind_after_hash (grammar.past_hash (chars line)) k e in
+      (r.0, hash-is (chars line) r.0 r.1, subst (IsKindAfterHash r.0) r.2 (kind_given r.0).here);
 }
 
 version_row : (line : List ℕ) → ReadsRow (read_as version (grammar.past_hash (chars line) >>= grammar.version)) (VersionRow line)

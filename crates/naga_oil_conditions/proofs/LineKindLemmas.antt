@@ -11,7 +11,7 @@ use Rattle.std.specs.Str.{IsUtf8, IsCharBoundary, chars, encode_utf8_all}
 use Rattle.std.proofs.lemmas.Str.{IsUtf8-drop, IsCharBoundary-from_take, chars_past_char, chars-nil, chars-append, encodes-chars}
 use Rattle.std.proofs.lemmas.List.{nil_from_length}
 use Rattle.std.proofs.lemmas.List.Folds.{length-prefix_len}
-use Rattle.naga_oil_conditions.specs.LineKinds.{run, behind_run, text_at, after_white, is_operator_char, is_value_char, is_name_char, is_name, operation_at, cut}
+use Rattle.naga_oil_conditions.specs.LineKinds.{run, past_run, text_at, after_white, is_operator_char, is_value_char, is_name_char, is_name, operation_at, cut}
 
 -- ---- a run
 pub chars-none : (bs : List ℕ) → IsUtf8 bs → chars bs ≡ [] → length bs ≡ 0
@@ -39,17 +39,17 @@ map_is_then : {A B : Type 0} (f : A → B) (o : Option A) → option_map f o ≡
 map_is_then f None = refl
 map_is_then f (Some x) = refl
 
-pub compared_by : (cs start mid behind operator : List ℕ) (value : Option (List ℕ)) → start ≡ after_white cs → mid ≡ behind_run is_operator_char start → behind ≡ after_white mid
-    → operator ≡ encode_utf8_all (run is_operator_char start) → value ≡ text_at is_value_char behind → option_map (λ v. (operator, v)) value ≡ operation_at cs
+pub compared_by : (cs start mid following operator : List ℕ) (value : Option (List ℕ)) → start ≡ after_white cs → mid ≡ past_run is_operator_char start → following ≡ after_white mid
+    → operator ≡ encode_utf8_all (run is_operator_char start) → value ≡ text_at is_value_char following → option_map (λ v. (operator, v)) value ≡ operation_at cs
 unfolding operation_at
-compared_by cs start mid behind operator value e1 e2 e3 e4 e5 = rw (e5, e4, e3, e2, e1) (map_is_then _ _)
+compared_by cs start mid following operator value e1 e2 e3 e4 e5 = rw (e5, e4, e3, e2, e1) (map_is_then _ _)
 
 -- ---- a whole name
 is_nil : List ℕ → Bool
 is_nil [] = true
 is_nil (c ∷ cs) = false
 
-all_is : (p : ℕ → Bool) (cs : List ℕ) → list_all p cs ≡ is_nil (behind_run p cs)
+all_is : (p : ℕ → Bool) (cs : List ℕ) → list_all p cs ≡ is_nil (past_run p cs)
 unfolding is_nil
 all_is p [] = refl
 all_is p (c ∷ cs) =
@@ -72,7 +72,7 @@ no_chars bs u =
     some_chars [] h = absurd (h refl)
     some_chars (c ∷ cs) h = refl
 
-pub names_whole : (text rest : List ℕ) → IsUtf8 rest → chars rest ≡ behind_run is_name_char (chars text) → not (length text == 0) ≡ true → (length rest == 0) ≡ is_name text
+pub names_whole : (text rest : List ℕ) → IsUtf8 rest → chars rest ≡ past_run is_name_char (chars text) → not (length text == 0) ≡ true → (length rest == 0) ≡ is_name text
 unfolding is_name
 names_whole text rest u e some = rw some (no_chars rest u ∙ ap is_nil e ∙ sym (all_is is_name_char (chars text)))
 

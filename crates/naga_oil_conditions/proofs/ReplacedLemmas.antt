@@ -19,21 +19,21 @@ use Rattle.naga_oil_conditions.specs.declared.shader_def.ShaderDefValue.{ShaderD
 use Rattle.naga_oil_conditions.specs.Fault.{Definitions}
 use Rattle.naga_oil_conditions.specs.LineKinds.{is_name_char}
 use Rattle.naga_oil_conditions.specs.Replaced.{HashName, plain, named, begins_with, name_at, name_in_braces, hash_name, pieces, piece_text, value_text, value_or, replaced_from, replaced}
-use Rattle.naga_oil_conditions.specs.Splits.{IsBehind, SplitsName, SplitsHashName, SplitsAtHash}
+use Rattle.naga_oil_conditions.specs.Splits.{IsAfter, SplitsName, SplitsHashName, SplitsAtHash}
 use Rattle.std.specs.Fmt.{decimal, digits, digits_onto, digit_glyph}
 use Rattle.std.proofs.lemmas.List.Sums.{sum_by-append, sum_by-cons}
 use Rattle.naga_oil_conditions.specs.declared.shader_def.ShaderDefValue.TheVariants as def
 
 -- ---- the rest of a text
-pub behind_behind : (i j : ℕ) (text middle rest : List ℕ) → IsBehind i text middle → IsBehind j middle rest → IsBehind (i + j) text rest
-behind_behind i j text middle rest f s = record {
+pub after_after : (i j : ℕ) (text middle rest : List ℕ) → IsAfter i text middle → IsAfter j middle rest → IsAfter (i + j) text rest
+after_after i j text middle rest f s = record {
   left = s.left ∙ ap (drop j) f.left ∙ drop-drop j i (chars text);
   suffix = suffix_more _ _ _ _ _ f.suffix.1 s.suffix.1;
   utf8 = s.utf8;
 }
 
-pub behind_char : (text rest : List ℕ) (c : ℕ) → BeginsWithChar text c rest → IsBehind 1 text rest
-behind_char text rest c b = record {
+pub after_char : (text rest : List ℕ) (c : ℕ) → BeginsWithChar text c rest → IsAfter 1 text rest
+after_char text rest c b = record {
   left = rw b.spelled refl;
   suffix = (encode_utf8 c, b.bytes);
   utf8 = b.utf8;
@@ -57,7 +57,7 @@ module _ (text front rest : List ℕ) (cut : text ≡ front ++ rest) (utf8 : IsU
       record {
         some = omega arith;
         spelled = sym (encodes-chars front utf8) ∙ ap encode_utf8_all front_is;
-        behind = record { left = after; suffix = (front, cut); utf8 = u };
+        following = record { left = after; suffix = (front, cut); utf8 = u };
       }
 
 -- ---- the grammar of a `#` name
@@ -133,7 +133,7 @@ replaced_front defs front cs u none =
     ap (λ l. replaced_from defs (l ++ cs)) spelled ∙ none_to_replace defs none.0 cs none.2 ∙ ap (λ l. l ++ replaced_from defs cs) none.1
 
 -- ---- how the code reads a `#` name
-pub bare_name : (text start : List ℕ) (r : Option (Bor (List ℕ) × Bor (List ℕ))) → IsBehind (prefix_len is_whitespace (chars text)) text start → begins_with 123 (chars start) ≡ false
+pub bare_name : (text start : List ℕ) (r : Option (Bor (List ℕ) × Bor (List ℕ))) → IsAfter (prefix_len is_whitespace (chars text)) text start → begins_with 123 (chars start) ≡ false
     → MatchOption r (prefix_len is_name_char (chars start) ≡ 0) (λ x. SplitsName start x.0.now x.1.now) → MatchOption r (hash_name (chars text) ≡ None) (λ x. SplitsHashName text x.0.now x.1.now)
 bare_name text start None white bare none =
     hash_name_bare (chars text) (chars start) white.left bare ∙ name_at_none (prefix_len is_whitespace (chars text)) 0 (chars start) none
@@ -141,13 +141,13 @@ bare_name text start (Some x) white bare name = record {
   found = record { name = take (prefix_len is_name_char (chars start)) (chars start); taken = prefix_len is_whitespace (chars text) + prefix_len is_name_char (chars start) + 0 };
   is = hash_name_bare (chars text) (chars start) white.left bare ∙ name_at_some (prefix_len is_whitespace (chars text)) 0 (chars start) name.some;
   spelled = name.spelled;
-  behind =
-      let whole = behind_behind _ _ _ _ _ white name.behind in
+  following =
+      let whole = after_after _ _ _ _ _ white name.following in
       let none : prefix_len is_whitespace (chars text) + prefix_len is_name_char (chars start) ≡ prefix_len is_whitespace (chars text) + prefix_len is_name_char (chars start) + 0 = omega arith in
-      subst (λ k. IsBehind k text x.1.now) none whole;
+      subst (λ k. IsAfter k text x.1.now) none whole;
 }
 
-module _ (text start inner : List ℕ) (white : IsBehind (prefix_len is_whitespace (chars text)) text start) (brace : BeginsWithChar start 123 inner) where
+module _ (text start inner : List ℕ) (white : IsAfter (prefix_len is_whitespace (chars text)) text start) (brace : BeginsWithChar start 123 inner) where
   in_braces : hash_name (chars text) ≡ name_in_braces (prefix_len is_whitespace (chars text) + 1) (chars inner)
   in_braces = hash_name_braced (chars text) (chars start) (chars inner) white.left brace.spelled
 
@@ -157,16 +157,16 @@ module _ (text start inner : List ℕ) (white : IsBehind (prefix_len is_whitespa
   module _ (name closing : List ℕ) (split : SplitsName inner name closing) where
     pub unclosed_name : begins_with 125 (chars closing) ≡ false → hash_name (chars text) ≡ None
     unclosed_name at_end =
-        in_braces ∙ in_braces_open (prefix_len is_whitespace (chars text) + 1) (chars inner) (ap (begins_with 125) (sym split.behind.left) ∙ at_end)
+        in_braces ∙ in_braces_open (prefix_len is_whitespace (chars text) + 1) (chars inner) (ap (begins_with 125) (sym split.following.left) ∙ at_end)
 
     pub braced_name : (rest : List ℕ) → BeginsWithChar closing 125 rest → SplitsHashName text name rest
     braced_name rest close = record {
       found = record { name = take (prefix_len is_name_char (chars inner)) (chars inner); taken = prefix_len is_whitespace (chars text) + 1 + prefix_len is_name_char (chars inner) + 1 };
       is = in_braces
-          ∙ in_braces_closed (prefix_len is_whitespace (chars text) + 1) (chars inner) (ap (begins_with 125) (sym split.behind.left ∙ close.spelled))
+          ∙ in_braces_closed (prefix_len is_whitespace (chars text) + 1) (chars inner) (ap (begins_with 125) (sym split.following.left ∙ close.spelled))
           ∙ name_at_some (prefix_len is_whitespace (chars text) + 1) 1 (chars inner) split.some;
       spelled = split.spelled;
-      behind = behind_behind _ _ _ _ _ (behind_behind _ _ _ _ _ (behind_behind _ _ _ _ _ white (behind_char _ _ _ brace)) split.behind) (behind_char _ _ _ close);
+      following = after_after _ _ _ _ _ (after_after _ _ _ _ _ (after_after _ _ _ _ _ white (after_char _ _ _ brace)) split.following) (after_char _ _ _ close);
     }
 
 -- ---- the text that the code writes for a `#` name
@@ -187,7 +187,7 @@ module _ (defs : Definitions) (text name rest before after : List ℕ) (s : Spli
       let whole : replaced_from defs (35 ∷ chars text) ≡ value_or o own ++ replaced_from defs (chars rest) =
       replaced_at_name defs (chars text) s.found s.is
       ∙ ap (λ x. value_or x own ++ replaced_from defs (drop s.found.taken (chars text))) known
-      ∙ ap (λ l. value_or o own ++ replaced_from defs l) (sym s.behind.left) in
+      ∙ ap (λ l. value_or o own ++ replaced_from defs l) (sym s.following.left) in
       ap (λ l. l ++ replaced_from defs (chars rest)) e ∙ append_assoc before (value_or o own) (replaced_from defs (chars rest)) ∙ ap (λ l. before ++ l) (sym whole)
 
   pub value_written : (value : ShaderDefValue) → defs name ≡ Some value → after ≡ before ++ value_text value → after ++ replaced_from defs (chars rest) ≡ before ++ replaced_from defs (35 ∷ chars text)
@@ -198,7 +198,7 @@ module _ (defs : Definitions) (text name rest before after : List ℕ) (s : Spli
       → after ++ replaced_from defs (chars rest) ≡ before ++ replaced_from defs (35 ∷ chars text)
   unfolding own encode
   name_written spelling same cut u e =
-      let spelled : chars spelling ≡ take s.found.taken (chars text) = chars_before text spelling rest s.found.taken cut u s.behind.left in
+      let spelled : chars spelling ≡ take s.found.taken (chars text) = chars_before text spelling rest s.found.taken cut u s.following.left in
       let own_is : own ≡ 35 ∷ spelling = ap (λ l. 35 ∷ l) (ap encode_utf8_all (sym spelled) ∙ encodes-chars spelling u) in
       written None same (e ∙ append_assoc before (35 ∷ []) spelling ∙ ap (λ l. before ++ l) (sym own_is))
 

@@ -9,8 +9,8 @@ use Rattle.std.proofs.lemmas.Bool.{and_parts}
 use Rattle.std.proofs.lemmas.List.{take-append-drop}
 use Rattle.std.proofs.lemmas.List.Folds.{length-prefix_len}
 use Rattle.naga_oil_lines.proofs.TextLemmas.{after_run_pass}
-use Rattle.naga_oil_conditions.specs.LineKinds.{run, behind_run, text_at, after_white, past_white}
-use Rattle.naga_oil_conditions.specs.LineGrammar.{starts_in, IsRun, IsWord, IsBehindWhite, IsBehindGap}
+use Rattle.naga_oil_conditions.specs.LineKinds.{run, past_run, text_at, after_white, past_white}
+use Rattle.naga_oil_conditions.specs.LineGrammar.{starts_in, IsRun, IsWord, IsAfterWhite, IsAfterGap}
 
 -- ---- options
 pub some_is : {A : Type 0} (x y : A) → Some x ≡ Some y → x ≡ y
@@ -30,7 +30,7 @@ module _ (p : ℕ → Bool) where
       let more = run_len r rest h.1 stops in
       ap (λ b. cond b (1 + prefix_len p (r ++ rest)) 0) h.0 ∙ omega (arith, more)
 
-  pub run-only : (cs r rest : List ℕ) → IsRun p cs r rest → (r ≡ run p cs) × (rest ≡ behind_run p cs)
+  pub run-only : (cs r rest : List ℕ) → IsRun p cs r rest → (r ≡ run p cs) × (rest ≡ past_run p cs)
   run-only cs r rest h =
       let n : prefix_len p cs ≡ length r = ap (prefix_len p) h.whole ∙ run_len r rest h.inside h.stops in
       let front : take (prefix_len p cs) cs ≡ take (length r) (r ++ rest) = λ i. take (n i) (h.whole i) in
@@ -45,7 +45,7 @@ module _ (p : ℕ → Bool) where
         | false ↦ λ e. refl
       ] refl
 
-  run_stops : (cs : List ℕ) → starts_in p (behind_run p cs) ≡ false
+  run_stops : (cs : List ℕ) → starts_in p (past_run p cs) ≡ false
   run_stops [] = refl
   run_stops (c ∷ cs) =
       elim (p c) as (λ b. p c ≡ b → starts_in p (drop (cond b (1 + prefix_len p cs) 0) (c ∷ cs)) ≡ false) [
@@ -53,14 +53,14 @@ module _ (p : ℕ → Bool) where
         | false ↦ λ e. e
       ] refl
 
-  pub run-is : (cs : List ℕ) → IsRun p cs (run p cs) (behind_run p cs)
+  pub run-is : (cs : List ℕ) → IsRun p cs (run p cs) (past_run p cs)
   run-is cs = record { whole = sym (take-append-drop (prefix_len p cs) cs); inside = run_inside cs; stops = run_stops cs }
 
   pub run-more : (c : ℕ) (cs r rest : List ℕ) → p c ≡ true → IsRun p cs r rest → IsRun p (c ∷ cs) (c ∷ r) rest
   run-more c cs r rest e h = record { whole = ap (λ l. c ∷ l) h.whole; inside = rw e h.inside; stops = h.stops }
 
   -- ---- words
-  pub word-reads : (cs text rest : List ℕ) → IsWord p cs text rest → (text_at p cs ≡ Some text) × (rest ≡ behind_run p cs)
+  pub word-reads : (cs text rest : List ℕ) → IsWord p cs text rest → (text_at p cs ≡ Some text) × (rest ≡ past_run p cs)
   unfolding text_at
   word-reads cs text rest h =
       let u = run-only cs (h.first ∷ h.more) rest h.run in
@@ -72,14 +72,14 @@ module _ (p : ℕ → Bool) where
   word_from cs [] rest text h n e = absurd (n refl)
   word_from cs (c ∷ r) rest text h n e = record { first = c; more = r; run = h; spelled = e }
 
-  pub word-is : (cs text : List ℕ) → text_at p cs ≡ Some text → IsWord p cs text (behind_run p cs)
+  pub word-is : (cs text : List ℕ) → text_at p cs ≡ Some text → IsWord p cs text (past_run p cs)
   unfolding text_at
   word-is cs text =
-      elim (prefix_len p cs == 0) as (λ b. (prefix_len p cs == 0) ≡ b → cond b None (Some (encode_utf8_all (run p cs))) ≡ Some text → IsWord p cs text (behind_run p cs)) [
+      elim (prefix_len p cs == 0) as (λ b. (prefix_len p cs == 0) ≡ b → cond b None (Some (encode_utf8_all (run p cs))) ≡ Some text → IsWord p cs text (past_run p cs)) [
         | true ↦ λ z q. cc
         | false ↦ λ z q.
             let n : length (run p cs) ≢ 0 = λ none. grind (arith, z, none, length-prefix_len p cs) in
-            word_from cs (run p cs) (behind_run p cs) text (run-is cs) n (sym (some_is _ _ q))
+            word_from cs (run p cs) (past_run p cs) text (run-is cs) n (sym (some_is _ _ q))
       ] refl
 
   pub wordless-reads : (cs : List ℕ) → starts_in p cs ≡ false → text_at p cs ≡ None
@@ -97,13 +97,13 @@ module _ (p : ℕ → Bool) where
       ] e
 
 -- ---- white space
-pub white-only : (cs rest : List ℕ) → IsBehindWhite cs rest → rest ≡ after_white cs
+pub white-only : (cs rest : List ℕ) → IsAfterWhite cs rest → rest ≡ after_white cs
 white-only cs rest h = (run-only is_whitespace cs h.0 rest h.1).1
 
-pub white-is : (cs : List ℕ) → IsBehindWhite cs (after_white cs)
+pub white-is : (cs : List ℕ) → IsAfterWhite cs (after_white cs)
 white-is cs = (run is_whitespace cs, run-is is_whitespace cs)
 
-pub gap-reads : (cs rest : List ℕ) → IsBehindGap cs rest → past_white cs ≡ Some rest
+pub gap-reads : (cs rest : List ℕ) → IsAfterGap cs rest → past_white cs ≡ Some rest
 unfolding past_white
 gap-reads [] rest h = let e = h.2.whole in cc
 gap-reads (d ∷ cs) rest h =
@@ -112,11 +112,11 @@ gap-reads (d ∷ cs) rest h =
     let back : rest ≡ after_white (d ∷ cs) = (run-only is_whitespace (d ∷ cs) (h.0 ∷ h.1) rest h.2).1 in
     rw white (ap Some (sym (back ∙ after_run_pass is_whitespace d cs white)))
 
-pub gap-is : (cs rest : List ℕ) → past_white cs ≡ Some rest → IsBehindGap cs rest
+pub gap-is : (cs rest : List ℕ) → past_white cs ≡ Some rest → IsAfterGap cs rest
 unfolding past_white
 gap-is [] rest e = cc
 gap-is (d ∷ cs) rest full =
-    elim (is_whitespace d) as (λ b. is_whitespace d ≡ b → cond b (Some (after_white cs)) None ≡ Some rest → IsBehindGap (d ∷ cs) rest) [
+    elim (is_whitespace d) as (λ b. is_whitespace d ≡ b → cond b (Some (after_white cs)) None ≡ Some rest → IsAfterGap (d ∷ cs) rest) [
       | true ↦ λ e q. (d, run is_whitespace cs, subst (IsRun is_whitespace (d ∷ cs) (d ∷ run is_whitespace cs)) (some_is _ _ q) (run-more is_whitespace d cs _ _ e (run-is is_whitespace cs)))
       | false ↦ λ e q. cc
     ] refl full

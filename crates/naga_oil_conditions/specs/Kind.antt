@@ -38,8 +38,8 @@ read_as f None = None
 read_as f (Some groups) = Some (f groups)
 
 -- the kind by the text after the `#`: the first that fits
-unfoldable pub kind_behind_hash : List ℕ → LineKind
-kind_behind_hash cs =
+unfoldable pub kind_after_hash : List ℕ → LineKind
+kind_after_hash cs =
     read_as (λ r. condition r.0 (defined r.1)) (grammar.ifdef cs)
     or_else (read_as (λ r. condition r.0 (undefined r.1)) (grammar.ifndef cs)
     or_else (read_as (λ r. condition r.0 (compares r.1 r.2 r.3)) (grammar.if_condition cs)
@@ -52,7 +52,7 @@ kind_behind_hash cs =
 
 -- the kind of a line where versions are not read
 unfoldable pub unversioned_kind_of : List ℕ → LineKind
-unversioned_kind_of line = read_as kind_behind_hash (grammar.past_hash (chars line)) or_else other
+unversioned_kind_of line = read_as kind_after_hash (grammar.past_hash (chars line)) or_else other
 
 -- the kind of a line: a version, or else one of the others
 unfoldable pub kind_of : List ℕ → LineKind

@@ -2,7 +2,7 @@
 use Rattle.std.specs.Prelude.{◌≡◌, ◌⊎◌, ℕ, Bool, true, List, Option}
 use Rattle.std.specs.Str.{chars}
 use Rattle.naga_oil_conditions.specs.Kind.{LineKind, version, condition, endif, imports, import_path, define, other, defined, undefined, compares, otherwise}
-use Rattle.naga_oil_conditions.specs.LineGrammar.{IsBehindHash, IsVersion, IsIfdef, IsIfndef, IsIf, IsElse, IsEndif, IsImport, IsImportPath, IsDefine}
+use Rattle.naga_oil_conditions.specs.LineGrammar.{IsAfterHash, IsVersion, IsIfdef, IsIfndef, IsIf, IsElse, IsEndif, IsImport, IsImportPath, IsDefine}
 
 -- the kind of a row that fits, or else that of the rows below it
 infixr 20 ◌above◌
@@ -39,15 +39,15 @@ abbrev pub OtherRow : LineKind → Type 0
 OtherRow k = k ≡ other
 
 -- the kind of the characters after a `#`
-abbrev pub IsKindBehindHash : List ℕ → LineKind → Type 0
-IsKindBehindHash cs = IfdefRow cs above (IfndefRow cs above (IfRow cs above (ElseRow cs above (EndifRow cs above (ImportRow cs above (ImportPathRow cs above (DefineRow cs above OtherRow)))))))
+abbrev pub IsKindAfterHash : List ℕ → LineKind → Type 0
+IsKindAfterHash cs = IfdefRow cs above (IfndefRow cs above (IfRow cs above (ElseRow cs above (EndifRow cs above (ImportRow cs above (ImportPathRow cs above (DefineRow cs above OtherRow)))))))
 
 -- the kind of a line with a `#`
 abbrev pub HashRow : (line : List ℕ) → LineKind → Type 0
-HashRow line k = (cs : List ℕ) × IsBehindHash (chars line) cs × IsKindBehindHash cs k
+HashRow line k = (cs : List ℕ) × IsAfterHash (chars line) cs × IsKindAfterHash cs k
 
 abbrev pub VersionRow : (line : List ℕ) → LineKind → Type 0
-VersionRow line k = (cs : List ℕ) × (known : Bool) × IsBehindHash (chars line) cs × (k ≡ version known) × IsVersion known cs
+VersionRow line k = (cs : List ℕ) × (known : Bool) × IsAfterHash (chars line) cs × (k ≡ version known) × IsVersion known cs
 
 -- the kind of a line where versions are not read
 abbrev pub IsUnversionedKind : (line : List ℕ) → LineKind → Type 0

@@ -24,53 +24,53 @@ pub record IsWord (class : ℕ → Bool) (cs text rest : List ℕ) : Type 0 wher
   pub spelled : text ≡ encode_utf8_all (first ∷ more)
 
 -- white space, perhaps none, and the rest
-abbrev pub IsBehindWhite : (cs rest : List ℕ) → Type 0
-IsBehindWhite cs rest = (white : List ℕ) × IsRun is_whitespace cs white rest
+abbrev pub IsAfterWhite : (cs rest : List ℕ) → Type 0
+IsAfterWhite cs rest = (white : List ℕ) × IsRun is_whitespace cs white rest
 
 -- white space, at least one character, and the rest
-abbrev pub IsBehindGap : (cs rest : List ℕ) → Type 0
-IsBehindGap cs rest = (c : ℕ) × (white : List ℕ) × IsRun is_whitespace cs (c ∷ white) rest
+abbrev pub IsAfterGap : (cs rest : List ℕ) → Type 0
+IsAfterGap cs rest = (c : ℕ) × (white : List ℕ) × IsRun is_whitespace cs (c ∷ white) rest
 
 -- the line's `#`, with perhaps white space before it, and the rest
-abbrev pub IsBehindHash : (line rest : List ℕ) → Type 0
-IsBehindHash line rest = IsBehindWhite line (codes "#" ++ rest)
+abbrev pub IsAfterHash : (line rest : List ℕ) → Type 0
+IsAfterHash line rest = IsAfterWhite line (codes "#" ++ rest)
 
 -- perhaps white space, the word, and the rest
-abbrev pub IsBehindKeyword : (word cs rest : List ℕ) → Type 0
-IsBehindKeyword word cs rest = IsBehindWhite cs (word ++ rest)
+abbrev pub IsAfterKeyword : (word cs rest : List ℕ) → Type 0
+IsAfterKeyword word cs rest = IsAfterWhite cs (word ++ rest)
 
 -- perhaps white space, the word, white space, and the rest
-abbrev pub IsBehindDirective : (word cs rest : List ℕ) → Type 0
-IsBehindDirective word cs rest = (behind : List ℕ) × IsBehindKeyword word cs behind × IsBehindGap behind rest
+abbrev pub IsAfterDirective : (word cs rest : List ℕ) → Type 0
+IsAfterDirective word cs rest = (following : List ℕ) × IsAfterKeyword word cs following × IsAfterGap following rest
 
 -- `else` and white space if the arm is a further one of its chain, and the rest
-abbrev pub IsBehindElse : (is_else : Bool) → (cs rest : List ℕ) → Type 0
-IsBehindElse true cs rest = (behind : List ℕ) × (cs ≡ codes "else" ++ behind) × IsBehindGap behind rest
-IsBehindElse false cs rest = cs ≡ rest
+abbrev pub IsAfterElse : (is_else : Bool) → (cs rest : List ℕ) → Type 0
+IsAfterElse true cs rest = (following : List ℕ) × (cs ≡ codes "else" ++ following) × IsAfterGap following rest
+IsAfterElse false cs rest = cs ≡ rest
 
 -- perhaps white space and an `else`, the word of an arm, white space, and the rest
-pub record IsBehindArm (word : List ℕ) (is_else : Bool) (cs rest : List ℕ) : Type 0 where
+pub record IsAfterArm (word : List ℕ) (is_else : Bool) (cs rest : List ℕ) : Type 0 where
   pub start : List ℕ
-  pub behind : List ℕ
-  pub front : IsBehindWhite cs start
-  pub perhaps : IsBehindElse is_else start (word ++ behind)
-  pub gap : IsBehindGap behind rest
+  pub following : List ℕ
+  pub front : IsAfterWhite cs start
+  pub perhaps : IsAfterElse is_else start (word ++ following)
+  pub gap : IsAfterGap following rest
 
 -- perhaps `else`, the word, and a name
 pub record IsNamedArm (word : List ℕ) (is_else : Bool) (name cs : List ℕ) : Type 0 where
   pub rest : List ℕ
   pub more : List ℕ
-  pub arm : IsBehindArm word is_else cs rest
+  pub arm : IsAfterArm word is_else cs rest
   pub spelling : IsWord is_name_char rest name more
 
 -- `version` and digits; known are 440 and 450
 pub record IsVersion (known : Bool) (cs : List ℕ) : Type 0 where
-  pub behind : List ℕ
+  pub following : List ℕ
   pub rest : List ℕ
   pub number : List ℕ
   pub more : List ℕ
-  pub word : cs ≡ codes "version" ++ behind
-  pub gap : IsBehindGap behind rest
+  pub word : cs ≡ codes "version" ++ following
+  pub gap : IsAfterGap following rest
   pub digits : IsWord is_ascii_digit rest number more
   pub knows : known ≡ (bytes_eq number (codes "440") || bytes_eq number (codes "450"))
 
@@ -84,13 +84,13 @@ IsIfndef is_else name cs = IsNamedArm (codes "ifndef") is_else name cs
 pub record IsOperation (operator value cs : List ℕ) : Type 0 where
   pub start : List ℕ
   pub sign : List ℕ
-  pub behind : List ℕ
+  pub following : List ℕ
   pub rest : List ℕ
   pub more : List ℕ
-  pub front : IsBehindWhite cs start
-  pub run : IsRun is_operator_char start sign behind
+  pub front : IsAfterWhite cs start
+  pub run : IsRun is_operator_char start sign following
   pub spelled : operator ≡ encode_utf8_all sign
-  pub white : IsBehindWhite behind rest
+  pub white : IsAfterWhite following rest
   pub operand : IsWord is_value_char rest value more
 
 -- a name, then an operator and a value
@@ -115,26 +115,26 @@ pub record IsCut (name operator value cs : List ℕ) : Type 0 where
 -- perhaps `else`, `if`, and a name with an operator and a value
 pub record IsIf (is_else : Bool) (name operator value cs : List ℕ) : Type 0 where
   pub rest : List ℕ
-  pub arm : IsBehindArm (codes "if") is_else cs rest
+  pub arm : IsAfterArm (codes "if") is_else cs rest
   pub parts : IsCompared name operator value rest ⊎ IsCut name operator value rest
 
 -- `else`, then anything
 abbrev pub IsElse : List ℕ → Type 0
-IsElse cs = (rest : List ℕ) × IsBehindKeyword (codes "else") cs rest
+IsElse cs = (rest : List ℕ) × IsAfterKeyword (codes "else") cs rest
 
 -- `endif`, then anything
 abbrev pub IsEndif : List ℕ → Type 0
-IsEndif cs = (rest : List ℕ) × IsBehindKeyword (codes "endif") cs rest
+IsEndif cs = (rest : List ℕ) × IsAfterKeyword (codes "endif") cs rest
 
 -- `import` and white space
 abbrev pub IsImport : List ℕ → Type 0
-IsImport cs = (rest : List ℕ) × IsBehindDirective (codes "import") cs rest
+IsImport cs = (rest : List ℕ) × IsAfterDirective (codes "import") cs rest
 
 -- `define_import_path` and a path, of characters that are no white space
 pub record IsImportPath (path cs : List ℕ) : Type 0 where
   pub rest : List ℕ
   pub more : List ℕ
-  pub word : IsBehindDirective (codes "define_import_path") cs rest
+  pub word : IsAfterDirective (codes "define_import_path") cs rest
   pub spelling : IsWord is_not_whitespace rest path more
 
 -- the value after a define's name, if there is one
@@ -145,11 +145,11 @@ IsDefineValue None cs = starts_in is_value_char cs ≡ false
 -- `define`, a name, and perhaps a value
 pub record IsDefine (name : List ℕ) (value : Option (List ℕ)) (cs : List ℕ) : Type 0 where
   pub rest : List ℕ
-  pub behind : List ℕ
+  pub following : List ℕ
   pub start : List ℕ
-  pub word : IsBehindDirective (codes "define") cs rest
-  pub spelling : IsWord is_name_char rest name behind
-  pub white : IsBehindWhite behind start
+  pub word : IsAfterDirective (codes "define") cs rest
+  pub spelling : IsWord is_name_char rest name following
+  pub white : IsAfterWhite following start
   pub definition : IsDefineValue value start
 
 -- a reader returns groups exactly if the characters have the form with these groups

@@ -27,8 +27,8 @@ abbrev pub run : (ℕ → Bool) → List ℕ → List ℕ
 run p cs = take (prefix_len p cs) cs
 
 -- the characters after the run
-abbrev pub behind_run : (ℕ → Bool) → List ℕ → List ℕ
-behind_run p cs = drop (prefix_len p cs) cs
+abbrev pub past_run : (ℕ → Bool) → List ℕ → List ℕ
+past_run p cs = drop (prefix_len p cs) cs
 
 -- the text of the run, if it has a character
 unfoldable pub text_at : (ℕ → Bool) → List ℕ → Option (List ℕ)
@@ -36,7 +36,7 @@ text_at p cs = if prefix_len p cs == 0 then None else Some (encode_utf8_all (run
 
 -- the characters after the white space at the front, if any
 abbrev pub after_white : List ℕ → List ℕ
-after_white cs = behind_run is_whitespace cs
+after_white cs = past_run is_whitespace cs
 
 -- the characters after one or more white space characters
 unfoldable pub past_white : List ℕ → Option (List ℕ)
@@ -63,8 +63,8 @@ past_else cs = elim (past_word (codes "else") cs >>= past_white) [ Some rest ↦
 -- `version` and a number: whether it is one of the two known ones
 unfoldable pub version : List ℕ → Option Bool
 version cs = do
-  behind ← past_word (codes "version") cs
-  rest ← past_white behind
+  following ← past_word (codes "version") cs
+  rest ← past_white following
   number ← text_at is_ascii_digit rest
   Some (bytes_eq number (codes "440") || bytes_eq number (codes "450"))
 
@@ -72,8 +72,8 @@ version cs = do
 unfoldable pub arm : (word : List ℕ) → List ℕ → Option (Bool × List ℕ)
 arm word cs = do
   let start = past_else (after_white cs)
-  behind ← past_word word start.1
-  rest ← past_white behind
+  following ← past_word word start.1
+  rest ← past_white following
   Some (start.0, rest)
 
 -- perhaps `else`, then a word and a name: whether there is an `else`, and the name
@@ -93,7 +93,7 @@ ifndef cs = named_arm (codes "ifndef") cs
 unfoldable pub operation_at : List ℕ → Option (List ℕ × List ℕ)
 operation_at cs = do
   let start = after_white cs
-  value ← text_at is_value_char (after_white (behind_run is_operator_char start))
+  value ← text_at is_value_char (after_white (past_run is_operator_char start))
   Some (encode_utf8_all (run is_operator_char start), value)
 
 -- a name that is compared to nothing is cut: its last character is the value
@@ -104,7 +104,7 @@ cut name = if nat_lt 1 (length name) then Some (encode_utf8_all (take (length na
 unfoldable pub comparison_at : List ℕ → Option (List ℕ × List ℕ × List ℕ)
 comparison_at cs = do
   name ← name_text cs
-  elim (operation_at (behind_run is_name_char cs)) [
+  elim (operation_at (past_run is_name_char cs)) [
     | Some found ↦ Some (name, found.0, found.1)
     | None ↦ option_map (λ parts. (parts.0, [], parts.1)) (cut (run is_name_char cs))
   ]
@@ -139,4 +139,4 @@ unfoldable pub define : List ℕ → Option (List ℕ × Option (List ℕ))
 define cs = do
   rest ← past_directive (codes "define") cs
   name ← name_text rest
-  Some (name, text_at is_value_char (after_white (behind_run is_name_char rest)))
+  Some (name, text_at is_value_char (after_white (past_run is_name_char rest)))

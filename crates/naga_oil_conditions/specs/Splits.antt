@@ -7,7 +7,7 @@ use Rattle.naga_oil_conditions.specs.LineKinds.{is_name_char}
 use Rattle.naga_oil_conditions.specs.Replaced.{HashName, hash_name}
 
 -- the rest is the text after `count` characters
-pub record IsBehind (count : ℕ) (text rest : List ℕ) : Type 0 where
+pub record IsAfter (count : ℕ) (text rest : List ℕ) : Type 0 where
   pub left : chars rest ≡ drop count (chars text)
   pub suffix : (front : List ℕ) × (text ≡ front ++ rest)
   pub utf8 : IsUtf8 rest
@@ -16,14 +16,14 @@ pub record IsBehind (count : ℕ) (text rest : List ℕ) : Type 0 where
 pub record SplitsName (text name rest : List ℕ) : Type 0 where
   pub some : 0 < prefix_len is_name_char (chars text)
   pub spelled : name ≡ encode_utf8_all (take (prefix_len is_name_char (chars text)) (chars text))
-  pub behind : IsBehind (prefix_len is_name_char (chars text)) text rest
+  pub following : IsAfter (prefix_len is_name_char (chars text)) text rest
 
 -- after a `#` the text has the name, and the rest follows
 pub record SplitsHashName (text name rest : List ℕ) : Type 0 where
   pub found : HashName
   pub is : hash_name (chars text) ≡ Some found
   pub spelled : name ≡ encode_utf8_all found.name
-  pub behind : IsBehind found.taken text rest
+  pub following : IsAfter found.taken text rest
 
 -- the text is a front without `#`, then a `#`, then the rest
 pub record SplitsAtHash (text front rest : List ℕ) : Type 0 where

@@ -3,7 +3,7 @@ ghost use Rattle.std.specs.Prelude.{◌≡◌, ℕ, ◌++◌, List, length, opti
 ghost use Rattle.std.specs.Option.{option_map, MatchOption};
 ghost use Rattle.std.specs.Str.{chars};
 ghost use Rattle.naga_oil_conditions.specs.LineKinds as grammar;
-ghost use Rattle.naga_oil_conditions.specs.Kind.{kind_of, unversioned_kind_of, kind_behind_hash};
+ghost use Rattle.naga_oil_conditions.specs.Kind.{kind_of, unversioned_kind_of, kind_after_hash};
 ghost use Rattle.naga_oil_conditions.specs.KindView.{line_kind_of, class_of};
 
 use naga_oil_lines::text::{after_whitespace, past_word, split_first_char, text_before};
@@ -78,12 +78,12 @@ pub fn is_name_char(c: char) -> bool
 pub fn is_name(text: &str) -> bool
     ensures { result ≡ grammar.is_name text.now }
 {
-    !text.is_empty() && behind_run(text, CharClass::Name).is_empty()
+    !text.is_empty() && past_run(text, CharClass::Name).is_empty()
 }
 
 // The text after the characters of the class at its front.
-pub(crate) fn behind_run(text: &str, class: CharClass) -> &str
-    ensures chars { chars result.now ≡ grammar.behind_run (class_of class) (chars text.now) }
+pub(crate) fn past_run(text: &str, class: CharClass) -> &str
+    ensures chars { chars result.now ≡ grammar.past_run (class_of class) (chars text.now) }
     ensures suffix { (front : List ℕ) × (text.now ≡ front ++ result.now) }
 {
     let mut rest = text;
@@ -100,7 +100,7 @@ pub(crate) fn behind_run(text: &str, class: CharClass) -> &str
 fn run(text: &str, class: CharClass) -> &str
     ensures { chars result.now ≡ grammar.run (class_of class) (chars text.now) }
 {
-    text_before(text, behind_run(text, class))
+    text_before(text, past_run(text, class))
 }
 
 // The characters of the class at the front of the text, if there are any.
@@ -136,7 +136,7 @@ fn past_else(text: &str) -> (bool, &str)
 {
     match past_word(text, "else") {
         None => (false, text),
-        Some(behind) => match past_white(behind) {
+        Some(following) => match past_white(following) {
             None => (false, text),
             Some(rest) => (true, rest),
         },
@@ -177,8 +177,8 @@ fn operation_at(text: &str) -> Option<(&str, &str)>
     ensures { option_map (λ r. (r.0.now, r.1.now)) result ≡ grammar.operation_at (chars text.now) }
 {
     let start = after_whitespace(text);
-    let behind = after_whitespace(behind_run(start, CharClass::Operator));
-    let value = text_at(behind, CharClass::Value)?;
+    let following = after_whitespace(past_run(start, CharClass::Operator));
+    let value = text_at(following, CharClass::Value)?;
     Some((run(start, CharClass::Operator), value))
 }
 
@@ -202,7 +202,7 @@ fn comparison_at(text: &str) -> Option<(&str, &str, &str)>
         option_map (λ r. (r.0.now, r.1.now, r.2.now)) result ≡ read }
 {
     let name = text_at(text, CharClass::Name)?;
-    match operation_at(behind_run(text, CharClass::Name)) {
+    match operation_at(past_run(text, CharClass::Name)) {
         Some((operator, value)) => Some((name, operator, value)),
         None => {
             let (front, last) = cut(run(text, CharClass::Name))?;
@@ -250,13 +250,13 @@ fn define(text: &str) -> Option<(&str, Option<&str>)>
 {
     let rest = past_directive(text, "define")?;
     let name = text_at(rest, CharClass::Name)?;
-    let behind = after_whitespace(behind_run(rest, CharClass::Name));
-    Some((name, text_at(behind, CharClass::Value)))
+    let following = after_whitespace(past_run(rest, CharClass::Name));
+    Some((name, text_at(following, CharClass::Value)))
 }
 
 // The kind of a line, by the text after its `#`.
-fn kind_behind_hash(text: &str) -> LineKind<'_>
-    ensures { line_kind_of result ≡ kind_behind_hash (chars text.now) }
+fn kind_after_hash(text: &str) -> LineKind<'_>
+    ensures { line_kind_of result ≡ kind_after_hash (chars text.now) }
 {
     if let Some((is_else, name)) = named_arm(text, "ifdef") {
         LineKind::Condition {
@@ -304,7 +304,7 @@ pub fn line_kind(line: &str) -> LineKind<'_>
     };
     match version(rest) {
         Some(is_known) => LineKind::Version { is_known },
-        None => kind_behind_hash(rest),
+        None => kind_after_hash(rest),
     }
 }
 
@@ -313,7 +313,7 @@ pub fn unversioned_line_kind(line: &str) -> LineKind<'_>
     ensures { line_kind_of result ≡ unversioned_kind_of line.now }
 {
     match past_hash(line) {
-        Some(rest) => kind_behind_hash(rest),
+        Some(rest) => kind_after_hash(rest),
         None => LineKind::Other,
     }
 }

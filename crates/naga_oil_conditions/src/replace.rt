@@ -10,7 +10,7 @@ ghost use Rattle.naga_oil_conditions.specs.LineKinds.{is_name_char};
 ghost use Rattle.naga_oil_conditions.specs.Replaced as spec;
 ghost use Rattle.naga_oil_conditions.specs.Splits.{SplitsName, SplitsHashName, SplitsAtHash};
 
-use super::line_kind::{CharClass, behind_run};
+use super::line_kind::{CharClass, past_run};
 use super::*;
 
 // The text after this character, if the text begins with it.
@@ -27,7 +27,7 @@ fn split_name(text: &str) -> Option<(&str, &str)>
     ensures { let count = prefix_len is_name_char (chars text.now) in
         MatchOption result (count ≡ 0) (λ r. SplitsName text.now r.0.now r.1.now) }
 {
-    let rest = behind_run(text, CharClass::Name);
+    let rest = past_run(text, CharClass::Name);
     let name = text_before(text, rest);
     if name.is_empty() {
         return None;
@@ -71,22 +71,22 @@ pub fn split_at_hash(text: &str) -> Option<(&str, &str)>
 // Writes a `#` and the name after it, if there is one, or the name's value. Returns the rest.
 fn push_hash<'a>(
     out: &mut String,
-    behind: &'a str,
+    following: &'a str,
     definitions: &BTreeMap<String, ShaderDefValue>,
 ) -> Result<&'a str, AllocError>
     ensures value { let from = spec.replaced_from (get_by_text definitions.now) in
-        let whole = string_bytes out.old ++ from (hash ∷ chars behind.now) in
+        let whole = string_bytes out.old ++ from (hash ∷ chars following.now) in
         IfOk result (λ rest. string_bytes out.new ++ from (chars rest.now) ≡ whole) }
     ensures utf8 { IfOk result (λ rest. IsUtf8 rest.now) }
-    ensures bound { IfOk result (λ rest. length rest.now ≤ length behind.now) }
+    ensures bound { IfOk result (λ rest. length rest.now ≤ length following.now) }
 {
-    let Some((name, rest)) = split_hash_name(behind) else {
+    let Some((name, rest)) = split_hash_name(following) else {
         out.push('#')?;
-        return Ok(behind);
+        return Ok(following);
     };
     let Some(value) = definitions.get(name) else {
         out.push('#')?;
-        out.push_str(text_before(behind, rest))?;
+        out.push_str(text_before(following, rest))?;
         return Ok(rest);
     };
     push_value(out, *value)?;
@@ -103,9 +103,9 @@ pub fn push_replaced(
         OnOk result (string_bytes out.new ≡ string_bytes out.old ++ expected) }
 {
     let mut rest = line;
-    while let Some((front, behind)) = split_at_hash(rest) {
+    while let Some((front, following)) = split_at_hash(rest) {
         out.push_str(front)?;
-        rest = push_hash(out, behind, definitions)?;
+        rest = push_hash(out, following, definitions)?;
     }
     out.push_str(rest)
 }

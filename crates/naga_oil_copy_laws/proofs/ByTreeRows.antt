@@ -1,5 +1,5 @@
 -- A function with a struct, initialisers and a call, copied by hand.
-use Rattle.std.proofs.Common.{◌≡◌, ◌⊎◌, ℕ, zero, suc, ◌+◌, true, List, [], ◌∷◌, map, Some, None, option_map, slice_get, All, IfSome, codes, inl, inr, refl, ap, sym, ◌∙◌, subst, arith}
+use Rattle.std.proofs.Common.{◌≡◌, ◌⊎◌, ℕ, zero, suc, ◌+◌, ◌<◌, true, List, [], ◌∷◌, ◌++◌, map, Some, None, option_map, slice_get, All, IfSome, codes, inl, inr, refl, ap, sym, ◌∙◌, subst, arith}
 use Rattle.std.proofs.lemmas.List.Elements.{All-nil, All-cons}
 use Rattle.std.proofs.lemmas.Option.{none-some, same_Some}
 use Rattle.naga_oil_ir.specs.Body.{Tokens}
@@ -214,6 +214,20 @@ callees_at (suc (suc (suc (suc zero)))) t e = subst Called (same_Some (GiveCall 
 callees_at (suc (suc (suc (suc (suc zero))))) t e = subst Called (same_Some (Use 3) t e) tt
 callees_at (suc (suc (suc (suc (suc (suc i)))))) t e = absurd (none-some t e)
 
+-- ---- nothing else
+
+all_reached : (h : ℕ) → h < 3 → IsReached copy h
+unfolding links.trail
+all_reached zero l = refl
+all_reached (suc zero) l = refl
+all_reached (suc (suc zero)) l = refl
+all_reached (suc (suc (suc h))) l = absurd (omega (arith, l))
+
+names_reached : (i : ℕ) (e : ℕ × List ℕ) → slice_get copy.named_expressions i ≡ Some e → IsReached copy e.0
+unfolding links.trail
+names_reached zero e at = subst (λ (x : ℕ × List ℕ). IsReached copy x.0) (same_Some (1, codes "n") e at) refl
+names_reached (suc i) e at = absurd (none-some e at)
+
 -- ---- the copy
 
 copied : CopiesByTree (shifted 10) (λ n. n) (scope_of from) source (scope_of to) copy
@@ -230,7 +244,13 @@ copied = record {
   emits = emits_at;
   names = record { order = refl; each = λ h n w i. named_at h n i };
   alike = record { types = types_at; expressions = λ k e w i. expressions_at k w e i; callees = callees_at };
+  nothing_else = record { expressions = all_reached; names = names_reached; leaf = refl };
 }
+
+-- an expression that nothing reaches makes no copy
+unreached : CopiesByTree (shifted 10) (λ n. n) (scope_of from) source (scope_of to) (record copy { expressions = copy.expressions ++ expression_values ((Literal 0 9, span_of 19) ∷ []) }) → ⊥
+unfolding links.trail
+unreached c = let r = c.nothing_else.expressions 3 (omega arith) in cc
 
 -- an operand that isn't mapped makes no copy
 unmapped : CopiesByTree (shifted 10) (λ n. n) (scope_of from) source (scope_of to) (copy_with 1) → ⊥

@@ -166,6 +166,7 @@ compose m n p q a b c f g h ef eg x y =
       emits = emits-after m x.goes y.goes f g h ef i x.expressions j;
       names = names-after x.goes y.goes f g h x.names y.names;
       alike = alike-after p q a b c x.goes y.goes f g ef eg i (types_image x.goes f g x.arguments x.outcome x.locals) x.alike y.alike;
+      nothing_else = y.nothing_else;
     }
 
 named_alike-same : (a : Scope) (n : Named) → NamesAlike (λ t. t) a a unchanged n
@@ -203,6 +204,7 @@ reflexive a f s =
       emits = λ i p e. sym (map-same (λ (x : ℕ). x) (λ x. refl) (others (begun f) (places p)) ∙ s.apart i p e);
       names = names-same f;
       alike = record { types = λ k h n. refl; expressions = λ k e w i. named_alike-same a e.0.named; callees = λ i t e. called_alike-same a t };
+      nothing_else = s.nothing_else;
     }
   where
     same_result : (o : Option FunctionResult) → option_map (result_under unchanged) o ≡ o
@@ -224,4 +226,5 @@ as_copied m p a b f g ef eg x =
       earlier = eg;
       there = λ k w. let j = x.expressions.onto k w in let c = x.expressions.copies j.0 j.1 in slice_get_within g.expressions k c.copy (ap (slice_get g.expressions) (sym j.2) ∙ c.at_copy);
       apart = λ j q e. let r = emitted_back x.goes f g i j q e in ap (λ z. others (begun g) (places z)) (sym r.2) ∙ apart m x.goes f g ef i x.expressions j r.0 r.1 ∙ ap places r.2;
+      nothing_else = x.nothing_else;
     }

@@ -71,6 +71,7 @@ alike m p a b c d f g x y w = record {
     expressions = λ k e r at. named_alike p a b c d w.goes e.0.named x y (w.alike.expressions k e r at);
     callees = λ i t at. callee_alike p a b c d w.goes t x y (w.alike.callees i t at);
   };
+  nothing_else = w.nothing_else;
 }
 
 -- ---- modules that get more
@@ -131,6 +132,7 @@ target m p a f g t u ef eg w more there c = (
     emits = c.emits;
     names = c.names;
     alike = alike-after p (λ s. s) a (scope_of t) (scope_of u) c.goes unchanged f g ef eg (image_of m p a (scope_of t) f g c) (types_image c.goes f g c.arguments c.outcome c.locals) c.alike (stays_alike t u w more g there);
+    nothing_else = c.nothing_else;
   },
   there_more t u more g there,
 )

@@ -47,7 +47,7 @@ function_holds fs b first d f span i c w can have among held =
     let x = answered fs b t.0.value s.0 stands.answered s.1 (sym t.2.value) own (comes_there d.source s.0 (λ y. HoldsCopies fs b y d) s.1 held) in
     let same : t.0 ≡ x.source = same_Some t.0 x.source (sym t.1 ∙ stands.last.source ∙ x.is) in
     let last = subst (λ y. ComesLast y f span stands.between e law.place) same stands.last in
-    into e.source x.source (λ y. HoldsCopies fs b y e) (t.1 ∙ ap Some same) (holds_last fs b x.source f span stands.between e law.place last among (own.copyable f among) x.hand x.holds)
+    into e.source x.source (λ y. HoldsCopies fs b y e) (t.1 ∙ ap Some same) (holds_last fs b x.source f span stands.between e law.place last among (own.copyable (f, span) among) x.hand x.holds)
 
 pub source_holds : SourceHoldsLaw
 source_holds fs first d m shift i c a names =
@@ -75,14 +75,14 @@ items_hold fs b d e k held = one d.source refl
         into e.source t.0 (λ y. HoldsCopies fs b y e) t.1 t.3
 
 pub held_copies : HeldCopiesLaw
-held_copies fs b first d i have held = if_source d.source (λ s. (k : ℕ) (g : FunctionValue × Span) → b ≤ k → slice_get d.target.functions k ≡ Some g → CopiesOne fs s d.target g.0) (λ s at k g w q. one s at k g w q)
+held_copies fs b first d i have held = if_source d.source (λ s. (k : ℕ) (g : FunctionValue × Span) → b ≤ k → slice_get d.target.functions k ≡ Some g → CopiesOne fs s d.target g) (λ s at k g w q. one s at k g w q)
   where
-    one : (s : Source) → d.source ≡ Some s → (k : ℕ) (g : FunctionValue × Span) → b ≤ k → slice_get d.target.functions k ≡ Some g → CopiesOne fs s d.target g.0
+    one : (s : Source) → d.source ≡ Some s → (k : ℕ) (g : FunctionValue × Span) → b ≤ k → slice_get d.target.functions k ≡ Some g → CopiesOne fs s d.target g
     one s at k g w q =
         let m = (comes_there d.source s (λ y. HoldsCopies fs b y d) at held).made k g w q in
         let can = (comes_there d.source s (HaveSource fs) at have).copyable m.function m.among in
-        let c = made first d s m.function g.0 i at can.may m.made in
-        record { function = m.function; among = m.among; copies = c.0; earlier = c.1 }
+        let c = made first d s m.function.0 g.0 i at can.may m.made in
+        record { function = m.function; among = m.among; copies = c.0; earlier = c.1; span = m.span }
 
 pub localized : LocalizedCopyLaw
 localized first d f i names c can hand = one d.source refl

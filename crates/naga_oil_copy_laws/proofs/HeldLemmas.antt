@@ -55,16 +55,16 @@ made_later r s t u f g l w m = record {
   copies = m.copies;
 }
 
-one_later : (fs : List FunctionValue) (r s : Source) (t u : ModuleValue) (g : FunctionValue) → IsLaterSource r s → FunctionsStay t u → IsMadeOfOne fs r t g → IsMadeOfOne fs s u g
-one_later fs r s t u g l w m = record { function = m.function; among = m.among; made = made_later r s t u m.function g l w m.made }
+one_later : (fs : List (FunctionValue × Span)) (r s : Source) (t u : ModuleValue) (g : FunctionValue × Span) → IsLaterSource r s → FunctionsStay t u → IsMadeOfOne fs r t g → IsMadeOfOne fs s u g
+one_later fs r s t u g l w m = record { function = m.function; among = m.among; made = made_later r s t u m.function.0 g.0 l w m.made; span = m.span ∙ ap (λ k. shifted k m.function.1) (sym l.offset) }
 
 -- where no function comes
-pub holds_on : (fs : List FunctionValue) (b : ℕ) (r s : Source) (d e : Derived) → IsLaterSource r s → e.target.functions ≡ d.target.functions → e.function_names ≡ d.function_names → HoldsCopies fs b r d → HoldsCopies fs b s e
+pub holds_on : (fs : List (FunctionValue × Span)) (b : ℕ) (r s : Source) (d e : Derived) → IsLaterSource r s → e.target.functions ≡ d.target.functions → e.function_names ≡ d.function_names → HoldsCopies fs b r d → HoldsCopies fs b s e
 holds_on fs b r s d e l f n h =
     let stay = λ (k : ℕ) (x : FunctionValue × Span) (at : slice_get d.target.functions k ≡ Some x). (let all : slice_get e.target.functions k ≡ Some x = ap (λ xs. slice_get xs k) f ∙ at in all) in
     record {
       are_true = subst (AreTrueIn e.target) (sym n) (true_later d.target e.target d.function_names stay h.are_true);
-      made = λ k g w at. one_later fs r s d.target e.target g.0 l stay (h.made k g w (ap (λ xs. slice_get xs k) (sym f) ∙ at));
+      made = λ k g w at. one_later fs r s d.target e.target g l stay (h.made k g w (ap (λ xs. slice_get xs k) (sym f) ∙ at));
     }
 
 pub source_is : (a b : Option Source) (s : Source) → a ≡ Some s → KeepsSource a b → (t : Source) × (b ≡ Some t) × IsLaterSource s t
@@ -73,7 +73,7 @@ source_is (Some r) None s e k = absurd k
 source_is (Some r) (Some t) s e k = (t, refl, subst (λ x. IsLaterSource x t) (same_Some r s e) k)
 
 -- where items come
-pub holds_items : (fs : List FunctionValue) (b : ℕ) (d e : Derived) (s : Source) → d.source ≡ Some s → Keeps d e → HoldsCopies fs b s d → (t : Source) × (e.source ≡ Some t) × IsLaterSource s t × HoldsCopies fs b t e
+pub holds_items : (fs : List (FunctionValue × Span)) (b : ℕ) (d e : Derived) (s : Source) → d.source ≡ Some s → Keeps d e → HoldsCopies fs b s d → (t : Source) × (e.source ≡ Some t) × IsLaterSource s t × HoldsCopies fs b t e
 holds_items fs b d e s at k h =
     let t = source_is d.source e.source s at k.source in
     (t.0, t.1, t.2, holds_on fs b s t.0 d e t.2 (ap (λ (v : ModuleValue). v.functions) k.items.rest) k.names h)
@@ -99,7 +99,7 @@ last_cases (z ∷ fs) y zero x e = inl e
 last_cases (z ∷ fs) y (suc k) x e = last_cases fs y k x e
 
 -- the functions of e, and the copy of x after them
-pub holds_last : (fs : List FunctionValue) (b : ℕ) (s : Source) (x : FunctionValue) (span : Span) (d e : Derived) (h : ℕ) → ComesLast s x span d e h → IsOneOf fs x → IsCopyableFunction x → All (IsAtHand s d.function_names) (requests_of x) → HoldsCopies fs b s d → HoldsCopies fs b s e
+pub holds_last : (fs : List (FunctionValue × Span)) (b : ℕ) (s : Source) (x : FunctionValue) (span : Span) (d e : Derived) (h : ℕ) → ComesLast s x span d e h → IsOneOf fs (x, span) → IsCopyableFunction x → All (IsAtHand s d.function_names) (requests_of x) → HoldsCopies fs b s d → HoldsCopies fs b s e
 holds_last fs b s x span d e h l among can hand held =
     let new : FunctionValue × Span = (l.copy, last_span) in
     let functions : e.target.functions ≡ d.target.functions ++ new ∷ [] = ap (λ (v : ModuleValue). v.functions) l.target in
@@ -116,7 +116,7 @@ holds_last fs b s x span d e h l among can hand held =
     } in
     record {
       are_true = λ n k i. ⊎_elim (λ q. true_later d.target e.target d.function_names stay held.are_true n k q) (λ (q : (x.name ≡ n) × (h ≡ k)). ap (name_of_function e.target) (sym q.1) ∙ name ∙ q.0) (meaning_cases d.function_names x.name n h k (sym (ap (λ ns. meant ns n) l.names) ∙ i));
-      made = λ k g w at. ⊎_elim (λ q. one_later fs s s d.target e.target g.0 (later_same s) stay (held.made k g w q)) (λ (q : new ≡ g). subst (IsMadeOfOne fs s e.target) (ap (λ (y : FunctionValue × Span). y.0) q) (record { function = x; among = among; made = own })) (last_cases d.target.functions new k g (ap (λ xs. slice_get xs k) (sym functions) ∙ at));
+      made = λ k g w at. ⊎_elim (λ q. one_later fs s s d.target e.target g (later_same s) stay (held.made k g w q)) (λ (q : new ≡ g). subst (IsMadeOfOne fs s e.target) q (record { function = (x, span); among = among; made = own; span = refl })) (last_cases d.target.functions new k g (ap (λ xs. slice_get xs k) (sym functions) ∙ at));
     }
   where
     last_span : Span
@@ -133,11 +133,11 @@ hand_later s t ns qs (Item p) l w a = (a.0, l.went p a.0 a.1)
 hand_later s t ns qs (Call k) l w a =
     some_there (meant_at qs (slice_get t.value.functions k)) (ap (λ (v : ModuleValue). is_some (meant_at qs (slice_get v.functions k))) l.value ∙ meant_later ns qs (slice_get s.value.functions k) w (ap is_some a.1))
 
-have_later : (fs : List FunctionValue) (s t : Source) → IsLaterSource s t → HaveSource fs s → HaveSource fs t
+have_later : (fs : List (FunctionValue × Span)) (s t : Source) → IsLaterSource s t → HaveSource fs s → HaveSource fs t
 have_later fs s t l h = record { copyable = h.copyable; functions = λ k x at. h.functions k x (ap (λ (v : ModuleValue). slice_get v.functions k) (sym l.value) ∙ at) }
 
 -- what is so once requests were answered
-pub record Answered (fs : List FunctionValue) (b : ℕ) (s : Source) (d e : Derived) (rs : List Request) : Type 0 where
+pub record Answered (fs : List (FunctionValue × Span)) (b : ℕ) (s : Source) (d e : Derived) (rs : List Request) : Type 0 where
   pub source : Source
   pub is : e.source ≡ Some source
   pub later : IsLaterSource s source
@@ -153,7 +153,7 @@ pub comes_there : (a : Option Source) (t : Source) (P : Source → Type 0) → a
 comes_there None t P e i = absurd (none-some t e)
 comes_there (Some s) t P e i = subst P (same_Some s t e) i
 
-pub answered : (fs : List FunctionValue) (b : ℕ) (v : ModuleValue) {d e : Derived} {rs : List Request} (s : Source) → Answers v d rs e → d.source ≡ Some s → s.value ≡ v → HaveSource fs s → HoldsCopies fs b s d → Answered fs b s d e rs
+pub answered : (fs : List (FunctionValue × Span)) (b : ℕ) (v : ModuleValue) {d e : Derived} {rs : List Request} (s : Source) → Answers v d rs e → d.source ≡ Some s → s.value ≡ v → HaveSource fs s → HoldsCopies fs b s d → Answered fs b s d e rs
 answered fs b v {d} s AllAnswered at is have held = record { source = s; is = at; later = later_same s; knows = λ n w. w; holds = held; hand = All-nil (IsAtHand s d.function_names) }
 answered fs b v {d} {e = f} s (ItemCopied {e = e} {p = p} {rs = rs} q i r k a) at is have held =
     let x = holds_items fs b d e s at k held in
@@ -185,7 +185,7 @@ answered fs b v {d} {e = g} s (FunctionCopied {e = e} {f = f} {k = k} {x = x} {r
     let t = first.source in
     let l : ComesLast t x.0 x.1 e f h = comes_there e.source t (λ y. ComesLast y x.0 x.1 e f h) first.is c in
     let among = have.functions k x (ap (λ (w : ModuleValue). slice_get w.functions k) is ∙ m) in
-    let held_last = holds_last fs b t x.0 x.1 e f h l among (have.copyable x.0 among) first.hand first.holds in
+    let held_last = holds_last fs b t x.0 x.1 e f h l among (have.copyable x among) first.hand first.holds in
     let more : KnowsMore e.function_names f.function_names = λ o w. ap (λ ns. is_some (meant ns o)) l.names ∙ meaning_more e.function_names x.0.name h o w in
     let rest = answered fs b v t z (l.source ∙ first.is) (first.later.value ∙ is) (have_later fs s t first.later have) held_last in
     let own : IsAtHand t f.function_names (Call k) = (h, ap (λ (w : ModuleValue). meant_at f.function_names (slice_get w.functions k)) (first.later.value ∙ is) ∙ ap (meant_at f.function_names) m ∙ l.means) in

@@ -73,8 +73,8 @@ within_step n m shift s p = refl
 depth_is : (m : ModuleValue) → (n : ℕ) × (depth m ≡ suc n)
 depth_is m = (2 * length m.types + 2 * length m.global_expressions + 1, omega arith)
 
-put_behind : (m : ModuleValue) (shift : ℕ) (s : CopyState) (p : ItemPlace) (r : Row) → (c : IsCopyable m) → world m p ≡ Some r → goes s.places p ≡ None → copy_item m shift s p ≡ put m shift (copy_all m shift s r.names) p
-put_behind m shift s p r c at fresh =
+put_after : (m : ModuleValue) (shift : ℕ) (s : CopyState) (p : ItemPlace) (r : Row) → (c : IsCopyable m) → world m p ≡ Some r → goes s.places p ≡ None → copy_item m shift s p ≡ put m shift (copy_all m shift s r.names) p
+put_after m shift s p r c at fresh =
     let d = depth_is m in
     let n = d.0 in
     let f = copy_within n m shift in
@@ -104,7 +104,7 @@ put_step b m shift kept c n p r at l s i o below fresh =
     let w = reads_now m s in
     let fresh_t = still_nowhere m shift kept w s t (names_trail (trail_in m kept w) r.names) p g.0 (not_among m kept w c.rank p r.names (lowers m c.rank s c.ranked) (lower_names m c.rank p r.names names)) fresh in
     let puts = put_item m shift t p r (record { source = c.kinds; target = g.0.midway.kinds; roomy = g.0.midway.roomy; at = at; names = g.1 }) in
-    subst (Only b) (sym (put_behind m shift s p r c at fresh)) (put_only b m t (put m shift t p) p r (spans_by m shift p) puts fresh_t only)
+    subst (Only b) (sym (put_after m shift s p r c at fresh)) (put_only b m t (put m shift t p) p r (spans_by m shift p) puts fresh_t only)
 
 item_only : (b : World) (m : ModuleValue) (shift : ℕ) (kept : Kept) → (c : IsCopyable m) → (n : ℕ) (p : ItemPlace) → HasAt m p → c.rank p < n → (s : CopyState) → IsMidway m kept s → Only b s → Only b (copy_item m shift s p)
 item_only b m shift kept c zero p h l s i o = absurd (omega (arith, l))

@@ -14,3 +14,4 @@ mod ByTreeRows
 pub mod TurnLaws
 pub mod ItemLaws
 pub mod CallLaws
+pub mod EntryLaws

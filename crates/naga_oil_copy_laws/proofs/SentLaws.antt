@@ -34,7 +34,7 @@ use Rattle.naga_oil_derive.specs.World.{world}
 use Rattle.naga_oil_derive.proofs.CopyLoops.{there}
 use Rattle.naga_oil_redirect.specs.Redirected.{sent, send, send_at, redirected, is_named}
 use Rattle.naga_oil_copy_laws.specs.Scope.{Scope, CalledAlike, name_of_function, scope_of}
-use Rattle.naga_oil_copy_laws.specs.ByTree.{IsReached, named_places, NamesAlike, callee_in, CopiesByTree}
+use Rattle.naga_oil_copy_laws.specs.ByTree.{IsReached, named_places, NamesAlike, HasNothingElse, callee_in, CopiesByTree}
 use Rattle.naga_oil_copy_laws.specs.ByTreeLaw.{IsAsCopied}
 use Rattle.naga_oil_copy_laws.specs.Frame.{AreAlike}
 use Rattle.naga_oil_copy_laws.specs.SentByTree.{instead_of, IsOnlyOfItsName, SendLaw, RedirectedLaw, RedirectedEntryLaw}
@@ -124,6 +124,19 @@ callee_sent a from to _ o = tt
 
 -- ---- one function
 
+-- the size stays
+as_long : (f : FunctionValue) (from to : ℕ) → length (send from to f).expressions ≡ length f.expressions
+as_long f from to = length-map f.expressions (λ (e : Parts × Span). (rename (sent from to) e.0, e.1))
+
+sent_nothing_else : (f : FunctionValue) (from to : ℕ) → HasNothingElse f → HasNothingElse (send from to f)
+sent_nothing_else f from to n =
+    let reached = λ (k : ℕ) (w : IsReached f k). (let r : IsReached (send from to f) k = ap (λ xs. has xs k) (reached_same from to f) ∙ w in r) in
+    record {
+      expressions = λ h l. (let size = as_long f from to in reached h (n.expressions h (omega (arith, l, size))));
+      names = λ i e at. reached e.0 (n.names i e at);
+      leaf = n.leaf;
+    }
+
 pub same_result : (r : Renames) → ((h : ℕ) → r.ty h ≡ h) → (o : Option FunctionResult) → option_map (result_under r) o ≡ o
 same_result r e None = refl
 same_result r e (Some x) = ap (λ t. Some (record x { ty = t })) (e x.ty)
@@ -159,6 +172,7 @@ copies_sent a f from to s only =
         expressions = λ k e w q. named_sent a from to e.0.named only;
         callees = λ i t e. callee_sent a from to t only;
       };
+      nothing_else = sent_nothing_else f from to s.nothing_else;
     }
 
 pub as_sent : (f : FunctionValue) (from to : ℕ) → IsAsCopied f → IsAsCopied (send from to f)
@@ -169,6 +183,7 @@ as_sent f from to s = record {
       let size : length (send from to f).expressions ≡ length f.expressions = length-map f.expressions (λ (e : Parts × Span). (rename (sent from to) e.0, e.1)) in
       omega (arith, l, size);
   apart = λ i p e. ap (λ xs. others xs (places p)) (begun_same from to f) ∙ s.apart i p (emits_before i p e);
+  nothing_else = sent_nothing_else f from to s.nothing_else;
 }
   where
     unsent : (o : Option Token) (p : ℕ × ℕ) → option_map (rename_token (sent from to)) o ≡ Some (Emitted p) → o ≡ Some (Emitted p)

@@ -40,7 +40,7 @@ use Rattle.naga_oil_derive.proofs.ReachedLaws.{order_reached}
 use Rattle.naga_oil_walk.proofs.WalkLemmas.{added-append, has_at}
 use Rattle.naga_oil_walk.proofs.WalkNotes.{added-grows}
 use Rattle.naga_oil_copy_laws.specs.Scope.{ReadAlike, CalledAlike, name_of_function, scope_of, scope_from}
-use Rattle.naga_oil_copy_laws.specs.ByTree.{IsReached, HasCopy, HasSpan, NameComes, KeepNames, NamesAlike, callee_in, CopiesByTree}
+use Rattle.naga_oil_copy_laws.specs.ByTree.{IsReached, HasCopy, HasSpan, NameComes, KeepNames, NamesAlike, HasNothingElse, callee_in, CopiesByTree}
 use Rattle.naga_oil_copy_laws.specs.ByTreeLaw.{HasEarlierOperands}
 use Rattle.naga_oil_copy_laws.specs.CopiedByTree.{AreTrueIn, IsAtHand, IsMade, MadeLaw}
 use Rattle.naga_oil_copy_laws.proofs.NameLemmas.{added-map, added-twice}
@@ -249,6 +249,25 @@ names_kept r f g may c =
       each = λ h n w i. ⊎_elim (λ (x : IsIn [] h n). absurd (none-some (h, n) x.1)) (λ (x : IsNameOf t f.named_expressions h n). name_comes r f g may c h n x) (name_from t f.named_expressions [] i.0 h n (ap (λ es. slice_get es i.0) (sym c.named_expressions) ∙ i.1));
     }
 
+-- ---- nothing else
+
+nothing_else : (r : Renames) (f g : FunctionValue) → MayBeCopied f → Copies r f g → HasNothingElse g
+nothing_else r f g may c =
+    let p = place_under c.table in
+    let o = order_of f in
+    let reached = λ (k h : ℕ) (w : IsReached f k) (e : p k ≡ h). subst (IsReached g) e (reached_on (goes_by r f g c) f g may.form.earlier (earlier_copy r f g may c) (image_of_copy r f g may c) k w) in
+    record {
+      expressions = λ h l.
+          let k = first_at p o h (has_copy r f.expressions (begun f) o c.table g.expressions h c.expressions l) in
+          reached k.1 h (sym (order_reached f may k.1) ∙ has_at o k.0 k.1 k.2) k.3;
+      names = λ i e at.
+          ⊎_elim
+          (λ (x : IsIn [] e.0 e.1). absurd (none-some (e.0, e.1) x.1))
+          (λ (x : IsNameOf c.table f.named_expressions e.0 e.1). let n = name_comes r f g may c e.0 e.1 x in reached n.place e.0 n.reached n.goes)
+          (name_from c.table f.named_expressions [] i e.0 e.1 (ap (λ es. slice_get es i) (sym c.named_expressions) ∙ at));
+      leaf = c.leaf;
+    }
+
 -- ---- what is named
 
 kind_went : (f : ℕ → ItemPlace) (o : Option ℕ) (k : ℕ) (q : ItemPlace) → option_map f o ≡ Some q → f (unwrap_or o k) ≡ q
@@ -320,6 +339,7 @@ made_by first d s f g i at may w =
         expressions = λ k e x q. named_alike first d s w.before w.names c.table c.range e.0.named i at w.later w.are_true (w.at_hand.expressions k e x q);
         callees = λ j t q. callee_alike d.target s w.before w.names t w.later w.are_true (w.at_hand.callees j t q);
       };
+      nothing_else = nothing_else r f g may c;
     }
 
 pub made : MadeLaw

@@ -116,7 +116,7 @@ own_names w v m p e = ap (λ o. option_map (under_name (name_at v o)) (w p)) e �
 
 -- ---- how the copies stand while they come
 
-pub record Turn (m : ModuleValue) (fs : List FunctionValue) (d : Derived) : Type 0 where
+pub record Turn (m : ModuleValue) (fs : List (FunctionValue × Span)) (d : Derived) : Type 0 where
   pub source : Source
   pub is : d.source ≡ Some source
   pub value : source.value ≡ m
@@ -125,9 +125,9 @@ pub record Turn (m : ModuleValue) (fs : List FunctionValue) (d : Derived) : Type
   pub holds : HoldsCopies fs 0 source d
   pub reads : as_read source d.target ≡ world m
 
--- the functions of a module
-abbrev pub functions_in : ModuleValue → List FunctionValue
-functions_in m = map (λ (x : FunctionValue × Span). x.0) m.functions
+-- the functions of a module, with their spans
+abbrev pub functions_in : ModuleValue → List (FunctionValue × Span)
+functions_in m = m.functions
 
 pub no_meaning : (n : Text) (h : ℕ) → meant [] n ≡ Some h → ⊥
 no_meaning None h e = none-some h e
@@ -172,26 +172,16 @@ into o s P e p = subst (λ x. IfSome x P) (sym e) p
 pub of_value : (m v : ModuleValue) (P : ModuleValue → Type 0) → v ≡ m → P m → P v
 of_value m v P e p = subst P (sym e) p
 
-pub turn_copies : (m : ModuleValue) (fs : List FunctionValue) (d : Derived) → CanCopyModule m → Turn m fs d → HaveCopies d
+pub turn_copies : (m : ModuleValue) (fs : List (FunctionValue × Span)) (d : Derived) → CanCopyModule m → Turn m fs d → HaveCopies d
 turn_copies m fs d can t = into d.source t.source (λ s. (k : ℕ) (x : FunctionValue × Span) → slice_get s.value.functions k ≡ Some x → HasCopies x.0) t.is (λ k x at. has_copies x.0 (can.functions k x (ap (λ (v : ModuleValue). slice_get v.functions k) (sym t.value) ∙ at)).0.copyable)
 
-pub turn_can : (m : ModuleValue) (fs : List FunctionValue) (d : Derived) (f : FunctionValue) → CanCopyWhole m f → Turn m fs d → CanCopy d f
+pub turn_can : (m : ModuleValue) (fs : List (FunctionValue × Span)) (d : Derived) (f : FunctionValue) → CanCopyWhole m f → Turn m fs d → CanCopy d f
 turn_can m fs d f c t = (ap is_some t.is, into d.source t.source (λ s. MayCopy s.value (MayCall s.value d.function_names (length s.value.functions)) f) t.is (of_value m t.source.value (λ v. MayCopy v (MayCall v d.function_names (length v.functions)) f) t.value (copy_any m d.function_names f c.reaches)))
-
-pub among_functions : (m : ModuleValue) (k : ℕ) (x : FunctionValue × Span) → slice_get m.functions k ≡ Some x → IsOneOf (functions_in m) x.0
-among_functions m k x at = (k, slice_get-map (λ (y : FunctionValue × Span). y.0) m.functions k ∙ ap (option_map (λ (y : FunctionValue × Span). y.0)) at)
-
-pub function_back : (o : Option (FunctionValue × Span)) (f : FunctionValue) → option_map (λ (y : FunctionValue × Span). y.0) o ≡ Some f → (x : FunctionValue × Span) × (o ≡ Some x) × (x.0 ≡ f)
-function_back None f e = absurd (none-some f e)
-function_back (Some x) f e = (x, refl, same_Some x.0 f e)
-
-pub one_back : (m : ModuleValue) (f : FunctionValue) → IsOneOf (functions_in m) f → (k : ℕ) × (x : FunctionValue × Span) × (slice_get m.functions k ≡ Some x) × (x.0 ≡ f)
-one_back m f w = let b = function_back (slice_get m.functions w.0) f (sym (slice_get-map (λ (y : FunctionValue × Span). y.0) m.functions w.0) ∙ w.1) in (w.0, b.0, b.1, b.2)
 
 pub turn_source : (m : ModuleValue) (d : Derived) → CanCopyModule m → (t : Turn m (functions_in m) d) → HaveSource (functions_in m) t.source
 turn_source m d can t = record {
-  copyable = λ f w. let b = one_back m f w in subst IsCopyableFunction b.3 (can.functions b.0 b.1 b.2).0.copyable;
-  functions = λ k x at. among_functions m k x (ap (λ (v : ModuleValue). slice_get v.functions k) (sym t.value) ∙ at);
+  copyable = λ f w. (can.functions w.0 f w.1).0.copyable;
+  functions = λ k x at. (k, ap (λ (v : ModuleValue). slice_get v.functions k) (sym t.value) ∙ at);
 }
 
 -- ---- steps
@@ -248,7 +238,7 @@ turn_function m d k x can t at =
     let s = source_is d.source e.source t.source t.is law.keeps.source in
     let stands : FunctionStands d e x.0 x.1 law.place s.0 = comes_there e.source s.0 (FunctionStands d e x.0 x.1 law.place) s.1 law.imported in
     let r = reads_then s.0.value (world m) stands.answered (ap is_some t.is) (turn_reads m d t) in
-    turn_by m d e t law.derivation law.keeps (function_holds (functions_in m) 0 nowhere d x.0 x.1 t.derivation c w may (turn_have m d can t) (among_functions m k x at) (turn_held m d t)) (reads_last s.0 x.0 x.1 stands.between e law.place (world m) (sym stands.last.source ∙ s.1) stands.last r.1)
+    turn_by m d e t law.derivation law.keeps (function_holds (functions_in m) 0 nowhere d x.0 x.1 t.derivation c w may (turn_have m d can t) (k, at) (turn_held m d t)) (reads_last s.0 x.0 x.1 stands.between e law.place (world m) (sym stands.last.source ∙ s.1) stands.last r.1)
 
 -- requests are answered
 pub turn_answers : (m : ModuleValue) (d : Derived) (f : FunctionValue) → CanCopyModule m → CanCopyWhole m f → (t : Turn m (functions_in m) d) → Turns m d (answer_requests d (requests_of f)) t.source × AreAtHand (answer_requests d (requests_of f)) (requests_of f)
@@ -436,9 +426,8 @@ whole m st can en =
     record {
       functions = λ k g at.
           let w = t.holds.made k g zero-le at in
-          let b = one_back m w.function w.among in
-          let c = turn_made m st.derived n w.function g.0 t same (subst IsCopyableFunction b.3 (can.functions b.0 b.1 b.2).0.copyable) w.made in
-          record { place = b.0; function = b.1; at = b.2; copies = subst (λ f. CopiesInto m n f g.0) (sym b.3) c };
+          let b = w.among in
+          record { place = b.0; function = w.function; at = b.1; copies = turn_made m st.derived n w.function.0 g.0 t same (can.functions b.0 w.function b.1).0.copyable w.made };
       entry_points = λ i y at.
           let w = en.each i y at in
           record { entry = w.entry; at = w.at; copies = turn_made m st.derived n w.entry.function y.function t same (can.entry_points i w.entry w.at).0.copyable w.made_of };

@@ -1,5 +1,5 @@
 -- Copies of functions without the handles of either module: items by their trees, callees by their names.
-use Rattle.std.specs.Prelude.{ℕ, ◌≡◌, ◌⊎◌, true, List, [], ◌++◌, map, Option, Some, None, option_map, option_to_list, slice_get, IfSome}
+use Rattle.std.specs.Prelude.{ℕ, ◌≡◌, ◌<◌, ◌⊎◌, true, List, [], ◌++◌, length, map, Option, Some, None, option_map, option_to_list, slice_get, IfSome}
 use Rattle.std.specs.List.{filter}
 use Rattle.std.specs.Map.{keys_of}
 use Rattle.naga_oil_ir.specs.Parts.{Parts}
@@ -109,6 +109,15 @@ pub record NameAlike (sends : Text → Text) (a b : Scope) (r : Renames) (f : Fu
       (i : ℕ) (t : Token) → slice_get f.body i ≡ Some t →
       IfSome (callee_in t) (λ h. CalledAlike sends a b h (r.function h))
 
+-- ---- nothing else
+
+-- initialisers or the body reach each expression of g, each name is that of an expression that is there, and g has no leaf of
+-- diagnostic filters
+pub record HasNothingElse (g : FunctionValue) : Type 0 where
+  pub expressions : (h : ℕ) → h < length g.expressions → IsReached g h
+  pub names : (i : ℕ) (e : ℕ × List ℕ) → slice_get g.named_expressions i ≡ Some e → IsReached g e.0
+  pub leaf : g.diagnostic_filter_leaf ≡ None
+
 -- ---- functions
 
 -- g in the scope b is a copy of f in the scope a: spans are moved, items read alike, and where f calls a function, g calls the one
@@ -131,3 +140,4 @@ pub record CopiesByTree
       places (goes.range p) ≡ map goes.expression (others (begun f) (places p))
   pub names : KeepNames goes f g
   pub alike : NameAlike sends a b goes f
+  pub nothing_else : HasNothingElse g

@@ -10,18 +10,19 @@ use Rattle.naga_oil_derive.specs.Copies.{value_links}
 use Rattle.naga_oil_derive.specs.Functions.{begun}
 use Rattle.naga_oil_walk.specs.Walk.{others}
 use Rattle.naga_oil_copy_laws.specs.Scope.{Scope}
-use Rattle.naga_oil_copy_laws.specs.ByTree.{IsReached, CopiesByTree}
+use Rattle.naga_oil_copy_laws.specs.ByTree.{IsReached, HasNothingElse, CopiesByTree}
 
 -- each operand stands before the expression that it belongs to
 abbrev pub HasEarlierOperands : FunctionValue → Type 0
 HasEarlierOperands f = AreEarlier (value_links f.expressions)
 
--- f is in the form of copies: each operand stands before its expression, what is reached is there, and nothing is emitted that
--- initialisers reach
+-- f is in the form of copies: each operand stands before its expression, what is reached is there, nothing is emitted that
+-- initialisers reach, and there is nothing else
 pub record IsAsCopied (f : FunctionValue) : Type 0 where
   pub earlier : HasEarlierOperands f
   pub there : (k : ℕ) → IsReached f k → k < length f.expressions
   pub apart : (i : ℕ) (p : ℕ × ℕ) → EmitsAt f i p → others (begun f) (places p) ≡ places p
+  pub nothing_else : HasNothingElse f
 
 -- LAW: a function in the form of copies is a copy of itself
 abbrev pub ReflexiveLaw : Type 0

@@ -8,3 +8,4 @@ pub mod Frame
 pub mod SentByTree
 pub mod InTurn
 pub mod ItemsByTree
+pub mod EntryByTree

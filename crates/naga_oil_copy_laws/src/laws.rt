@@ -1,6 +1,7 @@
 //! Laws of copies by tree.
 ghost use Rattle.naga_oil_copy_laws.specs.ByTreeLaw.{ReflexiveLaw, ComposeLaw, AsCopiedLaw};
 ghost use Rattle.naga_oil_copy_laws.specs.CopiedByTree.{AtHandLaw, MadeLaw, CallsLaw, GivenLaw};
+ghost use Rattle.naga_oil_copy_laws.specs.EntryByTree.{EntryComposeLaw};
 ghost use Rattle.naga_oil_copy_laws.specs.Frame.{AlikeLaw, TargetLaw, SourceLaw, ThereLaw, KeysLaw};
 ghost use Rattle.naga_oil_copy_laws.specs.InTurn.{InTurnLaw, InOrderLaw};
 ghost use Rattle.naga_oil_copy_laws.specs.ItemsByTree.{SourceItemsLaw, ImportedItemsLaw, RenamedItemsLaw, AnsweredItemsLaw, FunctionItemsLaw, HeldItemsLaw};
@@ -75,4 +76,9 @@ pub fn items_of_sources()
 pub fn functions_call_what_they_name()
     ensures given { GivenLaw }
     ensures copies { CallsLaw }
+{}
+
+/// A copy of a copy of an entry point is a copy.
+pub fn copies_of_entry_points_compose()
+    ensures { EntryComposeLaw }
 {}

@@ -168,8 +168,8 @@ not_among m kept w rank p ps l a h =
     omega (arith, self)
 
 -- an item is copied after what it names
-behind_names : (m : ModuleValue) (shift : ℕ) (kept : Kept) (rank : ItemPlace → ℕ) (w : World) (s t : CopyState) (p : ItemPlace) (r : Row) → IsKinded m → IsRankedBy m rank → world m p ≡ Some r → IsMidway m kept s → reads_now m s ≡ w → goes s.places p ≡ None → GrowsBy m shift kept w s t (names_trail (trail_in m kept w) r.names) → All (WentSomewhere (goes t.places)) r.names → GrowsBy m shift kept w s (put m shift t p) (trail_in m kept w p) × WentSomewhere (goes (put m shift t p).places) (Some p)
-behind_names m shift kept rank w s t p r k a is i e fresh g went =
+after_names : (m : ModuleValue) (shift : ℕ) (kept : Kept) (rank : ItemPlace → ℕ) (w : World) (s t : CopyState) (p : ItemPlace) (r : Row) → IsKinded m → IsRankedBy m rank → world m p ≡ Some r → IsMidway m kept s → reads_now m s ≡ w → goes s.places p ≡ None → GrowsBy m shift kept w s t (names_trail (trail_in m kept w) r.names) → All (WentSomewhere (goes t.places)) r.names → GrowsBy m shift kept w s (put m shift t p) (trail_in m kept w p) × WentSomewhere (goes (put m shift t p).places) (Some p)
+after_names m shift kept rank w s t p r k a is i e fresh g went =
     let u = put m shift t p in
     let l : Lowers w rank = subst (λ v. Lowers v rank) e (lowers m rank s a) in
     let ns = lower_names m rank p r.names (a.names p r is) in
@@ -194,7 +194,7 @@ copies_by m shift kept rank w f p r k a is h s i e =
     let t = copy_each f s r.names in
     let named = names_grow m shift kept w f (λ q. HasAt m q × (rank q < rank p)) h r.names (a.names p r is) s i e in
     let row : copy_row_names f s (world m p) ≡ t = ap (copy_row_names f s) is in
-    if_gone P (goes s.places p) s (put m shift (copy_row_names f s (world m p)) p) (λ q g. (grows_known m shift kept w s p q i e g, (q, g))) (λ fresh. subst (λ v. P (put m shift v p)) (sym row) (behind_names m shift kept rank w s t p r k a is i e fresh named.0 named.1))
+    if_gone P (goes s.places p) s (put m shift (copy_row_names f s (world m p)) p) (λ q g. (grows_known m shift kept w s p q i e g, (q, g))) (λ fresh. subst (λ v. P (put m shift v p)) (sym row) (after_names m shift kept rank w s t p r k a is i e fresh named.0 named.1))
 
 within_copies : (m : ModuleValue) (shift : ℕ) (kept : Kept) (rank : ItemPlace → ℕ) (w : World) → IsKinded m → IsRankedBy m rank → (n : ℕ) (p : ItemPlace) → HasAt m p → rank p < n → CopiesAt m shift kept w (λ s. copy_within n m shift s p) p
 unfolding copy_within
@@ -254,8 +254,8 @@ under_names : (o : Option Text) (r : Row) → (under_name o r).names ≡ r.names
 under_names None r = refl
 under_names (Some n) r = refl
 
-type_behind : (m : ModuleValue) (shift : ℕ) (kept : Kept) (rank : ItemPlace → ℕ) (s t : CopyState) (k : ℕ) (o : Option Text) (r : Row) → IsKinded m → IsRankedBy m rank → world m (TypeItem k) ≡ Some r → IsMidway m kept s → goes s.places (TypeItem k) ≡ None → GrowsBy m shift kept (reads_now m s) s t (names_trail (trail_in m kept (reads_now m s)) r.names) → All (WentSomewhere (goes t.places)) r.names → GrowsBy m shift kept (renamed_at (reads_now m s) k o) s (put_type m shift o t k) (trail_in m kept (renamed_at (reads_now m s) k o) (TypeItem k)) × WentSomewhere (goes (put_type m shift o t k).places) (Some (TypeItem k))
-type_behind m shift kept rank s t k o r kinds a is i fresh g went =
+type_after : (m : ModuleValue) (shift : ℕ) (kept : Kept) (rank : ItemPlace → ℕ) (s t : CopyState) (k : ℕ) (o : Option Text) (r : Row) → IsKinded m → IsRankedBy m rank → world m (TypeItem k) ≡ Some r → IsMidway m kept s → goes s.places (TypeItem k) ≡ None → GrowsBy m shift kept (reads_now m s) s t (names_trail (trail_in m kept (reads_now m s)) r.names) → All (WentSomewhere (goes t.places)) r.names → GrowsBy m shift kept (renamed_at (reads_now m s) k o) s (put_type m shift o t k) (trail_in m kept (renamed_at (reads_now m s) k o) (TypeItem k)) × WentSomewhere (goes (put_type m shift o t k).places) (Some (TypeItem k))
+type_after m shift kept rank s t k o r kinds a is i fresh g went =
     let p = TypeItem k in
     let u = put_type m shift o t k in
     let row = under_name o r in
@@ -296,6 +296,6 @@ copied_named m shift kept s k o c i r fresh =
     let new = renamed_at w k o in
     let t = copy_each (copy_item m shift) s r.0.names in
     let named = names_grow m shift kept w (copy_item m shift) (λ q. HasAt m q × (c.rank q < c.rank p)) (λ q h. item_copies m shift kept w q c h.0) r.0.names (c.ranked.names p r.0 r.1) s i refl in
-    let g = type_behind m shift kept c.rank s t k o r.0 c.kinds c.ranked r.1 i fresh named.0 named.1 in
+    let g = type_after m shift kept c.rank s t k o r.0 c.kinds c.ranked r.1 i fresh named.0 named.1 in
     let is : copy_named_type m shift o s k ≡ put_type m shift o t k = ap (λ v. if is_some v then s else put_type m shift o (copy_row_names (copy_item m shift) s (world m p)) k) fresh ∙ ap (λ v. put_type m shift o (copy_row_names (copy_item m shift) s v) k) r.1 in
     subst (λ u. GrowsBy m shift kept new s u (trail_in m kept new p) × HasCopyNow kept new u p) (sym is) (g.0, has_copy m shift kept new s (put_type m shift o t k) (trail_in m kept new p) p g.0 g.1)

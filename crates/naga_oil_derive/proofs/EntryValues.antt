@@ -82,8 +82,8 @@ entry_made d a f v w answered items is =
 
 -- ---- one entry point more
 
-abbrev behind : List EntryValue → EntriesState → EntriesState
-behind ws s = record { derived = s.derived; entries = ws ++ s.entries }
+abbrev following : List EntryValue → EntriesState → EntriesState
+following ws s = record { derived = s.derived; entries = ws ++ s.entries }
 
 entries_more : (s : EntriesState) (vs : List EntryValue) (v : EntryValue) → copy_entry (copy_entries s vs) v ≡ copy_entries s (vs ++ v ∷ [])
 entries_more s [] v = refl
@@ -93,7 +93,7 @@ pub entries_next : (d e f : Derived) (es : List EntryPoint) (i : ℕ) (x : Entry
 entries_next d e f es i x ws w new l is done one n =
     let from = ap (map entry_value) (take_more es i x l ∙ ap (λ (y : EntryPoint). take i es ++ y ∷ []) (sym is)) ∙ map-append entry_value (take i es) (x ∷ []) in
     let to = ap (map entry_value) n ∙ map-append entry_value ws (w ∷ []) in
-    ap (entries_state f) to ∙ ap (behind (map entry_value ws)) one ∙ ap (λ s. copy_entry s (entry_value x)) done ∙ entries_more (entries_state d []) (map entry_value (take i es)) (entry_value x) ∙ ap (copy_entries (entries_state d [])) (sym from)
+    ap (entries_state f) to ∙ ap (following (map entry_value ws)) one ∙ ap (λ s. copy_entry s (entry_value x)) done ∙ entries_more (entries_state d []) (map entry_value (take i es)) (entry_value x) ∙ ap (copy_entries (entries_state d [])) (sym from)
 
 -- ---- the module
 

@@ -11,7 +11,7 @@ use Rattle.indexmap.specs.IndexMap.{IndexMap}
 use Rattle.naga_oil_form.specs.Links.{Links}
 use Rattle.naga_oil_ir.specs.Body.{block_tokens}
 use Rattle.naga_oil_form.specs.BodyForm.{kinds, named_of, callees, callee, operand_links, MayStand}
-use Rattle.naga_oil_ir.specs.ModuleValue.{ArgumentValue, FunctionValue, argument_value, function_value, expression_values}
+use Rattle.naga_oil_ir.specs.ModuleValue.{ArgumentValue, FunctionValue, argument_value, function_value, expression_values, local_values}
 use Rattle.naga_oil_ir.specs.Parts.{Parts, parts}
 use Rattle.naga_oil_form.specs.WellFormed.{initialisers}
 use Rattle.naga_oil_ir.specs.declared.expression.Expression.{Expression}
@@ -27,7 +27,6 @@ use Rattle.naga_oil_walk.specs.declared.walk.Request.TheVariants.{Item, Call}
 use Rattle.naga_oil_derive.specs.World.{value_of}
 use Rattle.naga_oil_derive.specs.Callees.{known_as, known_at, callee_at}
 use Rattle.naga_oil_derive.specs.Copies.{value_links}
-use Rattle.naga_oil_derive.specs.Functions.{local_values}
 use Rattle.naga_oil_walk.specs.Naming.{local_names, token_names, function_names}
 use Rattle.naga_oil_derive.specs.Imported.{meanings, Asks, MayImport, IsCallable, IsAnswerable, IsImportable}
 use Rattle.naga_oil_derive.specs.DerivedFunctions.{meant, meant_at, local_requests, requests_of, kinds_in, named_in, initialisers_in, MayAsk, MayCopy, MayCall}

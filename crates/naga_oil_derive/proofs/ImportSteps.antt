@@ -102,8 +102,8 @@ abbrev state_with : CopyState → List (FunctionValue × Span) → Meanings → 
 state_with c f n = record { copying = c; functions = f; names = n }
 
 -- the copy of a function, after the others
-put_behind : (source : Module) (f g : Function) (span : Span) (m : Maps) (a b : Functions) → function_value g ≡ copy_function (went_by m source a.names) (function_value f) → b.copies ≡ a.copies ++ (g, shifted m.offset span) ∷ [] → (t : Module) → (import_state m t b).functions ≡ (with_function (value_of source) m.offset (import_state m t a) (function_value f) span).functions
-put_behind source f g span m a b made e t =
+put_after : (source : Module) (f g : Function) (span : Span) (m : Maps) (a b : Functions) → function_value g ≡ copy_function (went_by m source a.names) (function_value f) → b.copies ≡ a.copies ++ (g, shifted m.offset span) ∷ [] → (t : Module) → (import_state m t b).functions ≡ (with_function (value_of source) m.offset (import_state m t a) (function_value f) span).functions
+put_after source f g span m a b made e t =
     let see = λ (x : Function × Span). (let y : FunctionValue × Span = (function_value x.0, x.1) in y) in
     let fs = map see a.copies in
     ap (map see) e ∙ map-append see a.copies ((g, shifted m.offset span) ∷ []) ∙ ap (λ (v : FunctionValue). fs ++ entry_of v (shifted m.offset span) ∷ []) (made ∙ ap (λ r. copy_function r (function_value f)) (going_same source m a))
@@ -125,14 +125,14 @@ put_value source f g span m t a b h n made e l is i =
     let s = import_state m t a in
     let u = with_function (value_of source) m.offset s (function_value f) span in
     let see = λ (x : Function × Span). (let y : FunctionValue × Span = (function_value x.0, x.1) in y) in
-    ap (λ x. state_with s.copying x (meanings b.names.entries)) (put_behind source f g span m a b made e t) ∙ ap (state_with s.copying u.functions) (name_put f a b h n is i ∙ ap (meaning s.names (function_value f).name) (l ∙ sym (length-map a.copies see)))
+    ap (λ x. state_with s.copying x (meanings b.names.entries)) (put_after source f g span m a b made e t) ∙ ap (state_with s.copying u.functions) (name_put f a b h n is i ∙ ap (meaning s.names (function_value f).name) (l ∙ sym (length-map a.copies see)))
 
 -- where its name finds no room
 pub copy_value : (source : Module) (f g : Function) (span : Span) (m : Maps) (t : Module) (a b : Functions) → function_value g ≡ copy_function (went_by m source a.names) (function_value f) → b.copies ≡ a.copies ++ (g, shifted m.offset span) ∷ [] → b.names.entries ≡ a.names.entries → import_state m t b ≡ record (with_function (value_of source) m.offset (import_state m t a) (function_value f) span) { names = (import_state m t a).names }
 copy_value source f g span m t a b made e i =
     let s = import_state m t a in
     let u = with_function (value_of source) m.offset s (function_value f) span in
-    ap (λ x. state_with s.copying x (meanings b.names.entries)) (put_behind source f g span m a b made e t) ∙ ap (λ x. state_with s.copying u.functions (meanings x)) i
+    ap (λ x. state_with s.copying x (meanings b.names.entries)) (put_after source f g span m a b made e t) ∙ ap (λ x. state_with s.copying u.functions (meanings x)) i
 
 pub function_added : {m : ModuleValue} {shift : ℕ} {s u : ImportState} (v : FunctionValue) (span : Span) → u ≡ with_function m shift s v span → Adding m shift s u
 function_added {m} {shift} {s} {u} v span e = FunctionAdded v span (subst (λ w. Adding m shift (with_function m shift s v span) w) (sym e) NothingAdded)

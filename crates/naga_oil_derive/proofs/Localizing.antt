@@ -9,7 +9,7 @@ use Rattle.naga_oil_ir.specs.Parts.{parts}
 use Rattle.naga_oil_ir.specs.Body.{Tokens}
 use Rattle.naga_oil_form.specs.BodyForm.{run, places, kinds}
 use Rattle.naga_oil_form.specs.Links.{Links, started}
-use Rattle.naga_oil_ir.specs.ModuleValue.{expression_values}
+use Rattle.naga_oil_ir.specs.ModuleValue.{expression_values, local_values}
 use Rattle.naga_oil_form.specs.WellFormed.{initialisers_of}
 use Rattle.naga_oil_ir.specs.declared.expression.Expression.{Expression}
 use Rattle.naga_oil_ir.specs.declared.span.Span.{Span}
@@ -18,7 +18,7 @@ use Rattle.naga_oil_ir.specs.declared.tokens.Token.TheVariants.{Emitted}
 use Rattle.naga_oil_ir.specs.declared.types.LocalVariable.{LocalVariable}
 use Rattle.naga_oil_walk.specs.Walk.{Notes, StandsFrom, IsNoted, AreNoted, AreWithin, others, listed, walked}
 use Rattle.naga_oil_derive.specs.Copies.{Table, place_under, brought, brought_range, range_under, FitIn}
-use Rattle.naga_oil_derive.specs.Functions.{IsCovered, AreCovered, local_values, names_under, name_put}
+use Rattle.naga_oil_derive.specs.Functions.{IsCovered, AreCovered, names_under, name_put}
 use Rattle.naga_oil_walk.proofs.WalkNotes.{added-grows}
 
 -- ---- the values of a function
@@ -63,14 +63,14 @@ same_part a x b c y d h i e =
 -- a list after the first n of an order maps to consecutive numbers
 went_on : (f : ℕ → ℕ) (o x xs : List ℕ) (n m b e : ℕ) → length x ≡ n → map f o ≡ x ++ run m (length o - n) → n ≤ b → StandsFrom o b e xs → map f xs ≡ run (m + (b - n)) (length xs)
 went_on f o x xs n m b e lx w le s =
-    let lo : length o ≡ (b + length xs) + length s.behind = ap length s.is ∙ length-append (s.before ++ xs) s.behind ∙ ap (λ k. k + length s.behind) (length-append s.before xs ∙ ap (λ k. k + length xs) s.begins) in
-    let split : length o - n ≡ (b - n) + (length xs + length s.behind) = omega arith in
-    let r : run m (length o - n) ≡ run m (b - n) ++ (run (m + (b - n)) (length xs) ++ run (m + (b - n) + length xs) (length s.behind)) = ap (run m) split ∙ run_append (b - n) (length xs + length s.behind) m (m + (b - n)) refl ∙ ap (λ ys. run m (b - n) ++ ys) (run_append (length xs) (length s.behind) (m + (b - n)) (m + (b - n) + length xs) refl) in
-    let left : map f o ≡ (map f s.before ++ map f xs) ++ map f s.behind = ap (map f) s.is ∙ map-append f (s.before ++ xs) s.behind ∙ ap (λ ys. ys ++ map f s.behind) (map-append f s.before xs) in
-    let right : map f o ≡ ((x ++ run m (b - n)) ++ run (m + (b - n)) (length xs)) ++ run (m + (b - n) + length xs) (length s.behind) = w ∙ ap (λ ys. x ++ ys) r ∙ sym (append_assoc x (run m (b - n)) (run (m + (b - n)) (length xs) ++ run (m + (b - n) + length xs) (length s.behind))) ∙ sym (append_assoc (x ++ run m (b - n)) (run (m + (b - n)) (length xs)) (run (m + (b - n) + length xs) (length s.behind))) in
+    let lo : length o ≡ (b + length xs) + length s.following = ap length s.is ∙ length-append (s.before ++ xs) s.following ∙ ap (λ k. k + length s.following) (length-append s.before xs ∙ ap (λ k. k + length xs) s.begins) in
+    let split : length o - n ≡ (b - n) + (length xs + length s.following) = omega arith in
+    let r : run m (length o - n) ≡ run m (b - n) ++ (run (m + (b - n)) (length xs) ++ run (m + (b - n) + length xs) (length s.following)) = ap (run m) split ∙ run_append (b - n) (length xs + length s.following) m (m + (b - n)) refl ∙ ap (λ ys. run m (b - n) ++ ys) (run_append (length xs) (length s.following) (m + (b - n)) (m + (b - n) + length xs) refl) in
+    let left : map f o ≡ (map f s.before ++ map f xs) ++ map f s.following = ap (map f) s.is ∙ map-append f (s.before ++ xs) s.following ∙ ap (λ ys. ys ++ map f s.following) (map-append f s.before xs) in
+    let right : map f o ≡ ((x ++ run m (b - n)) ++ run (m + (b - n)) (length xs)) ++ run (m + (b - n) + length xs) (length s.following) = w ∙ ap (λ ys. x ++ ys) r ∙ sym (append_assoc x (run m (b - n)) (run (m + (b - n)) (length xs) ++ run (m + (b - n) + length xs) (length s.following))) ∙ sym (append_assoc (x ++ run m (b - n)) (run (m + (b - n)) (length xs)) (run (m + (b - n) + length xs) (length s.following))) in
     let la : length (map f s.before) ≡ b = length-map s.before f ∙ s.begins in
     let lc : length (x ++ run m (b - n)) ≡ n + (b - n) = length-append x (run m (b - n)) ∙ sum_same (length x) n (length (run m (b - n))) (b - n) lx (run_length (b - n) m) in
-    same_part (map f s.before) (map f xs) (map f s.behind) (x ++ run m (b - n)) (run (m + (b - n)) (length xs)) (run (m + (b - n) + length xs) (length s.behind)) (omega arith) (length-map xs f ∙ sym (run_length (length xs) (m + (b - n)))) (sym left ∙ right)
+    same_part (map f s.before) (map f xs) (map f s.following) (x ++ run m (b - n)) (run (m + (b - n)) (length xs)) (run (m + (b - n) + length xs) (length s.following)) (omega arith) (length-map xs f ∙ sym (run_length (length xs) (m + (b - n)))) (sym left ∙ right)
 
 -- ---- emitted ranges
 

@@ -16,7 +16,7 @@ use Rattle.naga_oil_ir.specs.declared.span.Span.{Span}
 use Rattle.naga_oil_form.proofs.LinkLemmas.{slice_get-set_same, slice_get-set_other, slice_get-append_at}
 use Rattle.naga_oil_derive.specs.Equal.{row_eq, parts_eq}
 use Rattle.naga_oil_rename.specs.Renames.{rename, rename_place, rename_row, under_name}
-use Rattle.naga_oil_derive.specs.World.{Places, goes, world, span_at, shifted, Extends}
+use Rattle.naga_oil_derive.specs.World.{ItemMap, goes, world, span_at, shifted, Extends}
 use Rattle.naga_oil_derive.specs.Copying.{NameGoesTo, IsCopyOf, Puts, Fetches, WentSomewhere}
 use Rattle.naga_oil_derive.specs.Copied.{CopyState, renames_by, place_in, with_item_in, of_item, with_type, with_constant, with_override, with_global, with_expression, put_type, put}
 use Rattle.naga_oil_derive.specs.CopiedLaw.{IsKinded, place_number, kind_number, spans_by, AreRoomy, AddsWith, PutsOne, IsReady}
@@ -28,7 +28,7 @@ use Rattle.naga_oil_derive.proofs.CopyOneLemmas.{parts_row-rename}
 -- ---- an arena of a value, and the places of its items
 
 -- its items are at the places C, where f reads them; the other arenas and places stay as it changes
-pub record IsArenaOf {X : Type 0} (C : ℕ → ItemPlace) (f : X → Row) (arena : List (X × Span) → ModuleValue) (places : List (Option ℕ) → Places) : Type 0 where
+pub record IsArenaOf {X : Type 0} (C : ℕ → ItemPlace) (f : X → Row) (arena : List (X × Span) → ModuleValue) (places : List (Option ℕ) → ItemMap) : Type 0 where
   pub at : (xs : List (X × Span)) (k : ℕ) → world (arena xs) (C k) ≡ rows f xs k
   pub spans : (xs : List (X × Span)) (k : ℕ) → span_at (arena xs) (C k) ≡ spans xs k
   pub more : (xs zs : List (X × Span)) → Extends (arena xs) (arena (xs ++ zs))
@@ -37,27 +37,27 @@ pub record IsArenaOf {X : Type 0} (C : ℕ → ItemPlace) (f : X → Row) (arena
   pub split : (p : ItemPlace) → ((k : ℕ) × (p ≡ C k)) ⊎ (((xs ys : List (X × Span)) → world (arena ys) p ≡ world (arena xs) p) × ((ns ms : List (Option ℕ)) → goes (places ms) p ≡ goes (places ns) p) × (place_number p ≡ place_number (C 0) → ⊥))
 
 -- an item that is fetched in its arena is fetched in the module
-fetched : {X : Type 0} (C : ℕ → ItemPlace) (f : X → Row) (arena : List (X × Span) → ModuleValue) (places : List (Option ℕ) → Places) → IsArenaOf C f arena places → (xs ys : List (X × Span)) (s : Row) (h : ℕ) → IsKinded (arena xs) → kind_number s.label.kind ≡ place_number (C 0) → FetchesList f xs ys s h → Fetches (world (arena xs)) (world (arena ys)) s (C h)
+fetched : {X : Type 0} (C : ℕ → ItemPlace) (f : X → Row) (arena : List (X × Span) → ModuleValue) (places : List (Option ℕ) → ItemMap) → IsArenaOf C f arena places → (xs ys : List (X × Span)) (s : Row) (h : ℕ) → IsKinded (arena xs) → kind_number s.label.kind ≡ place_number (C 0) → FetchesList f xs ys s h → Fetches (world (arena xs)) (world (arena ys)) s (C h)
 fetched C f arena places a xs ys s h kinds kind l = record {
   at = a.at ys h ∙ l.at;
   stays = λ p r e. ⊎_elim (λ w. ap (world (arena ys)) w.1 ∙ a.at ys w.0 ∙ l.stays w.0 r (sym (a.at xs w.0) ∙ sym (ap (world (arena xs)) w.1) ∙ e)) (λ w. w.0 xs ys ∙ e) (a.split p);
   only = λ p r e. ⊎_elim (λ w. ⊎_elim (λ old. inl (ap (world (arena xs)) w.1 ∙ a.at xs w.0 ∙ old)) (λ new. inr (w.1 ∙ ap C new.0, λ y g. ⊎_elim (λ z. new.1 z.0 (sym (a.at xs z.0) ∙ sym (ap (world (arena xs)) z.1) ∙ g)) (λ z. z.2 (sym (kinds y s g) ∙ kind)) (a.split y))) (l.only w.0 r (sym (a.at ys w.0) ∙ sym (ap (world (arena ys)) w.1) ∙ e))) (λ w. inl (sym (w.0 xs ys) ∙ e)) (a.split p);
 }
 
-behind_end : {X : Type 0} (xs : List X) → slice_get xs (length xs) ≡ None
-behind_end [] = refl
-behind_end (x ∷ xs) = behind_end xs
+after_end : {X : Type 0} (xs : List X) → slice_get xs (length xs) ≡ None
+after_end [] = refl
+after_end (x ∷ xs) = after_end xs
 
-added : {X : Type 0} (C : ℕ → ItemPlace) (f : X → Row) (arena : List (X × Span) → ModuleValue) (places : List (Option ℕ) → Places) → IsArenaOf C f arena places → (xs ys : List (X × Span)) (x : X) (sp : Span) (h : ℕ) → IsNew xs ys (x, sp) h → AddsWith (arena xs) (arena ys) (C h) (Some sp)
+added : {X : Type 0} (C : ℕ → ItemPlace) (f : X → Row) (arena : List (X × Span) → ModuleValue) (places : List (Option ℕ) → ItemMap) → IsArenaOf C f arena places → (xs ys : List (X × Span)) (x : X) (sp : Span) (h : ℕ) → IsNew xs ys (x, sp) h → AddsWith (arena xs) (arena ys) (C h) (Some sp)
 added C f arena places a xs ys x sp h (inl e) = inl (ap arena e)
 added C f arena places a xs ys x sp h (inr e) =
-    inr (a.at xs h ∙ ap (rows f xs) e.0 ∙ ap (option_map (λ v. f v.0)) (behind_end xs), a.spans ys h ∙ ap (λ v. spans v h) e.1 ∙ ap (spans (xs ++ (x, sp) ∷ [])) e.0 ∙ ap (option_map (λ v. v.1)) (slice_get-append_at xs (x, sp)))
+    inr (a.at xs h ∙ ap (rows f xs) e.0 ∙ ap (option_map (λ v. f v.0)) (after_end xs), a.spans ys h ∙ ap (λ v. spans v h) e.1 ∙ ap (spans (xs ++ (x, sp) ∷ [])) e.0 ∙ ap (option_map (λ v. v.1)) (slice_get-append_at xs (x, sp)))
 
-extended : {X : Type 0} (C : ℕ → ItemPlace) (f : X → Row) (arena : List (X × Span) → ModuleValue) (places : List (Option ℕ) → Places) → IsArenaOf C f arena places → (xs ys : List (X × Span)) (e : X × Span) (h : ℕ) → IsNew xs ys e h → Extends (arena xs) (arena ys)
+extended : {X : Type 0} (C : ℕ → ItemPlace) (f : X → Row) (arena : List (X × Span) → ModuleValue) (places : List (Option ℕ) → ItemMap) → IsArenaOf C f arena places → (xs ys : List (X × Span)) (e : X × Span) (h : ℕ) → IsNew xs ys e h → Extends (arena xs) (arena ys)
 extended C f arena places a xs ys x h (inl e) = subst (λ v. Extends (arena xs) (arena v)) (sym e) (Extends-refl (arena xs))
 extended C f arena places a xs ys x h (inr e) = subst (λ v. Extends (arena xs) (arena v)) (sym e.1) (a.more xs (x ∷ []))
 
-placed : {X : Type 0} (C : ℕ → ItemPlace) (f : X → Row) (arena : List (X × Span) → ModuleValue) (places : List (Option ℕ) → Places) → IsArenaOf C f arena places → (ns : List (Option ℕ)) (k h : ℕ) → k < length ns → Puts (goes (places ns)) (goes (places (slice_set ns k (Some h)))) (C k) (C h)
+placed : {X : Type 0} (C : ℕ → ItemPlace) (f : X → Row) (arena : List (X × Span) → ModuleValue) (places : List (Option ℕ) → ItemMap) → IsArenaOf C f arena places → (ns : List (Option ℕ)) (k h : ℕ) → k < length ns → Puts (goes (places ns)) (goes (places (slice_set ns k (Some h)))) (C k) (C h)
 placed C f arena places a ns k h l =
     let ms = slice_set ns k (Some h) in
     let read = λ (o : Option (Option ℕ)). option_map C (option_flatten o) in
@@ -67,7 +67,7 @@ placed C f arena places a ns k h l =
     }
 
 -- one item is put into its arena
-put_one : {X : Type 0} (E : X → X → Bool) (C : ℕ → ItemPlace) (f : X → Row) (arena : List (X × Span) → ModuleValue) (places : List (Option ℕ) → Places) → IsArenaOf C f arena places → ((a b : X) → Decides (E a b) (f a ≡ f b)) → (m : ModuleValue) (xs : List (X × Span)) (ns : List (Option ℕ)) (k : ℕ) (x : X) (sp : Span) (row : Row) → IsKinded (arena xs) → kind_number (f x).label.kind ≡ place_number (C 0) → IsCopyOf (goes (places ns)) row (f x) → k < length ns → AreRoomy m (places (slice_set ns k (Some (place_in E xs x)))) → PutsOne m (record { places = places ns; target = arena xs }) (record { places = places (slice_set ns k (Some (place_in E xs x))); target = arena (with_item_in E xs x sp) }) (C k) row (Some sp)
+put_one : {X : Type 0} (E : X → X → Bool) (C : ℕ → ItemPlace) (f : X → Row) (arena : List (X × Span) → ModuleValue) (places : List (Option ℕ) → ItemMap) → IsArenaOf C f arena places → ((a b : X) → Decides (E a b) (f a ≡ f b)) → (m : ModuleValue) (xs : List (X × Span)) (ns : List (Option ℕ)) (k : ℕ) (x : X) (sp : Span) (row : Row) → IsKinded (arena xs) → kind_number (f x).label.kind ≡ place_number (C 0) → IsCopyOf (goes (places ns)) row (f x) → k < length ns → AreRoomy m (places (slice_set ns k (Some (place_in E xs x)))) → PutsOne m (record { places = places ns; target = arena xs }) (record { places = places (slice_set ns k (Some (place_in E xs x))); target = arena (with_item_in E xs x sp) }) (C k) row (Some sp)
 put_one E C f arena places a d m xs ns k x sp row kinds kind copies l roomy =
     let h = place_in E xs x in
     let ys = with_item_in E xs x sp in
@@ -90,7 +90,7 @@ under : (C : ℕ → ItemPlace) (o : Option ℕ) (k : ℕ) (q : ItemPlace) → o
 under C None k q e = cc
 under C (Some h) k q e = refl
 
-pub goes_renamed : (shift : ℕ) (m : Places) (p q : ItemPlace) → goes m p ≡ Some q → goes m p ≡ Some (rename_place (renames_by shift m) p)
+pub goes_renamed : (shift : ℕ) (m : ItemMap) (p q : ItemPlace) → goes m p ≡ Some q → goes m p ≡ Some (rename_place (renames_by shift m) p)
 unfolding goes
 goes_renamed d m (TypeItem k) q e = under TypeItem (option_flatten (slice_get m.types k)) k q e
 goes_renamed d m (ConstantItem k) q e = under ConstantItem (option_flatten (slice_get m.constants k)) k q e
@@ -98,22 +98,22 @@ goes_renamed d m (OverrideItem k) q e = under OverrideItem (option_flatten (slic
 goes_renamed d m (GlobalItem k) q e = under GlobalItem (option_flatten (slice_get m.global_variables k)) k q e
 goes_renamed d m (ExpressionItem k) q e = under ExpressionItem (option_flatten (slice_get m.global_expressions k)) k q e
 
-name_goes : (shift : ℕ) (m : Places) (o : Option ItemPlace) → WentSomewhere (goes m) o → NameGoesTo (goes m) o (option_map (rename_place (renames_by shift m)) o)
+name_goes : (shift : ℕ) (m : ItemMap) (o : Option ItemPlace) → WentSomewhere (goes m) o → NameGoesTo (goes m) o (option_map (rename_place (renames_by shift m)) o)
 name_goes d m None w = tt
 name_goes d m (Some p) w = goes_renamed d m p w.0 w.1
 
-names_go : (shift : ℕ) (m : Places) (ps : List (Option ItemPlace)) → All (WentSomewhere (goes m)) ps → AllZip (NameGoesTo (goes m)) ps (map (option_map (rename_place (renames_by shift m))) ps)
+names_go : (shift : ℕ) (m : ItemMap) (ps : List (Option ItemPlace)) → All (WentSomewhere (goes m)) ps → AllZip (NameGoesTo (goes m)) ps (map (option_map (rename_place (renames_by shift m))) ps)
 names_go d m [] a = tt
 names_go d m (p ∷ ps) a = (name_goes d m p (All-head (WentSomewhere (goes m)) p ps a), names_go d m ps (All-tail (WentSomewhere (goes m)) p ps a))
 
 -- a renamed row, under a name, is a copy of the row under that name
-renamed : (shift : ℕ) (m : Places) (name : Option Text) (r : Row) → All (WentSomewhere (goes m)) r.names → IsCopyOf (goes m) (under_name name r) (under_name name (rename_row (renames_by shift m) r))
+renamed : (shift : ℕ) (m : ItemMap) (name : Option Text) (r : Row) → All (WentSomewhere (goes m)) r.names → IsCopyOf (goes m) (under_name name r) (under_name name (rename_row (renames_by shift m) r))
 renamed d m None r a = record { label = refl; names = names_go d m r.names a }
 renamed d m (Some n) r a = record { label = refl; names = names_go d m r.names a }
 
 -- ---- the arenas
 
-type_split : (t : ModuleValue) (m : Places) (p : ItemPlace) → ((k : ℕ) × (p ≡ TypeItem k)) ⊎ (((xs ys : List (Row × Span)) → world (record t { types = ys }) p ≡ world (record t { types = xs }) p) × ((ns ms : List (Option ℕ)) → goes (record m { types = ms }) p ≡ goes (record m { types = ns }) p) × (place_number p ≡ 0 → ⊥))
+type_split : (t : ModuleValue) (m : ItemMap) (p : ItemPlace) → ((k : ℕ) × (p ≡ TypeItem k)) ⊎ (((xs ys : List (Row × Span)) → world (record t { types = ys }) p ≡ world (record t { types = xs }) p) × ((ns ms : List (Option ℕ)) → goes (record m { types = ms }) p ≡ goes (record m { types = ns }) p) × (place_number p ≡ 0 → ⊥))
 unfolding world goes
 type_split t m (TypeItem k) = inl (k, refl)
 type_split t m (ConstantItem k) = inr (λ xs ys. refl, λ ns ms. refl, λ e. omega (arith, e))
@@ -124,11 +124,11 @@ type_split t m (ExpressionItem k) = inr (λ xs ys. refl, λ ns ms. refl, λ e. o
 type_more : (t : ModuleValue) (xs zs : List (Row × Span)) → Extends (record t { types = xs }) (record t { types = xs ++ zs })
 type_more t xs zs = record { types = (zs, refl); constants = Begins-refl _; overrides = Begins-refl _; global_variables = Begins-refl _; global_expressions = Begins-refl _; rest = refl }
 
-type_arena : (t : ModuleValue) (m : Places) → IsArenaOf TypeItem (λ (r : Row). r) (λ xs. record t { types = xs }) (λ ns. record m { types = ns })
+type_arena : (t : ModuleValue) (m : ItemMap) → IsArenaOf TypeItem (λ (r : Row). r) (λ xs. record t { types = xs }) (λ ns. record m { types = ns })
 unfolding world span_at goes
 type_arena t m = record { at = λ xs k. refl; spans = λ xs k. refl; more = type_more t; goes_at = λ ns k. refl; number = λ k. refl; split = type_split t m }
 
-constant_split : (t : ModuleValue) (m : Places) (p : ItemPlace) → ((k : ℕ) × (p ≡ ConstantItem k)) ⊎ (((xs ys : List (Row × Span)) → world (record t { constants = ys }) p ≡ world (record t { constants = xs }) p) × ((ns ms : List (Option ℕ)) → goes (record m { constants = ms }) p ≡ goes (record m { constants = ns }) p) × (place_number p ≡ 1 → ⊥))
+constant_split : (t : ModuleValue) (m : ItemMap) (p : ItemPlace) → ((k : ℕ) × (p ≡ ConstantItem k)) ⊎ (((xs ys : List (Row × Span)) → world (record t { constants = ys }) p ≡ world (record t { constants = xs }) p) × ((ns ms : List (Option ℕ)) → goes (record m { constants = ms }) p ≡ goes (record m { constants = ns }) p) × (place_number p ≡ 1 → ⊥))
 unfolding world goes
 constant_split t m (TypeItem k) = inr (λ xs ys. refl, λ ns ms. refl, λ e. omega (arith, e))
 constant_split t m (ConstantItem k) = inl (k, refl)
@@ -139,11 +139,11 @@ constant_split t m (ExpressionItem k) = inr (λ xs ys. refl, λ ns ms. refl, λ 
 constant_more : (t : ModuleValue) (xs zs : List (Row × Span)) → Extends (record t { constants = xs }) (record t { constants = xs ++ zs })
 constant_more t xs zs = record { types = Begins-refl _; constants = (zs, refl); overrides = Begins-refl _; global_variables = Begins-refl _; global_expressions = Begins-refl _; rest = refl }
 
-constant_arena : (t : ModuleValue) (m : Places) → IsArenaOf ConstantItem (λ (r : Row). r) (λ xs. record t { constants = xs }) (λ ns. record m { constants = ns })
+constant_arena : (t : ModuleValue) (m : ItemMap) → IsArenaOf ConstantItem (λ (r : Row). r) (λ xs. record t { constants = xs }) (λ ns. record m { constants = ns })
 unfolding world span_at goes
 constant_arena t m = record { at = λ xs k. refl; spans = λ xs k. refl; more = constant_more t; goes_at = λ ns k. refl; number = λ k. refl; split = constant_split t m }
 
-override_split : (t : ModuleValue) (m : Places) (p : ItemPlace) → ((k : ℕ) × (p ≡ OverrideItem k)) ⊎ (((xs ys : List (Row × Span)) → world (record t { overrides = ys }) p ≡ world (record t { overrides = xs }) p) × ((ns ms : List (Option ℕ)) → goes (record m { overrides = ms }) p ≡ goes (record m { overrides = ns }) p) × (place_number p ≡ 2 → ⊥))
+override_split : (t : ModuleValue) (m : ItemMap) (p : ItemPlace) → ((k : ℕ) × (p ≡ OverrideItem k)) ⊎ (((xs ys : List (Row × Span)) → world (record t { overrides = ys }) p ≡ world (record t { overrides = xs }) p) × ((ns ms : List (Option ℕ)) → goes (record m { overrides = ms }) p ≡ goes (record m { overrides = ns }) p) × (place_number p ≡ 2 → ⊥))
 unfolding world goes
 override_split t m (TypeItem k) = inr (λ xs ys. refl, λ ns ms. refl, λ e. omega (arith, e))
 override_split t m (ConstantItem k) = inr (λ xs ys. refl, λ ns ms. refl, λ e. omega (arith, e))
@@ -154,11 +154,11 @@ override_split t m (ExpressionItem k) = inr (λ xs ys. refl, λ ns ms. refl, λ 
 override_more : (t : ModuleValue) (xs zs : List (Row × Span)) → Extends (record t { overrides = xs }) (record t { overrides = xs ++ zs })
 override_more t xs zs = record { types = Begins-refl _; constants = Begins-refl _; overrides = (zs, refl); global_variables = Begins-refl _; global_expressions = Begins-refl _; rest = refl }
 
-override_arena : (t : ModuleValue) (m : Places) → IsArenaOf OverrideItem (λ (r : Row). r) (λ xs. record t { overrides = xs }) (λ ns. record m { overrides = ns })
+override_arena : (t : ModuleValue) (m : ItemMap) → IsArenaOf OverrideItem (λ (r : Row). r) (λ xs. record t { overrides = xs }) (λ ns. record m { overrides = ns })
 unfolding world span_at goes
 override_arena t m = record { at = λ xs k. refl; spans = λ xs k. refl; more = override_more t; goes_at = λ ns k. refl; number = λ k. refl; split = override_split t m }
 
-global_split : (t : ModuleValue) (m : Places) (p : ItemPlace) → ((k : ℕ) × (p ≡ GlobalItem k)) ⊎ (((xs ys : List (Row × Span)) → world (record t { global_variables = ys }) p ≡ world (record t { global_variables = xs }) p) × ((ns ms : List (Option ℕ)) → goes (record m { global_variables = ms }) p ≡ goes (record m { global_variables = ns }) p) × (place_number p ≡ 3 → ⊥))
+global_split : (t : ModuleValue) (m : ItemMap) (p : ItemPlace) → ((k : ℕ) × (p ≡ GlobalItem k)) ⊎ (((xs ys : List (Row × Span)) → world (record t { global_variables = ys }) p ≡ world (record t { global_variables = xs }) p) × ((ns ms : List (Option ℕ)) → goes (record m { global_variables = ms }) p ≡ goes (record m { global_variables = ns }) p) × (place_number p ≡ 3 → ⊥))
 unfolding world goes
 global_split t m (TypeItem k) = inr (λ xs ys. refl, λ ns ms. refl, λ e. omega (arith, e))
 global_split t m (ConstantItem k) = inr (λ xs ys. refl, λ ns ms. refl, λ e. omega (arith, e))
@@ -169,11 +169,11 @@ global_split t m (ExpressionItem k) = inr (λ xs ys. refl, λ ns ms. refl, λ e.
 global_more : (t : ModuleValue) (xs zs : List (Row × Span)) → Extends (record t { global_variables = xs }) (record t { global_variables = xs ++ zs })
 global_more t xs zs = record { types = Begins-refl _; constants = Begins-refl _; overrides = Begins-refl _; global_variables = (zs, refl); global_expressions = Begins-refl _; rest = refl }
 
-global_arena : (t : ModuleValue) (m : Places) → IsArenaOf GlobalItem (λ (r : Row). r) (λ xs. record t { global_variables = xs }) (λ ns. record m { global_variables = ns })
+global_arena : (t : ModuleValue) (m : ItemMap) → IsArenaOf GlobalItem (λ (r : Row). r) (λ xs. record t { global_variables = xs }) (λ ns. record m { global_variables = ns })
 unfolding world span_at goes
 global_arena t m = record { at = λ xs k. refl; spans = λ xs k. refl; more = global_more t; goes_at = λ ns k. refl; number = λ k. refl; split = global_split t m }
 
-expression_split : (t : ModuleValue) (m : Places) (p : ItemPlace) → ((k : ℕ) × (p ≡ ExpressionItem k)) ⊎ (((xs ys : List (Parts × Span)) → world (record t { global_expressions = ys }) p ≡ world (record t { global_expressions = xs }) p) × ((ns ms : List (Option ℕ)) → goes (record m { global_expressions = ms }) p ≡ goes (record m { global_expressions = ns }) p) × (place_number p ≡ 4 → ⊥))
+expression_split : (t : ModuleValue) (m : ItemMap) (p : ItemPlace) → ((k : ℕ) × (p ≡ ExpressionItem k)) ⊎ (((xs ys : List (Parts × Span)) → world (record t { global_expressions = ys }) p ≡ world (record t { global_expressions = xs }) p) × ((ns ms : List (Option ℕ)) → goes (record m { global_expressions = ms }) p ≡ goes (record m { global_expressions = ns }) p) × (place_number p ≡ 4 → ⊥))
 unfolding world goes
 expression_split t m (TypeItem k) = inr (λ xs ys. refl, λ ns ms. refl, λ e. omega (arith, e))
 expression_split t m (ConstantItem k) = inr (λ xs ys. refl, λ ns ms. refl, λ e. omega (arith, e))
@@ -184,7 +184,7 @@ expression_split t m (ExpressionItem k) = inl (k, refl)
 expression_more : (t : ModuleValue) (xs zs : List (Parts × Span)) → Extends (record t { global_expressions = xs }) (record t { global_expressions = xs ++ zs })
 expression_more t xs zs = record { types = Begins-refl _; constants = Begins-refl _; overrides = Begins-refl _; global_variables = Begins-refl _; global_expressions = (zs, refl); rest = refl }
 
-expression_arena : (t : ModuleValue) (m : Places) → IsArenaOf ExpressionItem parts_row (λ xs. record t { global_expressions = xs }) (λ ns. record m { global_expressions = ns })
+expression_arena : (t : ModuleValue) (m : ItemMap) → IsArenaOf ExpressionItem parts_row (λ xs. record t { global_expressions = xs }) (λ ns. record m { global_expressions = ns })
 unfolding world span_at goes
 expression_arena t m = record { at = λ xs k. refl; spans = λ xs k. refl; more = expression_more t; goes_at = λ ns k. refl; number = λ k. refl; split = expression_split t m }
 

@@ -213,9 +213,9 @@ range_shared r v may i j p q emits l at f =
     let num = copies_of r v (put_before v j q) in
     emitted_as (body_renames r (state_of r v) (order_of v) n ns) v.body i p (brought_in r v k) (brought_in r v k) num num emits (range_noted ns n m c p q k (k + e) f x.noted ∙ range_empty n m c p k (k + e) l) x.begins x.begins
 
-range_behind : (r : Renames) (v : FunctionValue) (i : ℕ) (p : ℕ × ℕ) → EmitsAt v i p → length v.expressions ≤ p.0 → EmitsAt (copy_function r v) i (length (copy_function r v).expressions, length (copy_function r v).expressions)
+range_after : (r : Renames) (v : FunctionValue) (i : ℕ) (p : ℕ × ℕ) → EmitsAt v i p → length v.expressions ≤ p.0 → EmitsAt (copy_function r v) i (length (copy_function r v).expressions, length (copy_function r v).expressions)
 unfolding copy_function
-range_behind r v i p at l =
+range_after r v i p at l =
     let ns = notes_in v in
     let n = length (begun v) in
     let m = merged_of r v in
@@ -243,5 +243,5 @@ ranges r v may =
       nothing = λ i p at none. let q = u.range p in let same : q.1 ≡ q.0 = no_places q (lies p).0 (covered_at s.table u.range (begun v) v.body i p emits at ∙ ap (map (place_under s.table)) none) in (q.0, renamed_at u v.body i p at ∙ ap (emitted q.0) same);
       begins = range_begins r v may;
       empty = range_shared r v may;
-      behind = range_behind r v;
+      following = range_after r v;
     }

@@ -31,7 +31,7 @@ use Rattle.naga_oil_ir.specs.declared.names.ItemPlace.TheVariants.{TypeItem, Con
 use Rattle.naga_oil_form.proofs.LinkLemmas.{or_left, or_right, eqb_eq, All-has, All-from_has, trail-step, linked-map, marked-map}
 use Rattle.naga_oil_derive.specs.World.{value_of, world}
 use Rattle.naga_oil_derive.specs.Collected.{depth}
-use Rattle.naga_oil_derive.specs.Copying.{IsThere, rank_behind, rank, IsBelowItem, AreRanked}
+use Rattle.naga_oil_derive.specs.Copying.{IsThere, rank_after, rank, IsBelowItem, AreRanked}
 use Rattle.naga_oil_derive.specs.Copyable.{CopyableItems}
 use Rattle.naga_oil_derive.proofs.WorldLemmas.{rows, world_type, world_constant, world_override, world_global, world_expression}
 
@@ -96,17 +96,17 @@ rank_below : (m : Module) (j k : ℕ) → j < k → (is_sized m j ≡ true → i
 rank_below m j k l up =
     ⊎_elim (λ e. let h = rank_sized m k e in let i = rank_type m j in omega (arith, h, i)) (λ e. ⊎_elim (λ s. absurd (false≢true (sym e ∙ up s))) (λ s. let h = rank_unsized m k e in let i = rank_unsized m j s in omega (arith, h, i)) (sized_or_not (is_sized m j))) (sized_or_not (is_sized m k))
 
-behind_bound : (n b : ℕ) (o : Option ℕ) → IfSome o (λ i. i < b) → (n ≤ rank_behind n o) × (rank_behind n o ≤ n + 2 * b)
-behind_bound n b None h = (omega arith, omega arith)
-behind_bound n b (Some i) h = (omega arith, omega arith)
+after_bound : (n b : ℕ) (o : Option ℕ) → IfSome o (λ i. i < b) → (n ≤ rank_after n o) × (rank_after n o ≤ n + 2 * b)
+after_bound n b None h = (omega arith, omega arith)
+after_bound n b (Some i) h = (omega arith, omega arith)
 
-rank_constant : (m : Module) (k : ℕ) (e : ConstantItself × Span) → slice_get m.constants k ≡ Some e → rank m (ConstantItem k) ≡ rank_behind (length m.types) (Some e.0.init)
+rank_constant : (m : Module) (k : ℕ) (e : ConstantItself × Span) → slice_get m.constants k ≡ Some e → rank m (ConstantItem k) ≡ rank_after (length m.types) (Some e.0.init)
 unfolding rank
-rank_constant m k e h = ap (λ o. rank_behind (length m.types) (option_map (λ x. x.0.init) o)) h
+rank_constant m k e h = ap (λ o. rank_after (length m.types) (option_map (λ x. x.0.init) o)) h
 
-rank_override : (m : Module) (k : ℕ) (e : OverrideItself × Span) → slice_get m.overrides k ≡ Some e → rank m (OverrideItem k) ≡ rank_behind (length m.types) e.0.init
+rank_override : (m : Module) (k : ℕ) (e : OverrideItself × Span) → slice_get m.overrides k ≡ Some e → rank m (OverrideItem k) ≡ rank_after (length m.types) e.0.init
 unfolding rank
-rank_override m k e h = ap (λ o. rank_behind (length m.types) (option_flatten (option_map (λ x. x.0.init) o))) h
+rank_override m k e h = ap (λ o. rank_after (length m.types) (option_flatten (option_map (λ x. x.0.init) o))) h
 
 rank_expression : (m : Module) (k : ℕ) → rank m (ExpressionItem k) ≡ length m.types + 2 * k + 1
 unfolding rank
@@ -149,7 +149,7 @@ override_bound m n k h =
     let e = get_in m.overrides k h in
     let w = (n.overrides k e.0 e.1).0 in
     let i = init_there m e.0.0.init (Some (TypeItem e.0.0.ty)) w in
-    let b = (behind_bound (length m.types) (length m.global_expressions) e.0.0.init i).1 in
+    let b = (after_bound (length m.types) (length m.global_expressions) e.0.0.init i).1 in
     let r = rank_override m k e.0 e.1 in
     omega (arith, b, r)
 
@@ -158,7 +158,7 @@ constant_bound m n k h =
     let e = get_in m.constants k h in
     let w = (n.constants k e.0 e.1).0 in
     let i = init_there m (Some e.0.0.init) (Some (TypeItem e.0.0.ty)) w in
-    let b = (behind_bound (length m.types) (length m.global_expressions) (Some e.0.0.init) i).1 in
+    let b = (after_bound (length m.types) (length m.global_expressions) (Some e.0.0.init) i).1 in
     let r = rank_constant m k e.0 e.1 in
     omega (arith, b, r)
 
@@ -236,8 +236,8 @@ type_first m t ns a h =
     omega (arith, l, r)
 
 -- an initialiser stands below what it initialises
-init_below : (n j : ℕ) (o : Option ℕ) → o ≡ Some j → n + 2 * j + 1 < rank_behind n o
-init_below n j o e = subst (λ v. n + 2 * j + 1 < rank_behind n v) (sym e) (omega arith)
+init_below : (n j : ℕ) (o : Option ℕ) → o ≡ Some j → n + 2 * j + 1 < rank_after n o
+init_below n j o e = subst (λ v. n + 2 * j + 1 < rank_after n v) (sym e) (omega arith)
 
 constants_below : (m : Module) → NamesForm m → (k : ℕ) (e : ConstantItself × Span) → slice_get m.constants k ≡ Some e → All (IsBelowItem m (ConstantItem k)) (constant_row e.0).names
 constants_below m n k e at =
@@ -251,7 +251,7 @@ overrides_below m n k e at =
     let w = n.overrides k e at in
     let r = rank_override m k e at in
     let t = type_first m e.0.ty (option_map ExpressionItem e.0.init ∷ []) w.0 w.1 in
-    let l = (behind_bound (length m.types) (length m.global_expressions) e.0.init (init_there m e.0.init (Some (TypeItem e.0.ty)) w.0)).0 in
+    let l = (after_bound (length m.types) (length m.global_expressions) e.0.init (init_there m e.0.init (Some (TypeItem e.0.ty)) w.0)).0 in
     typed_below m (OverrideItem k) e.0.ty e.0.init w.0 (omega (arith, r, t, l)) (λ j h. let b = init_below (length m.types) j e.0.init h in let x = rank_expression m j in omega (arith, r, b, x))
 
 globals_below : (m : Module) → NamesForm m → (k : ℕ) (e : GlobalItself × Span) → slice_get m.global_variables k ≡ Some e → All (IsBelowItem m (GlobalItem k)) (global_row e.0).names
@@ -290,14 +290,14 @@ named_below m k (TypeOf t) ns a u i g =
 named_below m k (ConstantAt c) ns a u i g =
     let h : c < length m.constants = All-head (λ o. IfSome o (IsPlaceThere m)) (Some (ConstantItem c)) ns a in
     let e = get_in m.constants c h in
-    let b = (behind_bound (length m.types) k (Some e.0.0.init) (constant_init (slice_get m.constants c) e.0 k e.1 i)).1 in
+    let b = (after_bound (length m.types) k (Some e.0.0.init) (constant_init (slice_get m.constants c) e.0 k e.1 i)).1 in
     let r = rank_constant m c e.0 e.1 in
     let x = rank_expression m k in
     below m (ExpressionItem k) (ConstantItem c) h (omega (arith, b, r, x))
 named_below m k (OverrideAt c) ns a u i g =
     let h : c < length m.overrides = All-head (λ o. IfSome o (IsPlaceThere m)) (Some (OverrideItem c)) ns a in
     let e = get_in m.overrides c h in
-    let b = (behind_bound (length m.types) k e.0.0.init (override_init (slice_get m.overrides c) e.0 k e.1 i)).1 in
+    let b = (after_bound (length m.types) k e.0.0.init (override_init (slice_get m.overrides c) e.0 k e.1 i)).1 in
     let r = rank_override m c e.0 e.1 in
     let x = rank_expression m k in
     below m (ExpressionItem k) (OverrideItem c) h (omega (arith, b, r, x))

@@ -12,7 +12,7 @@ use Rattle.naga_oil_ir.specs.declared.span.Span.{Span}
 use Rattle.naga_oil_form.proofs.LinkLemmas.{eq_eqb}
 use Rattle.naga_oil_derive.specs.declared.special.SpecialKey.{SpecialKey}
 use Rattle.naga_oil_derive.specs.Tree.{Kept, ReadsAs}
-use Rattle.naga_oil_derive.specs.World.{Places, goes, world, Extends, named_world, kept_in, kept_of, special_at, special_entries, with_specials}
+use Rattle.naga_oil_derive.specs.World.{ItemMap, goes, world, Extends, named_world, kept_in, kept_of, special_at, special_entries, with_specials}
 use Rattle.naga_oil_derive.specs.Collected.{Collects, depth, reached, names_trail}
 use Rattle.naga_oil_derive.specs.Copying.{IsSound, AreCopied, WentSomewhere, handle_under, special_names}
 use Rattle.naga_oil_derive.specs.Copied.{CopyState}
@@ -157,7 +157,7 @@ midway_having m kept u x i = record {
 
 -- ---- all keys are settled
 
-handle_at : (m : Places) (h q : ℕ) → goes m (TypeItem h) ≡ Some (TypeItem q) → handle_under m.types h ≡ q
+handle_at : (m : ItemMap) (h q : ℕ) → goes m (TypeItem h) ≡ Some (TypeItem q) → handle_under m.types h ≡ q
 unfolding goes
 handle_at m h q e = ap (λ o. unwrap_or o h) (flat_some _ q e)
 
@@ -166,17 +166,17 @@ unfolding kept_of
 first_at m t h q e = ap (option_map TypeItem) e
 
 -- the special types of the target before and after, and what those of a source map to
-abbrev SetsTo : ModuleValue → SpecialValue → SpecialValue → Places → Type 0
+abbrev SetsTo : ModuleValue → SpecialValue → SpecialValue → ItemMap → Type 0
 SetsTo m s x n = x ≡ with_specials s (type_under n) (entries_in m)
 
-keeps_set : (m : ModuleValue) (s x : SpecialValue) (n : Places) → SetsTo m s x n → (k : SpecialKey) (q : ℕ) → special_at s k ≡ Some q → special_at x k ≡ Some q
+keeps_set : (m : ModuleValue) (s x : SpecialValue) (n : ItemMap) → SetsTo m s x n → (k : SpecialKey) (q : ℕ) → special_at s k ≡ Some q → special_at x k ≡ Some q
 keeps_set m s x n is k q h = ap (λ v. special_at v k) is ∙ specials_keep s (type_under n) (entries_in m) k q h
 
-each_set : (m : ModuleValue) (s x : SpecialValue) (n : Places) → AreSpecial m → SetsTo m s x n → EachEntry (IsSettled s x (type_under n)) (entries_in m)
+each_set : (m : ModuleValue) (s x : SpecialValue) (n : ItemMap) → AreSpecial m → SetsTo m s x n → EachEntry (IsSettled s x (type_under n)) (entries_in m)
 each_set m s x n a is = subst (λ v. EachEntry (IsSettled s v (type_under n)) (entries_in m)) (sym is) (settled s (type_under n) (entries_in m) a.distinct)
 
 -- a kept place is what the type maps to
-stands_set : (m t : ModuleValue) (x : SpecialValue) (n : Places) → AreSpecial m → SetsTo m t.special_types x n → ((p q : ItemPlace) → first_in m t p ≡ Some q → goes n p ≡ Some q) → All (λ (e : Entry). WentSomewhere (goes n) (Some (TypeItem e.1))) (entries_in m) → (p q : ItemPlace) → kept_of m.special_types x p ≡ Some q → goes n p ≡ Some q
+stands_set : (m t : ModuleValue) (x : SpecialValue) (n : ItemMap) → AreSpecial m → SetsTo m t.special_types x n → ((p q : ItemPlace) → first_in m t p ≡ Some q → goes n p ≡ Some q) → All (λ (e : Entry). WentSomewhere (goes n) (Some (TypeItem e.1))) (entries_in m) → (p q : ItemPlace) → kept_of m.special_types x p ≡ Some q → goes n p ≡ Some q
 unfolding kept_of
 stands_set m t x n a is stand went (TypeItem h) q e =
     let k = some_mapped _ q e in
@@ -188,7 +188,7 @@ stands_set m t x n a is stand went (OverrideItem h) q e = cc
 stands_set m t x n a is stand went (GlobalItem h) q e = cc
 stands_set m t x n a is stand went (ExpressionItem h) q e = cc
 
-none_before : (m : ModuleValue) (s x : SpecialValue) (n : Places) → SetsTo m s x n → (p : ItemPlace) → kept_of m.special_types x p ≡ None → kept_of m.special_types s p ≡ None
+none_before : (m : ModuleValue) (s x : SpecialValue) (n : ItemMap) → SetsTo m s x n → (p : ItemPlace) → kept_of m.special_types x p ≡ None → kept_of m.special_types s p ≡ None
 unfolding kept_of
 none_before m s x n is (TypeItem h) e = ap (option_map TypeItem) (kept_none_more s x (keeps_set m s x n is) (entries_in m) h (mapped_none _ e))
 none_before m s x n is (ConstantItem h) e = refl

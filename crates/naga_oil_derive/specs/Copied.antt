@@ -11,19 +11,19 @@ use Rattle.naga_oil_ir.specs.declared.names.ItemPlace.TheVariants.{TypeItem, Con
 use Rattle.naga_oil_derive.specs.declared.maps.Maps.{Maps}
 use Rattle.naga_oil_derive.specs.Equal.{row_eq, parts_eq}
 use Rattle.naga_oil_rename.specs.Renames.{Renames, rename, rename_row, under_name}
-use Rattle.naga_oil_derive.specs.World.{Places, goes, value_of, world, shifted}
+use Rattle.naga_oil_derive.specs.World.{ItemMap, goes, value_of, world, shifted}
 use Rattle.naga_oil_derive.specs.Collected.{depth}
 use Rattle.naga_oil_derive.specs.Copying.{handle_under, places_of}
 
 pub record CopyState : Type 0 where
-  pub places : Places
+  pub places : ItemMap
   pub target : ModuleValue
 
 abbrev pub copy_state : Maps → Module → CopyState
 copy_state m t = record { places = places_of m; target = value_of t }
 
 -- a mapped handle maps to its copy; other handles, functions and ranges stay; spans are shifted
-abbrev pub renames_by : ℕ → Places → Renames
+abbrev pub renames_by : ℕ → ItemMap → Renames
 renames_by shift m = record {
   ty = handle_under m.types;
   constant = handle_under m.constants;

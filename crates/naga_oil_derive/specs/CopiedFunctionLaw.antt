@@ -140,7 +140,7 @@ pub record RangesStand (r : Renames) (v w : FunctionValue) : Type 0 where
       let n = copies_of r v (put_before v j q) in
       EmitsAt w i (n, n)
   -- an empty range that begins after the last expression stands after the last copy
-  pub behind :
+  pub following :
       (i : ℕ) (p : ℕ × ℕ) → EmitsAt v i p → length v.expressions ≤ p.0 →
       let n = length w.expressions in
       EmitsAt w i (n, n)

@@ -12,7 +12,7 @@ use Rattle.naga_oil_derive.specs.declared.maps.Maps.{Maps}
 use Rattle.naga_oil_derive.specs.declared.special.SpecialKey.{SpecialKey}
 use Rattle.naga_oil_rename.specs.Renames.{Renames}
 use Rattle.naga_oil_derive.specs.Tree.{World, Kept}
-use Rattle.naga_oil_derive.specs.World.{Places, goes, value_of, world, shifted, Extends, named_world, kept_of}
+use Rattle.naga_oil_derive.specs.World.{ItemMap, goes, value_of, world, shifted, Extends, named_world, kept_of}
 use Rattle.naga_oil_derive.specs.Collected.{depth}
 
 -- ---- worlds
@@ -77,17 +77,17 @@ abbrev pub IsThere : Module → ItemPlace → Type 0
 IsThere m p = (r : Row) × (world (value_of m) p ≡ Some r)
 
 -- a rank above that of the initialiser
-abbrev pub rank_behind : ℕ → Option ℕ → ℕ
-rank_behind n None = n
-rank_behind n (Some e) = n + 2 * e + 2
+abbrev pub rank_after : ℕ → Option ℕ → ℕ
+rank_after n None = n
+rank_after n (Some e) = n + 2 * e + 2
 
 -- a number that is larger than those of the items named: types without sizes come first, then constants, overrides and
 -- expressions, then types with sizes, then globals
 unfoldable pub rank : Module → ItemPlace → ℕ
 rank m (TypeItem k) = if is_sized m k then length m.types + 2 * length m.global_expressions + 1 + k else k
-rank m (ConstantItem k) = rank_behind (length m.types) (option_map (λ e. e.0.init) (slice_get m.constants k))
+rank m (ConstantItem k) = rank_after (length m.types) (option_map (λ e. e.0.init) (slice_get m.constants k))
 rank m (OverrideItem k) =
-    rank_behind (length m.types)
+    rank_after (length m.types)
     (option_flatten (option_map (λ e. e.0.init) (slice_get m.overrides k)))
 rank m (GlobalItem k) = 2 * length m.types + 2 * length m.global_expressions + 1
 rank m (ExpressionItem k) = length m.types + 2 * k + 1
@@ -102,7 +102,7 @@ pub record AreRanked (m : Module) : Type 0 where
 
 -- ---- maps
 
-abbrev pub places_of : Maps → Places
+abbrev pub places_of : Maps → ItemMap
 places_of m = record {
   types = m.types.items;
   constants = m.constants.items;

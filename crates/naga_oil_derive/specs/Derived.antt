@@ -8,14 +8,14 @@ use Rattle.naga_oil_ir.specs.declared.span.Span.{Span}
 use Rattle.naga_oil_ir.specs.Rows.{Row, Text}
 use Rattle.naga_oil_derive.specs.declared.special.SpecialKey.{SpecialKey}
 use Rattle.naga_oil_derive.specs.Tree.{World, Kept, ReadsAs}
-use Rattle.naga_oil_derive.specs.World.{Places, goes, world, span_at, shifted, Extends, named_world, renamed_at, kept_of, special_at, special_entries, with_specials}
+use Rattle.naga_oil_derive.specs.World.{ItemMap, goes, world, span_at, shifted, Extends, named_world, renamed_at, kept_of, special_at, special_entries, with_specials}
 use Rattle.naga_oil_derive.specs.Collected.{Collects, depth, reached, names_trail}
 
 -- a source: its module, the offset of its spans, and what its items map to
 pub record Source : Type 0 where
   pub value : ModuleValue
   pub offset : ℕ
-  pub places : Places
+  pub places : ItemMap
 
 -- the source that is set, the module built so far, and its functions by name
 pub record Derived : Type 0 where
@@ -117,7 +117,7 @@ abbrev pub special_places : ModuleValue → List (Option ItemPlace)
 special_places m = map (λ e. Some (TypeItem e.1)) (special_entries m.special_types)
 
 -- what a type maps to, or the type itself
-abbrev pub type_under : Places → ℕ → ℕ
+abbrev pub type_under : ItemMap → ℕ → ℕ
 type_under m k = unwrap_or (option_flatten (slice_get m.types k)) k
 
 -- m was set as the source s, with its spans shifted by an offset: its special types were copied, the target's special types stand

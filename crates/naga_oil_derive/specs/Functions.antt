@@ -7,8 +7,7 @@ use Rattle.indexmap.specs.IndexMap.{insert_entry}
 use Rattle.naga_oil_ir.specs.Body.{Tokens}
 use Rattle.naga_oil_form.specs.BodyForm.{places}
 use Rattle.naga_oil_form.specs.Links.{started}
-use Rattle.naga_oil_ir.specs.ModuleValue.{FunctionValue, ArgumentValue, LocalValue, local_value}
-use Rattle.naga_oil_ir.specs.declared.types.LocalVariable.{LocalVariable}
+use Rattle.naga_oil_ir.specs.ModuleValue.{FunctionValue, ArgumentValue, LocalValue}
 use Rattle.naga_oil_ir.specs.declared.module.FunctionResult.{FunctionResult}
 use Rattle.naga_oil_ir.specs.declared.span.Span.{Span}
 use Rattle.naga_oil_ir.specs.declared.tokens.Token.{Token}
@@ -20,10 +19,6 @@ use Rattle.naga_oil_derive.specs.Copies.{Table, place_under, under_table, value_
 -- names as plain data
 abbrev pub named_values : List (ℕ × String Global) → List (ℕ × List ℕ)
 named_values es = map (λ e. (e.0, string_bytes e.1)) es
-
--- local variables as plain data
-abbrev pub local_values : List (LocalVariable × Span) → List (LocalValue × Span)
-local_values ls = map (λ l. (local_value l.0, l.1)) ls
 
 -- an argument under a renaming
 abbrev pub argument_under : Renames → ArgumentValue → ArgumentValue

@@ -8,6 +8,7 @@ use Rattle.naga_oil_ir.specs.declared.module.Module.{Module}
 use Rattle.naga_oil_ir.specs.declared.span.Span.{Span}
 use Rattle.naga_oil_ir.specs.declared.names.ItemPlace.{ItemPlace}
 use Rattle.naga_oil_ir.specs.declared.names.ItemPlace.TheVariants.{TypeItem, ConstantItem, OverrideItem, GlobalItem, ExpressionItem}
+use Rattle.naga_oil_ir.specs.Spans.{u32_max}
 use Rattle.naga_oil_derive.specs.declared.special.SpecialKey.{SpecialKey}
 use Rattle.naga_oil_derive.specs.declared.special.SpecialKey.TheVariants.{RayDesc, RayIntersection, RayVertexReturn, Predeclared}
 use Rattle.naga_oil_derive.specs.Tree.{World, Kept}
@@ -35,7 +36,7 @@ span_at m (ExpressionItem k) = option_map (λ e. e.1) (slice_get m.global_expres
 
 -- a place of a text, shifted by an offset, at most to the last place that a span can name
 abbrev pub moved : ℕ → ℕ → ℕ
-moved offset k = min (k + offset) 4294967295
+moved offset k = min (k + offset) u32_max
 
 -- a span, shifted by an offset; an undefined span stays
 abbrev pub shifted : ℕ → Span → Span
@@ -65,7 +66,7 @@ pub record Extends (m n : ModuleValue) : Type 0 where
 -- ---- what items map to
 
 -- what the items of a source map to
-pub record Places : Type 0 where
+pub record ItemMap : Type 0 where
   pub types : List (Option ℕ)
   pub constants : List (Option ℕ)
   pub overrides : List (Option ℕ)
@@ -73,7 +74,7 @@ pub record Places : Type 0 where
   pub global_expressions : List (Option ℕ)
 
 -- what the item at a place maps to
-unfoldable pub goes : Places → ItemPlace → Option ItemPlace
+unfoldable pub goes : ItemMap → ItemPlace → Option ItemPlace
 goes m (TypeItem k) = option_map TypeItem (option_flatten (slice_get m.types k))
 goes m (ConstantItem k) = option_map ConstantItem (option_flatten (slice_get m.constants k))
 goes m (OverrideItem k) = option_map OverrideItem (option_flatten (slice_get m.overrides k))

@@ -155,11 +155,11 @@ impl Copying {
         let Some(name) = top.names.get(top.copied).copied() else {
             return self.copy_alone(source, top.item);
         };
-        let behind = self.awaited(source, &name)?;
+        let following = self.awaited(source, &name)?;
         top.copied += 1;
         waiting.push(top)?;
-        if let Some(behind) = behind {
-            waiting.push(behind)?;
+        if let Some(following) = following {
+            waiting.push(following)?;
         }
         Ok(())
     }

@@ -3,7 +3,7 @@ ghost use Rattle.std.specs.Prelude.{◌≡◌, ◌<◌, length, OnOk, IfOk, slic
 ghost use Rattle.std.specs.Option.{option_flatten};
 ghost use Rattle.naga_oil_ir.specs.Body.{block_tokens};
 ghost use Rattle.naga_oil_ir.specs.Parts.{parts};
-ghost use Rattle.naga_oil_ir.specs.ModuleValue.{expression_values, argument_value, local_value, function_value};
+ghost use Rattle.naga_oil_ir.specs.ModuleValue.{expression_values, argument_value, local_value, function_value, local_values};
 ghost use Rattle.naga_oil_walk.specs.Walks.{Walks};
 ghost use Rattle.naga_oil_derive.specs.Went.{went};
 ghost use Rattle.naga_oil_derive.specs.Copies.{under_table, range_under, FitIn};
@@ -11,7 +11,7 @@ ghost use Rattle.naga_oil_derive.specs.CopiedFunction.{copy_place as place_of_co
 ghost use Rattle.naga_oil_derive.specs.Expressions.{IsCopyAt};
 ghost use Rattle.naga_oil_derive.specs.Copying.{renames_under};
 ghost use Rattle.naga_oil_walk.specs.Naming.{IsStub};
-ghost use Rattle.naga_oil_derive.specs.Functions.{argument_under, result_under, local_under, names_under, name_put, named_values, local_values};
+ghost use Rattle.naga_oil_derive.specs.Functions.{argument_under, result_under, local_under, names_under, name_put, named_values};
 
 use super::import::Went;
 use super::*;

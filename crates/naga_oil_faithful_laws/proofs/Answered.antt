@@ -6,7 +6,7 @@ use Rattle.naga_oil_link.specs.BuiltModule.{Builds}
 use Rattle.naga_oil_link.specs.Linked.{link_whole}
 use Rattle.naga_oil_redirect.specs.Level.{level_below}
 use Rattle.naga_oil_redirect.specs.PutInOrder.{in_turn}
-use Rattle.naga_oil.specs.Answer.{read_first, read_second, make, answer}
+use Rattle.naga_oil.specs.Answer.{read_and_build_first, read_and_build_second, module_of_text, answer}
 use Rattle.naga_oil.specs.Chain.{sent_down, all_sent_down, chain_all}
 use Rattle.naga_oil.specs.Finish.{compose, finish}
 use Rattle.naga_oil.specs.Refused.{Place}
@@ -29,8 +29,8 @@ pub defs_made : make_defs registry 0 shader ≡ []
 unfolding make_defs
 defs_made = rw (source_read, described, shader_read) refl
 
-pub answered : (c : Capabilities) → answer (small_settings c) registry 0 shader ≡ record { builds = builds; result = Ok (made_with right) }
-unfolding answer make read_first read_second reach_each reach_module reach finish
+pub answered : (c : Capabilities) → answer (small_settings c) registry 0 shader ≡ record { counter = 0; builds = builds; result = Ok (made_with right) }
+unfolding answer module_of_text read_and_build_first read_and_build_second reach_each reach_module reach finish
 answered c = rw (source_read, described, shader_read, module_read, module_is_built, shader_read, shader_is_built, composed) refl
 
 pub answers : AnswerLaw

@@ -12,7 +12,7 @@ use Rattle.naga_oil_lines.specs.Decorate.{letters, bytes_of, decoded}
 use Rattle.naga_oil_words.specs.Texts.{in_order}
 use Rattle.naga_oil_lines.specs.Text.{past_word}
 use Rattle.naga_oil_words.specs.Marks.{has_module_mark}
-use Rattle.naga_oil_registry.specs.Keywords.{marked_name, marked_behind, edited}
+use Rattle.naga_oil_registry.specs.Keywords.{marked_name, marked_after, edited}
 use Rattle.naga_oil_derive.specs.Answered.{import_callee}
 use Rattle.naga_oil_derive.specs.Collected.{reached}
 use Rattle.naga_oil_derive.specs.Copied.{put_type, put, copy_within}
@@ -23,6 +23,7 @@ use Rattle.naga_oil_walk.specs.Naming.{names_from}
 use Rattle.naga_oil_link.specs.BuiltModule.{BuiltModule}
 use Rattle.naga_oil_link.specs.CopiedBuild.{copy_places, copy_build, copies_special}
 use Rattle.naga_oil_form.specs.Form.{is_formed}
+use Rattle.naga_oil_form_laws.specs.ShapeTest.{has_shape}
 use Rattle.naga_oil_link.specs.Linked.{link_items, link_import, link_header}
 use Rattle.naga_oil_link.specs.OwnPlaces.{nothing_own}
 use Rattle.ucd_perl.proofs.Computing.{ucd_perl}
@@ -31,23 +32,23 @@ use Rattle.naga_oil_build.specs.Held.{parse_whole, hold}
 use Rattle.naga_oil_build.specs.Virtuals.{around_last, item_and_code, functions_in}
 use Rattle.naga_oil_faithful_laws.specs.SmallMake.{function, ray_of, local_of, zero_of, literal, negated, span, number, struct, specials, mark, helper_name, base_name, override_name, kill, module_definition, small_settings, shader_parse}
 use Rattle.naga_oil_faithful_laws.proofs.Texts.{module_output, shader_output, shader_definition, used}
-use Rattle.naga_oil_ir.specs.declared.tokens.Token.TheVariants.{Head, Absent, Emitted, Callee}
+use Rattle.naga_oil_ir.specs.declared.tokens.Token.TheVariants.{At, Head, Absent, Emitted, Callee}
 
 -- `unfolding copies` lets `refl` compute copies of items and functions
 unfoldable pub copies : Unit {0}
 unfolding trail names_from import_callee reached put_type put copy_within expressions_upto copy_function row_eq parts_eq world span_at goes copy_places copy_build copies_special link_items link_import link_header has_module_mark in_order
 copies = tt
 
--- `unfolding keywords` lets `refl` compute the functions behind keywords
+-- `unfolding keywords` lets `refl` compute the functions after keywords
 unfoldable pub keywords : Unit {0}
-unfolding cover chars encode is_utf8 ucd_perl letters bytes_of decoded around_last item_and_code functions_in marked_name marked_behind edited past_word
+unfolding cover chars encode is_utf8 ucd_perl letters bytes_of decoded around_last item_and_code functions_in marked_name marked_after edited past_word
 keywords = tt
 
 abbrev pub module_value : ModuleValue
 module_value = record no_items {
   types = number ∷ struct (codes "Ray") ∷ struct (codes "Hit") ∷ struct (codes "S" ++ mark) ∷ [];
   special_types = specials (Some 1) (Some 2);
-  functions = (function helper_name [] [] [] kill, undefined) ∷ (function base_name (ray_of 1 ∷ []) (local_of 3 0 ∷ []) (zero_of 3 ∷ literal 7 ∷ negated 1 (span 5 8) ∷ []) (Head 16 ∷ Callee 0 ∷ Absent ∷ Head 0 ∷ Emitted (2, 3) ∷ []), span 0 9) ∷ [];
+  functions = (function helper_name [] [] [] kill, undefined) ∷ (function base_name (ray_of 1 ∷ []) (local_of 3 0 ∷ []) (zero_of 3 ∷ literal 7 ∷ negated 1 (span 5 8) ∷ []) (At (span 1 3) ∷ Head 16 ∷ Callee 0 ∷ Absent ∷ At (span 4 8) ∷ Head 0 ∷ Emitted (2, 3) ∷ []), span 0 9) ∷ [];
 }
 
 abbrev pub module_header : ModuleValue
@@ -75,7 +76,7 @@ module_build = record {
 }
 
 pub module_is_built : (c : Capabilities) → build (small_settings c) module_definition module_output [] ≡ Ok module_build
-unfolding build write_whole parse_whole is_formed hold copies keywords
+unfolding build write_whole parse_whole is_formed has_shape hold copies keywords
 module_is_built c = refl
 
 abbrev pub shader_build : BuiltModule
@@ -98,5 +99,5 @@ shader_build = record {
 }
 
 pub shader_is_built : (c : Capabilities) → build (small_settings c) shader_definition shader_output ((codes "m", module_build) ∷ []) ≡ Ok shader_build
-unfolding build write_whole parse_whole is_formed hold copies keywords
+unfolding build write_whole parse_whole is_formed has_shape hold copies keywords
 shader_is_built c = refl

@@ -6,3 +6,12 @@ pub mod Comes
 pub mod Refused
 pub mod Copied
 pub mod Row
+pub mod Promise
+pub mod Wrong
+pub mod WrongItems
+pub mod SpecialTypes
+pub mod SortedNames
+pub mod OwnNames
+pub mod Turned
+pub mod Pins
+pub mod Clauses

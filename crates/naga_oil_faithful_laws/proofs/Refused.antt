@@ -8,6 +8,7 @@ use Rattle.naga_oil_ir.specs.Body.{Tokens}
 use Rattle.naga_oil_form.specs.Links.{trail}
 use Rattle.naga_oil_ir.specs.ModuleValue.{ModuleValue, FunctionValue, ArgumentValue}
 use Rattle.naga_oil_ir.specs.Parts.{Parts}
+use Rattle.naga_oil_ir.specs.Spans.{undefined}
 use Rattle.naga_oil_ir.specs.Rows.{Row}
 use Rattle.naga_oil_ir.specs.declared.names.ItemPlace.{ItemPlace}
 use Rattle.naga_oil_ir.specs.declared.names.ItemPlace.TheVariants.{TypeItem}
@@ -35,18 +36,18 @@ use Rattle.naga_oil_faithful_laws.proofs.Comes.{Comes, OfHelper, OfBase, OfOverr
 
 -- ---- functions differ by their names
 
-not_base : Some helper_name ≡ Some base_name → ⊥
+pub not_base : Some helper_name ≡ Some base_name → ⊥
 not_base e = let f : false ≡ true = ap (option_eq bytes_eq (Some base_name)) e in cc
 
 pub not_override : Some override_name ≡ Some base_name → ⊥
 not_override e = let f : false ≡ true = ap (option_eq bytes_eq (Some base_name)) e in cc
 
-helper_overrides : Some helper_name ≡ Some override_name → ⊥
+pub helper_overrides : Some helper_name ≡ Some override_name → ⊥
 helper_overrides e = let f : false ≡ true = ap (option_eq bytes_eq (Some override_name)) e in cc
 
 -- ---- what bodies and arguments say of a copy
 
-never : false ≡ true → ⊥
+pub never : false ≡ true → ⊥
 never e = cc
 
 abbrev is_empty : Tokens → Bool
@@ -55,14 +56,14 @@ is_empty (t ∷ ts) = false
 
 -- a body that begins with a call, and what it calls
 abbrev begins_with_call : Tokens → Bool
-begins_with_call (t ∷ Callee f ∷ ts) = true
+begins_with_call (a ∷ t ∷ Callee f ∷ ts) = true
 begins_with_call _ = false
 
-abbrev first_callee : Tokens → ℕ
-first_callee (t ∷ Callee f ∷ ts) = f
+abbrev pub first_callee : Tokens → ℕ
+first_callee (a ∷ t ∷ Callee f ∷ ts) = f
 first_callee _ = 0
 
-abbrev first_type : List ArgumentValue → ℕ
+abbrev pub first_type : List ArgumentValue → ℕ
 first_type [] = 0
 first_type (a ∷ more) = a.ty
 
@@ -77,7 +78,7 @@ or_zero (Some n) = n
 -- ---- an operand
 
 -- the item at the place of a copy reads as its source
-reads_at : (r : Renames) (f g : FunctionValue) (k n : ℕ) (s y : Parts × Span) → HasCopy r f g k → slice_get f.expressions k ≡ Some s → r.expression k ≡ n → slice_get g.expressions n ≡ Some y → y.0 ≡ rename r s.0
+pub reads_at : (r : Renames) (f g : FunctionValue) (k n : ℕ) (s y : Parts × Span) → HasCopy r f g k → slice_get f.expressions k ≡ Some s → r.expression k ≡ n → slice_get g.expressions n ≡ Some y → y.0 ≡ rename r s.0
 reads_at r f g k n s y h at goes there =
     let copy : h.copy ≡ y = same_Some h.copy y (sym h.at_copy ∙ ap (slice_get g.expressions) goes ∙ there) in
     let source : h.source ≡ s = same_Some h.source s (sym h.at_source ∙ at) in
@@ -114,29 +115,29 @@ module _ (k : CopiesParsed module_build module_parse (calls_go (Some base_name))
 pub unmapped_refused : IsRefused unmapped
 unmapped_refused c h = one (each_comes c (made_with unmapped) h 1 _ refl)
   where
-    one : Comes (made_with unmapped) (base_copy unmapped) → ⊥
-    one (OfHelper k) = not_base (sym k.copies.name)
-    one (OfBase k) = negated_wrong k (k.copies.goes.expression 3) refl
-    one (OfOverride k) = not_override (sym k.copies.name)
+    one : Comes (made_with unmapped) (base_copy unmapped, span 2097152 2097161) → ⊥
+    one (OfHelper k at) = not_base (sym k.copies.name)
+    one (OfBase k at) = negated_wrong k (k.copies.goes.expression 3) refl
+    one (OfOverride k at) = not_override (sym k.copies.name)
 
 -- ---- bodies
 
 pub without_body_refused : IsRefused without_body
 without_body_refused c h = one (each_comes c (made_with without_body) h 0 _ refl)
   where
-    one : Comes (made_with without_body) (function helper_name [] [] [] []) → ⊥
-    one (OfHelper k) = never (sym (ap is_empty k.copies.body))
-    one (OfBase k) = not_base k.copies.name
-    one (OfOverride k) = helper_overrides k.copies.name
+    one : Comes (made_with without_body) (function helper_name [] [] [] [], undefined) → ⊥
+    one (OfHelper k at) = never (sym (ap is_empty k.copies.body))
+    one (OfBase k at) = not_base k.copies.name
+    one (OfOverride k at) = helper_overrides k.copies.name
 
 -- a function with the name of the one that is imported, and without a body
 pub with_declaration_refused : IsUnfaithful with_declaration
 with_declaration_refused c h = one (each_comes c with_declaration h 1 _ refl)
   where
-    one : Comes with_declaration stub → ⊥
-    one (OfHelper k) = not_base (sym k.copies.name)
-    one (OfBase k) = never (sym (ap is_empty k.copies.body))
-    one (OfOverride k) = not_override (sym k.copies.name)
+    one : Comes with_declaration (stub, undefined) → ⊥
+    one (OfHelper k at) = not_base (sym k.copies.name)
+    one (OfBase k at) = never (sym (ap is_empty k.copies.body))
+    one (OfOverride k at) = not_override (sym k.copies.name)
 
 pub of_another_entry_refused : IsRefused of_another_entry
 unfolding has_module_mark
@@ -148,12 +149,12 @@ pub calling_itself_refused : IsRefused calling_itself
 unfolding has_module_mark
 calling_itself_refused c h = one (each_comes c (made_with calling_itself) h 2 _ refl)
   where
-    one : Comes (made_with calling_itself) (override_of 2) → ⊥
-    one (OfHelper k) = helper_overrides (sym k.copies.name)
-    one (OfBase k) = not_override k.copies.name
-    one (OfOverride k) =
+    one : Comes (made_with calling_itself) (override_of 2, undefined) → ⊥
+    one (OfHelper k at) = helper_overrides (sym k.copies.name)
+    one (OfBase k at) = not_override k.copies.name
+    one (OfOverride k at) =
         let e : calling_itself.callee ≡ k.copies.goes.function 0 = ap first_callee k.copies.body in
-        let called : name_of_function (made_with calling_itself) (k.copies.goes.function 0) ≡ Some base_name = k.copies.alike.callees 1 (Callee 0) refl in
+        let called : name_of_function (made_with calling_itself) (k.copies.goes.function 0) ≡ Some base_name = k.copies.alike.callees 2 (Callee 0) refl in
         not_override (ap (name_of_function (made_with calling_itself)) e ∙ called)
 
 -- ---- a special type
@@ -166,7 +167,7 @@ name_read _ = None
 hit_row : Row
 hit_row = (struct (codes "Hit")).0
 
-ray_row : Row
+unfoldable pub ray_row : Row
 ray_row = (struct (codes "Ray")).0
 
 differ : (f : ItemPlace → Tree) (o p : Option Row) → Some hit_row ≡ o → Some ray_row ≡ p → same_tree (row_tree f o) (row_tree f p) ≡ false
@@ -177,7 +178,7 @@ no_hit : Some (codes "Hit") ≡ Some (codes "Ray") → ⊥
 no_hit e = let f : false ≡ true = ap (option_eq bytes_eq (Some (codes "Ray"))) e in cc
 
 module _ (w : World) (each : (p : ItemPlace) → (w p ≡ world (owned_parse module_build module_parse) p) ⊎ HasDecoratedName (owned_parse module_build module_parse) (own_places module_parse) mark w p) where
-  ray_stays : Some ray_row ≡ w (TypeItem 2)
+  pub ray_stays : Some ray_row ≡ w (TypeItem 2)
   unfolding world has_module_mark ray_row
   ray_stays = one (each (TypeItem 2))
     where
@@ -215,12 +216,12 @@ module _ (w : World) (each : (p : ItemPlace) → (w p ≡ world (owned_parse mod
 pub of_another_key_refused : IsRefused of_another_key
 of_another_key_refused c h = one (each_comes c (made_with of_another_key) h 1 _ refl)
   where
-    one : Comes (made_with of_another_key) (base_copy of_another_key) → ⊥
-    one (OfHelper k) = not_base (sym k.copies.name)
-    one (OfBase k) =
+    one : Comes (made_with of_another_key) (base_copy of_another_key, span 2097152 2097161) → ⊥
+    one (OfHelper k at) = not_base (sym k.copies.name)
+    one (OfBase k at) =
         let e : 2 ≡ k.copies.goes.ty 2 = ap first_type k.copies.arguments in
         type_wrong k.reads k.decorated.each (ap (λ (n : ℕ). tree 1 (world (made_with of_another_key)) (TypeItem n)) e ∙ k.copies.alike.types 2 refl 1)
-    one (OfOverride k) = not_override (sym k.copies.name)
+    one (OfOverride k at) = not_override (sym k.copies.name)
 
 -- the shader's parse has a special type of a ray
 pub without_special_refused : IsUnfaithful without_special

@@ -14,9 +14,10 @@ use Rattle.naga_oil_ir.specs.declared.names.ItemPlace.TheVariants.{TypeItem, Con
 use Rattle.naga_oil_ir.specs.declared.parts.Named.TheVariants.{TypeOf, ArgumentAt}
 use Rattle.naga_oil_ir.specs.declared.span.Span.{Span}
 use Rattle.naga_oil_words.specs.Marks.{has_module_mark}
+use Rattle.naga_oil_derive.specs.CopiedLaw.{HasAt}
 use Rattle.naga_oil_derive.specs.Tree.{World, tree, reading}
 use Rattle.naga_oil_derive.specs.declared.special.SpecialKey.{SpecialKey}
-use Rattle.naga_oil_derive.specs.declared.special.SpecialKey.TheVariants.{RayDesc, RayIntersection}
+use Rattle.naga_oil_derive.specs.declared.special.SpecialKey.TheVariants.{RayDesc, RayIntersection, RayVertexReturn, Predeclared}
 use Rattle.naga_oil_derive.specs.World.{world, special_at}
 use Rattle.naga_oil_link.specs.BuiltModule.{Builds}
 use Rattle.naga_oil_link.specs.Linked.{link_header}
@@ -36,7 +37,7 @@ use Rattle.naga_oil_faithful_laws.proofs.Builds.{module_build, shader_build}
 use Rattle.naga_oil_faithful_laws.proofs.Answered.{builds, defs_made, answered}
 use Rattle.naga_oil_faithful_laws.proofs.Comes.{module_is, shader_is, only_base, calls_go, own_helper, own_base}
 use Rattle.naga_oil_faithful_laws.proofs.Refused.{not_override}
-use Rattle.naga_oil_faithful_laws.proofs.Copied.{module_goes, shader_goes, plain_copy, call_copy, base_is_copied}
+use Rattle.naga_oil_faithful_laws.proofs.Copied.{module_goes, shader_goes, plain_copy, number_copy, call_copy, base_is_copied}
 
 -- ---- the parses
 
@@ -143,6 +144,11 @@ unfolding tree reading world kept_alike has_module_mark
 shader_ray_alike zero = refl
 shader_ray_alike (suc n) = refl
 
+shader_number_alike : ReadAlike from_shader (scope_of made) (TypeItem 0) (TypeItem 0)
+unfolding tree reading world kept_alike has_module_mark
+shader_number_alike zero = refl
+shader_number_alike (suc n) = refl
+
 ray_types : (k : ℕ) → has (1 ∷ []) k ≡ true → ReadAlike from_shader (scope_of made) (TypeItem k) (TypeItem k)
 ray_types k w = let P = λ (k : ℕ). ReadAlike from_shader (scope_of made) (TypeItem k) (TypeItem k) in All-has P (1 ∷ []) k (All-cons P 1 [] shader_ray_alike (All-nil P)) w
 
@@ -161,7 +167,7 @@ shader_keys = All-cons HasKey (RayDesc, 1) [] refl (All-nil HasKey)
 module _ (c : Capabilities) where
   -- ---- functions
 
-  abbrev IsComing : FunctionValue → Type 0
+  abbrev IsComing : FunctionValue × Span → Type 0
   IsComing g = FunctionComes (small_settings c) registry 0 shader shader_build made g
 
   -- the module's text has no header
@@ -174,7 +180,7 @@ module _ (c : Capabilities) where
       let there = subst (λ (bs : Builds). HasNamed (link_header bs shader_build.imports) (Some override_name)) (ap (λ o. o.builds) (answered c)) h in
       not_override (sym (only_base (Some override_name) there))
 
-  helper_comes : IsComing (function helper_name [] [] [] kill)
+  helper_comes : IsComing (function helper_name [] [] [] kill, undefined)
   unfolding has_module_mark
   helper_comes = record {
     of = of_module c;
@@ -183,10 +189,11 @@ module _ (c : Capabilities) where
     function = (own_helper, undefined);
     at = refl;
     undeclared = none_declared (Some helper_name);
-    copies = record { reads = module_reads; decorated = module_decorated; copies = plain_copy module_goes (calls_go (Some helper_name)) from_module (scope_of made) helper_name };
+    copies = record { reads = module_reads; decorated = module_decorated; copies = plain_copy module_goes refl (calls_go (Some helper_name)) from_module (scope_of made) helper_name };
+    span = refl;
   }
 
-  base_comes : IsComing (base_copy right)
+  base_comes : IsComing (base_copy right, span 2097152 2097161)
   unfolding has_module_mark
   base_comes = record {
     of = of_module c;
@@ -196,9 +203,10 @@ module _ (c : Capabilities) where
     at = refl;
     undeclared = none_declared (Some base_name);
     copies = record { reads = module_reads; decorated = module_decorated; copies = base_is_copied (calls_go (Some base_name)) from_module (scope_of made) ray_alike own_alike refl };
+    span = refl;
   }
 
-  override_comes : IsComing (override_of 1)
+  override_comes : IsComing (override_of 1, undefined)
   unfolding has_module_mark
   override_comes = record {
     of = of_shader c;
@@ -208,35 +216,41 @@ module _ (c : Capabilities) where
     at = refl;
     undeclared = override_undeclared;
     copies = record { reads = shader_reads; decorated = shader_decorated; copies = call_copy (λ k. 1) (calls_go (Some override_name)) from_shader (scope_of made) override_name (ray_of 1 ∷ []) 6 (ArgumentAt 0) 0 refl ray_types (tt, tt) refl };
+    span = refl;
   }
 
-  functions_come : (k : ℕ) (g : FunctionValue × Span) → slice_get made.functions k ≡ Some g → IsComing g.0
-  functions_come zero g at = subst (λ (g : FunctionValue × Span). IsComing g.0) (same_Some _ g at) helper_comes
-  functions_come (suc zero) g at = subst (λ (g : FunctionValue × Span). IsComing g.0) (same_Some _ g at) base_comes
-  functions_come (suc (suc zero)) g at = subst (λ (g : FunctionValue × Span). IsComing g.0) (same_Some _ g at) override_comes
+  functions_come : (k : ℕ) (g : FunctionValue × Span) → slice_get made.functions k ≡ Some g → IsComing g
+  functions_come zero g at = subst IsComing (same_Some (function helper_name [] [] [] kill, undefined) g at) helper_comes
+  functions_come (suc zero) g at = subst IsComing (same_Some (base_copy right, span 2097152 2097161) g at) base_comes
+  functions_come (suc (suc zero)) g at = subst IsComing (same_Some (override_of 1, undefined) g at) override_comes
   functions_come (suc (suc (suc k))) g at = absurd (none-some g at)
 
   -- ---- entry points
 
-  first_comes : EntryComes shader_build shader_parse made 0 (first_entry (call_with_first 2))
+  abbrev IsEntry : ℕ → EntryValue → Type 0
+  IsEntry i y = EntryComes shader_build shader_parse (λ s. s) made i y
+
+  first_comes : IsEntry 0 (first_entry (call_with_first 2))
   unfolding has_module_mark
   first_comes = record {
     entry = first_entry (call_with_first 0);
     at = refl;
     copies = record { reads = shader_reads; decorated = shader_decorated; copies = call_copy (λ k. 2) (calls_go None) from_shader (scope_of made) (codes "a") [] 1 (TypeOf 1) 0 refl (λ k w. absurd (let f : false ≡ true = w in cc)) (shader_ray_alike, tt) refl };
+    whole = record { name = refl; stage = refl; early_depth_test = refl; workgroup_size = refl; sizes = tt; mesh_info = tt; task_payload = tt };
   }
 
-  second_comes : EntryComes shader_build shader_parse made 1 second_entry
+  second_comes : IsEntry 1 second_entry
   unfolding has_module_mark
   second_comes = record {
     entry = second_entry;
     at = refl;
-    copies = record { reads = shader_reads; decorated = shader_decorated; copies = plain_copy (shader_goes (λ k. k)) (calls_go None) from_shader (scope_of made) (codes "b") };
+    copies = record { reads = shader_reads; decorated = shader_decorated; copies = number_copy (shader_goes (λ k. k)) refl refl (calls_go None) from_shader (scope_of made) (codes "b") shader_number_alike };
+    whole = record { name = refl; stage = refl; early_depth_test = refl; workgroup_size = refl; sizes = tt; mesh_info = tt; task_payload = tt };
   }
 
-  entries_come : (i : ℕ) (y : EntryValue) → slice_get made.entry_points i ≡ Some y → EntryComes shader_build shader_parse made i y
-  entries_come zero y at = subst (EntryComes shader_build shader_parse made 0) (same_Some _ y at) first_comes
-  entries_come (suc zero) y at = subst (EntryComes shader_build shader_parse made 1) (same_Some _ y at) second_comes
+  entries_come : (i : ℕ) (y : EntryValue) → slice_get made.entry_points i ≡ Some y → IsEntry i y
+  entries_come zero y at = subst (IsEntry 0) (same_Some (first_entry (call_with_first 2)) y at) first_comes
+  entries_come (suc zero) y at = subst (IsEntry 1) (same_Some second_entry y at) second_comes
   entries_come (suc (suc i)) y at = absurd (none-some y at)
 
   -- ---- items
@@ -256,15 +270,26 @@ module _ (c : Capabilities) where
   items_come (GlobalItem k) r e = absurd (none-some r e)
   items_come (ExpressionItem k) r e = absurd (none-some r e)
 
+-- what its special keys name is there
+special_there : (key : SpecialKey) (q : ℕ) → special_at made.special_types key ≡ Some q → HasAt made (TypeItem q)
+unfolding world
+special_there RayDesc q e = subst (λ j. HasAt made (TypeItem j)) (same_Some 1 q e) (_, refl)
+special_there RayIntersection q e = subst (λ j. HasAt made (TypeItem j)) (same_Some 2 q e) (_, refl)
+special_there RayVertexReturn q e = absurd (none-some q e)
+special_there (Predeclared c) q e = absurd (none-some q e)
+
 -- ---- the whole
 
 pub row_is_faithful : IsFaithfulSo right
+unfolding has_module_mark
 row_is_faithful c = record {
   shader = shader_build;
   parse = shader_parse;
   is = shader_built c;
   special = shader_keys;
+  special_there = special_there;
   functions = functions_come c;
   items = items_come c;
   entry_points = entries_come c;
+  as_many = refl;
 }

@@ -12,7 +12,7 @@ use Rattle.naga_oil_ir.specs.declared.language.ShaderLanguage.TheVariants.{Wgsl}
 use Rattle.naga_oil_ir.specs.declared.names.ItemPlace.TheVariants.{TypeItem}
 use Rattle.naga_oil_ir.specs.declared.parts.Named.TheVariants.{Nothing, TypeOf, ArgumentAt}
 use Rattle.naga_oil_ir.specs.declared.span.Span.{Span}
-use Rattle.naga_oil_ir.specs.declared.tokens.Token.TheVariants.{Head, Absent, Use, Emitted, Callee}
+use Rattle.naga_oil_ir.specs.declared.tokens.Token.TheVariants.{At, Head, Absent, Use, Emitted, Callee}
 use Rattle.naga_oil_lines.specs.Directives.{no_directives}
 use Rattle.naga_oil_registry.specs.Registered.{Registered}
 use Rattle.naga_oil_registry.specs.Descriptor.{ShaderSource, no_shader}
@@ -68,12 +68,13 @@ argument = (expr 6 [] (ArgumentAt 0) [], undefined)
 abbrev pub negated : ℕ → Span → Parts × Span
 negated operand at = (expr 22 (1 ∷ []) Nothing (Some operand ∷ []), at)
 
+-- a statement has its place before it, as in each body that a front end's module has
 abbrev pub kill : Tokens
-kill = Head 7 ∷ []
+kill = At undefined ∷ Head 7 ∷ []
 
 -- a call with the first of the expressions
 abbrev pub call_with_first : ℕ → Tokens
-call_with_first callee = Head call_head ∷ Callee callee ∷ Use 0 ∷ Absent ∷ []
+call_with_first callee = At undefined ∷ Head call_head ∷ Callee callee ∷ Use 0 ∷ Absent ∷ []
 
 -- ---- names
 
@@ -97,7 +98,7 @@ abbrev pub helper : FunctionValue
 helper = function (codes "h") [] [] [] kill
 
 abbrev pub base : FunctionValue
-base = function (codes "f") (ray_of 2 ∷ []) (local_of 1 1 ∷ []) (literal 9 ∷ zero_of 1 ∷ literal 7 ∷ negated 2 (span 5 8) ∷ []) (Head call_head ∷ Callee 0 ∷ Absent ∷ Head emit_head ∷ Emitted (3, 4) ∷ [])
+base = function (codes "f") (ray_of 2 ∷ []) (local_of 1 1 ∷ []) (literal 9 ∷ zero_of 1 ∷ literal 7 ∷ negated 2 (span 5 8) ∷ []) (At (span 1 3) ∷ Head call_head ∷ Callee 0 ∷ Absent ∷ At (span 4 8) ∷ Head emit_head ∷ Emitted (3, 4) ∷ [])
 
 abbrev pub module_parse : ModuleValue
 module_parse = record no_items {
@@ -125,12 +126,15 @@ entry f = record {
   task_payload = None;
 }
 
--- an entry point that has a zero, and one that has nothing
+-- an entry point that has a zero, and one that has a result alone
 abbrev pub first_entry : Tokens → EntryValue
 first_entry body = entry (function (codes "a") [] [] (zero_of 1 ∷ []) body)
 
+abbrev pub with_number : FunctionValue → FunctionValue
+with_number f = record f { result = Some (record { ty = 0; binding = None }) }
+
 abbrev pub second_entry : EntryValue
-second_entry = entry (function (codes "b") [] [] [] kill)
+second_entry = entry (with_number (function (codes "b") [] [] [] kill))
 
 abbrev pub shader_parse : ModuleValue
 shader_parse = record no_items {
@@ -201,8 +205,15 @@ pub record Looks : Type 0 where
   pub entry_body : Tokens
   pub callee : ℕ
 
+-- the body of the module's function, with spans that count over all texts, as it calls a function
+abbrev pub base_body_calling : (callee end : ℕ) → Tokens
+base_body_calling callee end = At (span 2097153 2097155) ∷ Head call_head ∷ Callee callee ∷ Absent ∷ At (span 2097156 2097160) ∷ Head emit_head ∷ Emitted (2, end) ∷ []
+
+abbrev pub base_body : Tokens
+base_body = base_body_calling 0 3
+
 abbrev pub base_copy : Looks → FunctionValue
-base_copy l = function base_name (ray_of l.argument_type ∷ []) (local_of 3 0 ∷ []) (zero_of 3 ∷ literal 7 ∷ negated l.operand (span 2097157 2097160) ∷ []) (Head call_head ∷ Callee 0 ∷ Absent ∷ Head emit_head ∷ Emitted (2, 3) ∷ [])
+base_copy l = function base_name (ray_of l.argument_type ∷ []) (local_of 3 0 ∷ []) (zero_of 3 ∷ literal 7 ∷ negated l.operand (span 2097157 2097160) ∷ []) base_body
 
 abbrev pub made_with : Looks → ModuleValue
 made_with l = record no_items {

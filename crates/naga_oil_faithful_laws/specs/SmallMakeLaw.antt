@@ -1,11 +1,18 @@
 -- The module of the small make, and modules that the definition of a faithful module refuses.
-use Rattle.std.specs.Prelude.{◌≡◌, [], ◌∷◌, None, Ok}
+use Rattle.std.specs.Prelude.{◌≡◌, [], ◌∷◌, Some, None, Ok, codes}
 use Rattle.naga_oil_ir.specs.ModuleValue.{ModuleValue}
 use Rattle.naga_oil_ir.specs.Spans.{undefined}
 use Rattle.naga_oil_ir.specs.declared.backend.Capabilities.{Capabilities}
+use Rattle.naga_oil_ir.specs.declared.module.MeshInfo.{MeshInfo}
+use Rattle.naga_oil_ir.specs.declared.span.Span.{Span}
+use Rattle.naga_oil_link.specs.BuiltModule.{Overriding}
+use Rattle.naga_oil_copy_laws.specs.Scope.{Scope, scope_of}
+use Rattle.naga_oil_copy_laws.specs.ByTree.{CopiesByTree}
 use Rattle.naga_oil.specs.Answer.{answer}
+use Rattle.naga_oil.specs.CallsSent.{call_goes}
 use Rattle.naga_oil.specs.Faithful.{IsFaithful}
-use Rattle.naga_oil_faithful_laws.specs.SmallMake.{small_settings, registry, shader, helper_name, function, specials, stub, override_of, Looks, made_with, right, kill}
+use Rattle.naga_oil_faithful_laws.specs.SmallMake.{small_settings, registry, shader, base, helper_name, base_name, override_name, function, specials, stub, override_of, Looks, made_with, right, kill}
+use Rattle.naga_oil_faithful_laws.specs.WrongModules.{with_base, calling_another, with_first, with_mesh}
 
 -- LAW: the small make answers its module
 abbrev pub AnswerLaw : Type 0
@@ -56,3 +63,20 @@ with_declaration = record (made_with right) {
 -- the module without its special types
 abbrev pub without_special : ModuleValue
 without_special = record (made_with right) { special_types = specials None None }
+
+-- ---- an output of a mesh shader
+
+-- LAW: the small make's shader has no such output
+abbrev pub MeshLaw : Type 0
+MeshLaw = (mesh : MeshInfo) → IsUnfaithful (with_first (with_mesh mesh))
+
+-- ---- a call of another chain
+
+-- the function of `m` that others call is overridden by one function, and the other by another
+abbrev pub two_chains : Overriding
+two_chains = (helper_name, codes "hX_naga_oil_vrt_XNUX" ∷ []) ∷ (base_name, override_name ∷ []) ∷ []
+
+-- LAW: where a function is overridden, a copy isn't right that calls the function of another chain in its place
+abbrev pub OtherChainLaw : Type 0
+OtherChainLaw = (moves : Span → Span) (a : Scope) → a.function_name 0 ≡ Some helper_name →
+    CopiesByTree moves (call_goes two_chains (Some base_name)) a (record base { name = Some base_name }) (scope_of (with_base calling_another)) calling_another.0 → ⊥

@@ -5,7 +5,7 @@ use Rattle.naga_oil_ir.specs.Kinds.{last_external_kind, first_result_kind, first
 use Rattle.naga_oil_ir.specs.Parts.{parts}
 use Rattle.naga_oil_ir.specs.Body.{Tokens}
 use Rattle.naga_oil_form.specs.Links.{Links, lists, linked, has, is_marked, started, AreEarlier}
-use Rattle.naga_oil_form.specs.declared.form.Reading.{Reading}
+use Rattle.naga_oil_form.specs.declared.form.ExpressionParts.{ExpressionParts}
 use Rattle.naga_oil_ir.specs.declared.parts.Named.{Named}
 use Rattle.naga_oil_ir.specs.declared.parts.Named.TheVariants.{Nothing, TypeOf, ConstantAt, OverrideAt, GlobalAt, LocalAt, ArgumentAt, FunctionAt}
 use Rattle.naga_oil_ir.specs.declared.expression.Expression.{Expression}
@@ -124,7 +124,7 @@ pub record MayStand (ks : List ℕ) (fs : List (Option ℕ)) (ls : Links) (is : 
 
 -- ---- the parts of expressions that the code reads
 
-pub record IsReading (es : List (Expression × Span)) (r : Reading) : Type 0 where
+pub record IsReading (es : List (Expression × Span)) (r : ExpressionParts) : Type 0 where
   pub kinds : r.kinds.items ≡ kinds es
   pub named : r.named.items ≡ named_of es
   pub links : lists r.links.items ≡ operand_links es
@@ -169,17 +169,17 @@ AreFineBy n ks fs ls ss gs (t ∷ ts) = IsFineBy n ks fs ls ss gs t × AreFineBy
 -- ---- the walk over expressions that were read
 
 -- a result may be given
-abbrev pub MayBeGivenOver : Reading → List Bool → Option ℕ → ℕ → Type 0
+abbrev pub MayBeGivenOver : ExpressionParts → List Bool → Option ℕ → ℕ → Type 0
 MayBeGivenOver r gs o h = MayBeGivenBy (length r.links.items) r.kinds.items (map callee r.named.items) gs o h
 
 -- a part of a body may stand
-abbrev pub IsFineOver : Reading → List Bool → List Bool → Token → Type 0
+abbrev pub IsFineOver : ExpressionParts → List Bool → List Bool → Token → Type 0
 IsFineOver r ss gs t = IsFineBy (length r.links.items) r.kinds.items (map callee r.named.items) (lists r.links.items) ss gs t
 
 -- the parts of a body may stand one after the other, where initialisers reach s
-abbrev pub AreFineOver : Reading → List ℕ → Tokens → Type 0
+abbrev pub AreFineOver : ExpressionParts → List ℕ → Tokens → Type 0
 AreFineOver r s ts = AreFine (length r.links.items) r.kinds.items (map callee r.named.items) (lists r.links.items) s [] ts
 
 -- the expressions may stand with the initialisers is and a body
-abbrev pub MayStandOver : Reading → List ℕ → Tokens → Type 0
+abbrev pub MayStandOver : ExpressionParts → List ℕ → Tokens → Type 0
 MayStandOver r is ts = MayStand r.kinds.items (map callee r.named.items) (lists r.links.items) is ts

@@ -3,7 +3,7 @@ ghost use Rattle.std.specs.Prelude.{IfOk, ◌≡◌, ◌↔◌, ◌<◌, ℕ, Li
 ghost use Rattle.naga_oil_form.specs.Links.{is_marked, AreMarks};
 ghost use Rattle.naga_oil_form.specs.BodyForm.{known_by, MayBeEmitted, marks_after, places, made, is_result, IsFineOver, MayBeGivenOver, AreFineOver, MayStandOver};
 
-use super::form::{Reading, callee_at, is_external, is_result};
+use super::form::{ExpressionParts, callee_at, is_external, is_result};
 use super::links::{are_below, are_earlier, is_marked, no_marks, reached_from};
 use naga_oil_ir::{Expression, Range, Token};
 use naga_oil_words::AllocResult;
@@ -12,7 +12,7 @@ use std::alloc::Global;
 /// The facts about a function's expressions before its body is visited.
 #[derive(Clone, Copy)]
 struct Known<'a> {
-    read: &'a Reading,
+    read: &'a ExpressionParts,
     /// Marks of the places that initialisers reach.
     started: &'a [bool],
 }
@@ -118,7 +118,7 @@ fn body_may_stand(of: &Known<'_>, tokens: &[Token], alloc: Global) -> AllocResul
 /// # Errors
 /// If out of memory.
 pub fn may_stand(
-    read: &Reading,
+    read: &ExpressionParts,
     inits: &[usize],
     tokens: &[Token],
     alloc: Global,

@@ -55,7 +55,7 @@ fn present(operands: &[Option<Operand>], alloc: Global) -> Result<Vec<usize>, Al
 
 /// The parts of expressions that the test of form needs, one entry for each expression.
 #[derive(Drop)]
-pub struct Reading {
+pub struct ExpressionParts {
     pub kinds: Vec<u64>,
     pub named: Vec<Named>,
     /// The operands that are present.
@@ -66,10 +66,10 @@ pub struct Reading {
 ///
 /// # Errors
 /// If out of memory.
-pub fn read(items: &[(Expression, Span)], alloc: Global) -> Result<Reading, AllocError>
+pub fn read(items: &[(Expression, Span)], alloc: Global) -> Result<ExpressionParts, AllocError>
     ensures { IfOk result (IsReading items.now) }
 {
-    let mut read = Reading {
+    let mut read = ExpressionParts {
         kinds: Vec::new(alloc),
         named: Vec::new(alloc),
         links: Vec::new(alloc),

@@ -135,7 +135,7 @@ module _ (m : Module) (f : AreFormed (value_of m)) where
   operands_less k (None ∷ os) a = operands_less k os (All-tail (λ o. IfSome o (MayName w (ExpressionItem k))) None (map (option_map ExpressionItem) os) a)
   operands_less k (Some j ∷ os) a =
       let one = All-head (λ o. IfSome o (MayName w (ExpressionItem k))) (Some (ExpressionItem j)) (map (option_map ExpressionItem) os) a in
-      All-cons (λ x. x < k) j (flat_map option_to_list os) one.behind (operands_less k os (All-tail (λ o. IfSome o (MayName w (ExpressionItem k))) (Some (ExpressionItem j)) (map (option_map ExpressionItem) os) a))
+      All-cons (λ x. x < k) j (flat_map option_to_list os) one.following (operands_less k os (All-tail (λ o. IfSome o (MayName w (ExpressionItem k))) (Some (ExpressionItem j)) (map (option_map ExpressionItem) os) a))
 
   earlier_by : (k : ℕ) (o : Option (Expression × Span)) → slice_get m.global_expressions k ≡ o → All (λ x. x < k) (linked (operand_links m.global_expressions) k)
   earlier_by k None e =
@@ -152,11 +152,11 @@ module _ (m : Module) (f : AreFormed (value_of m)) where
 
   constant_init : (k c : ℕ) (o : Option (ConstantItself × Span)) → slice_get m.constants c ≡ o → MayName w (ExpressionItem k) (ConstantItem c) → IfSome (init_of_constant o) (λ i. i < k)
   constant_init k c None e h = tt
-  constant_init k c (Some x) e h = init_before k x.0.ty (Some x.0.init) (h.behind (constant_row x.0) (constant_at c x e))
+  constant_init k c (Some x) e h = init_before k x.0.ty (Some x.0.init) (h.following (constant_row x.0) (constant_at c x e))
 
   override_init : (k c : ℕ) (o : Option (OverrideItself × Span)) → slice_get m.overrides c ≡ o → MayName w (ExpressionItem k) (OverrideItem c) → IfSome (init_of_override o) (λ i. i < k)
   override_init k c None e h = tt
-  override_init k c (Some x) e h = init_before k x.0.ty x.0.init (h.behind (override_row x.0) (override_at c x e))
+  override_init k c (Some x) e h = init_before k x.0.ty x.0.init (h.following (override_row x.0) (override_at c x e))
 
   after_name : (k : ℕ) (o : Option ItemPlace) → IfSome o (MayName w (ExpressionItem k)) → IfSome (initialiser m o) (λ i. i < k)
   after_name k None h = tt

@@ -22,7 +22,7 @@ use Rattle.naga_oil_ir.specs.declared.tokens.Token.{Token}
 use Rattle.naga_oil_ir.specs.declared.tokens.Token.TheVariants.{At, Head, Plain, Flag, Absent, Open, Close, Use, Give, GiveCall, Emitted, Callee}
 use Rattle.naga_oil_walk.specs.declared.walk.Request.{Request}
 use Rattle.naga_oil_walk.specs.declared.walk.Request.TheVariants.{Item, Call}
-use Rattle.naga_oil_derive.specs.World.{Places, goes, shifted}
+use Rattle.naga_oil_derive.specs.World.{ItemMap, goes, shifted}
 use Rattle.naga_oil_derive.specs.CopiedLaw.{HasAt}
 use Rattle.naga_oil_derive.specs.Copies.{place_under, under_table, value_links}
 use Rattle.naga_oil_derive.specs.CopiedFunction.{copy_function}
@@ -39,7 +39,7 @@ use Rattle.naga_oil_form_laws.proofs.SpanLemmas.{shifted_fine}
 use Rattle.naga_oil_form_laws.proofs.WalkLemmas.{copy_at, copy_within, source_of}
 
 -- a request was answered: an item maps to one that is there, and the name of a function means one of the first n
-abbrev pub Answered : (m t : ModuleValue) → Places → Meanings → ℕ → Request → Type 0
+abbrev pub Answered : (m t : ModuleValue) → ItemMap → Meanings → ℕ → Request → Type 0
 Answered m t places names n (Item p) = (q : ItemPlace) × (goes places p ≡ Some q) × HasAt t q
 Answered m t places names n (Call k) = (h : ℕ) × (meant_at names (slice_get m.functions k) ≡ Some h) × (h < n)
 
@@ -84,7 +84,7 @@ named_function r (GlobalAt k) g e = cc
 named_function r (LocalAt k) g e = cc
 named_function r (ArgumentAt k) g e = cc
 
-module _ (m t : ModuleValue) (shift : ℕ) (places : Places) (names : Meanings) (n c : ℕ) (room : n ≤ length t.functions) (v : FunctionValue) (f : IsFunctionFormed m c 4294967295 v) (a : All (Answered m t places names n) (requests_of v)) where
+module _ (m t : ModuleValue) (shift : ℕ) (places : ItemMap) (names : Meanings) (n c : ℕ) (room : n ≤ length t.functions) (v : FunctionValue) (f : IsFunctionFormed m c 4294967295 v) (a : All (Answered m t places names n) (requests_of v)) where
   abbrev P : Request → Type 0
   P = Answered m t places names n
 

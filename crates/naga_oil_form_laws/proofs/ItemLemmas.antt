@@ -11,7 +11,7 @@ use Rattle.naga_oil_derive.specs.Tree.{World}
 use Rattle.naga_oil_derive.specs.World.{world, span_at}
 use Rattle.naga_oil_derive.proofs.CopyLemmas.{same_rows}
 use Rattle.naga_oil_derive.proofs.DeriveLemmas.{world_empty, nothing_some}
-use Rattle.naga_oil_form_laws.specs.ItemsStand.{OfType, ReachesOnly, IsFixed, IsUnsized, MayNameType, NamesBefore, StandsBehind, MayStandBehind, IsIn, MayName, ItemsStand, MayBeSpecial, AreFormed}
+use Rattle.naga_oil_form_laws.specs.ItemsStand.{OfType, ReachesOnly, IsFixed, IsUnsized, MayNameType, NamesBefore, StandsAfter, MayStandAfter, IsIn, MayName, ItemsStand, MayBeSpecial, AreFormed}
 
 -- ---- the empty module
 
@@ -76,19 +76,19 @@ unsized_later v u stays i k at h n = reaches_later v u IsFixed IsFixed stays i (
 before_later : (v u : World) (k : ℕ) (p : ItemPlace) → Stays v u → IsIn v p → NamesBefore v k p → NamesBefore u k p
 before_later v u k p stays at h = λ r e. h r (at.1 ∙ ap Some (same_rows at.0 r (u p) (stays p at.0 at.1) e))
 
-behind_later : (v u : World) (k : ℕ) (q : ItemPlace) → Stays v u → IsIn v q → StandsBehind v k q → StandsBehind u k q
-behind_later v u k (TypeItem j) stays at h = tt
-behind_later v u k (ConstantItem j) stays at h = before_later v u k (ConstantItem j) stays at h
-behind_later v u k (OverrideItem j) stays at h = before_later v u k (OverrideItem j) stays at h
-behind_later v u k (GlobalItem j) stays at h = tt
-behind_later v u k (ExpressionItem j) stays at h = h
+after_later : (v u : World) (k : ℕ) (q : ItemPlace) → Stays v u → IsIn v q → StandsAfter v k q → StandsAfter u k q
+after_later v u k (TypeItem j) stays at h = tt
+after_later v u k (ConstantItem j) stays at h = before_later v u k (ConstantItem j) stays at h
+after_later v u k (OverrideItem j) stays at h = before_later v u k (OverrideItem j) stays at h
+after_later v u k (GlobalItem j) stays at h = tt
+after_later v u k (ExpressionItem j) stays at h = h
 
-stand_later : (v u : World) (p q : ItemPlace) → Stays v u → IsIn v q → MayStandBehind v p q → MayStandBehind u p q
+stand_later : (v u : World) (p q : ItemPlace) → Stays v u → IsIn v q → MayStandAfter v p q → MayStandAfter u p q
 stand_later v u (TypeItem k) q stays at h = tt
 stand_later v u (ConstantItem k) q stays at h = tt
 stand_later v u (OverrideItem k) q stays at h = tt
 stand_later v u (GlobalItem k) q stays at h = tt
-stand_later v u (ExpressionItem k) q stays at h = behind_later v u k q stays at h
+stand_later v u (ExpressionItem k) q stays at h = after_later v u k q stays at h
 
 type_later : (v u : World) (p : ItemPlace) (j : ℕ) → Stays v u → ItemsStand v → IsIn v (TypeItem j) → MayNameType v p j → MayNameType u p j
 type_later v u (TypeItem k) j stays i at h = h
@@ -102,7 +102,7 @@ name_later v u p q stays i h = record {
   there = (h.there.0, stays q h.there.0 h.there.1);
   kind = h.kind;
   of_type = type_both (MayNameType v p) (MayNameType v p) (MayNameType u p) (IsIn v) (λ j at x. type_later v u p j stays i at x) q h.there h.of_type;
-  behind = stand_later v u p q stays h.there h.behind;
+  following = stand_later v u p q stays h.there h.following;
 }
 
 some_weaker : (P Q : ItemPlace → Type 0) → ((q : ItemPlace) → P q → Q q) → (o : Option ItemPlace) → IfSome o P → IfSome o Q

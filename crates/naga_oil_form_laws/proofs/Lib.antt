@@ -16,6 +16,7 @@ pub mod PutLemmas
 pub mod PuttingLemmas
 pub mod RankLemmas
 pub mod RequestLemmas
+pub mod ShapeTests
 pub mod SpanLemmas
 pub mod SpecialLemmas
 pub mod StateLemmas

@@ -26,7 +26,7 @@ use Rattle.naga_oil_derive.proofs.FunctionValues.{function_at}
 use Rattle.naga_oil_derive.proofs.SpecialLemmas.{Entry}
 use Rattle.naga_oil_form_laws.specs.EntryForm.{IsEntryFormed, IsModuleFormed}
 use Rattle.naga_oil_form_laws.specs.FunctionForm.{IsNamedThere, IsFunctionFormed, AreFunctionsFormed}
-use Rattle.naga_oil_form_laws.specs.ItemsStand.{OfType, ReachesOnly, AllReached, IsFixed, IsUnsized, MayNameType, IsBefore, NamesBefore, StandsBehind, MayStandBehind, IsIn, MayName, MayBeGlobal, ItemsStand, IsPlain, MayBeSpecial, AreFormed}
+use Rattle.naga_oil_form_laws.specs.ItemsStand.{OfType, ReachesOnly, AllReached, IsFixed, IsUnsized, MayNameType, IsBefore, NamesBefore, StandsAfter, MayStandAfter, IsIn, MayName, MayBeGlobal, ItemsStand, IsPlain, MayBeSpecial, AreFormed}
 use Rattle.naga_oil_form_laws.specs.OwnedForm.{name_item, name_function, name_items, KeepsNames, without_binding, result_without_binding, without_bindings, append_functions, MayBeAppended}
 use Rattle.naga_oil_form_laws.proofs.EntryLemmas.{calls_more, entry_later}
 use Rattle.naga_oil_form_laws.proofs.FunctionFormLemmas.{mapped_at}
@@ -77,26 +77,26 @@ module _ (v u : World) (same : NamesSame v u) where
   before_same : (k : ℕ) (p : ItemPlace) → NamesBefore v k p → NamesBefore u k p
   before_same k p h = λ r e. let x = same.from p r e in subst (λ ns. All (λ o. IfSome o (IsBefore k)) ns) (sym x.2) (h x.0 x.1)
 
-  behind_same : (k : ℕ) (q : ItemPlace) → StandsBehind v k q → StandsBehind u k q
-  behind_same k (TypeItem j) h = h
-  behind_same k (ConstantItem j) h = before_same k (ConstantItem j) h
-  behind_same k (OverrideItem j) h = before_same k (OverrideItem j) h
-  behind_same k (GlobalItem j) h = h
-  behind_same k (ExpressionItem j) h = h
+  after_same : (k : ℕ) (q : ItemPlace) → StandsAfter v k q → StandsAfter u k q
+  after_same k (TypeItem j) h = h
+  after_same k (ConstantItem j) h = before_same k (ConstantItem j) h
+  after_same k (OverrideItem j) h = before_same k (OverrideItem j) h
+  after_same k (GlobalItem j) h = h
+  after_same k (ExpressionItem j) h = h
 
-  stand_same : (p q : ItemPlace) → MayStandBehind v p q → MayStandBehind u p q
+  stand_same : (p q : ItemPlace) → MayStandAfter v p q → MayStandAfter u p q
   stand_same (TypeItem k) q h = tt
   stand_same (ConstantItem k) q h = tt
   stand_same (OverrideItem k) q h = tt
   stand_same (GlobalItem k) q h = tt
-  stand_same (ExpressionItem k) q h = behind_same k q h
+  stand_same (ExpressionItem k) q h = after_same k q h
 
   name_same : (p q : ItemPlace) → MayName v p q → MayName u p q
   name_same p q h = record {
     there = same.there q h.there.0 h.there.1;
     kind = h.kind;
     of_type = of_types (MayNameType v p) (MayNameType u p) (type_same p) q h.of_type;
-    behind = stand_same p q h.behind;
+    following = stand_same p q h.following;
   }
 
   items_same : ItemsStand v → ItemsStand u

@@ -218,7 +218,7 @@ module _ (m : Module) (f : ItemForm m) where
     there = there q (all_at (λ o. IfSome o (IsPlaceThere m)) (type_row t).names i (Some q) a e);
     kind = all_at NamedByTypes (type_row t).names i (Some q) (inner_kinds (option_map string_bytes t.name) t.inner) e;
     of_type = less q e;
-    behind = tt;
+    following = tt;
   }
     where
       less : (q : ItemPlace) → slice_get (type_row t).names i ≡ Some (Some q) → OfType (λ j. j < k) q
@@ -248,15 +248,15 @@ module _ (m : Module) (f : ItemForm m) where
   constant_names : (k : ℕ) (e : ConstantItself × Span) → slice_get m.constants k ≡ Some e → All (λ o. IfSome o (MayName w (ConstantItem k))) (constant_row e.0).names
   constant_names k e at =
       let n = f.names.constants k e at in
-      two_names (ConstantItem k) e.0.ty (Some e.0.init) n.0 (λ j h. record { there = there (TypeItem e.0.ty) h; kind = refl; of_type = first_unsized e.0.ty (Some (ExpressionItem e.0.init) ∷ []) n.1; behind = tt }) (λ j h. record { there = there (ExpressionItem j) h; kind = refl; of_type = tt; behind = tt })
+      two_names (ConstantItem k) e.0.ty (Some e.0.init) n.0 (λ j h. record { there = there (TypeItem e.0.ty) h; kind = refl; of_type = first_unsized e.0.ty (Some (ExpressionItem e.0.init) ∷ []) n.1; following = tt }) (λ j h. record { there = there (ExpressionItem j) h; kind = refl; of_type = tt; following = tt })
 
   override_names : (k : ℕ) (e : OverrideItself × Span) → slice_get m.overrides k ≡ Some e → All (λ o. IfSome o (MayName w (OverrideItem k))) (override_row e.0).names
   override_names k e at =
       let n = f.names.overrides k e at in
-      two_names (OverrideItem k) e.0.ty e.0.init n.0 (λ j h. record { there = there (TypeItem e.0.ty) h; kind = refl; of_type = first_unsized e.0.ty (option_map ExpressionItem e.0.init ∷ []) n.1; behind = tt }) (λ j h. record { there = there (ExpressionItem j) h; kind = refl; of_type = tt; behind = tt })
+      two_names (OverrideItem k) e.0.ty e.0.init n.0 (λ j h. record { there = there (TypeItem e.0.ty) h; kind = refl; of_type = first_unsized e.0.ty (option_map ExpressionItem e.0.init ∷ []) n.1; following = tt }) (λ j h. record { there = there (ExpressionItem j) h; kind = refl; of_type = tt; following = tt })
 
   global_names : (k : ℕ) (e : GlobalItself × Span) → slice_get m.global_variables k ≡ Some e → All (λ o. IfSome o (MayName w (GlobalItem k))) (global_row e.0).names
-  global_names k e at = two_names (GlobalItem k) e.0.ty e.0.init (f.names.globals k e at) (λ j h. record { there = there (TypeItem e.0.ty) h; kind = refl; of_type = tt; behind = tt }) (λ j h. record { there = there (ExpressionItem j) h; kind = refl; of_type = tt; behind = tt })
+  global_names k e at = two_names (GlobalItem k) e.0.ty e.0.init (f.names.globals k e at) (λ j h. record { there = there (TypeItem e.0.ty) h; kind = refl; of_type = tt; following = tt }) (λ j h. record { there = there (ExpressionItem j) h; kind = refl; of_type = tt; following = tt })
 
   -- ---- global expressions
 
@@ -285,9 +285,9 @@ module _ (m : Module) (f : ItemForm m) where
 
   named_name : (k : ℕ) (n : Named) (ns : List (Option ItemPlace)) → All (λ o. IfSome o (IsPlaceThere m)) (named_place n ∷ ns) → list_any (is_sized m) (filter_map type_at (named_place n ∷ ns)) ≡ false → IfSome (initialiser m (named_place n)) (λ i. i < k) → ((g : ℕ) → n ≡ GlobalAt g → ⊥) → IfSome (named_place n) (MayName w (ExpressionItem k))
   named_name k Nothing ns a u i g = tt
-  named_name k (TypeOf t) ns a u i g = record { there = there (TypeItem t) (All-head (λ o. IfSome o (IsPlaceThere m)) (Some (TypeItem t)) ns a); kind = refl; of_type = first_unsized t ns u; behind = tt }
-  named_name k (ConstantAt c) ns a u i g = record { there = there (ConstantItem c) (All-head (λ o. IfSome o (IsPlaceThere m)) (Some (ConstantItem c)) ns a); kind = refl; of_type = tt; behind = constant_before k c i }
-  named_name k (OverrideAt c) ns a u i g = record { there = there (OverrideItem c) (All-head (λ o. IfSome o (IsPlaceThere m)) (Some (OverrideItem c)) ns a); kind = refl; of_type = tt; behind = override_before k c i }
+  named_name k (TypeOf t) ns a u i g = record { there = there (TypeItem t) (All-head (λ o. IfSome o (IsPlaceThere m)) (Some (TypeItem t)) ns a); kind = refl; of_type = first_unsized t ns u; following = tt }
+  named_name k (ConstantAt c) ns a u i g = record { there = there (ConstantItem c) (All-head (λ o. IfSome o (IsPlaceThere m)) (Some (ConstantItem c)) ns a); kind = refl; of_type = tt; following = constant_before k c i }
+  named_name k (OverrideAt c) ns a u i g = record { there = there (OverrideItem c) (All-head (λ o. IfSome o (IsPlaceThere m)) (Some (OverrideItem c)) ns a); kind = refl; of_type = tt; following = override_before k c i }
   named_name k (GlobalAt c) ns a u i g = absurd (g c refl)
   named_name k (LocalAt c) ns a u i g = tt
   named_name k (ArgumentAt c) ns a u i g = tt
@@ -300,7 +300,7 @@ module _ (m : Module) (f : ItemForm m) where
       let rest = map (option_map ExpressionItem) os in
       let here = there (ExpressionItem j) (All-head (λ o. IfSome o (IsPlaceThere m)) (Some (ExpressionItem j)) rest a) in
       let l : j < k = All-head (λ x. x < k) j (flat_map option_to_list os) b in
-      All-cons (λ o. IfSome o (MayName w (ExpressionItem k))) (Some (ExpressionItem j)) rest (record { there = here; kind = refl; of_type = tt; behind = l }) (operand_names k os (All-tail (λ o. IfSome o (IsPlaceThere m)) (Some (ExpressionItem j)) rest a) (All-tail (λ x. x < k) j (flat_map option_to_list os) b))
+      All-cons (λ o. IfSome o (MayName w (ExpressionItem k))) (Some (ExpressionItem j)) rest (record { there = here; kind = refl; of_type = tt; following = l }) (operand_names k os (All-tail (λ o. IfSome o (IsPlaceThere m)) (Some (ExpressionItem j)) rest a) (All-tail (λ x. x < k) j (flat_map option_to_list os) b))
 
   kind_at : (k : ℕ) (e : Expression × Span) → slice_get m.global_expressions k ≡ Some e → IsGlobalKind (parts e.0).kind
   kind_at k e at = all_at IsGlobalKind (kinds m.global_expressions) k (parts e.0).kind f.expressions.kinds (slice_get-map (λ (x : Expression × Span). (parts x.0).kind) m.global_expressions k ∙ ap (option_map (λ (x : Expression × Span). (parts x.0).kind)) at)

@@ -9,13 +9,13 @@ use Rattle.naga_oil_ir.specs.declared.names.ItemPlace.{ItemPlace}
 use Rattle.naga_oil_ir.specs.declared.names.ItemPlace.TheVariants.{TypeItem, ConstantItem, OverrideItem, GlobalItem, ExpressionItem}
 use Rattle.naga_oil_ir.specs.declared.span.Span.{Span}
 use Rattle.naga_oil_derive.specs.Tree.{World, Kept}
-use Rattle.naga_oil_derive.specs.World.{Places, goes, world}
+use Rattle.naga_oil_derive.specs.World.{ItemMap, goes, world}
 use Rattle.naga_oil_derive.specs.Copying.{Goes, NameGoesTo, IsCopyOf, AreCopied, Fetches}
 use Rattle.naga_oil_derive.specs.Copied.{CopyState}
 use Rattle.naga_oil_derive.specs.CopiedLaw.{place_number, reads_now, IsMidway, PutsOne}
 use Rattle.naga_oil_derive.proofs.CopyLemmas.{same_rows}
 use Rattle.naga_oil_derive.proofs.WorldLemmas.{named_names}
-use Rattle.naga_oil_form_laws.specs.ItemsStand.{OfType, ReachesOnly, AllReached, IsFixed, IsUnsized, MayNameType, IsBefore, NamesBefore, StandsBehind, MayStandBehind, IsIn, may_name_kind, MayName, MayBeGlobal, ItemsStand}
+use Rattle.naga_oil_form_laws.specs.ItemsStand.{OfType, ReachesOnly, AllReached, IsFixed, IsUnsized, MayNameType, IsBefore, NamesBefore, StandsAfter, MayStandAfter, IsIn, may_name_kind, MayName, MayBeGlobal, ItemsStand}
 use Rattle.naga_oil_form_laws.proofs.ItemLemmas.{names_later}
 
 -- ---- places map to places of their kind
@@ -28,7 +28,7 @@ mapped : (C : ℕ → ItemPlace) (o : Option ℕ) (q : ItemPlace) → option_map
 mapped C None q e = cc
 mapped C (Some k) q e = (k, (let g : C k ≡ q = cc in sym g))
 
-kind_kept : (m : Places) (p q : ItemPlace) → goes m p ≡ Some q → place_number q ≡ place_number p
+kind_kept : (m : ItemMap) (p q : ItemPlace) → goes m p ≡ Some q → place_number q ≡ place_number p
 unfolding goes
 kind_kept m (TypeItem k) q e = ap place_number (mapped TypeItem _ q e).1
 kind_kept m (ConstantItem k) q e = ap place_number (mapped ConstantItem _ q e).1
@@ -36,7 +36,7 @@ kind_kept m (OverrideItem k) q e = ap place_number (mapped OverrideItem _ q e).1
 kind_kept m (GlobalItem k) q e = ap place_number (mapped GlobalItem _ q e).1
 kind_kept m (ExpressionItem k) q e = ap place_number (mapped ExpressionItem _ q e).1
 
-pub keeps_kinds : (m : Places) → KeepsKinds (goes m)
+pub keeps_kinds : (m : ItemMap) → KeepsKinds (goes m)
 keeps_kinds m = record { kind = kind_kept m }
 
 -- what a place of a type has, the type that it maps to has
@@ -180,19 +180,19 @@ is_before t k (ExpressionItem j) e at = expression_before t j k at e
 names_before : (t : ModuleValue) (k : ℕ) (p : ItemPlace) → ItemsStand (world t) → world t (ExpressionItem k) ≡ None → NamesBefore (world t) k p
 names_before t k p i e = λ r at. λ j x l. some_weaker (MayName (world t) p) (IsBefore k) (λ q h. is_before t k q e h.there) _ (i.names p r at j x l)
 
-stands_behind : (t : ModuleValue) (k : ℕ) (q : ItemPlace) → ItemsStand (world t) → world t (ExpressionItem k) ≡ None → IsIn (world t) q → StandsBehind (world t) k q
-stands_behind t k (TypeItem j) i e at = tt
-stands_behind t k (ConstantItem j) i e at = names_before t k (ConstantItem j) i e
-stands_behind t k (OverrideItem j) i e at = names_before t k (OverrideItem j) i e
-stands_behind t k (GlobalItem j) i e at = tt
-stands_behind t k (ExpressionItem j) i e at = expression_before t j k at e
+stands_past : (t : ModuleValue) (k : ℕ) (q : ItemPlace) → ItemsStand (world t) → world t (ExpressionItem k) ≡ None → IsIn (world t) q → StandsAfter (world t) k q
+stands_past t k (TypeItem j) i e at = tt
+stands_past t k (ConstantItem j) i e at = names_before t k (ConstantItem j) i e
+stands_past t k (OverrideItem j) i e at = names_before t k (OverrideItem j) i e
+stands_past t k (GlobalItem j) i e at = tt
+stands_past t k (ExpressionItem j) i e at = expression_before t j k at e
 
-free_behind : (t : ModuleValue) (p q : ItemPlace) → ItemsStand (world t) → world t p ≡ None → IsIn (world t) q → MayStandBehind (world t) p q
-free_behind t (TypeItem k) q i e at = tt
-free_behind t (ConstantItem k) q i e at = tt
-free_behind t (OverrideItem k) q i e at = tt
-free_behind t (GlobalItem k) q i e at = tt
-free_behind t (ExpressionItem k) q i e at = stands_behind t k q i e at
+free_after : (t : ModuleValue) (p q : ItemPlace) → ItemsStand (world t) → world t p ≡ None → IsIn (world t) q → MayStandAfter (world t) p q
+free_after t (TypeItem k) q i e at = tt
+free_after t (ConstantItem k) q i e at = tt
+free_after t (OverrideItem k) q i e at = tt
+free_after t (GlobalItem k) q i e at = tt
+free_after t (ExpressionItem k) q i e at = stands_past t k q i e at
 
 -- ---- what a copy at a free place names
 
@@ -217,12 +217,12 @@ module _ (m : ModuleValue) (kept : Kept) (s : CopyState) (i : IsMidway m kept s)
   copy_name : (p x : ItemPlace) → place_number x ≡ place_number p → world s.target x ≡ None → (a q : ItemPlace) → goes s.places a ≡ Some q → MayName (world m) p a → MayName (world s.target) x q
   copy_name p x n e a q g h =
       let at = i.copied.there a q g in
-      let behind = free_behind s.target x q target e at in
+      let following = free_after s.target x q target e at in
       record {
         there = at;
         kind = same_kinds p x a q n (kind_kept s.places a q g) h.kind;
         of_type = type_gone (goes s.places) (MayNameType (world m) p) (MayNameType (world s.target) x) (λ k j y. copy_type (world m) s.target p x k j n (unsized_here k j y) e (i.copied.there (TypeItem k) (TypeItem j) y)) a q (kind_kept s.places a q g) g h.of_type;
-        behind = behind;
+        following = following;
       }
 
   new_stands : (t : ModuleValue) (p x : ItemPlace) (r row copy : Row) → world m p ≡ Some r → row.names ≡ r.names → row.label.kind ≡ r.label.kind → IsCopyOf (goes s.places) row copy → Fetches (world s.target) (world t) copy x → place_number x ≡ place_number p → world s.target x ≡ None → ItemsStand (world t)

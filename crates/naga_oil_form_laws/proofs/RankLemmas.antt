@@ -282,20 +282,20 @@ module _ (m : ModuleValue) (s : ItemsStand (world m)) where
   below (ExpressionItem k) r i (TypeItem j) at e = let n = name_at (ExpressionItem k) r i (TypeItem j) at e in let u = unsized_rank j n.of_type n.there in let c = rank_expression m k in omega (arith, u, c)
   below (ExpressionItem k) r i (ConstantItem j) at e =
       let n = name_at (ExpressionItem k) r i (ConstantItem j) at e in
-      let t = top_before k (ConstantItem j) n.there.0 n.there.1 n.behind in
+      let t = top_before k (ConstantItem j) n.there.0 n.there.1 n.following in
       let c = rank_constant m j n.there.0 n.there.1 in
       let x = rank_expression m k in
       omega (arith, t, c, x)
   below (ExpressionItem k) r i (OverrideItem j) at e =
       let n = name_at (ExpressionItem k) r i (OverrideItem j) at e in
-      let t = top_before k (OverrideItem j) n.there.0 n.there.1 n.behind in
+      let t = top_before k (OverrideItem j) n.there.0 n.there.1 n.following in
       let c = rank_override m j n.there.0 n.there.1 in
       let x = rank_expression m k in
       omega (arith, t, c, x)
   below (ExpressionItem k) r i (GlobalItem j) at e = absurd (false≢true (name_at (ExpressionItem k) r i (GlobalItem j) at e).kind)
   below (ExpressionItem k) r i (ExpressionItem j) at e =
       let n = name_at (ExpressionItem k) r i (ExpressionItem j) at e in
-      let l : j < k = n.behind in
+      let l : j < k = n.following in
       let x = rank_expression m j in
       let y = rank_expression m k in
       omega (arith, l, x, y)

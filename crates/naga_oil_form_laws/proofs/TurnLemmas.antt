@@ -79,9 +79,9 @@ functions_in_turn first m d (v ∷ vs) f h =
 before_later : (m : ModuleValue) (k n : ℕ) (x : Text) → k ≤ n → IsNameBefore m k x → IsNameBefore m n x
 before_later m k n x l y = let a = y.2 in (y.0, y.1, omega (arith, a, l), y.3, y.4)
 
-get_behind : (xs : List (FunctionValue × Span)) (x : FunctionValue × Span) (ys : List (FunctionValue × Span)) → slice_get (xs ++ x ∷ ys) (length xs) ≡ Some x
-get_behind [] x ys = refl
-get_behind (y ∷ xs) x ys = get_behind xs x ys
+get_after : (xs : List (FunctionValue × Span)) (x : FunctionValue × Span) (ys : List (FunctionValue × Span)) → slice_get (xs ++ x ∷ ys) (length xs) ≡ Some x
+get_after [] x ys = refl
+get_after (y ∷ xs) x ys = get_after xs x ys
 
 -- all functions of a module
 rest_in_turn : (m : ModuleValue) → AreFunctionsFormed m 4294967295 → (vs done : List (FunctionValue × Span)) → m.functions ≡ done ++ vs → MayComeInTurn m (IsNameBefore m (length done)) vs
@@ -90,7 +90,7 @@ rest_in_turn m f (v ∷ vs) done e =
     let k = length done in
     let split : m.functions ≡ (done ++ v ∷ []) ++ vs = e ∙ sym (append_assoc done (v ∷ []) vs) in
     let long : length (done ++ v ∷ []) ≡ k + 1 = length-append done (v ∷ []) in
-    let at : slice_get m.functions k ≡ Some v = ap (λ fs. slice_get fs k) e ∙ get_behind done v vs in
+    let at : slice_get m.functions k ≡ Some v = ap (λ fs. slice_get fs k) e ∙ get_after done v vs in
     let rest = rest_in_turn m f vs (done ++ v ∷ []) split in
     let later : (x : Text) → IsNameBefore m k x ⊎ (IsNameBefore m k x ⊎ (x ≡ v.0.name)) → IsNameBefore m (length (done ++ v ∷ [])) x = λ x y. ⊎_elim (before_later m k (length (done ++ v ∷ [])) x (omega (arith, long))) (λ z. ⊎_elim (before_later m k (length (done ++ v ∷ [])) x (omega (arith, long))) (λ s. (k, v, omega (arith, long), at, sym s)) z) y in
     (k, each_comes m k v f at, (λ y. let g = f.distinct y.0 k y.1 v y.3 at y.4 in let l = y.2 in omega (arith, g, l)), fewer_names m (IsNameBefore m (length (done ++ v ∷ []))) (λ x. IsNameBefore m k x ⊎ (IsNameBefore m k x ⊎ (x ≡ v.0.name))) vs later rest)
@@ -111,7 +111,7 @@ passing_rest m test f (v ∷ vs) done e =
     let k = length done in
     let split : m.functions ≡ (done ++ v ∷ []) ++ vs = e ∙ sym (append_assoc done (v ∷ []) vs) in
     let long : length (done ++ v ∷ []) ≡ k + 1 = length-append done (v ∷ []) in
-    let at : slice_get m.functions k ≡ Some v = ap (λ fs. slice_get fs k) e ∙ get_behind done v vs in
+    let at : slice_get m.functions k ≡ Some v = ap (λ fs. slice_get fs k) e ∙ get_after done v vs in
     passing_or m test k (length (done ++ v ∷ [])) v vs f at long (passing_rest m test f vs (done ++ v ∷ []) split) (test v)
 
 pub passing_in_turn : (m : ModuleValue) (test : FunctionValue × Span → Bool) → IsModuleFormed m → MayComeInTurn m no_name (filter test m.functions)
@@ -161,7 +161,7 @@ stubs_rest m test f (v ∷ vs) done e =
     let k = length done in
     let split : m.functions ≡ (done ++ v ∷ []) ++ vs = e ∙ sym (append_assoc done (v ∷ []) vs) in
     let long : length (done ++ v ∷ []) ≡ k + 1 = length-append done (v ∷ []) in
-    let at : slice_get m.functions k ≡ Some v = ap (λ fs. slice_get fs k) e ∙ get_behind done v vs in
+    let at : slice_get m.functions k ≡ Some v = ap (λ fs. slice_get fs k) e ∙ get_after done v vs in
     stub_or m test k (length (done ++ v ∷ [])) v vs f at long (stubs_rest m test f vs (done ++ v ∷ []) split) (test v)
 
 pub stubs_in_turn : (m : ModuleValue) (test : FunctionValue × Span → Bool) → IsModuleFormed m → MayComeInTurn m no_name (map stub (filter test m.functions))

@@ -6,6 +6,7 @@ use Rattle.naga_oil_ir.specs.Rows.{Text}
 use Rattle.naga_oil_ir.specs.declared.names.ItemPlace.{ItemPlace}
 use Rattle.naga_oil_ir.specs.declared.names.ItemPlace.TheVariants.{TypeItem}
 use Rattle.naga_oil_ir.specs.declared.span.Span.{Span}
+use Rattle.naga_oil_ir.specs.Spans.{u32_max}
 use Rattle.naga_oil_derive.specs.Tree.{Kept}
 use Rattle.naga_oil_derive.specs.World.{kept_of}
 use Rattle.naga_oil_derive.specs.Derived.{Derived, nothing, cleared, HasItem}
@@ -51,10 +52,10 @@ SetItemsLaw = (first : Kept) (d : Derived) (m : ModuleValue) (shift : ℕ) → H
 -- a derivation whose items and functions pass, as those of its source do; it has no entry points yet
 pub record IsFormed (first : Kept) (d : Derived) : Type 0 where
   pub items : HasFormedItems first d
-  pub functions : AreFunctionsFormed d.target 4294967295
+  pub functions : AreFunctionsFormed d.target u32_max
   pub known : AreKnown d.target.functions d.function_names
   pub without_entries : d.target.entry_points ≡ []
-  pub source : IfSome d.source (λ s. AreFunctionsFormed s.value 4294967295)
+  pub source : IfSome d.source (λ s. AreFunctionsFormed s.value u32_max)
 
 -- a function over the handles of a source may be imported: it calls only functions before its place c, and none of them has its
 -- name
@@ -62,8 +63,8 @@ pub record MayCome (m : ModuleValue) (c : ℕ) (v : FunctionValue) (span : Span)
   pub named : IsSome v.name
   pub among : c ≤ length m.functions
   pub apart : (k : ℕ) (e : FunctionValue × Span) → k < c → slice_get m.functions k ≡ Some e → e.0.name ≡ v.name → ⊥
-  pub form : IsFunctionFormed m c 4294967295 v
-  pub spanned : IsSpanFine 4294967295 span
+  pub form : IsFunctionFormed m c u32_max v
+  pub spanned : IsSpanFine u32_max span
 
 -- a source is set, from which the function may be imported
 abbrev pub MayBeImported : Derived → (c : ℕ) → FunctionValue → Span → Type 0
@@ -72,7 +73,7 @@ MayBeImported d c v span = IsSome d.source × IfSome d.source (λ s. MayCome s.v
 -- LAW: each function of a source may be imported
 abbrev pub ComingLaw : Type 0
 ComingLaw =
-    (m : ModuleValue) (k : ℕ) (e : FunctionValue × Span) → AreFunctionsFormed m 4294967295 →
+    (m : ModuleValue) (k : ℕ) (e : FunctionValue × Span) → AreFunctionsFormed m u32_max →
     slice_get m.functions k ≡ Some e → MayCome m k e.0 e.1
 
 -- LAW: the items and functions of the empty module pass
@@ -99,7 +100,7 @@ RenameFormedLaw =
 abbrev pub SetFormedLaw : Type 0
 SetFormedLaw =
     (first : Kept) (d : Derived) (m : ModuleValue) (shift : ℕ) → IsFormed first d → AreFormed m →
-    AreFunctionsFormed m 4294967295 →
+    AreFunctionsFormed m u32_max →
     IsFormed (kept_of m.special_types d.target.special_types) (set_source d m shift)
 
 -- LAW: items and functions pass after a function is imported whose name isn't known

@@ -7,6 +7,7 @@ use Rattle.naga_oil_form.specs.WellFormed.{SpanForm, FunctionsForm, EntryForm, W
 use Rattle.naga_oil_form.specs.NameForm.{NameForm}
 use Rattle.naga_oil_ir.specs.declared.module.MeshInfo.{MeshInfo}
 use Rattle.naga_oil_ir.specs.declared.module.Module.{Module}
+use Rattle.naga_oil_ir.specs.Spans.{u32_max}
 use Rattle.naga_oil_derive.specs.CopiedEntry.{make_module}
 use Rattle.naga_oil_derive.specs.Copyable.{CopyableItems}
 use Rattle.naga_oil_derive.specs.Derived.{Derived}
@@ -50,18 +51,18 @@ pub record AreEntriesFormed (m : ModuleValue) (n : ℕ) : Type 0 where
 -- such a module may be copied
 pub record IsModuleFormed (m : ModuleValue) : Type 0 where
   pub items : AreFormed m
-  pub functions : AreFunctionsFormed m 4294967295
-  pub entry_points : AreEntriesFormed m 4294967295
+  pub functions : AreFunctionsFormed m u32_max
+  pub entry_points : AreEntriesFormed m u32_max
 
 -- LAW: a derived module of good form becomes a module of good form, with copies of its source's entry points
 abbrev pub MakeLaw : Type 0
 MakeLaw =
     (first : Kept) (d : Derived) → IsFormed first d → IsSome d.source →
-    IfSome d.source (λ s. AreEntriesFormed s.value 4294967295) → IsModuleFormed (make_module d)
+    IfSome d.source (λ s. AreEntriesFormed s.value u32_max) → IsModuleFormed (make_module d)
 
 -- LAW: the value of a module that passes the test of form under a decoration, over a text that spans can cover, is formed
 abbrev pub ParsedLaw : Module → Type 0
-ParsedLaw m = (decoration : List ℕ) (n : ℕ) → n ≤ 4294967295 → WellFormed m decoration n → IsModuleFormed (value_of m)
+ParsedLaw m = (decoration : List ℕ) (n : ℕ) → n ≤ u32_max → WellFormed m decoration n → IsModuleFormed (value_of m)
 
 -- LAW: the items of a module whose value is formed can be copied
 abbrev pub CopyableModuleLaw : Type 0
@@ -71,15 +72,15 @@ CopyableModuleLaw = (m : Module) → AreFormed (value_of m) → CopyableItems m
 abbrev pub WellFormedLaw : Type 0
 WellFormedLaw =
     (m : Module) → IsModuleFormed (value_of m) → IsDistinct nat_eq (special_types m.special_types) →
-    WellFormed m [] 4294967295
+    WellFormed m [] u32_max
 
 -- what copying and redirecting require of a module: the test of form, except that two of its special types may be one type
 pub record MayBeCopiedFrom (m : Module) : Type 0 where
   pub items : CopyableItems m
-  pub spans : SpanForm m 4294967295
+  pub spans : SpanForm m u32_max
   pub names : NameForm m []
-  pub functions : FunctionsForm m 4294967295 m.functions
-  pub entry_points : All (EntryForm m 4294967295) m.entry_points.items
+  pub functions : FunctionsForm m u32_max m.functions
+  pub entry_points : All (EntryForm m u32_max) m.entry_points.items
 
 -- LAW: each module whose value is formed may be copied and redirected
 abbrev pub CopiedFromLaw : Type 0

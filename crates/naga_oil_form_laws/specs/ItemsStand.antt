@@ -9,6 +9,7 @@ use Rattle.naga_oil_ir.specs.Rows.{Row, Kind, TypeKind, ConstantKind, OverrideKi
 use Rattle.naga_oil_ir.specs.declared.names.ItemPlace.{ItemPlace}
 use Rattle.naga_oil_ir.specs.declared.names.ItemPlace.TheVariants.{TypeItem, ConstantItem, OverrideItem, GlobalItem, ExpressionItem}
 use Rattle.naga_oil_ir.specs.declared.span.Span.{Span}
+use Rattle.naga_oil_ir.specs.Spans.{u32_max}
 use Rattle.naga_oil_derive.specs.Tree.{World}
 use Rattle.naga_oil_derive.specs.World.{world, span_at, special_entries}
 use Rattle.naga_oil_derive.specs.CopiedLaw.{place_number, IsKinded, IsCopyable, AreSpecial}
@@ -65,20 +66,20 @@ abbrev pub NamesBefore : World → ℕ → ItemPlace → Type 0
 NamesBefore w k p = (r : Row) → w p ≡ Some r → All (λ o. IfSome o (IsBefore k)) r.names
 
 -- the expression at k may name the item at a place: an earlier expression, or a constant or override whose initialiser is earlier
-abbrev pub StandsBehind : World → ℕ → ItemPlace → Type 0
-StandsBehind w k (TypeItem j) = Unit {0}
-StandsBehind w k (ConstantItem j) = NamesBefore w k (ConstantItem j)
-StandsBehind w k (OverrideItem j) = NamesBefore w k (OverrideItem j)
-StandsBehind w k (GlobalItem j) = Unit {0}
-StandsBehind w k (ExpressionItem j) = j < k
+abbrev pub StandsAfter : World → ℕ → ItemPlace → Type 0
+StandsAfter w k (TypeItem j) = Unit {0}
+StandsAfter w k (ConstantItem j) = NamesBefore w k (ConstantItem j)
+StandsAfter w k (OverrideItem j) = NamesBefore w k (OverrideItem j)
+StandsAfter w k (GlobalItem j) = Unit {0}
+StandsAfter w k (ExpressionItem j) = j < k
 
 -- the item at a place may name the item at another; only expressions must stand after what they name
-abbrev pub MayStandBehind : World → ItemPlace → ItemPlace → Type 0
-MayStandBehind w (TypeItem k) q = Unit {0}
-MayStandBehind w (ConstantItem k) q = Unit {0}
-MayStandBehind w (OverrideItem k) q = Unit {0}
-MayStandBehind w (GlobalItem k) q = Unit {0}
-MayStandBehind w (ExpressionItem k) q = StandsBehind w k q
+abbrev pub MayStandAfter : World → ItemPlace → ItemPlace → Type 0
+MayStandAfter w (TypeItem k) q = Unit {0}
+MayStandAfter w (ConstantItem k) q = Unit {0}
+MayStandAfter w (OverrideItem k) q = Unit {0}
+MayStandAfter w (GlobalItem k) q = Unit {0}
+MayStandAfter w (ExpressionItem k) q = StandsAfter w k q
 
 abbrev pub IsIn : World → ItemPlace → Type 0
 IsIn w q = (r : Row) × (w q ≡ Some r)
@@ -94,7 +95,7 @@ pub record MayName (w : World) (p q : ItemPlace) : Type 0 where
   pub there : IsIn w q
   pub kind : may_name_kind (place_number p) (place_number q) ≡ true
   pub of_type : OfType (MayNameType w p) q
-  pub behind : MayStandBehind w p q
+  pub following : MayStandAfter w p q
 
 -- a global expression is no global, local, argument or result
 abbrev pub MayBeGlobal : Kind → Type 0
@@ -138,7 +139,7 @@ pub record AreFormed (m : ModuleValue) : Type 0 where
   pub keys : IsDistinct nat_eq (map (λ e. e.0) m.special_types.predeclared_types)
   pub items : ItemsStand (world m)
   pub special : All (λ e. MayBeSpecial m e.1) (special_entries m.special_types)
-  pub spans : AreSpansFine m 4294967295
+  pub spans : AreSpansFine m u32_max
 
 -- LAW: items that pass can be copied
 abbrev pub CopyableItemsLaw : Type 0

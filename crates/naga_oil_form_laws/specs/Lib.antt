@@ -6,4 +6,5 @@ mod GoodFormRows
 pub mod ItemsStand
 pub mod OwnedForm
 pub mod Shape
+pub mod ShapeTest
 pub mod TurnForm

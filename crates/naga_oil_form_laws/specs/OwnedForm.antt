@@ -8,6 +8,7 @@ use Rattle.naga_oil_form.specs.WellFormed.{WellFormed}
 use Rattle.naga_oil_ir.specs.declared.module.FunctionResult.{FunctionResult}
 use Rattle.naga_oil_ir.specs.declared.module.Module.{Module}
 use Rattle.naga_oil_ir.specs.declared.span.Span.{Span}
+use Rattle.naga_oil_ir.specs.Spans.{u32_max}
 use Rattle.naga_oil_derive.specs.World.{value_of}
 use Rattle.naga_oil_form_laws.specs.EntryForm.{IsModuleFormed}
 use Rattle.naga_oil_form_laws.specs.FunctionForm.{IsFunctionFormed}
@@ -76,8 +77,8 @@ append_functions fs m = record m { functions = m.functions ++ fs; entry_points =
 -- functions may be appended to those of a module: they call only the module's, have names, and all names are distinct
 pub record MayBeAppended (m : ModuleValue) (fs : List (FunctionValue × Span)) : Type 0 where
   pub named : All (λ e. IsSome e.0.name) fs
-  pub forms : All (λ e. IsFunctionFormed m (length m.functions) 4294967295 e.0) fs
-  pub spans : All (λ e. IsSpanFine 4294967295 e.1) fs
+  pub forms : All (λ e. IsFunctionFormed m (length m.functions) u32_max e.0) fs
+  pub spans : All (λ e. IsSpanFine u32_max e.1) fs
   pub distinct :
       (j k : ℕ) (e f : FunctionValue × Span) → slice_get (m.functions ++ fs) j ≡ Some e →
       slice_get (m.functions ++ fs) k ≡ Some f → e.0.name ≡ f.0.name → j ≡ k

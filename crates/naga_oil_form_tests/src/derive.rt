@@ -20,7 +20,7 @@ const NONE: Span = Span::UNDEFINED;
 
 /// A part of a source.
 #[derive(Clone, Copy)]
-enum Part {
+enum CopyPart {
     /// A scalar of this code, at a span.
     Scalar(u64, Span),
     /// An override of this name and of the first type, and an array of that type, which names it as its size.
@@ -31,7 +31,7 @@ enum Part {
     SecondValue,
 }
 
-use Part::{Rays, Scalar, SecondValue, Sized};
+use CopyPart::{Rays, Scalar, SecondValue, Sized};
 
 /// The kind of an item.
 #[derive(Clone, Copy)]
@@ -58,7 +58,7 @@ use Asked::{Item, Named, Unnamed};
 /// A source: its parts, the offset of its text, where the bytes from 10 up to 20 are in all texts, and what is copied of it,
 /// with the places of the copies.
 struct Source {
-    parts: &'static [Part],
+    parts: &'static [CopyPart],
     offset: usize,
     mapped: Span,
     copies: &'static [(Asked, usize)],
@@ -292,7 +292,7 @@ fn add_second_value(module: &mut Module, alloc: Global) -> Result<(), AllocError
     Ok(())
 }
 
-fn add_part(module: &mut Module, part: Part, alloc: Global) -> Result<(), AllocError> {
+fn add_part(module: &mut Module, part: CopyPart, alloc: Global) -> Result<(), AllocError> {
     match part {
         Scalar(code, span) => add_scalar(module, code, span),
         Sized(name) => add_sized(module, name, alloc),

@@ -107,7 +107,7 @@ static WIDE: Case = Case {
     },
 };
 
-static BEHIND: Case = Case {
+static AFTER: Case = Case {
     functions: &[
         ("base", false, &[]),
         ("a", false, &[0]),
@@ -448,7 +448,7 @@ fn what_cannot_be_sent_stays(rt: HostRuntime) -> Result<(), Fail> {
 
 #[test]
 fn callees_come_first(rt: HostRuntime) -> Result<(), Fail> {
-    holds(is_case(&BEHIND, 1, rt.alloc())?)
+    holds(is_case(&AFTER, 1, rt.alloc())?)
 }
 
 #[test]

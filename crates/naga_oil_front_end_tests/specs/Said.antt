@@ -1,11 +1,9 @@
--- What front ends of tests say: types, functions, entry points and expressions.
-use Rattle.std.specs.Prelude.{ℕ, List, [], ◌∷◌, ◌==◌, if◌then◌else◌, Bool, true, false, Option, Some, None}
+-- What a front end of tests says: types, functions and entry points.
+use Rattle.std.specs.Prelude.{ℕ, List, [], ◌∷◌, Bool, true, false, Option, Some, None}
 use Rattle.naga_oil_ir.specs.ModuleValue.{ModuleValue, FunctionValue, EntryValue, no_items}
-use Rattle.naga_oil_ir.specs.Parts.{Parts, expr}
 use Rattle.naga_oil_ir.specs.Rows.{Row, Text, TypeKind, row}
 use Rattle.naga_oil_ir.specs.Spans.{undefined}
 use Rattle.naga_oil_ir.specs.declared.names.ItemPlace.TheVariants.{TypeItem}
-use Rattle.naga_oil_ir.specs.declared.parts.Named.TheVariants.{Nothing, ConstantAt, OverrideAt, GlobalAt, LocalAt, ArgumentAt, FunctionAt}
 use Rattle.naga_oil_ir.specs.declared.span.Span.{Span}
 
 -- where the type and the function stand
@@ -58,14 +56,3 @@ said ty member function is_entered = record no_items {
   functions = (function_said (Some function), place) ∷ [];
   entry_points = entries_said is_entered;
 }
-
--- an expression of a kind: a literal, what names the item of its kind at a place, the second argument, or a call's result
-abbrev pub expression_said : ℕ → ℕ → Parts
-expression_said kind at =
-    if kind == 0 then expr 0 (1 ∷ 7 ∷ []) Nothing []
-    else (if kind == 2 then expr 2 [] (ConstantAt at) []
-    else (if kind == 3 then expr 3 [] (OverrideAt at) []
-    else (if kind == 4 then expr 4 [] (GlobalAt at) []
-    else (if kind == 5 then expr 5 [] (LocalAt at) []
-    else (if kind == 6 then expr 6 [] (ArgumentAt 1) []
-    else expr 7 [] (FunctionAt at) [])))))

@@ -7,10 +7,10 @@ use Rattle.naga_oil_ir.specs.declared.parts.Named.{Named}
 use Rattle.naga_oil_ir.specs.declared.parts.Named.TheVariants.{Nothing, ConstantAt, GlobalAt, LocalAt, ArgumentAt, FunctionAt}
 use Rattle.naga_oil_ir.specs.declared.span.Span.{Span}
 use Rattle.naga_oil_ir.specs.declared.tokens.Token.TheVariants.{Use, Emitted}
-use Rattle.naga_oil_mini_symbols.specs.Names.{last_place}
+use Rattle.naga_oil_mini_symbols.specs.NameTable.{last_place}
 use Rattle.naga_oil_mini_symbols.specs.Refused.{LineFault, ◌>>◌}
 use Rattle.naga_oil_mini_symbols.specs.Symbols.{Symbol, name, opens, number, equals, plus, comma, closes}
-use Rattle.naga_oil_mini_front.specs.Making.{Scope, literal, constant, global, local, argument_number, parameter, call_result, load, binary, parameter_terms, OpenCall, Wanted, a_sum, a_local, an_equals, an_initialiser, Made, put, stated, next_place, emitted, joined, with_term, with_variable, met, with_constant, with_named, with_name, function_met, argument_ended, last_of, last_call, called, call_ended, read_behind, read_initialiser, read_wanted, read_symbol, read_symbols, ended, returned, begun, begun_by, read_end, nothing_made, inside, made}
+use Rattle.naga_oil_mini_front.specs.Making.{Scope, literal, constant, global, local, argument_number, parameter, call_result, load, binary, parameter_terms, OpenCall, Wanted, a_sum, a_local, an_equals, an_initialiser, Made, put, stated, next_place, emitted, joined, with_term, with_variable, met, with_constant, with_named, with_name, function_met, argument_ended, last_of, last_call, called, call_ended, read_after, read_initialiser, read_wanted, read_symbol, read_symbols, ended, returned, begun, begun_by, read_end, nothing_made, inside, made}
 use Rattle.naga_oil_front_laws.proofs.Bodies.{IsFine, AreFine, none_fine, fine_put, fine_statement, fine_call}
 
 -- ---- results
@@ -116,21 +116,21 @@ fine_ended c m a = fine_term (call_result c.callee) (record (stated (called c.ca
 fine_closed : (m : Made) → IsFineSoFar m → IfOk (last_call m >> λ r. Ok (call_ended r.0 r.1)) IsFineSoFar
 fine_closed m a = then_if (last_call m) (λ r. Ok (call_ended r.0 r.1)) (λ r. IsFineSoFar r.1) IsFineSoFar (fine_last m.calls m a) (λ r b. fine_ended r.0 r.1 b)
 
-fine_behind : (o : Option ℕ) (s : Symbol) (m : Made) → IsFineSoFar m → IfOk (read_behind o s m) IsFineSoFar
-fine_behind None (name n) m a = fine_name n m a
-fine_behind None (opens f) m a = fine_function f m a
-fine_behind None (number n) m a = fine_term (literal n) m (literal_fine n) a
-fine_behind None equals m a = tt
-fine_behind None plus m a = tt
-fine_behind None comma m a = tt
-fine_behind None closes m a = fine_closed m a
-fine_behind (Some h) (name n) m a = tt
-fine_behind (Some h) (opens f) m a = tt
-fine_behind (Some h) (number n) m a = tt
-fine_behind (Some h) equals m a = tt
-fine_behind (Some h) plus m a = a
-fine_behind (Some h) comma m a = then_if (last_call m) _ (λ r. IsFineSoFar r.1) IsFineSoFar (fine_last m.calls m a) (λ r b. b)
-fine_behind (Some h) closes m a = fine_closed m a
+fine_after : (o : Option ℕ) (s : Symbol) (m : Made) → IsFineSoFar m → IfOk (read_after o s m) IsFineSoFar
+fine_after None (name n) m a = fine_name n m a
+fine_after None (opens f) m a = fine_function f m a
+fine_after None (number n) m a = fine_term (literal n) m (literal_fine n) a
+fine_after None equals m a = tt
+fine_after None plus m a = tt
+fine_after None comma m a = tt
+fine_after None closes m a = fine_closed m a
+fine_after (Some h) (name n) m a = tt
+fine_after (Some h) (opens f) m a = tt
+fine_after (Some h) (number n) m a = tt
+fine_after (Some h) equals m a = tt
+fine_after (Some h) plus m a = a
+fine_after (Some h) comma m a = then_if (last_call m) _ (λ r. IsFineSoFar r.1) IsFineSoFar (fine_last m.calls m a) (λ r b. b)
+fine_after (Some h) closes m a = fine_closed m a
 
 fine_initialiser : (l : List ℕ) (o : Option ℕ) (s : Symbol) (m : Made) → IsFineSoFar m → IfOk (read_initialiser l o s m) IsFineSoFar
 fine_initialiser l None (name n) m a = fine_constant n m a
@@ -149,7 +149,7 @@ fine_initialiser l (Some h) comma m a = a
 fine_initialiser l (Some h) closes m a = tt
 
 fine_wanted : (w : Wanted) (s : Symbol) (m : Made) → IsFineSoFar m → IfOk (read_wanted w s m) IsFineSoFar
-fine_wanted a_sum s m a = fine_behind m.sum s m a
+fine_wanted a_sum s m a = fine_after m.sum s m a
 fine_wanted a_local (name n) m a = a
 fine_wanted a_local (opens f) m a = tt
 fine_wanted a_local (number n) m a = tt

@@ -7,10 +7,11 @@ use Rattle.std.proofs.lemmas.Result.{IfOk-at_ok}
 use Rattle.naga_oil_ir.specs.Backend.{FaultValue}
 use Rattle.naga_oil_ir.specs.ModuleValue.{ModuleValue}
 use Rattle.naga_oil_ir.specs.Parts.{Parts}
+use Rattle.naga_oil_words.specs.Bytes.{is_equals}
 use Rattle.naga_oil_ir.specs.Spans.{undefined}
 use Rattle.naga_oil_ir.specs.declared.parts.Named.TheVariants.{Nothing, ConstantAt, GlobalAt}
 use Rattle.naga_oil_ir.specs.declared.span.Span.{Span}
-use Rattle.naga_oil_palette.specs.Reader.{after, span_at, is_named, constant_at, known, literal, with_constant, is_equals, definition, is_skipped, with_line, not_understood, with_lines, lines, no_lines}
+use Rattle.naga_oil_palette.specs.Reader.{after, span_at, is_named, constant_at, known, literal, with_constant, definition, is_skipped, with_line, not_understood, with_lines, lines, no_lines}
 use Rattle.naga_oil_form_laws.specs.Shape.{NamesGlobalAsGlobal}
 use Rattle.naga_oil_front_laws.specs.PaletteShape.{PaletteLaw, PaletteFrontLaw}
 use Rattle.naga_oil_front_laws.proofs.Makings.{in_either}
@@ -49,9 +50,9 @@ line_kept at m line s = in_either (is_skipped (trim line)) _ _ (λ (o : Option M
 -- ---- texts
 
 -- what lines make of a line's value
-onward : (behind : ℕ) (ls : List (List ℕ)) (at : Span) (o : Option ModuleValue) → ((n : ModuleValue) → IsInShape n → IfOk (with_lines behind ls n) IsInShape) → IfSome o IsInShape → IfOk (elim o as (λ _. Result ModuleValue FaultValue) [ None ↦ Err (not_understood at) | Some n ↦ with_lines behind ls n ]) IsInShape
-onward behind ls at None keep h = tt
-onward behind ls at (Some n) keep h = keep n h
+onward : (following : ℕ) (ls : List (List ℕ)) (at : Span) (o : Option ModuleValue) → ((n : ModuleValue) → IsInShape n → IfOk (with_lines following ls n) IsInShape) → IfSome o IsInShape → IfOk (elim o as (λ _. Result ModuleValue FaultValue) [ None ↦ Err (not_understood at) | Some n ↦ with_lines following ls n ]) IsInShape
+onward following ls at None keep h = tt
+onward following ls at (Some n) keep h = keep n h
 
 lines_kept : (at : ℕ) (ls : List (List ℕ)) (m : ModuleValue) → IsInShape m → IfOk (with_lines at ls m) IsInShape
 lines_kept at [] m s = s

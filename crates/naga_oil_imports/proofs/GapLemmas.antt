@@ -8,7 +8,7 @@ use Rattle.std.proofs.lemmas.Option.{get_or_from_slice_get}
 use Rattle.std.proofs.lemmas.Bool.Decides.{nat_tests}
 use Rattle.std.proofs.lemmas.Str.{encode_ascii}
 use Rattle.unicode_ident.proofs.IdentLemmas.{is_xid_start-ascii}
-use Rattle.naga_oil_imports.specs.Sites.{Passes, keeps_behind}
+use Rattle.naga_oil_imports.specs.Sites.{Passes, gap_keeps}
 use Rattle.naga_oil_lines.specs.Text.{BeginsWithChar}
 use Rattle.naga_oil_lines.specs.Tokens.{starts_identifier}
 use Rattle.naga_oil_lines.specs.Words.{is_gap_byte}
@@ -17,11 +17,11 @@ use Rattle.naga_oil_lines.proofs.TextLemmas.{first_char}
 use Rattle.naga_oil_lines.proofs.WordLemmas.{gap_ascii}
 
 -- the last of the bytes decides
-last_decides : (kept : Bool) (b : ℕ) (bs : List ℕ) → keeps_behind kept (b ∷ bs) ≡ (eqb (get_or (b ∷ bs) (length bs) 0) 46 || eqb (get_or (b ∷ bs) (length bs) 0) 64)
+last_decides : (kept : Bool) (b : ℕ) (bs : List ℕ) → gap_keeps kept (b ∷ bs) ≡ (eqb (get_or (b ∷ bs) (length bs) 0) 46 || eqb (get_or (b ∷ bs) (length bs) 0) 64)
 last_decides kept b [] = refl
 last_decides kept b (c ∷ bs) = last_decides (eqb b 46 || eqb b 64) c bs
 
-pub keeps_by_last : (kept : Bool) (gap : List ℕ) (last : ℕ) → Some last ≡ slice_get gap (length gap - 1) → (eqb last 46 || eqb last 64) ≡ keeps_behind kept gap
+pub keeps_by_last : (kept : Bool) (gap : List ℕ) (last : ℕ) → Some last ≡ slice_get gap (length gap - 1) → (eqb last 46 || eqb last 64) ≡ gap_keeps kept gap
 keeps_by_last kept [] last e = cc
 keeps_by_last kept (b ∷ bs) last e =
     let at : length (b ∷ bs) - 1 ≡ length bs = omega arith in
@@ -35,16 +35,16 @@ gap_first : (b : ℕ) (bs : List ℕ) → IsUtf8 (b ∷ bs) → is_gap_byte b �
 gap_first b bs u e = first_char (b ∷ bs) bs b u (ap (λ l. l ++ bs) (sym (encode_ascii b (gap_ascii b e))))
 
 -- the bytes before the first other byte are written as they are
-pub gap_passes : (kept : Bool) (bs : List ℕ) → IsUtf8 bs → Passes kept bs (keeps_behind kept (take (prefix_len is_gap_byte bs) bs)) (drop (prefix_len is_gap_byte bs) bs)
+pub gap_passes : (kept : Bool) (bs : List ℕ) → IsUtf8 bs → Passes kept bs (gap_keeps kept (take (prefix_len is_gap_byte bs) bs)) (drop (prefix_len is_gap_byte bs) bs)
 gap_passes kept [] u = passes_none kept [] u
 gap_passes kept (b ∷ bs) u =
     let n = prefix_len is_gap_byte bs in
     let one : 1 + n ≡ suc n = omega arith in
-    elim (is_gap_byte b) as (λ w. is_gap_byte b ≡ w → Passes kept (b ∷ bs) (keeps_behind kept (take (cond w (1 + n) 0) (b ∷ bs))) (drop (cond w (1 + n) 0) (b ∷ bs))) [
+    elim (is_gap_byte b) as (λ w. is_gap_byte b ≡ w → Passes kept (b ∷ bs) (gap_keeps kept (take (cond w (1 + n) 0) (b ∷ bs))) (drop (cond w (1 + n) 0) (b ∷ bs))) [
       | true ↦ λ e.
           let first = gap_first b bs u e in
           let next = eqb b 46 || eqb b 64 in
-          rw one (passes_more kept next (keeps_behind next (take n bs)) (b ∷ bs) bs (drop n bs) (other_passes kept (b ∷ bs) b bs first (gap_starts_none b e)) (gap_passes next bs first.utf8))
+          rw one (passes_more kept next (gap_keeps next (take n bs)) (b ∷ bs) bs (drop n bs) (other_passes kept (b ∷ bs) b bs first (gap_starts_none b e)) (gap_passes next bs first.utf8))
       | false ↦ λ e. passes_none kept (b ∷ bs) u
     ] refl
 
@@ -85,9 +85,9 @@ ascii_starts (b ∷ bs) c more first ascii =
 
 -- the same after earlier text that was passed, with a character after it
 module _ (bs gap from : List ℕ) (g : gap ≡ take (prefix_len is_gap_byte bs) bs) (f : from ≡ drop (prefix_len is_gap_byte bs) bs) where
-  pub passes_gap : (text : List ℕ) (kept next : Bool) → IsUtf8 bs → next ≡ keeps_behind kept gap → Passes false text kept bs → Passes false text next from
+  pub passes_gap : (text : List ℕ) (kept next : Bool) → IsUtf8 bs → next ≡ gap_keeps kept gap → Passes false text kept bs → Passes false text next from
   passes_gap text kept next u n before = passes_more false kept next text bs from before (rw (n, g, f) (gap_passes kept bs u))
 
-  pub passes_behind_gap : (kept : Bool) (c : ℕ) (more : List ℕ) → BeginsWithChar from c more → starts_identifier c ≡ false → Passes kept from false more
-  passes_behind_gap kept c more first starts =
+  pub passes_after_gap : (kept : Bool) (c : ℕ) (more : List ℕ) → BeginsWithChar from c more → starts_identifier c ≡ false → Passes kept from false more
+  passes_after_gap kept c more first starts =
       subst (λ k. Passes kept from k more) (none_keeps bs c more (subst (λ l. BeginsWithChar l c more) f first)) (other_passes kept from c more first starts)

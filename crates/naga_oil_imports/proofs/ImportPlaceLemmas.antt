@@ -7,7 +7,7 @@ use Rattle.std.specs.Str.{chars, encode_utf8_all, IsUtf8}
 use Rattle.std.proofs.lemmas.Str.{length-encode, encodes-chars}
 use Rattle.std.proofs.lemmas.List.Elements.{All-cons, All-nil, All-head, All-tail, All-drop, All-filter}
 use Rattle.naga_oil_lines.specs.Tokens.{Lexeme, identifier, other, whitespace, place_of, starts_identifier, more_in_token, lexeme_at, lexemes, is_whitespace_lexeme, emit}
-use Rattle.naga_oil_imports.specs.Leaves.{SyntaxFault, Alias, no_alias, as_name, lacking, alias_behind_as, alias_after, alias_len, Part, head, leaf, close, nothing, wrong, before_brace, unit_part, unit_len, key_of, at_semicolon, mark_part, parts, open_heads, Leaf, part_leaves, at_end, then_leaves, leaves_of, is_old_head, behind_hash, behind_import, line_leaves, import_leaves}
+use Rattle.naga_oil_imports.specs.Leaves.{SyntaxFault, Alias, no_alias, as_name, lacking, alias_after_as, alias_after, alias_len, ImportPart, head, leaf, close, nothing, wrong, before_brace, unit_part, unit_len, key_of, at_semicolon, mark_part, parts, open_heads, Leaf, part_leaves, at_end, then_leaves, leaves_of, is_old_head, after_hash, after_import, line_leaves, import_leaves}
 
 -- the token begins at the place or before it
 abbrev pub Within : ℕ → Lexeme → Type 0
@@ -34,7 +34,7 @@ tokens_within : (text : List ℕ) → IsUtf8 text → All (Within (length text))
 tokens_within text u = All-filter (λ t. not (is_whitespace_lexeme t)) (Within (length text)) _ (lexemes_within 0 0 (length text) (chars text) (omega (arith, ap length (encodes-chars text u))))
 
 -- ---- parts
-abbrev FaultWithin : ℕ → Part → Type 0
+abbrev FaultWithin : ℕ → ImportPart → Type 0
 FaultWithin end (head is_old text) = Unit {0}
 FaultWithin end (leaf key name) = Unit {0}
 FaultWithin end (close at) = at ≤ end
@@ -46,16 +46,16 @@ AliasWithin end no_alias = Unit {0}
 AliasWithin end (as_name name) = Unit {0}
 AliasWithin end (lacking at) = at ≤ end
 
-behind_as_within : (end at : ℕ) (ts : List Lexeme) → at ≤ end → AliasWithin end (alias_behind_as at ts)
-behind_as_within end at [] h = h
-behind_as_within end at (identifier name p ∷ ts) h = tt
-behind_as_within end at (other c p ∷ ts) h = h
-behind_as_within end at (whitespace text p ∷ ts) h = h
+after_as_within : (end at : ℕ) (ts : List Lexeme) → at ≤ end → AliasWithin end (alias_after_as at ts)
+after_as_within end at [] h = h
+after_as_within end at (identifier name p ∷ ts) h = tt
+after_as_within end at (other c p ∷ ts) h = h
+after_as_within end at (whitespace text p ∷ ts) h = h
 
 alias_within : (end : ℕ) (ts : List Lexeme) → All (Within end) ts → AliasWithin end (alias_after ts)
 alias_within end [] h = tt
 alias_within end (identifier word at ∷ ts) h =
-    elim (bytes_eq word (codes "as")) as (λ b. AliasWithin end (if b then alias_behind_as at ts else no_alias)) [ true ↦ behind_as_within end at ts (All-head (Within end) _ _ h) | false ↦ tt ]
+    elim (bytes_eq word (codes "as")) as (λ b. AliasWithin end (if b then alias_after_as at ts else no_alias)) [ true ↦ after_as_within end at ts (All-head (Within end) _ _ h) | false ↦ tt ]
 alias_within end (other c at ∷ ts) h = tt
 alias_within end (whitespace text at ∷ ts) h = tt
 
@@ -63,8 +63,8 @@ brace_within : (end : ℕ) (name : List ℕ) (at : ℕ) → at ≤ end → Fault
 brace_within end name at h =
     elim (ends_with nat_eq name (codes "::")) as (λ b. FaultWithin end (if b then head false name else wrong (codes "open brace must follow `::`", at))) [ true ↦ tt | false ↦ h ]
 
-named_within : (end : ℕ) (name key : List ℕ) (old : Part) (ts : List Lexeme) → FaultWithin end old → All (Within end) ts
-    → (let part : Part = elim ts [ [] ↦ leaf key name | t ∷ more ↦ old ] in FaultWithin end part)
+named_within : (end : ℕ) (name key : List ℕ) (old : ImportPart) (ts : List Lexeme) → FaultWithin end old → All (Within end) ts
+    → (let part : ImportPart = elim ts [ [] ↦ leaf key name | t ∷ more ↦ old ] in FaultWithin end part)
 named_within end name key old [] o h = tt
 named_within end name key old (t ∷ more) o h = o
 
@@ -121,27 +121,27 @@ closed_within : (end at : ℕ) (heads : List (List ℕ)) → at ≤ end → (let
 closed_within end at [] p = p
 closed_within end at (h ∷ hs) p = tt
 
-added_within : (end : ℕ) (before : List Part) (p : Part) → FaultWithin end p → Answers end (part_leaves before p)
+added_within : (end : ℕ) (before : List ImportPart) (p : ImportPart) → FaultWithin end p → Answers end (part_leaves before p)
 added_within end before (head is_old text) h = tt
 added_within end before (leaf key name) h = tt
 added_within end before (close at) h = closed_within end at (open_heads before) h
 added_within end before nothing h = tt
 added_within end before (wrong f) h = h
 
-end_within : (end : ℕ) (before : List Part) → Answers end (at_end end before)
+end_within : (end : ℕ) (before : List ImportPart) → Answers end (at_end end before)
 end_within end before = go (nat_le (length (open_heads before)) (if list_any is_old_head before then 1 else 0))
   where
     go : (b : Bool) → (let r : Result (List Leaf) SyntaxFault = if b then Ok [] else Err (codes "missing close brace", end) in Answers end r)
     go true = tt
     go false = omega arith
 
-leaves_within : (end : ℕ) (before ps : List Part) → All (FaultWithin end) ps → Answers end (leaves_of end before ps)
+leaves_within : (end : ℕ) (before ps : List ImportPart) → All (FaultWithin end) ps → Answers end (leaves_of end before ps)
 unfolding leaves_of
 leaves_within end before [] h = end_within end before
 leaves_within end before (p ∷ ps) h =
     then_within end (part_leaves before p) (leaves_of end (before ++ p ∷ []) ps) (added_within end before p (All-head (FaultWithin end) _ _ h)) (leaves_within end (before ++ p ∷ []) ps (All-tail (FaultWithin end) _ _ h))
 
-hash_within : (end : ℕ) (ts : List Lexeme) → All (Within end) ts → Answers end (behind_hash end ts) × ((rest : List Lexeme) → behind_hash end ts ≡ Ok rest → All (Within end) rest)
+hash_within : (end : ℕ) (ts : List Lexeme) → All (Within end) ts → Answers end (after_hash end ts) × ((rest : List Lexeme) → after_hash end ts ≡ Ok rest → All (Within end) rest)
 hash_within end [] h = (omega arith, λ rest e. cc)
 hash_within end (identifier word at ∷ ts) h = go (bytes_eq word (codes "import"))
   where
@@ -151,20 +151,20 @@ hash_within end (identifier word at ∷ ts) h = go (bytes_eq word (codes "import
 hash_within end (other c at ∷ ts) h = (All-head (Within end) _ _ h, λ rest e. cc)
 hash_within end (whitespace text at ∷ ts) h = (All-head (Within end) _ _ h, λ rest e. cc)
 
-import_within : (end : ℕ) (ts : List Lexeme) → All (Within end) ts → Answers end (behind_import end ts) × ((rest : List Lexeme) → behind_import end ts ≡ Ok rest → All (Within end) rest)
+import_within : (end : ℕ) (ts : List Lexeme) → All (Within end) ts → Answers end (after_import end ts) × ((rest : List Lexeme) → after_import end ts ≡ Ok rest → All (Within end) rest)
 import_within end [] h = (omega arith, λ rest e. cc)
 import_within end (identifier word at ∷ ts) h = (All-head (Within end) _ _ h, λ rest e. cc)
 import_within end (other c at ∷ ts) h = go (c == 35)
   where
-    go : (b : Bool) → (let r : Result (List Lexeme) SyntaxFault = if b then behind_hash end ts else Err (codes "expected `#import`", at) in Answers end r × ((rest : List Lexeme) → r ≡ Ok rest → All (Within end) rest))
+    go : (b : Bool) → (let r : Result (List Lexeme) SyntaxFault = if b then after_hash end ts else Err (codes "expected `#import`", at) in Answers end r × ((rest : List Lexeme) → r ≡ Ok rest → All (Within end) rest))
     go true = hash_within end ts (All-tail (Within end) _ _ h)
     go false = (All-head (Within end) _ _ h, λ rest e. cc)
 import_within end (whitespace text at ∷ ts) h = (All-head (Within end) _ _ h, λ rest e. cc)
 
-behind_within : (end : ℕ) (r : Result (List Lexeme) SyntaxFault) → Answers end r → ((rest : List Lexeme) → r ≡ Ok rest → All (Within end) rest)
-    → (let all : Result (List Leaf) SyntaxFault = elim r [ Ok behind ↦ leaves_of end [] (parts 0 behind) | Err f ↦ Err f ] in Answers end all)
-behind_within end (Ok behind) h k = leaves_within end [] (parts 0 behind) (parts_within 0 end behind (k behind refl))
-behind_within end (Err f) h k = h
+after_within : (end : ℕ) (r : Result (List Lexeme) SyntaxFault) → Answers end r → ((rest : List Lexeme) → r ≡ Ok rest → All (Within end) rest)
+    → (let all : Result (List Leaf) SyntaxFault = elim r [ Ok following ↦ leaves_of end [] (parts 0 following) | Err f ↦ Err f ] in Answers end all)
+after_within end (Ok following) h k = leaves_within end [] (parts 0 following) (parts_within 0 end following (k following refl))
+after_within end (Err f) h k = h
 
 -- a fault of an import line has its place in the line or at its end
 pub fault_within : (text : List ℕ) (f : SyntaxFault) → IsUtf8 text → import_leaves text ≡ Err f → f.1 ≤ length text
@@ -172,4 +172,4 @@ unfolding line_leaves
 fault_within text f u e =
     let ts : List Lexeme = emit false (lexemes 0 0 (chars text)) in
     let h = import_within (length text) ts (tokens_within text u) in
-    subst (Answers (length text)) e (behind_within (length text) (behind_import (length text) ts) h.0 h.1)
+    subst (Answers (length text)) e (after_within (length text) (after_import (length text) ts) h.0 h.1)

@@ -132,14 +132,14 @@ keys_leaves declared ((key, path) ∷ leaves) =
     (one.0 ++ rest.0, rest.1 ∙ ap (λ l. l ++ rest.0) one.1 ∙ append_assoc (keys_of declared) one.0 rest.0)
 
 -- the names after those declared before are marked
-covers_behind : (old new : DeclaredNames) (before after : Declared) (more : List (List ℕ)) → keys_of after ≡ keys_of before ++ more → Covers old before
+covers_after : (old new : DeclaredNames) (before after : Declared) (more : List (List ℕ)) → keys_of after ≡ keys_of before ++ more → Covers old before
     → ((other : List ℕ) → has_mark new other ≡ (has_mark old other || shares_slot (drop (length before) (keys_of after)) other)) → Covers new after
-covers_behind old new before after more keys covers marked =
-    let behind : drop (length before) (keys_of after) ≡ more =
+covers_after old new before after more keys covers marked =
+    let following : drop (length before) (keys_of after) ≡ more =
     ap (λ l. drop (length before) l) keys ∙ ap (λ n. drop n (keys_of before ++ more)) (sym (length-map before (λ e. e.0))) ∙ drop-append_seam (keys_of before) more in
     ap (list_all (has_mark new)) keys ∙ list_all-append (has_mark new) (keys_of before) more
     ∙ and_both _ _ (all_kept (has_mark old) (has_mark new) (keys_of before) (λ x e. marked x ∙ or_left _ _ e) covers)
-    (all_own (has_mark new) more (λ x shares. marked x ∙ or_right _ _ (ap (λ l. shares_slot l x) behind ∙ shares)))
+    (all_own (has_mark new) more (λ x shares. marked x ∙ or_right _ _ (ap (λ l. shares_slot l x) following ∙ shares)))
 
 -- marks cover the declarations after an import line once the names after the earlier ones are
 -- marked
@@ -148,5 +148,5 @@ pub covers_import : (old new : DeclaredNames) (before after : Declared) (leaves 
 covers_import old new before after (Ok leaves) covers import marked =
     let same : with_leaves before leaves ≡ after = cc in
     let keys = keys_leaves before leaves in
-    covers_behind old new before after keys.0 (ap keys_of (sym same) ∙ keys.1) covers marked
+    covers_after old new before after keys.0 (ap keys_of (sym same) ∙ keys.1) covers marked
 covers_import old new before after (Err f) covers import marked = absurd (cc)

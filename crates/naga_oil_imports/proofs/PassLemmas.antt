@@ -52,15 +52,15 @@ token_passes kept next text front rest t whole u cut keeps writes none = record 
 }
 
 -- ---- an identifier
-module _ (bs : List ℕ) (c : ℕ) (more name behind : List ℕ) (first : BeginsWithChar bs c more) (starts : starts_identifier c ≡ true) (cut : bs ≡ name ++ behind) (u : IsUtf8 behind)
-    (rest : chars behind ≡ after (eqb c 34) (chars more)) where
-  pub identifier_first : (at : ℕ) → lexemes 0 at (chars bs) ≡ identifier name at ∷ lexemes 0 (at + length name) (chars behind)
+module _ (bs : List ℕ) (c : ℕ) (more name following : List ℕ) (first : BeginsWithChar bs c more) (starts : starts_identifier c ≡ true) (cut : bs ≡ name ++ following) (u : IsUtf8 following)
+    (rest : chars following ≡ after (eqb c 34) (chars more)) where
+  pub identifier_first : (at : ℕ) → lexemes 0 at (chars bs) ≡ identifier name at ∷ lexemes 0 (at + length name) (chars following)
   identifier_first at =
-      lexemes_first at c bs more name behind first cut u (rw (more_in_identifier c (chars more) starts) rest)
-      ∙ ap (λ l. l ∷ lexemes 0 (at + length name) (chars behind)) (lexeme_identifier at c name starts)
+      lexemes_first at c bs more name following first cut u (rw (more_in_identifier c (chars more) starts) rest)
+      ∙ ap (λ l. l ∷ lexemes 0 (at + length name) (chars following)) (lexeme_identifier at c name starts)
 
-  pub kept_passes : Passes true bs false behind
-  kept_passes = token_passes true false bs name behind (identifier name) cut u identifier_first (λ at. refl) (λ declared at. refl) (λ offset at. refl)
+  pub kept_passes : Passes true bs false following
+  kept_passes = token_passes true false bs name following (identifier name) cut u identifier_first (λ at. refl) (λ declared at. refl) (λ offset at. refl)
 
 -- ---- any other character
 -- white space is one token with the white space after it

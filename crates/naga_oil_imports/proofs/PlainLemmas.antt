@@ -9,7 +9,7 @@ use Rattle.std.proofs.lemmas.List.{take-append-drop, map-append}
 use Rattle.std.proofs.lemmas.Str.{encodes-append, encodes-chars}
 use Rattle.naga_oil_imports.specs.Substituted.{cut_at_first, mentions_of, mentions_in, mentions_at, path_text, Site, first_ambiguous, keeps_next, site_at, sites_from, usize_place, usize_site, usize_sites, token_text, substituted_from}
 use Rattle.naga_oil_lines.specs.Tokens.{Lexeme, identifier, starts_identifier, more_in_token, lexeme_at, lexemes}
-use Rattle.naga_oil_imports.proofs.SettledLemmas.{none_behind, settled_one, one_path, mentions_one}
+use Rattle.naga_oil_imports.proofs.SettledLemmas.{none_after, settled_one, one_path, mentions_one}
 use Rattle.naga_oil_imports.proofs.SubstituteLemmas.{first_none}
 use Rattle.naga_oil_lines.proofs.TokenLemmas.{more_in_other, lexeme_identifier, lexeme_whitespace, lexeme_other}
 use Rattle.naga_oil_imports.proofs.WritingLemmas.{not_cut, own_without_cut}
@@ -50,7 +50,7 @@ plain_more kept t ts front text one more = record {
       ∙ flat_map-append (mentions_of []) (usize_sites (site_at offset kept t)) (usize_sites (sites_from offset (keeps_next t) ts)) ∙ (λ i. one.unused offset i ++ more.unused offset i);
   allowed = λ allow offset.
       ap (first_ambiguous [] allow) (map-append usize_site (site_at offset kept t) (sites_from offset (keeps_next t) ts))
-      ∙ (none_behind [] allow (usize_sites (site_at offset kept t)) (usize_sites (sites_from offset (keeps_next t) ts)) (one.allowed allow offset)).0 ∙ more.allowed allow offset;
+      ∙ (none_after [] allow (usize_sites (site_at offset kept t)) (usize_sites (sites_from offset (keeps_next t) ts)) (one.allowed allow offset)).0 ∙ more.allowed allow offset;
 }
 
 plain_identifier : (kept : Bool) (at : ℕ) (text : List ℕ) → cut_at_first text ≡ None → PlainToken kept (identifier text at) text

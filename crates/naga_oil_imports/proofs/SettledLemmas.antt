@@ -12,7 +12,7 @@ use Rattle.naga_oil_imports.specs.declared.substitute.SubstituteFault.{Substitut
 use Rattle.naga_oil_imports.specs.declared.substitute.SubstituteFault.TheVariants.{Ambiguous, Memory}
 use Rattle.naga_oil_imports.specs.Declarations.{Declared, paths_of}
 use Rattle.naga_oil_imports.specs.SubstituteFault.{RefusesUses}
-use Rattle.naga_oil_imports.specs.Substituted.{cut_at_first, first_part, behind_first, longer_path, longer_paths, paths_or, paths_for, mentions_at, Mention, with_mentions, Site, mentions_of, mentions_in, is_refused, first_ambiguous, before_ambiguous, BeginsUses}
+use Rattle.naga_oil_imports.specs.Substituted.{cut_at_first, first_part, past_first, longer_path, longer_paths, paths_or, paths_for, mentions_at, Mention, with_mentions, Site, mentions_of, mentions_in, is_refused, first_ambiguous, before_ambiguous, BeginsUses}
 use Rattle.naga_oil_imports.specs.Uses.{Uses}
 use Rattle.naga_oil_imports.proofs.SiteLemmas.{with_mentions-append, begins_later}
 
@@ -32,7 +32,7 @@ paths_of_map key (e ∷ es) =
 
 -- the path of an identifier that is not declared
 abbrev pub own_path : List ℕ → List ℕ
-own_path name = longer_path (first_part name) (behind_first name)
+own_path name = longer_path (first_part name) (past_first name)
 
 -- an identifier is its first part, `::` and the rest
 abbrev pub Parts : List ℕ → Option (List ℕ × List ℕ) → Type 0
@@ -54,26 +54,26 @@ parts_of (a ∷ b ∷ more) = by (eqb a 58) (eqb b 58) refl refl (cut_at_first (
     by true true p q r h = (λ i. eqb-true a 58 p i ∷ eqb-true b 58 q i ∷ more)
 
 -- the path is the identifier if there is a rest, and else its first part
-pub own_whole : (name : List ℕ) → 0 < length (behind_first name) → name ≡ own_path name
+pub own_whole : (name : List ℕ) → 0 < length (past_first name) → name ≡ own_path name
 own_whole name h = by (cut_at_first name) (parts_of name) h
   where
     by : (r : Option (List ℕ × List ℕ)) → Parts name r → 0 < length (option_map_or (λ p. p.1) r []) → name ≡ longer_path (option_map_or (λ p. p.0) r name) (option_map_or (λ p. p.1) r [])
     by None g k = absurd (omega (arith, k))
     by (Some (front, [])) g k = absurd (omega (arith, k))
-    by (Some (front, c ∷ behind)) g k = g
+    by (Some (front, c ∷ following)) g k = g
 
-pub own_first : (name : List ℕ) → behind_first name ≡ [] → first_part name ≡ own_path name
+pub own_first : (name : List ℕ) → past_first name ≡ [] → first_part name ≡ own_path name
 own_first name e = ap (longer_path (first_part name)) (sym e)
 
 pub paths_for_own : (declared : Declared) (name : List ℕ) → paths_of declared (first_part name) ≡ [] → paths_for declared name ≡ own_path name ∷ []
 unfolding paths_for
-paths_for_own declared name e = ap (λ ps. longer_paths (paths_or ps (first_part name)) (behind_first name)) e
+paths_for_own declared name e = ap (λ ps. longer_paths (paths_or ps (first_part name)) (past_first name)) e
 
 pub paths_for_declared : (declared : Declared) (name : List ℕ) (paths : List (List ℕ)) → paths ≡ paths_of declared (first_part name) → 0 < length paths
-    → paths_for declared name ≡ longer_paths paths (behind_first name)
+    → paths_for declared name ≡ longer_paths paths (past_first name)
 unfolding paths_for
 paths_for_declared declared name [] e h = absurd (omega arith)
-paths_for_declared declared name (p ∷ ps) e h = ap (λ qs. longer_paths (paths_or qs (first_part name)) (behind_first name)) (sym e)
+paths_for_declared declared name (p ∷ ps) e h = ap (λ qs. longer_paths (paths_or qs (first_part name)) (past_first name)) (sym e)
 
 -- ---- one identifier
 pub one_path : (declared : Declared) (allowed : Bool) (s : Site) (path : List ℕ) → paths_for declared s.name ≡ path ∷ [] → is_refused declared allowed s ≡ false
@@ -105,15 +105,15 @@ pub mentions_one : (declared : Declared) (s : Site) (paths : List (List ℕ)) �
 mentions_one declared s paths e = append-nil (mentions_of declared s) ∙ ap (flat_map (mentions_at s.place)) e
 
 -- ---- one after another
-pub none_behind : (declared : Declared) (allowed : Bool) (xs ys : List Site) → first_ambiguous declared allowed xs ≡ None
+pub none_after : (declared : Declared) (allowed : Bool) (xs ys : List Site) → first_ambiguous declared allowed xs ≡ None
     → (first_ambiguous declared allowed (xs ++ ys) ≡ first_ambiguous declared allowed ys) × (before_ambiguous declared allowed (xs ++ ys) ≡ xs ++ before_ambiguous declared allowed ys)
-none_behind declared allowed [] ys e = (refl, refl)
-none_behind declared allowed (s ∷ xs) ys e =
+none_after declared allowed [] ys e = (refl, refl)
+none_after declared allowed (s ∷ xs) ys e =
     elim (is_refused declared allowed s) as (λ b. cond b (Some s.place) (first_ambiguous declared allowed xs) ≡ None
     → (cond b (Some s.place) (first_ambiguous declared allowed (xs ++ ys)) ≡ first_ambiguous declared allowed ys)
     × (cond b [] (s ∷ before_ambiguous declared allowed (xs ++ ys)) ≡ s ∷ (xs ++ before_ambiguous declared allowed ys))) [
       | true ↦ λ g. absurd (cc)
-      | false ↦ λ g. (let more = none_behind declared allowed xs ys g in (more.0, ap (λ l. s ∷ l) more.1))
+      | false ↦ λ g. (let more = none_after declared allowed xs ys g in (more.0, ap (λ l. s ∷ l) more.1))
     ] e
 
 some_first : (declared : Declared) (allowed : Bool) (xs ys : List Site) (place : ℕ) → first_ambiguous declared allowed xs ≡ Some place
@@ -139,7 +139,7 @@ before_more declared allowed (s ∷ xs) ys =
 
 before_none : (declared : Declared) (allowed : Bool) (xs : List Site) → first_ambiguous declared allowed xs ≡ None → before_ambiguous declared allowed xs ≡ xs
 before_none declared allowed xs e =
-    ap (before_ambiguous declared allowed) (sym (append-nil xs)) ∙ (none_behind declared allowed xs [] e).1 ∙ append-nil xs
+    ap (before_ambiguous declared allowed) (sym (append-nil xs)) ∙ (none_after declared allowed xs [] e).1 ∙ append-nil xs
 
 -- everything but what is left is substituted
 pub record Settled (declared : Declared) (allowed : Bool) (all : List Site) (old now : Uses) (left : List Site) : Type 0 where
@@ -155,7 +155,7 @@ pub settled_more : (declared : Declared) (allowed : Bool) (all : List Site) (old
     → first_ambiguous declared allowed one ≡ None → new ≡ with_mentions mid (mentions_in declared one) → Settled declared allowed all old new rest
 settled_more declared allowed all old mid new one rest s none now = record {
   done = s.done ++ one;
-  none = (none_behind declared allowed s.done one s.none).0 ∙ none;
+  none = (none_after declared allowed s.done one s.none).0 ∙ none;
   uses =
       now ∙ ap (λ u. with_mentions u (mentions_in declared one)) s.uses ∙ sym (with_mentions-append old (mentions_in declared s.done) (mentions_in declared one))
       ∙ ap (with_mentions old) (sym (flat_map-append (mentions_of declared) s.done one));
@@ -173,29 +173,29 @@ pub settled_refused : (declared : Declared) (allowed : Bool) (all : List Site) (
     → RefusesUses declared allowed one mid new fault → RefusesUses declared allowed all old new fault
 settled_refused declared allowed all old mid new one rest (Ambiguous place) s r =
     let first = some_first declared allowed one rest place r.0 in
-    let behind = none_behind declared allowed s.done (one ++ rest) s.none in
+    let following = none_after declared allowed s.done (one ++ rest) s.none in
     let before : before_ambiguous declared allowed all ≡ s.done ++ before_ambiguous declared allowed one =
-    ap (before_ambiguous declared allowed) (sym s.whole) ∙ behind.1 ∙ ap (λ l. s.done ++ l) first.1 in (
-      ap (first_ambiguous declared allowed) (sym s.whole) ∙ behind.0 ∙ first.0,
+    ap (before_ambiguous declared allowed) (sym s.whole) ∙ following.1 ∙ ap (λ l. s.done ++ l) first.1 in (
+      ap (first_ambiguous declared allowed) (sym s.whole) ∙ following.0 ∙ first.0,
       r.1 ∙ ap (λ u. with_mentions u (mentions_in declared (before_ambiguous declared allowed one))) s.uses
           ∙ sym (with_mentions-append old (mentions_in declared s.done) (mentions_in declared (before_ambiguous declared allowed one)))
           ∙ ap (with_mentions old) (sym (flat_map-append (mentions_of declared) s.done (before_ambiguous declared allowed one)))
           ∙ ap (λ ss. with_mentions old (mentions_in declared ss)) (sym before),
     )
 settled_refused declared allowed all old mid new one rest Memory s r =
-    let behind = none_behind declared allowed s.done (one ++ rest) s.none in
+    let following = none_after declared allowed s.done (one ++ rest) s.none in
     let more = before_more declared allowed one rest in
     let before : before_ambiguous declared allowed all ≡ s.done ++ (before_ambiguous declared allowed one ++ more.0) =
-    ap (before_ambiguous declared allowed) (sym s.whole) ∙ behind.1 ∙ ap (λ l. s.done ++ l) more.1 in
+    ap (before_ambiguous declared allowed) (sym s.whole) ∙ following.1 ∙ ap (λ l. s.done ++ l) more.1 in
     begins_later (mentions_in declared s.done) (mentions_in declared (before_ambiguous declared allowed one)) (mentions_in declared more.0) (mentions_in declared (before_ambiguous declared allowed all)) old mid new s.uses
     (ap (mentions_in declared) before ∙ flat_map-append (mentions_of declared) s.done (before_ambiguous declared allowed one ++ more.0)
     ∙ ap (λ l. mentions_in declared s.done ++ l) (flat_map-append (mentions_of declared) (before_ambiguous declared allowed one) more.0)) r
 
 -- ---- a number of paths
-pub refused_is : (declared : Declared) (allowed : Bool) (s : Site) (xs : List (String Global)) (behind : List ℕ) → paths_for declared s.name ≡ longer_paths (map string_bytes xs) behind
+pub refused_is : (declared : Declared) (allowed : Bool) (s : Site) (xs : List (String Global)) (following : List ℕ) → paths_for declared s.name ≡ longer_paths (map string_bytes xs) following
     → is_refused declared allowed s ≡ (not allowed && nat_lt 1 (length xs))
-refused_is declared allowed s xs behind e =
-    ap (λ n. not allowed && nat_lt 1 n) (ap length e ∙ length-map (map string_bytes xs) (λ path. longer_path path behind) ∙ length-map xs string_bytes)
+refused_is declared allowed s xs following e =
+    ap (λ n. not allowed && nat_lt 1 n) (ap length e ∙ length-map (map string_bytes xs) (λ path. longer_path path following) ∙ length-map xs string_bytes)
 
 -- an error as the result
 pub fault_answer : {T : Type 0} (r : Result T SubstituteFault) (P : SubstituteFault → Type 0) (fault : SubstituteFault) → IsErrAnd r (λ e. e ≡ fault) → P fault → IfErr r P

@@ -34,31 +34,31 @@ begins_later front one rest all old mid new m e b = record {
 }
 
 -- ---- the paths of an identifier
-abbrev pub of_paths : {B : Type 0} → (List ℕ → List B) → (behind : List ℕ) → List (String Global) → List B
-of_paths f behind xs = flat_map f (longer_paths (map string_bytes xs) behind)
+abbrev pub of_paths : {B : Type 0} → (List ℕ → List B) → (following : List ℕ) → List (String Global) → List B
+of_paths f following xs = flat_map f (longer_paths (map string_bytes xs) following)
 
-pub of_paths-append : {B : Type 0} (f : List ℕ → List B) (behind : List ℕ) (xs ys : List (String Global)) → of_paths f behind (xs ++ ys) ≡ of_paths f behind xs ++ of_paths f behind ys
-of_paths-append f behind xs ys =
-    ap (λ l. flat_map f (longer_paths l behind)) (map-append string_bytes xs ys)
-    ∙ ap (flat_map f) (map-append (λ path. longer_path path behind) (map string_bytes xs) (map string_bytes ys))
-    ∙ flat_map-append f (longer_paths (map string_bytes xs) behind) (longer_paths (map string_bytes ys) behind)
+pub of_paths-append : {B : Type 0} (f : List ℕ → List B) (following : List ℕ) (xs ys : List (String Global)) → of_paths f following (xs ++ ys) ≡ of_paths f following xs ++ of_paths f following ys
+of_paths-append f following xs ys =
+    ap (λ l. flat_map f (longer_paths l following)) (map-append string_bytes xs ys)
+    ∙ ap (flat_map f) (map-append (λ path. longer_path path following) (map string_bytes xs) (map string_bytes ys))
+    ∙ flat_map-append f (longer_paths (map string_bytes xs) following) (longer_paths (map string_bytes ys) following)
 
 -- one more path is written
-pub of_paths-more : {B : Type 0} (f : List ℕ → List B) (behind : List ℕ) (xs : List (String Global)) (i : ℕ) (x : String Global) → i < length xs → x ≡ get_or xs i x
-    → of_paths f behind (take (i + 1) xs) ≡ of_paths f behind (take i xs) ++ f (longer_path (string_bytes x) behind)
-of_paths-more f behind xs i x h e =
-    ap (of_paths f behind) (take_more xs i x h ∙ ap (λ y. take i xs ++ y ∷ []) (sym e))
-    ∙ of_paths-append f behind (take i xs) (x ∷ [])
-    ∙ ap (λ l. of_paths f behind (take i xs) ++ l) (append-nil (f (longer_path (string_bytes x) behind)))
+pub of_paths-more : {B : Type 0} (f : List ℕ → List B) (following : List ℕ) (xs : List (String Global)) (i : ℕ) (x : String Global) → i < length xs → x ≡ get_or xs i x
+    → of_paths f following (take (i + 1) xs) ≡ of_paths f following (take i xs) ++ f (longer_path (string_bytes x) following)
+of_paths-more f following xs i x h e =
+    ap (of_paths f following) (take_more xs i x h ∙ ap (λ y. take i xs ++ y ∷ []) (sym e))
+    ∙ of_paths-append f following (take i xs) (x ∷ [])
+    ∙ ap (λ l. of_paths f following (take i xs) ++ l) (append-nil (f (longer_path (string_bytes x) following)))
 
 -- the paths before one, the one, and the paths after it
-pub of_paths-all : {B : Type 0} (f : List ℕ → List B) (behind : List ℕ) (xs : List (String Global)) (i : ℕ) (x : String Global) → i < length xs → x ≡ get_or xs i x
-    → of_paths f behind xs ≡ of_paths f behind (take i xs) ++ (f (longer_path (string_bytes x) behind) ++ of_paths f behind (drop (i + 1) xs))
-of_paths-all f behind xs i x h e =
-    ap (of_paths f behind) (sym (take-append-drop (i + 1) xs))
-    ∙ of_paths-append f behind (take (i + 1) xs) (drop (i + 1) xs)
-    ∙ ap (λ l. l ++ of_paths f behind (drop (i + 1) xs)) (of_paths-more f behind xs i x h e)
-    ∙ append_assoc (of_paths f behind (take i xs)) (f (longer_path (string_bytes x) behind)) (of_paths f behind (drop (i + 1) xs))
+pub of_paths-all : {B : Type 0} (f : List ℕ → List B) (following : List ℕ) (xs : List (String Global)) (i : ℕ) (x : String Global) → i < length xs → x ≡ get_or xs i x
+    → of_paths f following xs ≡ of_paths f following (take i xs) ++ (f (longer_path (string_bytes x) following) ++ of_paths f following (drop (i + 1) xs))
+of_paths-all f following xs i x h e =
+    ap (of_paths f following) (sym (take-append-drop (i + 1) xs))
+    ∙ of_paths-append f following (take (i + 1) xs) (drop (i + 1) xs)
+    ∙ ap (λ l. l ++ of_paths f following (drop (i + 1) xs)) (of_paths-more f following xs i x h e)
+    ∙ append_assoc (of_paths f following (take i xs)) (f (longer_path (string_bytes x) following)) (of_paths f following (drop (i + 1) xs))
 
 -- ---- the text written for a path, and its use
 pub written_item : (name path m item : List ℕ) → Some (m, item) ≡ module_and_item path → path_text name path ≡ decorated_name (Some m) item
@@ -93,28 +93,28 @@ on_err (Ok u) p = tt
 on_err (Err e) p = p
 
 -- one more path is written, or its use recorded
-pub text_more : (f : List ℕ → List ℕ) (behind : List ℕ) (xs : List (String Global)) (i : ℕ) (x : String Global) (whole old mid new : List ℕ) → i < length xs → x ≡ get_or xs i x
-    → whole ≡ longer_path (string_bytes x) behind → mid ≡ old ++ of_paths f behind (take i xs) → new ≡ mid ++ f whole → new ≡ old ++ of_paths f behind (take (i + 1) xs)
-text_more f behind xs i x whole old mid new h e w m n =
-    n ∙ (λ j. m j ++ f (w j)) ∙ append_assoc old (of_paths f behind (take i xs)) (f (longer_path (string_bytes x) behind))
-    ∙ ap (λ l. old ++ l) (sym (of_paths-more f behind xs i x h e))
+pub text_more : (f : List ℕ → List ℕ) (following : List ℕ) (xs : List (String Global)) (i : ℕ) (x : String Global) (whole old mid new : List ℕ) → i < length xs → x ≡ get_or xs i x
+    → whole ≡ longer_path (string_bytes x) following → mid ≡ old ++ of_paths f following (take i xs) → new ≡ mid ++ f whole → new ≡ old ++ of_paths f following (take (i + 1) xs)
+text_more f following xs i x whole old mid new h e w m n =
+    n ∙ (λ j. m j ++ f (w j)) ∙ append_assoc old (of_paths f following (take i xs)) (f (longer_path (string_bytes x) following))
+    ∙ ap (λ l. old ++ l) (sym (of_paths-more f following xs i x h e))
 
-pub uses_more : (f : List ℕ → List Mention) (behind : List ℕ) (xs : List (String Global)) (i : ℕ) (x : String Global) (whole : List ℕ) (old mid new : Uses) → i < length xs → x ≡ get_or xs i x
-    → whole ≡ longer_path (string_bytes x) behind → mid ≡ with_mentions old (of_paths f behind (take i xs)) → new ≡ with_mentions mid (f whole) → new ≡ with_mentions old (of_paths f behind (take (i + 1) xs))
-uses_more f behind xs i x whole old mid new h e w m n =
-    n ∙ (λ j. with_mentions (m j) (f (w j))) ∙ sym (with_mentions-append old (of_paths f behind (take i xs)) (f (longer_path (string_bytes x) behind)))
-    ∙ ap (with_mentions old) (sym (of_paths-more f behind xs i x h e))
+pub uses_more : (f : List ℕ → List Mention) (following : List ℕ) (xs : List (String Global)) (i : ℕ) (x : String Global) (whole : List ℕ) (old mid new : Uses) → i < length xs → x ≡ get_or xs i x
+    → whole ≡ longer_path (string_bytes x) following → mid ≡ with_mentions old (of_paths f following (take i xs)) → new ≡ with_mentions mid (f whole) → new ≡ with_mentions old (of_paths f following (take (i + 1) xs))
+uses_more f following xs i x whole old mid new h e w m n =
+    n ∙ (λ j. with_mentions (m j) (f (w j))) ∙ sym (with_mentions-append old (of_paths f following (take i xs)) (f (longer_path (string_bytes x) following)))
+    ∙ ap (with_mentions old) (sym (of_paths-more f following xs i x h e))
 
-pub begins_path : (f : List ℕ → List Mention) (behind : List ℕ) (xs : List (String Global)) (i : ℕ) (x : String Global) (whole : List ℕ) (old mid new : Uses) → i < length xs → x ≡ get_or xs i x
-    → whole ≡ longer_path (string_bytes x) behind → mid ≡ with_mentions old (of_paths f behind (take i xs)) → BeginsUses (f whole) mid new → BeginsUses (of_paths f behind xs) old new
-begins_path f behind xs i x whole old mid new h e w m b =
-    begins_later (of_paths f behind (take i xs)) (f whole) (of_paths f behind (drop (i + 1) xs)) (of_paths f behind xs) old mid new m
-    (of_paths-all f behind xs i x h e ∙ ap (λ p. of_paths f behind (take i xs) ++ (f p ++ of_paths f behind (drop (i + 1) xs))) (sym w)) b
+pub begins_path : (f : List ℕ → List Mention) (following : List ℕ) (xs : List (String Global)) (i : ℕ) (x : String Global) (whole : List ℕ) (old mid new : Uses) → i < length xs → x ≡ get_or xs i x
+    → whole ≡ longer_path (string_bytes x) following → mid ≡ with_mentions old (of_paths f following (take i xs)) → BeginsUses (f whole) mid new → BeginsUses (of_paths f following xs) old new
+begins_path f following xs i x whole old mid new h e w m b =
+    begins_later (of_paths f following (take i xs)) (f whole) (of_paths f following (drop (i + 1) xs)) (of_paths f following xs) old mid new m
+    (of_paths-all f following xs i x h e ∙ ap (λ p. of_paths f following (take i xs) ++ (f p ++ of_paths f following (drop (i + 1) xs))) (sym w)) b
 
-pub begins_paths : (f : List ℕ → List Mention) (behind : List ℕ) (xs : List (String Global)) (i : ℕ) (old mid : Uses) → mid ≡ with_mentions old (of_paths f behind (take i xs)) → BeginsUses (of_paths f behind xs) old mid
-begins_paths f behind xs i old mid m = record {
-  done = of_paths f behind (take i xs);
-  left = of_paths f behind (drop i xs);
-  whole = sym (of_paths-append f behind (take i xs) (drop i xs)) ∙ ap (of_paths f behind) (take-append-drop i xs);
+pub begins_paths : (f : List ℕ → List Mention) (following : List ℕ) (xs : List (String Global)) (i : ℕ) (old mid : Uses) → mid ≡ with_mentions old (of_paths f following (take i xs)) → BeginsUses (of_paths f following xs) old mid
+begins_paths f following xs i old mid m = record {
+  done = of_paths f following (take i xs);
+  left = of_paths f following (drop i xs);
+  whole = sym (of_paths-append f following (take i xs) (drop i xs)) ∙ ap (of_paths f following) (take-append-drop i xs);
   now = m;
 }

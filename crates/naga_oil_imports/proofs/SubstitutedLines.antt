@@ -19,7 +19,7 @@ use Rattle.naga_oil_lines.specs.CoveredLines.{covered_lines}
 use Rattle.naga_oil_imports.specs.Declarations.{Declared, paths_of}
 use Rattle.naga_oil_lines.specs.Decorate.{letter, letters, bits, base32, decorated_name}
 use Rattle.naga_oil_words.specs.Marks.{module_mark}
-use Rattle.naga_oil_imports.specs.Substituted.{cut_at_first, module_and_item, first_part, behind_first, longer_path, paths_or, longer_paths, paths_for, path_text_by, path_text, keeps_next, token_text, substituted_from, substituted}
+use Rattle.naga_oil_imports.specs.Substituted.{cut_at_first, module_and_item, first_part, past_first, longer_path, paths_or, longer_paths, paths_for, path_text_by, path_text, keeps_next, token_text, substituted_from, substituted}
 use Rattle.naga_oil_lines.specs.Tokens.{Lexeme, identifier, other, whitespace, starts_identifier, more_in_token, lexeme_at, lexemes}
 
 abbrev is_end : ℕ → Bool
@@ -169,8 +169,8 @@ in_first_part : (name : List ℕ) → None10 name → None10 (first_part name)
 in_first_part name h =
     elim (cut_at_first name) as (λ o. NoneInParts o → None10 (option_map_or (λ p. p.0) o name)) [ None ↦ λ k. h | Some p ↦ λ k. k.0 ] (in_first_cut name h)
 
-in_behind_first : (name : List ℕ) → None10 name → None10 (behind_first name)
-in_behind_first name h =
+in_after_first : (name : List ℕ) → None10 name → None10 (past_first name)
+in_after_first name h =
     elim (cut_at_first name) as (λ o. NoneInParts o → None10 (option_map_or (λ p. p.1) o [])) [ None ↦ λ k. tt | Some p ↦ λ k. k.1 ] (in_first_cut name h)
 
 -- ---- the paths of an identifier
@@ -180,13 +180,13 @@ NoneInPaths paths = AllByRecursion None10 paths
 abbrev NoneInDeclared : Declared → Type 0
 NoneInDeclared declared = AllByRecursion (λ e. NoneInPaths e.1) declared
 
-in_extended : (path behind : List ℕ) → None10 path → None10 behind → None10 (longer_path path behind)
+in_extended : (path following : List ℕ) → None10 path → None10 following → None10 (longer_path path following)
 in_extended path [] h k = h
-in_extended path (c ∷ behind) h k = both path (58 ∷ 58 ∷ c ∷ behind) h (refl, (refl, k))
+in_extended path (c ∷ following) h k = both path (58 ∷ 58 ∷ c ∷ following) h (refl, (refl, k))
 
-in_all_extended : (paths : List (List ℕ)) (behind : List ℕ) → NoneInPaths paths → None10 behind → NoneInPaths (longer_paths paths behind)
-in_all_extended [] behind h k = tt
-in_all_extended (path ∷ more) behind h k = (in_extended path behind h.0 k, in_all_extended more behind h.1 k)
+in_all_extended : (paths : List (List ℕ)) (following : List ℕ) → NoneInPaths paths → None10 following → NoneInPaths (longer_paths paths following)
+in_all_extended [] following h k = tt
+in_all_extended (path ∷ more) following h k = (in_extended path following h.0 k, in_all_extended more following h.1 k)
 
 in_paths_of : (declared : Declared) (key : List ℕ) → NoneInDeclared declared → NoneInPaths (paths_of declared key)
 in_paths_of [] key h = tt
@@ -199,7 +199,7 @@ in_paths_or (path ∷ more) name h k = h
 in_paths_for : (declared : Declared) (name : List ℕ) → NoneInDeclared declared → None10 name → NoneInPaths (paths_for declared name)
 unfolding paths_for
 in_paths_for declared name h k =
-    in_all_extended _ (behind_first name) (in_paths_or (paths_of declared (first_part name)) (first_part name) (in_paths_of declared (first_part name) h) (in_first_part name k)) (in_behind_first name k)
+    in_all_extended _ (past_first name) (in_paths_or (paths_of declared (first_part name)) (first_part name) (in_paths_of declared (first_part name) h) (in_first_part name k)) (in_after_first name k)
 
 -- ---- the text that is written
 in_written_as : (name path : List ℕ) (o : Option (List ℕ × List ℕ)) → None10 name → None10 path → NoneInParts o → None10 (path_text_by name path o)

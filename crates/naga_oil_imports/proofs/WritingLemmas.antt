@@ -11,7 +11,7 @@ use Rattle.naga_oil_imports.specs.declared.substitute.SubstituteFault.TheVariant
 use Rattle.naga_oil_imports.specs.Declarations.{Declared, paths_of}
 use Rattle.naga_oil_imports.specs.Sites.{is_own, HasNoSite, FindsSite}
 use Rattle.naga_oil_imports.specs.SubstituteFault.{RefusesUses}
-use Rattle.naga_oil_imports.specs.Substituted.{cut_at_first, module_and_item, first_part, behind_first, paths_for, path_text, path_text_by, mentions_at, mention_of, with_mentions, Site, mentions_in, first_ambiguous, sites_from, substituted_from, substituted, sites, usize_place, usize_sites}
+use Rattle.naga_oil_imports.specs.Substituted.{cut_at_first, module_and_item, first_part, past_first, paths_for, path_text, path_text_by, mentions_at, mention_of, with_mentions, Site, mentions_in, first_ambiguous, sites_from, substituted_from, substituted, sites, usize_place, usize_sites}
 use Rattle.naga_oil_lines.specs.Tokens.{identifier, lexemes}
 use Rattle.naga_oil_imports.specs.Uses.{Uses}
 use Rattle.naga_oil_imports.proofs.SiteLemmas.{begins_none}
@@ -58,8 +58,8 @@ pub own_without_cut : (declared : Declared) (name : List ℕ) → cut_at_first n
 unfolding path_text mentions_at
 own_without_cut declared name cut empty =
     let first : first_part name ≡ name = rw cut refl in
-    let behind : behind_first name ≡ [] = rw cut refl in
-    let own : own_path name ≡ name = rw (first, behind) refl in
+    let following : past_first name ≡ [] = rw cut refl in
+    let own : own_path name ≡ name = rw (first, following) refl in
     record {
       paths = paths_for_own declared name (rw first (nil_from_length (paths_of declared name) empty)) ∙ ap (λ l. l ∷ []) own;
       text = ap (path_text_by name name) (no_module name cut) ∙ elim (list_any (λ b. eqb b 34) name) as (λ b. cond b name name ≡ name) [ true ↦ refl | false ↦ refl ];
@@ -82,7 +82,7 @@ pub record Writing (declared : Declared) (allowed : Bool) (offset : ℕ) (input 
   pub read : List ℕ
   pub whole : input ≡ read ++ rest
   pub plain : List ℕ
-  pub behind : unwritten ≡ plain ++ rest
+  pub following : unwritten ≡ plain ++ rest
   pub text : output ++ (plain ++ substituted declared (lexemes 0 (length read) (chars rest))) ≡ start ++ substituted declared (lexemes 0 0 (chars input))
   pub settled : Settled declared allowed (usize_sites (sites offset (lexemes 0 0 (chars input)))) old now (usize_sites (sites offset (lexemes 0 (length read) (chars rest))))
 
@@ -95,7 +95,7 @@ module _ (declared : Declared) (allowed : Bool) (offset : ℕ) (input start : Li
     read = [];
     whole = refl;
     plain = [];
-    behind = refl;
+    following = refl;
     text = ap (λ l. l ++ substituted declared (lexemes 0 0 (chars input))) e;
     settled = settled_start declared allowed all old old refl;
   }
@@ -122,7 +122,7 @@ module _ (declared : Declared) (allowed : Bool) (offset : ℕ) (input start : Li
       done = subst (Settled declared allowed all old now) no_sites w.settled
 
       pub written_text : (new : List ℕ) → new ≡ output ++ unwritten → new ≡ start ++ substituted declared (lexemes 0 0 (chars input))
-      written_text new e = e ∙ ap (λ l. output ++ l) (w.behind ∙ ap (λ l. w.plain ++ l) (sym rest_text)) ∙ w.text
+      written_text new e = e ∙ ap (λ l. output ++ l) (w.following ∙ ap (λ l. w.plain ++ l) (sym rest_text)) ∙ w.text
 
       pub written_allowed : first_ambiguous declared allowed all ≡ None
       written_allowed = settled_none declared allowed all old now done
@@ -165,7 +165,7 @@ module _ (declared : Declared) (allowed : Bool) (offset : ℕ) (input start : Li
 
       -- the unwritten text before the next identifier
       pub unwritten_before : (f : List ℕ) × (unwritten ≡ f ++ from)
-      unwritten_before = (w.plain ++ front, w.behind ∙ ap (λ l. w.plain ++ l) site.before.whole ∙ sym (append_assoc w.plain front from))
+      unwritten_before = (w.plain ++ front, w.following ∙ ap (λ l. w.plain ++ l) site.before.whole ∙ sym (append_assoc w.plain front from))
 
       pub place_of_next : length input - length from ≡ at
       place_of_next =
@@ -183,7 +183,7 @@ module _ (declared : Declared) (allowed : Bool) (offset : ℕ) (input start : Li
             read = next_read;
             whole = next_whole;
             plain = w.plain ++ (front ++ name);
-            behind = w.behind ∙ ap (λ l. w.plain ++ l) (site.before.whole ∙ ap (λ l. front ++ l) site.cut ∙ sym (append_assoc front name more)) ∙ sym (append_assoc w.plain (front ++ name) more);
+            following = w.following ∙ ap (λ l. w.plain ++ l) (site.before.whole ∙ ap (λ l. front ++ l) site.cut ∙ sym (append_assoc front name more)) ∙ sym (append_assoc w.plain (front ++ name) more);
             text =
                 ap (λ l. output ++ l)
                 (append_assoc w.plain (front ++ name) (substituted declared (lexemes 0 (length next_read) (chars more)))
@@ -212,7 +212,7 @@ module _ (declared : Declared) (allowed : Bool) (offset : ℕ) (input start : Li
               read = next_read;
               whole = next_whole;
               plain = [];
-              behind = refl;
+              following = refl;
               text =
                   ap (λ l. l ++ others) (o ∙ ap (λ l. l ++ flat_map (path_text name) (paths_for declared name)) (m ∙ ap (λ l. output ++ l) before))
                   ∙ append_assoc (output ++ (w.plain ++ front)) (flat_map (path_text name) (paths_for declared name)) others

@@ -3,7 +3,7 @@
 use Rattle.std.specs.Prelude.{ℕ, ◌-◌, Bool, false, ◌||◌, if◌then◌else◌, nat_le, Result, Ok, Err, List, [], ◌∷◌, ◌++◌, length, take, codes, bytes_eq}
 use Rattle.std.specs.List.{concat}
 use Rattle.naga_oil_imports.specs.Declarations.{Declared}
-use Rattle.naga_oil_imports.specs.Leaves.{SyntaxFault, Part, head, leaf, close, nothing, wrong, Leaf}
+use Rattle.naga_oil_imports.specs.Leaves.{SyntaxFault, ImportPart, head, leaf, close, nothing, wrong, Leaf}
 
 -- the texts of the open heads, the outermost first, whether the old form was used, and the leaves
 pub record Reader : Type 0 where
@@ -16,7 +16,7 @@ abbrev pub at_start : Reader
 at_start = record { heads = []; old_form = false; leaves = [] }
 
 -- one more part
-abbrev pub step : Reader → Part → Result Reader SyntaxFault
+abbrev pub step : Reader → ImportPart → Result Reader SyntaxFault
 step r (head is_old text) = Ok (record { heads = r.heads ++ text ∷ []; old_form = r.old_form || is_old; leaves = r.leaves })
 step r (leaf key name) = Ok (record { heads = r.heads; old_form = r.old_form; leaves = r.leaves ++ (key, concat r.heads ++ name) ∷ [] })
 step r (close at) = elim r.heads [ [] ↦ Err (codes "close brace without open", at) | h ∷ hs ↦ Ok (record { heads = take (length r.heads - 1) r.heads; old_form = r.old_form; leaves = r.leaves }) ]
@@ -32,7 +32,7 @@ abbrev pub finish : (end : ℕ) → Reader → Result (List Leaf) SyntaxFault
 finish end r = if may_end r then Ok r.leaves else Err (codes "missing close brace", end)
 
 -- the leaves after these parts, or the first fault
-unfoldable pub run : (end : ℕ) → Reader → List Part → Result (List Leaf) SyntaxFault
+unfoldable pub run : (end : ℕ) → Reader → List ImportPart → Result (List Leaf) SyntaxFault
 run end r [] = finish end r
 run end r (p ∷ ps) = elim (step r p) [ Ok next ↦ run end next ps | Err f ↦ Err f ]
 

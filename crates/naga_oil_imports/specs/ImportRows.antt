@@ -8,27 +8,27 @@ use Rattle.naga_oil_lines.specs.Tokens.{lexemes, more_in_token, tail_len}
 use Rattle.naga_oil_imports.specs.Leaves.{Leaf, import_leaves, parts, leaves_of, line_leaves}
 
 -- the line has these leaves
-abbrev Names : List ℕ → List Leaf → Type 0
-Names line ls = import_leaves line ≡ Ok ls
+abbrev HasLeaves : List ℕ → List Leaf → Type 0
+HasLeaves line ls = import_leaves line ≡ Ok ls
 
 -- the line has this fault at this place
 abbrev Faults : (line text : List ℕ) → ℕ → Type 0
 Faults line text at = import_leaves line ≡ Err (text, at)
 
-nested : Names (codes "#import a::b::{c::{d, e}, f, g::{h as i, j}}")
+nested : HasLeaves (codes "#import a::b::{c::{d, e}, f, g::{h as i, j}}")
     ((codes "d", codes "a::b::c::d") ∷ (codes "e", codes "a::b::c::e") ∷ (codes "f", codes "a::b::f") ∷ (codes "i", codes "a::b::g::h") ∷ (codes "j", codes "a::b::g::j") ∷ [])
 unfolding unicode_ident is_xid_start is_xid_continue chars encode lexemes more_in_token tail_len line_leaves leaves_of parts
 nested = refl
 
-old_form : Names (codes "#import a::b c, d") ((codes "c", codes "a::b::c") ∷ (codes "d", codes "a::b::d") ∷ [])
+old_form : HasLeaves (codes "#import a::b c, d") ((codes "c", codes "a::b::c") ∷ (codes "d", codes "a::b::d") ∷ [])
 unfolding unicode_ident is_xid_start is_xid_continue chars encode lexemes more_in_token tail_len line_leaves leaves_of parts
 old_form = refl
 
-last_semicolon : Names (codes "#import a, b::c;") ((codes "a", codes "a") ∷ (codes "c", codes "b::c") ∷ [])
+last_semicolon : HasLeaves (codes "#import a, b::c;") ((codes "a", codes "a") ∷ (codes "c", codes "b::c") ∷ [])
 unfolding unicode_ident is_xid_start is_xid_continue chars encode lexemes more_in_token tail_len line_leaves leaves_of parts
 last_semicolon = refl
 
-old_form_closed : Names (codes "#import a b}, c") ((codes "b", codes "a::b") ∷ (codes "c", codes "c") ∷ [])
+old_form_closed : HasLeaves (codes "#import a b}, c") ((codes "b", codes "a::b") ∷ (codes "c", codes "c") ∷ [])
 unfolding unicode_ident is_xid_start is_xid_continue chars encode lexemes more_in_token tail_len line_leaves leaves_of parts
 old_form_closed = refl
 
@@ -52,9 +52,9 @@ closed_twice : Faults (codes "#import a::b::{c}}") (codes "close brace without o
 unfolding unicode_ident is_xid_start is_xid_continue chars encode lexemes more_in_token tail_len line_leaves leaves_of parts
 closed_twice = refl
 
-brace_behind_name : Faults (codes "#import a::b{{c,d}}") (codes "open brace must follow `::`") 12
+brace_after_name : Faults (codes "#import a::b{{c,d}}") (codes "open brace must follow `::`") 12
 unfolding unicode_ident is_xid_start is_xid_continue chars encode lexemes more_in_token tail_len line_leaves leaves_of parts
-brace_behind_name = refl
+brace_after_name = refl
 
 single_colon : Faults (codes "#import a:b") (codes "unexpected token") 9
 unfolding unicode_ident is_xid_start is_xid_continue chars encode lexemes more_in_token tail_len line_leaves leaves_of parts
@@ -64,9 +64,9 @@ alias_lacks : Faults (codes "#import a::b as") (codes "expected identifier after
 unfolding unicode_ident is_xid_start is_xid_continue chars encode lexemes more_in_token tail_len line_leaves leaves_of parts
 alias_lacks = refl
 
-behind_semicolon : Faults (codes "#import a; b") (codes "unexpected token after ';'") 11
+after_semicolon : Faults (codes "#import a; b") (codes "unexpected token after ';'") 11
 unfolding unicode_ident is_xid_start is_xid_continue chars encode lexemes more_in_token tail_len line_leaves leaves_of parts
-behind_semicolon = refl
+after_semicolon = refl
 
 semicolon_before_brace : Faults (codes "#import a; {") (codes "unexpected token after ';'") 11
 unfolding unicode_ident is_xid_start is_xid_continue chars encode lexemes more_in_token tail_len line_leaves leaves_of parts

@@ -7,8 +7,8 @@ use Rattle.naga_oil_imports.specs.declared.parse_imports.ImportFault.{ImportFaul
 use Rattle.naga_oil_imports.specs.declared.parse_imports.ImportFault.TheVariants.{Syntax, Memory}
 use Rattle.naga_oil_imports.specs.declared.parse_imports.Alias.{Alias}
 use Rattle.naga_oil_imports.specs.declared.parse_imports.Alias.TheVariants.{NoAlias, Name, Lacking}
-use Rattle.naga_oil_imports.specs.declared.parse_imports.Part.{Part}
-use Rattle.naga_oil_imports.specs.declared.parse_imports.Part.TheVariants.{Head, Item, Close, Nothing, Wrong}
+use Rattle.naga_oil_imports.specs.declared.parse_imports.ImportPart.{ImportPart}
+use Rattle.naga_oil_imports.specs.declared.parse_imports.ImportPart.TheVariants.{Head, Item, Close, Nothing, Wrong}
 use Rattle.naga_oil_imports.specs.declared.parse_imports.Leaf.{Leaf}
 use Rattle.naga_oil_imports.specs.declared.parse_imports.ImportLine.{ImportLine}
 
@@ -27,11 +27,11 @@ alias_of (Name name) = lines.as_name name.now
 alias_of (Lacking at) = lines.lacking at
 
 -- the head that a name is, in the old form or before a brace
-abbrev pub head_of : List ℕ → Bool → lines.Part
+abbrev pub head_of : List ℕ → Bool → lines.ImportPart
 head_of name true = lines.head true (name ++ codes "::")
 head_of name false = lines.head false name
 
-abbrev pub part_of : Part → lines.Part
+abbrev pub part_of : ImportPart → lines.ImportPart
 part_of (Head name is_old) = head_of name.now is_old
 part_of (Item key name) = lines.leaf key.now name.now
 part_of (Close at) = lines.close at

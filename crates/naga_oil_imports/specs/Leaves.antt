@@ -18,12 +18,12 @@ pub data Alias : Type 0 where
   as_name : List ℕ → Alias
   lacking : ℕ → Alias
 
-abbrev pub alias_behind_as : ℕ → List Lexeme → Alias
-alias_behind_as at (identifier name p ∷ ts) = as_name name
-alias_behind_as at ts = lacking at
+abbrev pub alias_after_as : ℕ → List Lexeme → Alias
+alias_after_as at (identifier name p ∷ ts) = as_name name
+alias_after_as at ts = lacking at
 
 abbrev pub alias_after : List Lexeme → Alias
-alias_after (identifier word at ∷ ts) = if bytes_eq word (codes "as") then alias_behind_as at ts else no_alias
+alias_after (identifier word at ∷ ts) = if bytes_eq word (codes "as") then alias_after_as at ts else no_alias
 alias_after ts = no_alias
 
 -- the number of tokens in an alias
@@ -33,9 +33,9 @@ alias_len (as_name name) = 2
 alias_len (lacking at) = 1
 
 -- the text after the last `::`, if there is one
-abbrev pub behind_last_colons : List ℕ → Option (List ℕ)
-behind_last_colons [] = None
-behind_last_colons (c ∷ cs) = elim (behind_last_colons cs) [
+abbrev pub after_last_colons : List ℕ → Option (List ℕ)
+after_last_colons [] = None
+after_last_colons (c ∷ cs) = elim (after_last_colons cs) [
   | Some rest ↦ Some rest
   | None ↦ if starts_with nat_eq (c ∷ cs) (codes "::") then Some (drop 1 cs) else None
 ]
@@ -43,25 +43,25 @@ behind_last_colons (c ∷ cs) = elim (behind_last_colons cs) [
 -- a leaf's key: the alias, else the text after the last `::` of the name, else the name
 abbrev pub key_of : (name : List ℕ) → Alias → List ℕ
 key_of name (as_name alias) = alias
-key_of name a = unwrap_or (behind_last_colons name) name
+key_of name a = unwrap_or (after_last_colons name) name
 
 -- a part of an import line: a head, of the old form or before a brace; a leaf; a `}`; nothing (a
 -- `,` or the last `;`); or wrong
-pub data Part : Type 0 where
-  head : (is_old : Bool) → (text : List ℕ) → Part
-  leaf : (key name : List ℕ) → Part
-  close : (at : ℕ) → Part
-  nothing : Part
-  wrong : SyntaxFault → Part
+pub data ImportPart : Type 0 where
+  head : (is_old : Bool) → (text : List ℕ) → ImportPart
+  leaf : (key name : List ℕ) → ImportPart
+  close : (at : ℕ) → ImportPart
+  nothing : ImportPart
+  wrong : SyntaxFault → ImportPart
 
 -- a unit, a name with its alias, before a `{`
-abbrev pub before_brace : (name : List ℕ) → (at : ℕ) → Part
+abbrev pub before_brace : (name : List ℕ) → (at : ℕ) → ImportPart
 before_brace name at = if ends_with nat_eq name (codes "::") then head false name else wrong (codes "open brace must follow `::`", at)
 
 -- a unit by the tokens after it: before another unit it is an old head, before a `{` a brace head,
 -- else a leaf
-abbrev pub unit_part : (name : List ℕ) → Alias → List Lexeme → Part
-unit_part name (lacking at) behind = wrong (codes "expected identifier after `as`", at)
+abbrev pub unit_part : (name : List ℕ) → Alias → List Lexeme → ImportPart
+unit_part name (lacking at) following = wrong (codes "expected identifier after `as`", at)
 unit_part name a [] = leaf (key_of name a) name
 unit_part name a (identifier next at ∷ ts) = head true (name ++ codes "::")
 unit_part name a (other c at ∷ ts) = if c == open_brace then before_brace name at else leaf (key_of name a) name
@@ -77,12 +77,12 @@ abbrev pub unit_len : List Lexeme → ℕ
 unit_len ts = alias_len (alias_after ts) + brace_len (drop (alias_len (alias_after ts)) ts)
 
 -- a `;`, which must be the last token
-abbrev pub at_semicolon : List Lexeme → Part
+abbrev pub at_semicolon : List Lexeme → ImportPart
 at_semicolon [] = nothing
 at_semicolon (t ∷ ts) = wrong (codes "unexpected token after ';'", place_of t)
 
 -- any other character: `,`, `}`, `;`, a `{` after no unit, or one that is wrong there
-abbrev pub mark_part : (c at : ℕ) → List Lexeme → Part
+abbrev pub mark_part : (c at : ℕ) → List Lexeme → ImportPart
 mark_part c at ts =
     if c == comma then nothing
     else (if c == close_brace then close at
@@ -91,28 +91,28 @@ mark_part c at ts =
     else wrong (codes "unexpected token", at))))
 
 -- the parts of the tokens after `#import`; the first `skip` tokens belong to a part already read
-unfoldable pub parts : ℕ → List Lexeme → List Part
+unfoldable pub parts : ℕ → List Lexeme → List ImportPart
 parts skip [] = []
 parts (suc skip) (t ∷ ts) = parts skip ts
 parts zero (identifier name at ∷ ts) = unit_part name (alias_after ts) (drop (alias_len (alias_after ts)) ts) ∷ parts (unit_len ts) ts
 parts zero (other c at ∷ ts) = mark_part c at ts ∷ parts zero ts
 parts zero (whitespace text at ∷ ts) = nothing ∷ parts zero ts
 
-abbrev pub is_head : Part → Bool
+abbrev pub is_head : ImportPart → Bool
 is_head (head is_old text) = true
 is_head (leaf key name) = false
 is_head (close at) = false
 is_head nothing = false
 is_head (wrong f) = false
 
-abbrev pub is_old_head : Part → Bool
+abbrev pub is_old_head : ImportPart → Bool
 is_old_head (head is_old text) = is_old
 is_old_head (leaf key name) = false
 is_old_head (close at) = false
 is_old_head nothing = false
 is_old_head (wrong f) = false
 
-abbrev pub is_close : Part → Bool
+abbrev pub is_close : ImportPart → Bool
 is_close (head is_old text) = false
 is_close (leaf key name) = false
 is_close (close at) = true
@@ -125,15 +125,15 @@ beginnings [] = [] ∷ []
 beginnings (x ∷ xs) = [] ∷ map (λ front. x ∷ front) (beginnings xs)
 
 -- there are at most as many `}` as heads
-abbrev pub has_no_more_closes : List Part → Bool
+abbrev pub has_no_more_closes : List ImportPart → Bool
 has_no_more_closes ps = nat_le (length (filter is_close ps)) (length (filter is_head ps))
 
 -- a head is open at a place if no beginning of the parts between them has more `}` than heads
-abbrev pub is_open : (between : List Part) → Bool
+abbrev pub is_open : (between : List ImportPart) → Bool
 is_open between = list_all has_no_more_closes (beginnings between)
 
 -- the texts of the heads that are open after these parts
-abbrev pub open_heads : List Part → List (List ℕ)
+abbrev pub open_heads : List ImportPart → List (List ℕ)
 open_heads [] = []
 open_heads (head is_old text ∷ ps) = if is_open ps then text ∷ open_heads ps else open_heads ps
 open_heads (leaf key name ∷ ps) = open_heads ps
@@ -147,7 +147,7 @@ Leaf = List ℕ × List ℕ
 
 -- the leaves that a part adds after the others: a leaf's path is the texts of the heads open at it
 -- and its own name; a `}` closes a head
-abbrev pub part_leaves : (before : List Part) → Part → Result (List Leaf) SyntaxFault
+abbrev pub part_leaves : (before : List ImportPart) → ImportPart → Result (List Leaf) SyntaxFault
 part_leaves before (head is_old text) = Ok []
 part_leaves before (leaf key name) = Ok ((key, concat (open_heads before) ++ name) ∷ [])
 part_leaves before (close at) = elim (open_heads before) [ [] ↦ Err (codes "close brace without open", at) | h ∷ hs ↦ Ok [] ]
@@ -155,7 +155,7 @@ part_leaves before nothing = Ok []
 part_leaves before (wrong f) = Err f
 
 -- at the end no head is open, or just one if the old form was used
-abbrev pub at_end : (end : ℕ) → (before : List Part) → Result (List Leaf) SyntaxFault
+abbrev pub at_end : (end : ℕ) → (before : List ImportPart) → Result (List Leaf) SyntaxFault
 at_end end before = if nat_le (length (open_heads before)) (if list_any is_old_head before then 1 else 0) then Ok [] else Err (codes "missing close brace", end)
 
 abbrev pub then_leaves : Result (List Leaf) SyntaxFault → Result (List Leaf) SyntaxFault → Result (List Leaf) SyntaxFault
@@ -164,26 +164,26 @@ then_leaves (Ok ls) (Err f) = Err f
 then_leaves (Ok ls) (Ok more) = Ok (ls ++ more)
 
 -- the leaves of parts after others, or the first fault in their order; the text ends at the place
-unfoldable pub leaves_of : (end : ℕ) → (before : List Part) → List Part → Result (List Leaf) SyntaxFault
+unfoldable pub leaves_of : (end : ℕ) → (before : List ImportPart) → List ImportPart → Result (List Leaf) SyntaxFault
 leaves_of end before [] = at_end end before
 leaves_of end before (p ∷ ps) = then_leaves (part_leaves before p) (leaves_of end (before ++ p ∷ []) ps)
 
 -- the tokens after `#` and `import`, or the fault there
-abbrev pub behind_hash : (end : ℕ) → List Lexeme → Result (List Lexeme) SyntaxFault
-behind_hash end [] = Err (codes "expected `#import`", end)
-behind_hash end (identifier word at ∷ ts) = if bytes_eq word (codes "import") then Ok ts else Err (codes "expected `#import`", at)
-behind_hash end (other c at ∷ ts) = Err (codes "expected `#import`", at)
-behind_hash end (whitespace text at ∷ ts) = Err (codes "expected `#import`", at)
+abbrev pub after_hash : (end : ℕ) → List Lexeme → Result (List Lexeme) SyntaxFault
+after_hash end [] = Err (codes "expected `#import`", end)
+after_hash end (identifier word at ∷ ts) = if bytes_eq word (codes "import") then Ok ts else Err (codes "expected `#import`", at)
+after_hash end (other c at ∷ ts) = Err (codes "expected `#import`", at)
+after_hash end (whitespace text at ∷ ts) = Err (codes "expected `#import`", at)
 
-abbrev pub behind_import : (end : ℕ) → List Lexeme → Result (List Lexeme) SyntaxFault
-behind_import end [] = Err (codes "expected #import", end)
-behind_import end (identifier word at ∷ ts) = Err (codes "expected `#import`", at)
-behind_import end (other c at ∷ ts) = if c == hash then behind_hash end ts else Err (codes "expected `#import`", at)
-behind_import end (whitespace text at ∷ ts) = Err (codes "expected `#import`", at)
+abbrev pub after_import : (end : ℕ) → List Lexeme → Result (List Lexeme) SyntaxFault
+after_import end [] = Err (codes "expected #import", end)
+after_import end (identifier word at ∷ ts) = Err (codes "expected `#import`", at)
+after_import end (other c at ∷ ts) = if c == hash then after_hash end ts else Err (codes "expected `#import`", at)
+after_import end (whitespace text at ∷ ts) = Err (codes "expected `#import`", at)
 
 -- the leaves of an import line, by its length and its tokens, or its first fault
 unfoldable pub line_leaves : (end : ℕ) → List Lexeme → Result (List Leaf) SyntaxFault
-line_leaves end ts = elim (behind_import end ts) [ Ok behind ↦ leaves_of end [] (parts 0 behind) | Err f ↦ Err f ]
+line_leaves end ts = elim (after_import end ts) [ Ok following ↦ leaves_of end [] (parts 0 following) | Err f ↦ Err f ]
 
 -- the leaves of a text as an import line, or its first fault
 abbrev pub import_leaves : List ℕ → Result (List Leaf) SyntaxFault

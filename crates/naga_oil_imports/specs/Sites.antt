@@ -13,9 +13,9 @@ is_own declared name = not (list_any (λ b. b == colon) name) && (length (paths_
 
 -- whether an identifier after this gap, which is of no identifier, stays as it is: by the gap's
 -- last byte, or by `kept` if the gap is empty
-abbrev pub keeps_behind : (kept : Bool) → List ℕ → Bool
-keeps_behind kept [] = kept
-keeps_behind kept (b ∷ bs) = keeps_behind ((b == dot) || (b == at_sign)) bs
+abbrev pub gap_keeps : (kept : Bool) → List ℕ → Bool
+gap_keeps kept [] = kept
+gap_keeps kept (b ∷ bs) = gap_keeps ((b == dot) || (b == at_sign)) bs
 
 -- the text before a rest is written as it is, and has no identifier that is substituted; `kept` and
 -- `next` say whether an identifier at the start of the text, and one at the start of the rest, is
@@ -33,10 +33,10 @@ HasNoSite text = (next : Bool) × Passes false text next []
 
 -- the first identifier of the text that is substituted, the text from it on, and the text after it;
 -- a word has no `:`
-pub record FindsSite (text name : List ℕ) (is_word : Bool) (from behind : List ℕ) : Type 0 where
+pub record FindsSite (text name : List ℕ) (is_word : Bool) (from following : List ℕ) : Type 0 where
   pub before : Passes false text false from
-  pub cut : from ≡ name ++ behind
+  pub cut : from ≡ name ++ following
   pub word : IsTrue is_word → list_any (λ b. b == colon) name ≡ false
-  pub shorter : length behind < length from
-  pub utf8 : IsUtf8 behind
-  pub token : (at : ℕ) → lexemes 0 at (chars from) ≡ identifier name at ∷ lexemes 0 (at + length name) (chars behind)
+  pub shorter : length following < length from
+  pub utf8 : IsUtf8 following
+  pub token : (at : ℕ) → lexemes 0 at (chars from) ≡ identifier name at ∷ lexemes 0 (at + length name) (chars following)

@@ -28,26 +28,26 @@ module_and_item (a ∷ b ∷ more) = elim (module_and_item (b ∷ more)) [
 abbrev pub first_part : List ℕ → List ℕ
 first_part name = option_map_or (λ p. p.0) (cut_at_first name) name
 
-abbrev pub behind_first : List ℕ → List ℕ
-behind_first name = option_map_or (λ p. p.1) (cut_at_first name) []
+abbrev pub past_first : List ℕ → List ℕ
+past_first name = option_map_or (λ p. p.1) (cut_at_first name) []
 
 -- a path, followed by `::` and the rest, if any
-abbrev pub longer_path : (path behind : List ℕ) → List ℕ
+abbrev pub longer_path : (path following : List ℕ) → List ℕ
 longer_path path [] = path
-longer_path path (c ∷ behind) = path ++ colon ∷ colon ∷ c ∷ behind
+longer_path path (c ∷ following) = path ++ colon ∷ colon ∷ c ∷ following
 
 -- the paths, or the name itself if there are none
 abbrev pub paths_or : List (List ℕ) → List ℕ → List (List ℕ)
 paths_or [] name = name ∷ []
 paths_or (path ∷ more) name = path ∷ more
 
-abbrev pub longer_paths : List (List ℕ) → (behind : List ℕ) → List (List ℕ)
-longer_paths paths behind = map (λ path. longer_path path behind) paths
+abbrev pub longer_paths : List (List ℕ) → (following : List ℕ) → List (List ℕ)
+longer_paths paths following = map (λ path. longer_path path following) paths
 
 -- the paths that an identifier stands for: those declared for its first part, or that part itself,
 -- each with the rest
 unfoldable pub paths_for : Declared → List ℕ → List (List ℕ)
-paths_for declared name = longer_paths (paths_or (paths_of declared (first_part name)) (first_part name)) (behind_first name)
+paths_for declared name = longer_paths (paths_or (paths_of declared (first_part name)) (first_part name)) (past_first name)
 
 -- the text written for a path with this module and item
 abbrev pub path_text_by : (name path : List ℕ) → Option (List ℕ × List ℕ) → List ℕ

@@ -5,7 +5,7 @@ ghost use Rattle.naga_oil_imports.specs.Declarations.{Declared, declared_of, wit
 ghost use Rattle.std.specs.Str.{chars};
 ghost use Rattle.naga_oil_lines.specs.Tokens.{place_of, lexemes, emit};
 ghost use Rattle.naga_oil_lines.specs.Tokenizer.{lexeme_of};
-ghost use Rattle.naga_oil_imports.specs.Leaves.{leaf, close, behind_hash, behind_last_colons, before_brace, at_semicolon, alias_after, alias_len, key_of, unit_part, unit_len, brace_len, mark_part, parts, behind_import, line_leaves, import_leaves, with_import, with_leaves};
+ghost use Rattle.naga_oil_imports.specs.Leaves.{leaf, close, after_hash, after_last_colons, before_brace, at_semicolon, alias_after, alias_len, key_of, unit_part, unit_len, brace_len, mark_part, parts, after_import, line_leaves, import_leaves, with_import, with_leaves};
 ghost use Rattle.naga_oil_imports.specs.ImportReader.{at_start, step, may_end, without_path};
 ghost use Rattle.naga_oil_imports.specs.ImportView.{head_of, RefusesImport, alias_of, part_of, leaf_of, reader_of};
 
@@ -54,7 +54,7 @@ enum Alias<'a> {
 // A part of an import line: a head, by its name and whether it is of the old form; an item, by its
 // key and name.
 #[derive(Clone, Copy)]
-enum Part<'a> {
+enum ImportPart<'a> {
     Head(&'a str, bool),
     Item(&'a str, &'a str),
     Close(usize),
@@ -91,7 +91,7 @@ fn alias_after<'a>(tokens: &[Token<'a>]) -> Alias<'a>
     ensures alias { alias_of result ≡ alias_after (map lexeme_of tokens.now) }
     ensures fits { alias_len (alias_of result) ≤ length tokens.now }
 {
-    let [first, behind @ ..] = tokens else {
+    let [first, following @ ..] = tokens else {
         return Alias::NoAlias;
     };
     let Token::Identifier(word, at) = first else {
@@ -100,7 +100,7 @@ fn alias_after<'a>(tokens: &[Token<'a>]) -> Alias<'a>
     if *word != "as" {
         return Alias::NoAlias;
     }
-    match behind {
+    match following {
         [Token::Identifier(name, _), ..] => Alias::Name(name),
         _ => Alias::Lacking(*at),
     }
@@ -108,7 +108,7 @@ fn alias_after<'a>(tokens: &[Token<'a>]) -> Alias<'a>
 
 // The text after the last `::` of a name, else the name.
 fn last_segment(name: &str) -> &str
-    ensures { result.now ≡ unwrap_or (behind_last_colons name.now) name.now }
+    ensures { result.now ≡ unwrap_or (after_last_colons name.now) name.now }
 {
     match name.rsplit_once("::") {
         Some((_, last)) => last,
@@ -125,27 +125,27 @@ fn key_of<'a>(name: &'a str, alias: Alias<'a>) -> &'a str
     }
 }
 
-fn before_brace(name: &str, at: usize) -> Part<'_>
+fn before_brace(name: &str, at: usize) -> ImportPart<'_>
     ensures { part_of result ≡ before_brace name.now at }
 {
     if name.ends_with("::") {
-        Part::Head(name, false)
+        ImportPart::Head(name, false)
     } else {
-        Part::Wrong("open brace must follow `::`", at)
+        ImportPart::Wrong("open brace must follow `::`", at)
     }
 }
 
-fn unit_part<'a>(name: &'a str, alias: Alias<'a>, behind: &[Token<'a>]) -> Part<'a>
-    ensures { let more = map lexeme_of behind.now in
+fn unit_part<'a>(name: &'a str, alias: Alias<'a>, following: &[Token<'a>]) -> ImportPart<'a>
+    ensures { let more = map lexeme_of following.now in
         part_of result ≡ unit_part name.now (alias_of alias.entry) more }
 {
     if let Alias::Lacking(at) = alias {
-        return Part::Wrong("expected identifier after `as`", at);
+        return ImportPart::Wrong("expected identifier after `as`", at);
     }
-    match behind {
-        [Token::Identifier(..), ..] => Part::Head(name, true),
+    match following {
+        [Token::Identifier(..), ..] => ImportPart::Head(name, true),
         [Token::Other('{', at), ..] => before_brace(name, *at),
-        _ => Part::Item(key_of(name, alias), name),
+        _ => ImportPart::Item(key_of(name, alias), name),
     }
 }
 
@@ -167,85 +167,82 @@ fn place_of(token: &Token<'_>) -> usize
     }
 }
 
-fn at_semicolon<'a>(behind: &[Token<'a>]) -> Part<'a>
-    ensures { part_of result ≡ at_semicolon (map lexeme_of behind.now) }
+fn at_semicolon<'a>(following: &[Token<'a>]) -> ImportPart<'a>
+    ensures { part_of result ≡ at_semicolon (map lexeme_of following.now) }
 {
-    match behind {
-        [] => Part::Nothing,
-        [next, ..] => Part::Wrong("unexpected token after ';'", place_of(next)),
+    match following {
+        [] => ImportPart::Nothing,
+        [next, ..] => ImportPart::Wrong("unexpected token after ';'", place_of(next)),
     }
 }
 
-fn mark_part<'a>(mark: char, at: usize, behind: &[Token<'a>]) -> Part<'a>
-    ensures { part_of result ≡ mark_part mark at (map lexeme_of behind.now) }
+fn mark_part<'a>(mark: char, at: usize, following: &[Token<'a>]) -> ImportPart<'a>
+    ensures { part_of result ≡ mark_part mark at (map lexeme_of following.now) }
 {
     match mark {
-        ',' => Part::Nothing,
-        '}' => Part::Close(at),
-        '{' => Part::Wrong("open brace must follow `::`", at),
-        ';' => at_semicolon(behind),
-        _ => Part::Wrong("unexpected token", at),
+        ',' => ImportPart::Nothing,
+        '}' => ImportPart::Close(at),
+        '{' => ImportPart::Wrong("open brace must follow `::`", at),
+        ';' => at_semicolon(following),
+        _ => ImportPart::Wrong("unexpected token", at),
     }
 }
 
 // A unit with the `{` after it, if there is one, and the remaining tokens.
-fn unit<'t, 'a>(name: &'a str, behind: &'t [Token<'a>]) -> (Part<'a>, &'t [Token<'a>])
-    ensures part { let more = map lexeme_of behind.now in
+fn unit<'t, 'a>(name: &'a str, following: &'t [Token<'a>]) -> (ImportPart<'a>, &'t [Token<'a>])
+    ensures part { let more = map lexeme_of following.now in
         let renamed = alias_after more in
         part_of result.0 ≡ unit_part name.now renamed (drop (alias_len renamed) more) }
-    ensures rest { let more = map lexeme_of behind.now in
+    ensures rest { let more = map lexeme_of following.now in
         map lexeme_of result.1.now ≡ drop (unit_len more) more }
-    ensures shorter { length result.1.now ≤ length behind.now }
+    ensures shorter { length result.1.now ≤ length following.now }
 {
-    let alias = alias_after(behind);
-    let (_, after) = behind.split_at(alias_len(alias));
+    let alias = alias_after(following);
+    let (_, after) = following.split_at(alias_len(alias));
     let (_, rest) = after.split_at(brace_len(after));
     (unit_part(name, alias, after), rest)
 }
 
 // The part that the tokens begin with, and the remaining tokens.
-fn next_part<'t, 'a>(tokens: &'t [Token<'a>]) -> Option<(Part<'a>, &'t [Token<'a>])>
+fn next_part<'t, 'a>(tokens: &'t [Token<'a>]) -> Option<(ImportPart<'a>, &'t [Token<'a>])>
     ensures parts { let whole = parts 0 (map lexeme_of tokens.now) in
         MatchOption result (whole ≡ []) (λ r.
         whole ≡ part_of r.0 ∷ parts 0 (map lexeme_of r.1.now)) }
     ensures shorter { IfSome result (λ r. length r.1.now < length tokens.now) }
 {
-    let Some((first, behind)) = tokens.split_first() else {
+    let Some((first, following)) = tokens.split_first() else {
         return None;
     };
     match first {
-        Token::Identifier(name, _) => Some(unit(name, behind)),
-        Token::Other(mark, at) => Some((mark_part(*mark, *at, behind), behind)),
-        Token::Whitespace(..) => Some((Part::Nothing, behind)),
+        Token::Identifier(name, _) => Some(unit(name, following)),
+        Token::Other(mark, at) => Some((mark_part(*mark, *at, following), following)),
+        Token::Whitespace(..) => Some((ImportPart::Nothing, following)),
     }
 }
 
 // The tokens after `#` and `import`, given the place of the text's end.
-fn behind_import<'t, 'a>(
-    tokens: &'t [Token<'a>],
-    end: usize,
-) -> Result<&'t [Token<'a>], ImportFault>
-    ensures ok { let left = behind_import end (map lexeme_of tokens.now) in
+fn after_import<'t, 'a>(tokens: &'t [Token<'a>], end: usize) -> Result<&'t [Token<'a>], ImportFault>
+    ensures ok { let left = after_import end (map lexeme_of tokens.now) in
         IfOk result (λ r. left ≡ Ok (map lexeme_of r.now)) }
-    ensures err { let left = behind_import end (map lexeme_of tokens.now) in
+    ensures err { let left = after_import end (map lexeme_of tokens.now) in
         IfErr result (λ e. RefusesImport e left) }
 {
-    let [first, behind @ ..] = tokens else {
+    let [first, following @ ..] = tokens else {
         return Err(ImportFault::Syntax("expected #import", end));
     };
     let Token::Other('#', _) = first else {
         return Err(ImportFault::Syntax("expected `#import`", place_of(first)));
     };
-    behind_hash(behind, end)
+    after_hash(following, end)
 }
 
-fn behind_hash<'t, 'a>(tokens: &'t [Token<'a>], end: usize) -> Result<&'t [Token<'a>], ImportFault>
-    ensures ok { let left = behind_hash end (map lexeme_of tokens.now) in
+fn after_hash<'t, 'a>(tokens: &'t [Token<'a>], end: usize) -> Result<&'t [Token<'a>], ImportFault>
+    ensures ok { let left = after_hash end (map lexeme_of tokens.now) in
         IfOk result (λ r. left ≡ Ok (map lexeme_of r.now)) }
-    ensures err { let left = behind_hash end (map lexeme_of tokens.now) in
+    ensures err { let left = after_hash end (map lexeme_of tokens.now) in
         IfErr result (λ e. RefusesImport e left) }
 {
-    let [first, behind @ ..] = tokens else {
+    let [first, following @ ..] = tokens else {
         return Err(ImportFault::Syntax("expected `#import`", end));
     };
     let Token::Identifier(word, at) = first else {
@@ -254,7 +251,7 @@ fn behind_hash<'t, 'a>(tokens: &'t [Token<'a>], end: usize) -> Result<&'t [Token
     if *word != "import" {
         return Err(ImportFault::Syntax("expected `#import`", *at));
     }
-    Ok(behind)
+    Ok(following)
 }
 
 impl ImportLine {
@@ -314,18 +311,18 @@ impl ImportLine {
         }
     }
 
-    fn take_part(&mut self, alloc: Global, part: Part<'_>) -> Result<(), ImportFault>
+    fn take_part(&mut self, alloc: Global, part: ImportPart<'_>) -> Result<(), ImportFault>
         ensures ok { let next = step (reader_of self.old) (part_of part.entry) in
             OnOk result (next ≡ Ok (reader_of self.new)) }
         ensures err { let next = step (reader_of self.old) (part_of part.entry) in
             IfErr result (λ e. RefusesImport e next) }
     {
         match part {
-            Part::Head(name, is_old) => Ok(self.push_head(alloc, name, is_old)?),
-            Part::Item(key, name) => Ok(self.push_leaf(alloc, key, name)?),
-            Part::Close(at) => self.close(at),
-            Part::Nothing => Ok(()),
-            Part::Wrong(text, at) => Err(ImportFault::Syntax(text, at)),
+            ImportPart::Head(name, is_old) => Ok(self.push_head(alloc, name, is_old)?),
+            ImportPart::Item(key, name) => Ok(self.push_leaf(alloc, key, name)?),
+            ImportPart::Close(at) => self.close(at),
+            ImportPart::Nothing => Ok(()),
+            ImportPart::Wrong(text, at) => Err(ImportFault::Syntax(text, at)),
         }
     }
 
@@ -349,11 +346,11 @@ fn read_leaves(alloc: Global, input: &str) -> Result<Vec<Leaf>, ImportFault>
     ensures err { IfErr result (λ e. RefusesImport e (import_leaves input.now)) }
 {
     let tokens = tokens_of(alloc, input)?;
-    let mut rest = behind_import(tokens.as_slice(), input.len())?;
+    let mut rest = after_import(tokens.as_slice(), input.len())?;
     let mut line = ImportLine::new(alloc);
-    while let Some((part, behind)) = next_part(rest) {
+    while let Some((part, following)) = next_part(rest) {
         line.take_part(alloc, part)?;
-        rest = behind;
+        rest = following;
     }
     if !line.may_end() {
         return Err(ImportFault::Syntax("missing close brace", input.len()));

@@ -10,8 +10,8 @@ ghost use Rattle.naga_oil_imports.specs.Declarations.{declared_of, paths_of};
 ghost use Rattle.naga_oil_lines.specs.Decorate.{decorated_name};
 ghost use Rattle.naga_oil_imports.specs.NameMarks.{Covers};
 ghost use Rattle.naga_oil_imports.specs.SubstituteFault.{RefusesUses};
-ghost use Rattle.naga_oil_imports.specs.Substituted.{first_part, behind_first, longer_path, longer_paths, paths_for, path_text, mentions_at, with_mentions, Site, substituted, sites, usize_sites, mentions_in, first_ambiguous, BeginsUses};
-ghost use Rattle.naga_oil_imports.specs.Sites.{HasNoSite, FindsSite, is_own, keeps_behind};
+ghost use Rattle.naga_oil_imports.specs.Substituted.{first_part, past_first, longer_path, longer_paths, paths_for, path_text, mentions_at, with_mentions, Site, substituted, sites, usize_sites, mentions_in, first_ambiguous, BeginsUses};
+ghost use Rattle.naga_oil_imports.specs.Sites.{HasNoSite, FindsSite, is_own, gap_keeps};
 ghost use Rattle.naga_oil_lines.specs.Tokens.{lexemes, starts_identifier};
 ghost use Rattle.naga_oil_imports.specs.Uses.{uses_of, with_use};
 
@@ -20,7 +20,7 @@ use crate::import_definition::ImportDefWithOffset;
 use indexmap::IndexMap;
 use naga_oil_lines::decorate::push_decorated;
 use naga_oil_lines::text::{split_first_char, text_before};
-use naga_oil_lines::tokenizer::{behind_identifier, split_gap, starts_identifier};
+use naga_oil_lines::tokenizer::{past_identifier, split_gap, starts_identifier};
 use std::alloc::{AllocError, Global};
 use std::borrow::CowStr;
 
@@ -67,7 +67,7 @@ fn record_use(
 // The part of an identifier before its first `::`, and the text after it.
 fn split_identifier(name: &str) -> (&str, &str)
     ensures first { result.0.now ≡ first_part name.now }
-    ensures behind { result.1.now ≡ behind_first name.now }
+    ensures following { result.1.now ≡ past_first name.now }
 {
     match name.split_once("::") {
         Some(parts) => parts,
@@ -76,31 +76,35 @@ fn split_identifier(name: &str) -> (&str, &str)
 }
 
 // A path, followed by `::` and the rest, if any.
-fn longer_path<'a>(alloc: Global, path: &'a str, behind: &str) -> Result<CowStr<'a>, AllocError>
-    ensures { IfOk result (λ whole. cow_str_bytes whole ≡ longer_path path.now behind.now) }
+fn longer_path<'a>(alloc: Global, path: &'a str, following: &str) -> Result<CowStr<'a>, AllocError>
+    ensures { IfOk result (λ whole. cow_str_bytes whole ≡ longer_path path.now following.now) }
 {
-    if behind.is_empty() {
+    if following.is_empty() {
         return Ok(CowStr::Borrowed(path));
     }
     let mut whole = String::from_str(alloc, path)?;
     whole.push_str("::")?;
-    whole.push_str(behind)?;
+    whole.push_str(following)?;
     Ok(CowStr::Owned(whole))
 }
 
 // The path of an identifier that is not declared.
-fn own_path<'a>(identifier: &'a str, first: &'a str, behind: &str) -> &'a str
+fn own_path<'a>(identifier: &'a str, first: &'a str, following: &str) -> &'a str
     requires first { first.now ≡ first_part identifier.now }
-    requires behind { behind.now ≡ behind_first identifier.now }
-    ensures { result.now ≡ longer_path (first_part identifier.now) (behind_first identifier.now) }
+    requires following { following.now ≡ past_first identifier.now }
+    ensures { result.now ≡ longer_path (first_part identifier.now) (past_first identifier.now) }
 {
-    if behind.is_empty() { first } else { identifier }
+    if following.is_empty() {
+        first
+    } else {
+        identifier
+    }
 }
 
 // Whether an identifier after this gap stays as it is: by the gap's last byte, or by `kept` if the
 // gap is empty.
-fn keeps_behind(gap: &str, kept: bool) -> bool
-    ensures { result ≡ keeps_behind kept gap.now }
+fn gap_keeps(gap: &str, kept: bool) -> bool
+    ensures { result ≡ gap_keeps kept gap.now }
 {
     match gap.as_bytes().last() {
         Some(last) => *last == b'.' || *last == b'@',
@@ -109,7 +113,7 @@ fn keeps_behind(gap: &str, kept: bool) -> bool
 }
 
 // Whether a character begins an identifier, if every ASCII character would, as after a gap.
-fn starts_behind_gap(first: char) -> bool
+fn starts_after_gap(first: char) -> bool
     requires { first < 128 → starts_identifier first ≡ true }
     ensures { result ≡ starts_identifier first }
 {
@@ -123,39 +127,39 @@ struct SiteText<'a> {
     name: &'a str,
     is_word: bool,
     from: &'a str,
-    behind: &'a str,
+    following: &'a str,
 }
 
 // The first identifier of a text that is substituted.
 #[inline(always)]
 fn next_site(text: &str) -> Option<SiteText<'_>>
     ensures { MatchOption result (HasNoSite text.now) (λ site.
-        FindsSite text.now site.name.now site.is_word site.from.now site.behind.now) }
+        FindsSite text.now site.name.now site.is_word site.from.now site.following.now) }
 {
     let mut kept = false;
     let mut rest = text;
     while !rest.is_empty() {
         let (gap, from) = split_gap(rest);
-        kept = keeps_behind(gap, kept);
+        kept = gap_keeps(gap, kept);
         let Some((first, more)) = split_first_char(from) else {
             return None;
         };
-        if !starts_behind_gap(first) {
+        if !starts_after_gap(first) {
             kept = false;
             rest = more;
             continue;
         }
-        let (behind, is_word) = behind_identifier(first, more);
+        let (following, is_word) = past_identifier(first, more);
         if !kept {
             return Some(SiteText {
-                name: text_before(from, behind),
+                name: text_before(from, following),
                 is_word,
                 from,
-                behind,
+                following,
             });
         }
         kept = false;
-        rest = behind;
+        rest = following;
     }
     None
 }
@@ -228,26 +232,26 @@ impl Substitution<'_> {
         &self,
         identifier: &str,
         paths: &[String],
-        behind: &str,
+        following: &str,
         place: usize,
         used_imports: &mut IndexMap<String, ImportDefWithOffset>,
         output: &mut String,
     ) -> Result<(), AllocError>
-        ensures text { let whole = longer_paths (map string_bytes paths.now) behind.now in
+        ensures text { let whole = longer_paths (map string_bytes paths.now) following.now in
             let more = flat_map (path_text identifier.now) whole in
             let written = string_bytes output.old ++ more in
             IsTrue self.now.writes → OnOk result (string_bytes output.new ≡ written) }
         ensures unwritten { let unwritten = string_bytes output.old in
             self.now.writes ≡ false → OnOk result (string_bytes output.new ≡ unwritten) }
-        ensures used { let whole = longer_paths (map string_bytes paths.now) behind.now in
+        ensures used { let whole = longer_paths (map string_bytes paths.now) following.now in
             let more = flat_map (mentions_at place) whole in
             OnOk result (uses_of used_imports.new ≡ with_mentions (uses_of used_imports.old) more) }
-        ensures begun { let whole = longer_paths (map string_bytes paths.now) behind.now in
+        ensures begun { let whole = longer_paths (map string_bytes paths.now) following.now in
             let more = flat_map (mentions_at place) whole in
             OnErr result (BeginsUses more (uses_of used_imports.old) (uses_of used_imports.new)) }
     {
         for path in paths {
-            let whole = longer_path(self.alloc, path.as_str(), behind)?;
+            let whole = longer_path(self.alloc, path.as_str(), following)?;
             self.write_path(identifier, whole.as_str(), place, used_imports, output)?;
         }
         Ok(())
@@ -304,17 +308,17 @@ impl Substitution<'_> {
             let refuses = RefusesUses declared self.now.allow_ambiguous (site ∷ []) in
             IfErr result (λ e. refuses (uses_of used_imports.old) (uses_of used_imports.new) e) }
     {
-        let (first, behind) = split_identifier(identifier);
+        let (first, following) = split_identifier(identifier);
         let paths = self.declared_paths(first);
         if paths.is_empty() {
-            let path = own_path(identifier, first, behind);
+            let path = own_path(identifier, first, following);
             self.write_path(identifier, path, place, used_imports, output)?;
             return Ok(());
         }
         if self.is_refused(paths) {
             return Err(SubstituteFault::Ambiguous(place));
         }
-        self.write_paths(identifier, paths, behind, place, used_imports, output)?;
+        self.write_paths(identifier, paths, following, place, used_imports, output)?;
         Ok(())
     }
 
@@ -365,7 +369,7 @@ impl Substitution<'_> {
         let mut unwritten = input;
         let mut rest = input;
         while let Some(site) = next_site(rest) {
-            rest = site.behind;
+            rest = site.following;
             if self.is_own(site) {
                 continue;
             }

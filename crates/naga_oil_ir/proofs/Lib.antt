@@ -1,3 +1,4 @@
+pub mod FirstsLemmas
 pub mod PlaceLemmas
 pub mod BodyLemmas
 pub mod ExpressionEquality

@@ -1,3 +1,4 @@
+pub mod Firsts
 pub mod Places
 pub mod Spans
 pub mod Kinds

@@ -32,6 +32,10 @@ pub record LocalValue : Type 0 where
 abbrev pub local_value : LocalVariable → LocalValue
 local_value l = record { name = option_map string_bytes l.name; ty = l.ty; init = l.init }
 
+-- local variables as plain data
+abbrev pub local_values : List (LocalVariable × Span) → List (LocalValue × Span)
+local_values ls = map (λ l. (local_value l.0, l.1)) ls
+
 -- a function: its expressions by their parts, its body as tokens
 pub record FunctionValue : Type 0 where
   pub name : Text

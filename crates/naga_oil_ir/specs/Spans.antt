@@ -18,3 +18,7 @@ span_stride = 2097152
 -- how many modules have spans that fit into 32 bits
 abbrev pub max_modules : ℕ
 max_modules = 2047
+
+-- the greatest place that a span holds, `u32::MAX`
+abbrev pub u32_max : ℕ
+u32_max = 4294967295

@@ -1,11 +1,17 @@
 // The expressions of functions and of a module.
+ghost use Rattle.std.proofs.Common.{ap};
+ghost use Rattle.naga_oil_ir.specs.Firsts.{hashed};
+ghost use Rattle.naga_oil_ir.specs.contracts.expression.ExpressionHash.TheImpl.{ghosts as expression_hash};
+ghost use Rattle.naga_oil_ir.specs.contracts.expression.ExpressionHash.TheImpl.Laws.{respects_eq-law as expression_law};
+
+use super::firsts::hashed;
 use super::*;
 
 /// The handle of an expression that another expression or a statement takes.
 pub type Operand = Handle<Expression>;
 
 /// The level of detail at which an image is sampled.
-#[derive(Clone, Copy, PartialEq)]
+#[derive(Clone, Copy, PartialEq, Eq, Hash)]
 #[rattlefmt::skip]
 pub enum SampleLevel {
     Auto,
@@ -16,14 +22,14 @@ pub enum SampleLevel {
 }
 
 /// A query of an image.
-#[derive(Clone, Copy, PartialEq)]
+#[derive(Clone, Copy, PartialEq, Eq, Hash)]
 pub enum ImageQuery {
     Size { level: Option<Operand> },
     Other(u64),
 }
 
 /// A sample of an image.
-#[derive(PartialEq, Drop)]
+#[derive(PartialEq, Eq, Hash, Drop)]
 pub struct ImageSample {
     pub image: Operand,
     pub sampler: Operand,
@@ -36,7 +42,7 @@ pub struct ImageSample {
 }
 
 /// A load of a texel of an image.
-#[derive(PartialEq, Drop)]
+#[derive(PartialEq, Eq, Hash, Drop)]
 pub struct ImageLoad {
     pub image: Operand,
     pub coordinate: Operand,
@@ -46,7 +52,7 @@ pub struct ImageLoad {
 }
 
 /// A mathematical function of one to four arguments.
-#[derive(PartialEq, Drop)]
+#[derive(PartialEq, Eq, Hash, Drop)]
 pub struct Math {
     pub fun: u64,
     pub arg: Operand,
@@ -56,7 +62,7 @@ pub struct Math {
 }
 
 /// An expression. The first seven kinds are external, the next six are results.
-#[derive(PartialEq, Drop)]
+#[derive(PartialEq, Eq, Hash, Drop)]
 #[rattlefmt::skip]
 pub enum Expression {
     Literal { kind: u64, bits: u64 },
@@ -98,4 +104,14 @@ const _: () = prove!(size_of::<Expression>() == 40);
 
 impl Item for Expression {
     type Kind = kind::Expression;
+
+    ghost digest = { λ x. hashed (expression_hash.hash_input x) };
+
+    fn digest(&self) -> u64 {
+        hashed(self)
+    }
+}
+
+impl Merge for Expression {
+    ghost respects_eq = { λ x y h. ap hashed (expression_law x y h) };
 }

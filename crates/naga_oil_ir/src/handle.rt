@@ -1,5 +1,5 @@
 // Handles: the places of items in arenas, and ranges of places.
-ghost use Rattle.std.specs.Prelude.{◌≡◌, ◌+◌, ◌-◌, ◌≤◌, ◌↔◌, IsTrue, Option, None, Some};
+ghost use Rattle.std.specs.Prelude.{◌≡◌, ℕ, ◌+◌, ◌-◌, ◌≤◌, ◌↔◌, IsTrue, Option, None, Some};
 
 use std::marker::{Model, PhantomData};
 
@@ -7,6 +7,18 @@ use std::marker::{Model, PhantomData};
 /// being a recursive type.
 pub trait Item {
     type Kind;
+
+    ghost digest: { Self → ℕ };
+
+    /// Returns the number by which an arena finds equal items: the item's hash, or 0 for a type whose items are never merged.
+    fn digest(&self) -> u64
+        ensures { result ≡ digest self.now };
+}
+
+/// An item that an arena merges with an equal one.
+pub trait Merge: Item + PartialEq {
+    // Equal items have one digest.
+    ghost respects_eq: { (x y : Self) → IsTrue (Self.eq x y) → Self.digest x ≡ Self.digest y };
 }
 
 /// A place in an arena of items of the kind `K`, from 0.
@@ -44,15 +56,15 @@ impl<K> Index<K> {
 
 /// The places from `start` up to, not including, `end`.
 #[derive_where(Clone, Copy, PartialEq, Eq)]
-pub struct Places<K> {
+pub struct PlaceRange<K> {
     start: Index<K>,
     end: Index<K>,
 }
 
 /// A range of places in an arena of `T`.
-pub type Range<T> = Places<<T as Item>::Kind>;
+pub type Range<T> = PlaceRange<<T as Item>::Kind>;
 
-impl<K> Model for Places<K> {
+impl<K> Model for PlaceRange<K> {
     ghost use Rattle.std.specs.Prelude.{ℕ};
 
     ghost Value = { ℕ × ℕ };
@@ -62,13 +74,13 @@ impl<K> Model for Places<K> {
     ghost inverse = { λ p. record { start = p.0; end = p.1 } };
 }
 
-impl<K> Places<K> {
+impl<K> PlaceRange<K> {
     /// Returns the range from `start` up to `end`.
     pub fn new(start: usize, end: usize) -> Self
         ensures { result ≡ (start, end) }
     {
         let (start, end) = (Index::new(start), Index::new(end));
-        Places { start, end }
+        PlaceRange { start, end }
     }
 
     /// Returns the first place.

@@ -1,16 +1,17 @@
 //! The intermediate form of a shader: types, constants, overrides, global variables, functions and entry points in arenas.
 //!
-//! `arena` holds items with spans, as a list or found by their hash; `handle` names their places. `types`, `expression`,
-//! `statement` and `module` define the items. `parts`, `names` and `tokens` read an expression, an item and a body by one list
-//! each. `room` rounds the capacity that is reserved ahead. `backend` is the trait of front ends.
+//! `arena` holds items with spans, as a list or as a set; `firsts` is the index of a list; `handle` names the places of items.
+//! `types`, `expression`, `statement` and `module` define the items. `parts`, `names` and `tokens` read an expression, an item
+//! and a body by one list each. `room` rounds the capacity that is reserved ahead. `backend` is the trait of front ends.
 //!
-//! A lookup in a `UniqueArena` takes expected constant time, if the hasher spreads the items; a lookup in an `Arena` visits its
-//! items one after the other.
+//! An equal item is found in expected constant time, averaged over all searches, if the hasher spreads the items. A list of at
+//! most 16 items is searched from its first item instead, and has no index.
 #![tactic(auto)]
 
 pub mod arena;
 pub mod backend;
 pub mod expression;
+pub mod firsts;
 pub mod handle;
 pub mod kind;
 pub mod language;
@@ -28,7 +29,7 @@ pub mod types;
 pub use arena::{Arena, UniqueArena};
 pub use backend::{Backend, BackendRefusal, Capabilities, ParseFault, ValidFault, WriteFault};
 pub use expression::{Expression, ImageLoad, ImageQuery, ImageSample, Math, Operand, SampleLevel};
-pub use handle::{Handle, Index, Item, Places, Range};
+pub use handle::{Handle, Index, Item, Merge, PlaceRange, Range};
 pub use language::ShaderLanguage;
 pub use module::{
     EntryPoint, Function, FunctionArgument, FunctionResult, MeshInfo, Module, SpecialTypes,

@@ -36,6 +36,12 @@ pub struct Function {
 
 impl Item for Function {
     type Kind = kind::Function;
+
+    ghost digest = { λ _. 0 };
+
+    fn digest(&self) -> u64 {
+        0
+    }
 }
 
 /// The output of a mesh shader.

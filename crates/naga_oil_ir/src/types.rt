@@ -1,5 +1,15 @@
 // Types, constants, overrides and variables.
-use super::{Expression, Handle, Item, kind};
+ghost use Rattle.std.proofs.Common.{ap};
+ghost use Rattle.naga_oil_ir.specs.Firsts.{hashed};
+ghost use Rattle.naga_oil_ir.specs.contracts.types.ConstantHash.TheImpl.{ghosts as constant_hash};
+ghost use Rattle.naga_oil_ir.specs.contracts.types.ConstantHash.TheImpl.Laws.{respects_eq-law as constant_law};
+ghost use Rattle.naga_oil_ir.specs.contracts.types.OverrideHash.TheImpl.{ghosts as override_hash};
+ghost use Rattle.naga_oil_ir.specs.contracts.types.OverrideHash.TheImpl.Laws.{respects_eq-law as override_law};
+ghost use Rattle.naga_oil_ir.specs.contracts.types.GlobalVariableHash.TheImpl.{ghosts as global_hash};
+ghost use Rattle.naga_oil_ir.specs.contracts.types.GlobalVariableHash.TheImpl.Laws.{respects_eq-law as global_law};
+
+use super::firsts::hashed;
+use super::{Expression, Handle, Item, Merge, kind};
 
 /// The number of elements of an array.
 #[derive(Clone, Copy, PartialEq, Eq, Hash)]
@@ -46,10 +56,16 @@ pub struct Type {
 
 impl Item for Type {
     type Kind = kind::Type;
+
+    ghost digest = { λ _. 0 };
+
+    fn digest(&self) -> u64 {
+        0
+    }
 }
 
 /// A constant.
-#[derive(PartialEq, Drop)]
+#[derive(PartialEq, Eq, Hash, Drop)]
 pub struct Constant {
     pub name: Option<String>,
     pub ty: Handle<Type>,
@@ -58,10 +74,20 @@ pub struct Constant {
 
 impl Item for Constant {
     type Kind = kind::Constant;
+
+    ghost digest = { λ x. hashed (constant_hash.hash_input x) };
+
+    fn digest(&self) -> u64 {
+        hashed(self)
+    }
+}
+
+impl Merge for Constant {
+    ghost respects_eq = { λ x y h. ap hashed (constant_law x y h) };
 }
 
 /// A constant whose value a pipeline may override.
-#[derive(PartialEq, Drop)]
+#[derive(PartialEq, Eq, Hash, Drop)]
 pub struct Override {
     pub name: Option<String>,
     pub id: Option<u64>,
@@ -71,10 +97,20 @@ pub struct Override {
 
 impl Item for Override {
     type Kind = kind::Override;
+
+    ghost digest = { λ x. hashed (override_hash.hash_input x) };
+
+    fn digest(&self) -> u64 {
+        hashed(self)
+    }
+}
+
+impl Merge for Override {
+    ghost respects_eq = { λ x y h. ap hashed (override_law x y h) };
 }
 
 /// A global variable.
-#[derive(PartialEq, Drop)]
+#[derive(PartialEq, Eq, Hash, Drop)]
 pub struct GlobalVariable {
     pub name: Option<String>,
     pub space: u64,
@@ -85,6 +121,16 @@ pub struct GlobalVariable {
 
 impl Item for GlobalVariable {
     type Kind = kind::GlobalVariable;
+
+    ghost digest = { λ x. hashed (global_hash.hash_input x) };
+
+    fn digest(&self) -> u64 {
+        hashed(self)
+    }
+}
+
+impl Merge for GlobalVariable {
+    ghost respects_eq = { λ x y h. ap hashed (global_law x y h) };
 }
 
 /// A local variable of a function.
@@ -97,4 +143,10 @@ pub struct LocalVariable {
 
 impl Item for LocalVariable {
     type Kind = kind::LocalVariable;
+
+    ghost digest = { λ _. 0 };
+
+    fn digest(&self) -> u64 {
+        0
+    }
 }

@@ -45,25 +45,25 @@ module _ (p b : ℕ) (byte : b < 256) where
   bit3 : (p % 32 * 256 + b) / 2048 % 2 ≡ p / 8 % 2
   bit3 = omega arith
 
-  behind_one : bits 9 (p % 32 * 256 + b) ≡ bits 1 p ++ bits 8 b
-  behind_one = λ i. bit0 i ∷ low_bits (p % 32) b i
+  after_one : bits 9 (p % 32 * 256 + b) ≡ bits 1 p ++ bits 8 b
+  after_one = λ i. bit0 i ∷ low_bits (p % 32) b i
 
-  behind_two : bits 10 (p % 32 * 256 + b) ≡ bits 2 p ++ bits 8 b
-  behind_two = λ i. bit1 i ∷ behind_one i
+  after_two : bits 10 (p % 32 * 256 + b) ≡ bits 2 p ++ bits 8 b
+  after_two = λ i. bit1 i ∷ after_one i
 
-  behind_three : bits 11 (p % 32 * 256 + b) ≡ bits 3 p ++ bits 8 b
-  behind_three = λ i. bit2 i ∷ behind_two i
+  after_three : bits 11 (p % 32 * 256 + b) ≡ bits 3 p ++ bits 8 b
+  after_three = λ i. bit2 i ∷ after_two i
 
-  behind_four : bits 12 (p % 32 * 256 + b) ≡ bits 4 p ++ bits 8 b
-  behind_four = λ i. bit3 i ∷ behind_three i
+  after_four : bits 12 (p % 32 * 256 + b) ≡ bits 4 p ++ bits 8 b
+  after_four = λ i. bit3 i ∷ after_three i
 
-pub bits_behind : (n p b : ℕ) → n < 5 → b < 256 → bits (n + 8) (p % 32 * 256 + b) ≡ bits n p ++ bits 8 b
-bits_behind zero p b few byte = low_bits (p % 32) b
-bits_behind (suc zero) p b few byte = behind_one p b byte
-bits_behind (suc (suc zero)) p b few byte = behind_two p b byte
-bits_behind (suc (suc (suc zero))) p b few byte = behind_three p b byte
-bits_behind (suc (suc (suc (suc zero)))) p b few byte = behind_four p b byte
-bits_behind (suc (suc (suc (suc (suc n))))) p b few byte = absurd (omega arith)
+pub bits_after : (n p b : ℕ) → n < 5 → b < 256 → bits (n + 8) (p % 32 * 256 + b) ≡ bits n p ++ bits 8 b
+bits_after zero p b few byte = low_bits (p % 32) b
+bits_after (suc zero) p b few byte = after_one p b byte
+bits_after (suc (suc zero)) p b few byte = after_two p b byte
+bits_after (suc (suc (suc zero))) p b few byte = after_three p b byte
+bits_after (suc (suc (suc (suc zero)))) p b few byte = after_four p b byte
+bits_after (suc (suc (suc (suc (suc n))))) p b few byte = absurd (omega arith)
 
 -- fewer than five bits are filled with zero bits
 pub last_letter : (n p : ℕ) → 0 < n → n < 5 → letters (bits n p ++ []) ≡ letter (p % 16 * 16 / 2 ^ (n - 1) % 32) ∷ []
@@ -128,8 +128,8 @@ module _ (p v : ℕ) where
   high (suc (suc (suc (suc (suc (suc (suc zero))))))) few = omega arith
   high (suc (suc (suc (suc (suc (suc (suc (suc k)))))))) few = absurd (omega arith)
 
-  pub letter_behind : (n : ℕ) → n < 9 → bits (n + 5) (p % 256 * 32 + v % 32) ≡ bits n p ++ bits 5 v
-  letter_behind zero few = letter_bits
-  letter_behind (suc n) few =
+  pub letter_after : (n : ℕ) → n < 9 → bits (n + 5) (p % 256 * 32 + v % 32) ≡ bits n p ++ bits 5 v
+  letter_after zero few = letter_bits
+  letter_after (suc n) few =
       let one : suc n + 5 ≡ suc (n + 5) = omega arith in
-      rw one (λ i. high n (omega arith) i ∷ letter_behind n (omega arith) i)
+      rw one (λ i. high n (omega arith) i ∷ letter_after n (omega arith) i)

@@ -7,8 +7,8 @@ use Rattle.naga_oil_lines.specs.declared.comment_strip_iter.Mark.{Mark}
 use Rattle.naga_oil_lines.specs.declared.comment_strip_iter.Mark.TheVariants.{LineComment, Open, Close, DoubleQuote}
 use Rattle.naga_oil_lines.specs.Cover.{Covered, with_front, spaces, plain, deeper, shallower, past_quote, mark_at, cover}
 
-length-behind : (front : List ℕ) (c : Covered) (n m : ℕ) → length c.0 ≡ n → length front + n ≡ m → length (with_front front c).0 ≡ m
-length-behind front (t, s) n m e sum = length-append front t ∙ ap (λ v. length front + v) e ∙ sum
+length-following : (front : List ℕ) (c : Covered) (n m : ℕ) → length c.0 ≡ n → length front + n ≡ m → length (with_front front c).0 ≡ m
+length-following front (t, s) n m e sum = length-append front t ∙ ap (λ v. length front + v) e ∙ sum
 
 length-plain : (s : CommentState) (bs : List ℕ) → length (plain s bs) ≡ length bs
 length-plain Code bs = refl
@@ -24,14 +24,14 @@ length-at : (s : CommentState) (a b : ℕ) (bs : List ℕ) (o : Option Mark) →
       | Some Close ↦ with_front (spaces 2) (cover (shallower s) bs)
       | Some DoubleQuote ↦ with_front (a ∷ []) (cover (past_quote s) (b ∷ bs))
     ] in length c.0 ≡ length (a ∷ b ∷ bs))
-length-at s a b bs None one two = length-behind (plain s (a ∷ [])) (cover s (b ∷ bs)) (length (b ∷ bs)) _ (one s) (omega (arith, length-plain s (a ∷ [])))
-length-at s a b bs (Some LineComment) one two = length-behind (spaces (length (a ∷ b ∷ bs))) ([], s) 0 _ refl (omega (arith, length-replicate {A = ℕ} (length (a ∷ b ∷ bs)) 32))
-length-at s a b bs (Some Open) one two = length-behind (spaces 2) (cover (deeper s) bs) (length bs) _ (two (deeper s)) (omega arith)
-length-at s a b bs (Some Close) one two = length-behind (spaces 2) (cover (shallower s) bs) (length bs) _ (two (shallower s)) (omega arith)
-length-at s a b bs (Some DoubleQuote) one two = length-behind (a ∷ []) (cover (past_quote s) (b ∷ bs)) (length (b ∷ bs)) _ (one (past_quote s)) (omega arith)
+length-at s a b bs None one two = length-following (plain s (a ∷ [])) (cover s (b ∷ bs)) (length (b ∷ bs)) _ (one s) (omega (arith, length-plain s (a ∷ [])))
+length-at s a b bs (Some LineComment) one two = length-following (spaces (length (a ∷ b ∷ bs))) ([], s) 0 _ refl (omega (arith, length-replicate {A = ℕ} (length (a ∷ b ∷ bs)) 32))
+length-at s a b bs (Some Open) one two = length-following (spaces 2) (cover (deeper s) bs) (length bs) _ (two (deeper s)) (omega arith)
+length-at s a b bs (Some Close) one two = length-following (spaces 2) (cover (shallower s) bs) (length bs) _ (two (shallower s)) (omega arith)
+length-at s a b bs (Some DoubleQuote) one two = length-following (a ∷ []) (cover (past_quote s) (b ∷ bs)) (length (b ∷ bs)) _ (one (past_quote s)) (omega arith)
 
 length-at_last : (s : CommentState) (a : ℕ) (o : Option Mark) → (let c : Covered = elim o [ None ↦ with_front (plain s (a ∷ [])) ([], s) | Some m ↦ with_front (a ∷ []) ([], past_quote s) ] in length c.0 ≡ 1)
-length-at_last s a None = length-behind (plain s (a ∷ [])) ([], s) 0 1 refl (omega (arith, length-plain s (a ∷ [])))
+length-at_last s a None = length-following (plain s (a ∷ [])) ([], s) 0 1 refl (omega (arith, length-plain s (a ∷ [])))
 length-at_last s a (Some m) = refl
 
 -- a covered line is as long as its line

@@ -107,11 +107,11 @@ x_cut (c ∷ cs) end e = go (is_code_char c) (eqb c 88) (from_last_x cs) refl re
     go true false None k y more p e = cc
 
 -- ---- a mark with its code
-coded_from : (behind end code rest b : List ℕ) → CutAtX behind end → end ≡ 88 ∷ b → encode_utf8_all (take (length behind - length end) behind) ≡ code → b ≡ rest → BeginsWithCode behind code rest
-coded_from behind end code rest b n x spelled same =
-    let is_code : n.code ≡ code = sym (ap encode_utf8_all (take_front behind n.code end n.whole) ∙ ascii_code n.code (front_is_code n.code (88 ∷ n.tail) n.run)) ∙ spelled in
+coded_from : (following end code rest b : List ℕ) → CutAtX following end → end ≡ 88 ∷ b → encode_utf8_all (take (length following - length end) following) ≡ code → b ≡ rest → BeginsWithCode following code rest
+coded_from following end code rest b n x spelled same =
+    let is_code : n.code ≡ code = sym (ap encode_utf8_all (take_front following n.code end n.whole) ∙ ascii_code n.code (front_is_code n.code (88 ∷ n.tail) n.run)) ∙ spelled in
     let is_end : end ≡ 88 ∷ rest = x ∙ ap (λ l. 88 ∷ l) same in
-    subst (λ k. BeginsWithCode behind k rest) is_code (record {
+    subst (λ k. BeginsWithCode following k rest) is_code (record {
       whole = n.whole ∙ ap (λ l. n.code ++ l) is_end;
       tail = n.tail;
       after = n.after;
@@ -125,33 +125,33 @@ pub mark_read : (mark text code rest : List ℕ) → (let found : Option (List �
 unfolding mark_code
 mark_read mark text code rest e = go (past_word mark text) refl e
   where
-    at_x : (behind end : List ℕ) (o : Option (List ℕ)) → past_word mark text ≡ Some behind → from_last_x behind ≡ Some end → past_word (codes "X") end ≡ o
-        → (let found : Option (List ℕ × List ℕ) = Some (code, rest) in option_and_then (λ b. Some (encode_utf8_all (take (length behind - length end) behind), b)) o ≡ found) → BeginsWithMark mark text code rest
-    at_x behind end (Some b) p q r e =
-        let parts = some_pair_parts (encode_utf8_all (take (length behind - length end) behind)) code b rest e in
-        record { behind = behind; whole = past_word-some mark text behind p; coded = coded_from behind end code rest b (x_cut behind end q) (past_word-some (codes "X") end b r) parts.0 parts.1 }
-    at_x behind end None p q r e = cc
+    at_x : (following end : List ℕ) (o : Option (List ℕ)) → past_word mark text ≡ Some following → from_last_x following ≡ Some end → past_word (codes "X") end ≡ o
+        → (let found : Option (List ℕ × List ℕ) = Some (code, rest) in option_and_then (λ b. Some (encode_utf8_all (take (length following - length end) following), b)) o ≡ found) → BeginsWithMark mark text code rest
+    at_x following end (Some b) p q r e =
+        let parts = some_pair_parts (encode_utf8_all (take (length following - length end) following)) code b rest e in
+        record { following = following; whole = past_word-some mark text following p; coded = coded_from following end code rest b (x_cut following end q) (past_word-some (codes "X") end b r) parts.0 parts.1 }
+    at_x following end None p q r e = cc
 
-    at_code : (behind : List ℕ) (o : Option (List ℕ)) → past_word mark text ≡ Some behind → from_last_x behind ≡ o
-        → (let found : Option (List ℕ × List ℕ) = Some (code, rest) in option_and_then (λ end. option_and_then (λ b. Some (encode_utf8_all (take (length behind - length end) behind), b)) (past_word (codes "X") end)) o ≡ found)
+    at_code : (following : List ℕ) (o : Option (List ℕ)) → past_word mark text ≡ Some following → from_last_x following ≡ o
+        → (let found : Option (List ℕ × List ℕ) = Some (code, rest) in option_and_then (λ end. option_and_then (λ b. Some (encode_utf8_all (take (length following - length end) following), b)) (past_word (codes "X") end)) o ≡ found)
         → BeginsWithMark mark text code rest
-    at_code behind (Some end) p q e = at_x behind end (past_word (codes "X") end) p q refl e
-    at_code behind None p q e = cc
+    at_code following (Some end) p q e = at_x following end (past_word (codes "X") end) p q refl e
+    at_code following None p q e = cc
 
     go : (o : Option (List ℕ)) → past_word mark text ≡ o
-        → (let found : Option (List ℕ × List ℕ) = Some (code, rest) in option_and_then (λ behind. option_and_then (λ end. option_and_then (λ b. Some (encode_utf8_all (take (length behind - length end) behind), b)) (past_word (codes "X") end)) (from_last_x behind)) o ≡ found)
+        → (let found : Option (List ℕ × List ℕ) = Some (code, rest) in option_and_then (λ following. option_and_then (λ end. option_and_then (λ b. Some (encode_utf8_all (take (length following - length end) following), b)) (past_word (codes "X") end)) (from_last_x following)) o ≡ found)
         → BeginsWithMark mark text code rest
-    go (Some behind) p e = at_code behind (from_last_x behind) p refl e
+    go (Some following) p e = at_code following (from_last_x following) p refl e
     go None p e = cc
 
 pub mark_is_read : (mark text code rest : List ℕ) → BeginsWithMark mark text code rest → (let found : Option (List ℕ × List ℕ) = Some (code, rest) in mark_code mark text ≡ found)
 mark_is_read mark text code rest m =
     let h = m.coded in
-    let at_x : from_last_x m.behind ≡ Some (88 ∷ rest) =
+    let at_x : from_last_x m.following ≡ Some (88 ∷ rest) =
     ap from_last_x (h.whole ∙ ap (λ r. code ++ 88 ∷ r) h.cut) ∙ last_x_is code h.tail h.after h.run h.last h.longest ∙ ap (λ r. Some (88 ∷ r)) (sym h.cut) in
-    let spelled : code ≡ encode_utf8_all (take (length m.behind - length (88 ∷ rest)) m.behind) =
-    sym (ap encode_utf8_all (take_front m.behind code (88 ∷ rest) h.whole) ∙ ascii_code code (front_is_code code (88 ∷ h.tail) h.run)) in
-    sym (a_mark mark text m.behind (88 ∷ rest) rest code (sym (ap (past_word mark) m.whole ∙ past_word-append mark m.behind)) (sym at_x) (sym (past_word-append (codes "X") rest)) spelled)
+    let spelled : code ≡ encode_utf8_all (take (length m.following - length (88 ∷ rest)) m.following) =
+    sym (ap encode_utf8_all (take_front m.following code (88 ∷ rest) h.whole) ∙ ascii_code code (front_is_code code (88 ∷ h.tail) h.run)) in
+    sym (a_mark mark text m.following (88 ∷ rest) rest code (sym (ap (past_word mark) m.whole ∙ past_word-append mark m.following)) (sym at_x) (sym (past_word-append (codes "X") rest)) spelled)
 
 -- no mark with a code is where the reader finds none
 none_read : (mark text code rest : List ℕ) → mark_code mark text ≡ None → ¬ (BeginsWithMark mark text code rest)
@@ -161,12 +161,12 @@ none_read mark text code rest none m = let found = mark_is_read mark text code r
 not_shorter : (front : List ℕ) (n : ℕ) → length front ≡ 0 → n < length front → ⊥
 not_shorter front n e h = omega (arith, e, h)
 
-no_mark_behind : (run : List ℕ) → from_last_mark run ≡ None → (front later : List ℕ) → run ≡ front ++ later → 0 < length front → mark_code module_mark later ≡ None
+no_mark_after : (run : List ℕ) → from_last_mark run ≡ None → (front later : List ℕ) → run ≡ front ++ later → 0 < length front → mark_code module_mark later ≡ None
 unfolding from_last_mark
-no_mark_behind run e [] later w h = absurd (not_shorter [] 0 refl h)
-no_mark_behind [] e (d ∷ front) later w h = cc
-no_mark_behind (c ∷ cs) e (d ∷ front) later w h =
-    go (from_last_mark cs) (mark_code module_mark cs) refl refl (no_mark_behind cs) front (ap (drop 1) w) e
+no_mark_after run e [] later w h = absurd (not_shorter [] 0 refl h)
+no_mark_after [] e (d ∷ front) later w h = cc
+no_mark_after (c ∷ cs) e (d ∷ front) later w h =
+    go (from_last_mark cs) (mark_code module_mark cs) refl refl (no_mark_after cs) front (ap (drop 1) w) e
   where
     go : (o : Option (List ℕ)) (m : Option (List ℕ × List ℕ)) → from_last_mark cs ≡ o → mark_code module_mark cs ≡ m
         → (from_last_mark cs ≡ None → (front later : List ℕ) → cs ≡ front ++ later → 0 < length front → mark_code module_mark later ≡ None) → (front : List ℕ) → cs ≡ front ++ later
@@ -193,8 +193,8 @@ last_mark_at (c ∷ cs) from e = go (from_last_mark cs) (is_some (mark_code modu
     later_on n more [] later w h = absurd (not_shorter [] (length (c ∷ n)) refl h)
     later_on n more (d ∷ front) later w h = more front later (ap (drop 1) w) (omega (arith, h))
 
-    behind_first : from_last_mark cs ≡ None → (front later : List ℕ) → cs ≡ front ++ later → length {A = ℕ} [] < length front → mark_code module_mark later ≡ None
-    behind_first p front later w h = no_mark_behind cs p front later w h
+    past_first : from_last_mark cs ≡ None → (front later : List ℕ) → cs ≡ front ++ later → length {A = ℕ} [] < length front → mark_code module_mark later ≡ None
+    past_first p front later w h = no_mark_after cs p front later w h
 
     go : (o : Option (List ℕ)) (is : Bool) → from_last_mark cs ≡ o → is_some (mark_code module_mark cs) ≡ is → (from_last_mark cs ≡ Some from → LastAt cs from)
         → option_or o (cond is (Some cs) None) ≡ Some from → LastAt (c ∷ cs) from
@@ -203,7 +203,7 @@ last_mark_at (c ∷ cs) from e = go (from_last_mark cs) (is_some (mark_code modu
         record { before = c ∷ n.before; whole = ap (λ l. c ∷ l) n.whole; some = omega arith; here = n.here; last = later_on n.before n.last }
     go None true p q more e =
         let same : cs ≡ from = cc in
-        record { before = c ∷ []; whole = ap (λ l. c ∷ l) same; some = omega arith; here = ap (λ l. is_some (mark_code module_mark l)) (sym same) ∙ q; last = later_on [] (behind_first p) }
+        record { before = c ∷ []; whole = ap (λ l. c ∷ l) same; some = omega arith; here = ap (λ l. is_some (mark_code module_mark l)) (sym same) ∙ q; last = later_on [] (past_first p) }
     go None false p q more e = cc
 
 -- the parts of a split, or nothing
@@ -271,7 +271,7 @@ module _ (run before code rest : List ℕ) (m : HasLastMark run before code rest
     where
       go : (o : Option (List ℕ)) → from_last_mark run ≡ o → from_last_mark run ≡ Some m.from
       go (Some from) p = p ∙ ap (λ l. Some l) (same_place from (last_mark_at run from p))
-      go None p = let none = no_mark_behind run p before m.from m.whole m.some in let some = found in absurd (cc)
+      go None p = let none = no_mark_after run p before m.from m.whole m.some in let some = found in absurd (cc)
 
   pub split_is_read : (text : List ℕ) → text ≡ encode_utf8_all before → (let parts : Option (List ℕ × List ℕ × List ℕ) = Some (text, code, rest) in split_at_mark run ≡ parts)
   split_is_read text e =

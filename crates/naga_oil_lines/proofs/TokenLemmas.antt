@@ -100,8 +100,8 @@ lexemes_first at c bs more text left first cut v rest =
     ap (lexemes 0 at) first.spelled ∙ lexemes-cons at c (chars more)
     ∙ (λ i. lexeme_at at c (sym text_is i) ∷ (lexemes_told n (at + len_utf8 c) (chars more) ∙ (λ j. lexemes 0 (place j) (sym rest j))) i)
 
-pub suffix_behind_char : (bs : List ℕ) (c : ℕ) (more front left : List ℕ) → BeginsWithChar bs c more → more ≡ front ++ left → (f : List ℕ) × (bs ≡ f ++ left)
-suffix_behind_char bs c more front left first e = (encode_utf8 c ++ front, first.bytes ∙ ap (λ l. encode_utf8 c ++ l) e ∙ sym (append_assoc (encode_utf8 c) front left))
+pub suffix_after_char : (bs : List ℕ) (c : ℕ) (more front left : List ℕ) → BeginsWithChar bs c more → more ≡ front ++ left → (f : List ℕ) × (bs ≡ f ++ left)
+suffix_after_char bs c more front left first e = (encode_utf8 c ++ front, first.bytes ∙ ap (λ l. encode_utf8 c ++ l) e ∙ sym (append_assoc (encode_utf8 c) front left))
 
 pub more_in_identifier : (c : ℕ) (cs : List ℕ) → starts_identifier c ≡ true → more_in_token c cs ≡ tail_len (eqb c 34) cs
 unfolding more_in_token

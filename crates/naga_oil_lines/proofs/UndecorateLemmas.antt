@@ -83,10 +83,10 @@ module _ (mark text : List ℕ) where
   unfolding mark_code
   no_end rest end e f g = rw (← e, ← f, ← g) refl
 
-  pub a_mark : (rest end behind code : List ℕ) → Some rest ≡ past_word mark text → Some end ≡ from_last_x rest → Some behind ≡ past_word (codes "X") end
-      → code ≡ encode_utf8_all (take (length rest - length end) rest) → (let found : Option (List ℕ × List ℕ) = Some (code, behind) in found ≡ mark_code mark text)
+  pub a_mark : (rest end following code : List ℕ) → Some rest ≡ past_word mark text → Some end ≡ from_last_x rest → Some following ≡ past_word (codes "X") end
+      → code ≡ encode_utf8_all (take (length rest - length end) rest) → (let found : Option (List ℕ × List ℕ) = Some (code, following) in found ≡ mark_code mark text)
   unfolding mark_code
-  a_mark rest end behind code e f g h = rw (← e, ← f, ← g, h) refl
+  a_mark rest end following code e f g h = rw (← e, ← f, ← g, h) refl
 
 -- ---- the text after a mark
 from_last_x-suffix : (cs end : List ℕ) → from_last_x cs ≡ Some end → (front : List ℕ) × (cs ≡ front ++ end)
@@ -101,35 +101,35 @@ from_last_x-suffix (c ∷ cs) end e = go (is_code_char c) (from_last_x cs) (eqb 
     go true None false more p e = cc
     go false o x more p e = cc
 
-mark_code-suffix : (mark cs code behind : List ℕ) → (let found : Option (List ℕ × List ℕ) = Some (code, behind) in mark_code mark cs ≡ found) → (front : List ℕ) × (cs ≡ mark ++ (front ++ behind))
+mark_code-suffix : (mark cs code following : List ℕ) → (let found : Option (List ℕ × List ℕ) = Some (code, following) in mark_code mark cs ≡ found) → (front : List ℕ) × (cs ≡ mark ++ (front ++ following))
 unfolding mark_code
-mark_code-suffix mark cs code behind e = go (past_word mark cs) refl e
+mark_code-suffix mark cs code following e = go (past_word mark cs) refl e
   where
-    at_behind : (rest end : List ℕ) (o : Option (List ℕ)) → past_word mark cs ≡ Some rest → from_last_x rest ≡ Some end → past_word (codes "X") end ≡ o
-        → (let found : Option (List ℕ × List ℕ) = Some (code, behind) in option_and_then (λ b. Some (encode_utf8_all (take (length rest - length end) rest), b)) o ≡ found) → (front : List ℕ) × (cs ≡ mark ++ (front ++ behind))
-    at_behind rest end (Some b) p q r e =
-        let same : b ≡ behind = (some_pair_parts (encode_utf8_all (take (length rest - length end) rest)) code b behind e).1 in
+    at_after : (rest end : List ℕ) (o : Option (List ℕ)) → past_word mark cs ≡ Some rest → from_last_x rest ≡ Some end → past_word (codes "X") end ≡ o
+        → (let found : Option (List ℕ × List ℕ) = Some (code, following) in option_and_then (λ b. Some (encode_utf8_all (take (length rest - length end) rest), b)) o ≡ found) → (front : List ℕ) × (cs ≡ mark ++ (front ++ following))
+    at_after rest end (Some b) p q r e =
+        let same : b ≡ following = (some_pair_parts (encode_utf8_all (take (length rest - length end) rest)) code b following e).1 in
         let cut = from_last_x-suffix rest end q in
-        (cut.0 ++ codes "X", past_word-some mark cs rest p ∙ ap (λ l. mark ++ l) (cut.1 ∙ ap (λ l. cut.0 ++ l) (past_word-some (codes "X") end b r ∙ ap (λ l. codes "X" ++ l) same) ∙ sym (append_assoc cut.0 (codes "X") behind)))
-    at_behind rest end None p q r e = cc
+        (cut.0 ++ codes "X", past_word-some mark cs rest p ∙ ap (λ l. mark ++ l) (cut.1 ∙ ap (λ l. cut.0 ++ l) (past_word-some (codes "X") end b r ∙ ap (λ l. codes "X" ++ l) same) ∙ sym (append_assoc cut.0 (codes "X") following)))
+    at_after rest end None p q r e = cc
 
     at_end_x : (rest : List ℕ) (o : Option (List ℕ)) → past_word mark cs ≡ Some rest → from_last_x rest ≡ o
-        → (let found : Option (List ℕ × List ℕ) = Some (code, behind) in option_and_then (λ end. option_and_then (λ b. Some (encode_utf8_all (take (length rest - length end) rest), b)) (past_word (codes "X") end)) o ≡ found) → (front : List ℕ) × (cs ≡ mark ++ (front ++ behind))
-    at_end_x rest (Some end) p q e = at_behind rest end (past_word (codes "X") end) p q refl e
+        → (let found : Option (List ℕ × List ℕ) = Some (code, following) in option_and_then (λ end. option_and_then (λ b. Some (encode_utf8_all (take (length rest - length end) rest), b)) (past_word (codes "X") end)) o ≡ found) → (front : List ℕ) × (cs ≡ mark ++ (front ++ following))
+    at_end_x rest (Some end) p q e = at_after rest end (past_word (codes "X") end) p q refl e
     at_end_x rest None p q e = cc
 
     go : (o : Option (List ℕ)) → past_word mark cs ≡ o
-        → (let found : Option (List ℕ × List ℕ) = Some (code, behind) in option_and_then (λ rest. option_and_then (λ end. option_and_then (λ b. Some (encode_utf8_all (take (length rest - length end) rest), b)) (past_word (codes "X") end)) (from_last_x rest)) o ≡ found)
-        → (front : List ℕ) × (cs ≡ mark ++ (front ++ behind))
+        → (let found : Option (List ℕ × List ℕ) = Some (code, following) in option_and_then (λ rest. option_and_then (λ end. option_and_then (λ b. Some (encode_utf8_all (take (length rest - length end) rest), b)) (past_word (codes "X") end)) (from_last_x rest)) o ≡ found)
+        → (front : List ℕ) × (cs ≡ mark ++ (front ++ following))
     go (Some rest) p e = at_end_x rest (from_last_x rest) p refl e
     go None p e = cc
 
 -- after the first character of a mark of an override
-behind_mark : (c : ℕ) (cs code behind : List ℕ) → (let found : Option (List ℕ × List ℕ) = Some (code, behind) in mark_code override_mark (c ∷ cs) ≡ found) → (front : List ℕ) × (cs ≡ front ++ behind)
-behind_mark c cs code behind e =
-    let cut = mark_code-suffix override_mark (c ∷ cs) code behind e in
-    let tail : cs ≡ drop 1 override_mark ++ (cut.0 ++ behind) = ap (drop 1) cut.1 in
-    (drop 1 override_mark ++ cut.0, tail ∙ sym (append_assoc (drop 1 override_mark) cut.0 behind))
+after_mark : (c : ℕ) (cs code following : List ℕ) → (let found : Option (List ℕ × List ℕ) = Some (code, following) in mark_code override_mark (c ∷ cs) ≡ found) → (front : List ℕ) × (cs ≡ front ++ following)
+after_mark c cs code following e =
+    let cut = mark_code-suffix override_mark (c ∷ cs) code following e in
+    let tail : cs ≡ drop 1 override_mark ++ (cut.0 ++ following) = ap (drop 1) cut.1 in
+    (drop 1 override_mark ++ cut.0, tail ∙ sym (append_assoc (drop 1 override_mark) cut.0 following))
 
 -- ---- the last mark
 module _ (all : List ℕ) (c : ℕ) (cs : List ℕ) (found : Option (List ℕ)) (first : all ≡ c ∷ cs) where
@@ -153,28 +153,28 @@ module _ (run : List ℕ) where
   unfolding split_at_mark
   no_split e = rw (← e) refl
 
-  pub no_split_behind : (at : List ℕ) → Some at ≡ from_last_mark run → None ≡ mark_code module_mark at → None ≡ split_at_mark run
+  pub no_split_after : (at : List ℕ) → Some at ≡ from_last_mark run → None ≡ mark_code module_mark at → None ≡ split_at_mark run
   unfolding split_at_mark
-  no_split_behind at e f = rw (← e, ← f) refl
+  no_split_after at e f = rw (← e, ← f) refl
 
-  pub a_split : (at before code behind : List ℕ) → Some at ≡ from_last_mark run → (let found : Option (List ℕ × List ℕ) = Some (code, behind) in found ≡ mark_code module_mark at)
-      → before ≡ encode_utf8_all (take (length run - length at) run) → (let parts : Option (List ℕ × List ℕ × List ℕ) = Some (before, code, behind) in parts ≡ split_at_mark run)
+  pub a_split : (at before code following : List ℕ) → Some at ≡ from_last_mark run → (let found : Option (List ℕ × List ℕ) = Some (code, following) in found ≡ mark_code module_mark at)
+      → before ≡ encode_utf8_all (take (length run - length at) run) → (let parts : Option (List ℕ × List ℕ × List ℕ) = Some (before, code, following) in parts ≡ split_at_mark run)
   unfolding split_at_mark
-  a_split at before code behind e f h = rw (← e, ← f, h) refl
+  a_split at before code following e f h = rw (← e, ← f, h) refl
 
   pub unmarked : None ≡ split_at_mark run → encode_utf8_all run ≡ run_shown run
   unfolding with_module
   unmarked e = rw (← e) refl
 
-  pub undecoded : (before code behind : List ℕ) → (let parts : Option (List ℕ × List ℕ × List ℕ) = Some (before, code, behind) in parts ≡ split_at_mark run) → None ≡ decoded code
+  pub undecoded : (before code following : List ℕ) → (let parts : Option (List ℕ × List ℕ × List ℕ) = Some (before, code, following) in parts ≡ split_at_mark run) → None ≡ decoded code
       → encode_utf8_all run ≡ run_shown run
   unfolding with_module
-  undecoded before code behind e f = rw (← e, ← f) refl
+  undecoded before code following e f = rw (← e, ← f) refl
 
-  pub named : (before code behind module_name : List ℕ) → (let parts : Option (List ℕ × List ℕ × List ℕ) = Some (before, code, behind) in parts ≡ split_at_mark run) → Some module_name ≡ decoded code
-      → module_name ++ codes "::" ++ before ++ encode_utf8_all behind ≡ run_shown run
+  pub named : (before code following module_name : List ℕ) → (let parts : Option (List ℕ × List ℕ × List ℕ) = Some (before, code, following) in parts ≡ split_at_mark run) → Some module_name ≡ decoded code
+      → module_name ++ codes "::" ++ before ++ encode_utf8_all following ≡ run_shown run
   unfolding with_module
-  named before code behind module_name e f = rw (← e, ← f) refl
+  named before code following module_name e f = rw (← e, ← f) refl
 
 -- ---- characters already read
 pub told_modules : (n : ℕ) (cs : List ℕ) → with_modules n cs ≡ with_modules 0 (drop n cs)
@@ -202,14 +202,14 @@ overriding_none : (cs : List ℕ) → None ≡ mark_code override_mark cs → ov
 unfolding override_at
 overriding_none cs e = rw (← e) refl
 
-overriding_other : (cs code behind : List ℕ) → (let found : Option (List ℕ × List ℕ) = Some (code, behind) in found ≡ mark_code override_mark cs) → None ≡ decoded code → override_at cs ≡ None
+overriding_other : (cs code following : List ℕ) → (let found : Option (List ℕ × List ℕ) = Some (code, following) in found ≡ mark_code override_mark cs) → None ≡ decoded code → override_at cs ≡ None
 unfolding override_at
-overriding_other cs code behind e f = rw (← e, ← f) refl
+overriding_other cs code following e f = rw (← e, ← f) refl
 
-pub overriding_some : (cs code behind module_name : List ℕ) → (let found : Option (List ℕ × List ℕ) = Some (code, behind) in found ≡ mark_code override_mark cs) → Some module_name ≡ decoded code
-    → (let told : Option (List ℕ × List ℕ) = Some (module_name, behind) in override_at cs ≡ told)
+pub overriding_some : (cs code following module_name : List ℕ) → (let found : Option (List ℕ × List ℕ) = Some (code, following) in found ≡ mark_code override_mark cs) → Some module_name ≡ decoded code
+    → (let told : Option (List ℕ × List ℕ) = Some (module_name, following) in override_at cs ≡ told)
 unfolding override_at
-overriding_some cs code behind module_name e f = rw (← e, ← f) refl
+overriding_some cs code following module_name e f = rw (← e, ← f) refl
 
 module _ (all : List ℕ) (c : ℕ) (cs : List ℕ) (first : all ≡ c ∷ cs) where
   pub word_run : (run rest : List ℕ) → is_word_char c ≡ true → rest ≡ drop (prefix_len is_word_char cs) cs → run ≡ c ∷ take (prefix_len is_word_char cs) cs
@@ -222,22 +222,22 @@ module _ (all : List ℕ) (c : ℕ) (cs : List ℕ) (first : all ≡ c ∷ cs) w
   unfolding with_modules
   no_word word = rw (first, word) refl
 
-  pub overridden : (code behind module_name : List ℕ) → (let found : Option (List ℕ × List ℕ) = Some (code, behind) in found ≡ mark_code override_mark all) → Some module_name ≡ decoded code
-      → codes "override fn " ++ module_name ++ codes "::" ++ with_overrides 0 behind ≡ with_overrides 0 all
-  overridden code behind module_name e f =
+  pub overridden : (code following module_name : List ℕ) → (let found : Option (List ℕ × List ℕ) = Some (code, following) in found ≡ mark_code override_mark all) → Some module_name ≡ decoded code
+      → codes "override fn " ++ module_name ++ codes "::" ++ with_overrides 0 following ≡ with_overrides 0 all
+  overridden code following module_name e f =
       let here = e ∙ ap (mark_code override_mark) first in
-      let cut = behind_mark c cs code behind (sym here) in
-      let count : length cs - length behind ≡ length cut.0 = omega (arith, ap length cut.1, length-append cut.0 behind) in
-      let left : drop (length cs - length behind) cs ≡ behind = ap (λ k. drop k cs) count ∙ ap (drop (length cut.0)) cut.1 ∙ drop-append_seam cut.0 behind in
-      ap (λ l. codes "override fn " ++ module_name ++ codes "::" ++ l) (sym (told_overrides (length cs - length behind) cs ∙ ap (with_overrides 0) left))
-      ∙ sym (at_front c cs (Some (module_name, behind)) (overriding_some (c ∷ cs) code behind module_name here f)) ∙ ap (with_overrides 0) (sym first)
+      let cut = after_mark c cs code following (sym here) in
+      let count : length cs - length following ≡ length cut.0 = omega (arith, ap length cut.1, length-append cut.0 following) in
+      let left : drop (length cs - length following) cs ≡ following = ap (λ k. drop k cs) count ∙ ap (drop (length cut.0)) cut.1 ∙ drop-append_seam cut.0 following in
+      ap (λ l. codes "override fn " ++ module_name ++ codes "::" ++ l) (sym (told_overrides (length cs - length following) cs ∙ ap (with_overrides 0) left))
+      ∙ sym (at_front c cs (Some (module_name, following)) (overriding_some (c ∷ cs) code following module_name here f)) ∙ ap (with_overrides 0) (sym first)
 
   pub not_marked : None ≡ mark_code override_mark all → encode_utf8 c ++ with_overrides 0 cs ≡ with_overrides 0 all
   not_marked e = sym (at_front c cs None (overriding_none (c ∷ cs) (e ∙ ap (mark_code override_mark) first))) ∙ ap (with_overrides 0) (sym first)
 
-  pub not_decoded : (code behind : List ℕ) → (let found : Option (List ℕ × List ℕ) = Some (code, behind) in found ≡ mark_code override_mark all) → None ≡ decoded code
+  pub not_decoded : (code following : List ℕ) → (let found : Option (List ℕ × List ℕ) = Some (code, following) in found ≡ mark_code override_mark all) → None ≡ decoded code
       → encode_utf8 c ++ with_overrides 0 cs ≡ with_overrides 0 all
-  not_decoded code behind e f = sym (at_front c cs None (overriding_other (c ∷ cs) code behind (e ∙ ap (mark_code override_mark) first) f)) ∙ ap (with_overrides 0) (sym first)
+  not_decoded code following e f = sym (at_front c cs None (overriding_other (c ∷ cs) code following (e ∙ ap (mark_code override_mark) first) f)) ∙ ap (with_overrides 0) (sym first)
 
 pub no_modules : (all : List ℕ) → all ≡ [] → with_modules 0 all ≡ []
 unfolding with_modules

@@ -101,9 +101,9 @@ start_lacks_colon c starts =
     let colon : starts_identifier 58 ≡ true = subst (λ k. starts_identifier k ≡ true) (is ∙ e) starts in
     no_start_colon colon)))
 
-pub identifier_lacks_colon : (bs : List ℕ) (c : ℕ) (more front name behind : List ℕ) → BeginsWithChar bs c more → more ≡ front ++ behind → bs ≡ name ++ behind → starts_identifier c ≡ true
+pub identifier_lacks_colon : (bs : List ℕ) (c : ℕ) (more front name following : List ℕ) → BeginsWithChar bs c more → more ≡ front ++ following → bs ≡ name ++ following → starts_identifier c ≡ true
     → list_any (λ b. eqb b 58) front ≡ false → list_any (λ b. eqb b 58) name ≡ false
-identifier_lacks_colon bs c more front name behind first cut whole starts none =
+identifier_lacks_colon bs c more front name following first cut whole starts none =
     let is : name ≡ encode_utf8 c ++ front =
-    append_cancel_right name (encode_utf8 c ++ front) behind (sym whole ∙ first.bytes ∙ ap (λ l. encode_utf8 c ++ l) cut ∙ sym (append_assoc (encode_utf8 c) front behind)) in
+    append_cancel_right name (encode_utf8 c ++ front) following (sym whole ∙ first.bytes ∙ ap (λ l. encode_utf8 c ++ l) cut ∙ sym (append_assoc (encode_utf8 c) front following)) in
     rw (is, list_any-append, start_lacks_colon c starts) none

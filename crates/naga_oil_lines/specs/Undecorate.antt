@@ -25,8 +25,8 @@ unfoldable pub mark_code : (mark : List ℕ) → List ℕ → Option (List ℕ �
 mark_code mark cs = do
   rest ← past_word mark cs
   end ← from_last_x rest
-  behind ← past_word (codes "X") end
-  Some (encode_utf8_all (take (length rest - length end) rest), behind)
+  following ← past_word (codes "X") end
+  Some (encode_utf8_all (take (length rest - length end) rest), following)
 
 -- the characters from the last mark of a module that has a code and follows some character
 unfoldable pub from_last_mark : List ℕ → Option (List ℕ)

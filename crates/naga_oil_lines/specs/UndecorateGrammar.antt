@@ -24,9 +24,9 @@ pub record BeginsWithCode (text code rest : List ℕ) : Type 0 where
 
 -- the text is a mark, its code with the `X`, and the rest
 pub record BeginsWithMark (mark text code rest : List ℕ) : Type 0 where
-  pub behind : List ℕ
-  pub whole : text ≡ mark ++ behind
-  pub coded : BeginsWithCode behind code rest
+  pub following : List ℕ
+  pub whole : text ≡ mark ++ following
+  pub coded : BeginsWithCode following code rest
 
 -- a run of word characters, split at its last mark of a module that has a code and follows some
 -- character
@@ -42,8 +42,8 @@ abbrev pub reading : (found rest : List ℕ) → Option (List ℕ × List ℕ)
 reading found rest = Some (found, rest)
 
 -- the part read after a text, with that text and the rest
-abbrev pub reading_behind : (text found rest : List ℕ) → Option (List ℕ × List ℕ × List ℕ)
-reading_behind text found rest = Some (text, found, rest)
+abbrev pub reading_after : (text found rest : List ℕ) → Option (List ℕ × List ℕ × List ℕ)
+reading_after text found rest = Some (text, found, rest)
 
 -- the text begins with the mark of a function that overrides an item of the module
 pub record BeginsWithOverride (text module_name rest : List ℕ) : Type 0 where

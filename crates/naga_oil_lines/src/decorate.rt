@@ -7,7 +7,7 @@ ghost use Rattle.ucd_perl.specs.Perl.{is_word_char};
 ghost use Rattle.naga_oil_lines.specs.Decorate.{bits, letter, letters, base32, value_of, bytes_of, decoded, decorated_name};
 ghost use Rattle.naga_oil_lines.specs.Text.{BeginsWithChar};
 ghost use Rattle.naga_oil_lines.specs.Undecorate.{is_code_char, from_last_x, mark_code, from_last_mark, split_at_mark, run_shown, with_modules, override_at, with_overrides, undecoration};
-ghost use Rattle.naga_oil_lines.specs.UndecorateGrammar.{reading, reading_behind, BeginsWithMark, HasLastMark, BeginsWithOverride};
+ghost use Rattle.naga_oil_lines.specs.UndecorateGrammar.{reading, reading_after, BeginsWithMark, HasLastMark, BeginsWithOverride};
 
 use crate::text::{past_word, split_first_char, text_before};
 pub use naga_oil_words::{DECORATION_OVERRIDE_PRE, DECORATION_POST, DECORATION_PRE};
@@ -202,8 +202,8 @@ fn mark_code<'a>(text: &'a str, mark: &str) -> Option<(&'a str, &'a str)>
 {
     let rest = past_word(text, mark)?;
     let end = from_last_x(rest)?;
-    let behind = past_word(end, "X")?;
-    Some((text_before(rest, end), behind))
+    let following = past_word(end, "X")?;
+    Some((text_before(rest, end), following))
 }
 
 // The run from its last mark of a module on, where that mark has a code and follows some character.
@@ -231,8 +231,8 @@ fn split_at_mark(run: &str) -> Option<(&str, &str, &str)>
     ensures utf8 { IfSome result (λ r. IsUtf8 r.2.now) }
 {
     let at = from_last_mark(run)?;
-    let (code, behind) = mark_code(at, DECORATION_PRE)?;
-    Some((text_before(run, at), code, behind))
+    let (code, following) = mark_code(at, DECORATION_PRE)?;
+    Some((text_before(run, at), code, following))
 }
 
 // Writes a run of word characters with its module before it.
@@ -240,11 +240,11 @@ fn push_run(alloc: Global, out: &mut String, run: &str) -> Result<(), AllocError
     ensures { let shown = run_shown (chars run.now) in
         OnOk result (string_bytes out.new ≡ string_bytes out.old ++ shown) }
 {
-    let Some((before, code, behind)) = split_at_mark(run) else {
+    let Some((before, code, following)) = split_at_mark(run) else {
         return out.push_str(run);
     };
     match decode(alloc, code)? {
-        Some(module_name) => write!(out, "{module_name}::{before}{behind}"),
+        Some(module_name) => write!(out, "{module_name}::{before}{following}"),
         None => out.push_str(run),
     }
 }
@@ -273,9 +273,9 @@ fn with_modules(alloc: Global, text: &str) -> Result<String, AllocError>
     let mut rest = text;
     while let Some((first, more)) = split_first_char(rest) {
         if is_word_code(first as u32) {
-            let behind = after_run(more);
-            push_run(alloc, &mut out, text_before(rest, behind))?;
-            rest = behind;
+            let following = after_run(more);
+            push_run(alloc, &mut out, text_before(rest, following))?;
+            rest = following;
         } else {
             out.push(first)?;
             rest = more;
@@ -299,7 +299,7 @@ fn push_front<'a>(
     ensures shorter { IfOk result (λ rest. length rest.now < length text.now) }
     ensures utf8 { IfOk result (λ rest. IsUtf8 rest.now) }
 {
-    let Some((code, behind)) = mark_code(text, DECORATION_OVERRIDE_PRE) else {
+    let Some((code, following)) = mark_code(text, DECORATION_OVERRIDE_PRE) else {
         out.push(first)?;
         return Ok(more);
     };
@@ -308,7 +308,7 @@ fn push_front<'a>(
         return Ok(more);
     };
     write!(out, "override fn {module_name}::")?;
-    Ok(behind)
+    Ok(following)
 }
 
 /// Returns the text with its decorated names as a reader knows them: the module and `::` before the
@@ -341,7 +341,7 @@ pub fn one_mark()
 /// A run of word characters has one reading: by its last mark of a module that has a code and a
 /// character before it.
 pub fn one_last_mark()
-    ensures { (run text code rest : List ℕ) → (split_at_mark run ≡ reading_behind text code rest)
+    ensures { (run text code rest : List ℕ) → (split_at_mark run ≡ reading_after text code rest)
         ↔ ((before : List ℕ) × (text ≡ encode_utf8_all before) × HasLastMark run before code rest) }
 {}
 

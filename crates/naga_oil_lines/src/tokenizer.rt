@@ -190,7 +190,7 @@ fn ends_identifier(text: &str) -> bool
 
 // The text after an identifier whose first character is given, and whether the identifier is one
 // word, without `:`.
-pub fn behind_identifier(first: char, text: &str) -> (&str, bool)
+pub fn past_identifier(first: char, text: &str) -> (&str, bool)
     ensures chars { let count = tail_len (first == double_quote) (chars text.now) in
         chars result.0.now ≡ drop count (chars text.now) }
     ensures suffix { (front : List ℕ) × (text.now ≡ front ++ result.0.now)

@@ -57,8 +57,8 @@ module _ (first : Kept) (m : ModuleValue) where
   stays : (d : Derived) → IsFormedOf first m d → KeepsFormed first m d d
   stays d f = record { formed = f; names = refl }
 
-  behind : (d e g : Derived) → KeepsFormed first m d e → KeepsFormed first m e g → KeepsFormed first m d g
-  behind d e g a b = record { formed = b.formed; names = b.names ∙ a.names }
+  following : (d e g : Derived) → KeepsFormed first m d e → KeepsFormed first m e g → KeepsFormed first m d g
+  following d e g a b = record { formed = b.formed; names = b.names ∙ a.names }
 
   own_keeps : (decoration : List ℕ) (d : Derived) (p : ItemPlace) → HasAt m p → IsFormedOf first m d → KeepsFormed first m d (import_own m decoration d p)
   own_keeps n d (TypeItem k) h f = type_of first m d k (option_map Some (decorated_type m n (TypeItem k))) f h
@@ -84,7 +84,7 @@ module _ (first : Kept) (m : ModuleValue) where
   all_keep all own n (p ∷ ps) c h f =
       let one = one_keeps all n c p (All-head (HasAt m) p ps h) f (is_own own p) in
       let e = copy_at all m own n c p in
-      behind c.derived e.derived (fold (copy_at all m own n) e ps).derived one (all_keep all own n ps e (All-tail (HasAt m) p ps h) one.formed)
+      following c.derived e.derived (fold (copy_at all m own n) e ps).derived one (all_keep all own n ps e (All-tail (HasAt m) p ps h) one.formed)
 
 -- for a module for which nothing was kept
 abbrev begun : ModuleValue → Kept
@@ -98,7 +98,7 @@ places_keep : (all : Bool) (m : ModuleValue) (own : OwnPlaces) (decoration : Lis
 unfolding copy_places
 places_keep all m own n f =
     let b = begins m f in
-    behind (begun m) m nothing (nothing_copied m).derived (fold (copy_at all m own n) (nothing_copied m) (places_of m)).derived b (all_keep (begun m) m all own n (places_of m) (nothing_copied m) (has_places m) b.formed)
+    following (begun m) m nothing (nothing_copied m).derived (fold (copy_at all m own n) (nothing_copied m) (places_of m)).derived b (all_keep (begun m) m all own n (places_of m) (nothing_copied m) (has_places m) b.formed)
 
 no_meaning : (x : Text) (h : ℕ) → meant [] x ≡ Some h → ⊥
 no_meaning None h e = absurd cc

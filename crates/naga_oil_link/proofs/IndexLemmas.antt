@@ -239,8 +239,8 @@ ends_there names places q i reached other k e below = by (is_lt (compare_names b
         let long : length (drop i places) ≡ length places - i = length-drop i places in
         ap (λ j. is_lt (compare_names (text_at names j) (Some q))) (sym there) ∙ reached.from 0 0 (omega (arith, long, below))
 
-    behind : is_lt (compare_names (Some q) here) ≡ true
-    behind = ap is_lt (names_total.antisymm (Some q) here) ∙ greater (compare_names here (Some q)) not_less (other below)
+    following : is_lt (compare_names (Some q) here) ≡ true
+    following = ap is_lt (names_total.antisymm (Some q) here) ∙ greater (compare_names here (Some q)) not_less (other below)
       where
         greater : (o : Ordering) → is_lt o ≡ false → is_eq o ≡ false → is_lt (ordering_reverse o) ≡ true
         greater Less a b = absurd (true≢false a)
@@ -249,7 +249,7 @@ ends_there names places q i reached other k e below = by (is_lt (compare_names b
 
     by : (b : Bool) → is_lt (compare_names before here) ≡ b → b ≡ true
     by true f = refl
-    by false f = sym (texts_rank.chain (Some q) before here (reached.before k e) f) ∙ behind
+    by false f = sym (texts_rank.chain (Some q) before here (reached.before k e) f) ∙ following
 
 -- a name is reached after one of its places
 pub reached_more : (names : List Text) (places : List ℕ) (q : List ℕ) (i : ℕ) → i < length places → IsReached names q places i → is_eq (compare_names (text_at names (get_or places i 0)) (Some q)) ≡ true → IsReached names q places (i + 1)

@@ -273,8 +273,8 @@ module _ (bs : Builds) (name : List ℕ) where
         ap (named name) (get_or-take end bs j e within) ∙ at_place.2 j (omega arith)))
 
     -- no build after the place has the name
-    pub none_behind : AreApart bs → (end : ℕ) → list_any (named name) (drop (k + 1) (take end bs)) ≡ false
-    none_behind apart end =
+    pub none_after : AreApart bs → (end : ℕ) → list_any (named name) (drop (k + 1) (take end bs)) ≡ false
+    none_after apart end =
         let long : length (take end bs) ≡ min end (length bs) = length-take end bs in
         let rest : length (drop (k + 1) (take end bs)) ≡ length (take end bs) - (k + 1) = length-drop (k + 1) (take end bs) in
         list_any_none (named name) (drop (k + 1) (take end bs)) (All-from_get_or (λ x. named name x ≡ false) (drop (k + 1) (take end bs)) e (λ j h.
@@ -351,7 +351,7 @@ module _ (of_headers : Bool) (bs : Builds) (end : ℕ) where
     found : (s : LinkState) → link_import of_headers (reverse (take end bs)) s i ≡ link_asked of_headers i e.1 (link_within (link_import of_headers (reverse (take k bs))) e s)
     found s =
         ap (λ xs. link_import of_headers (reverse xs) s i) (around bs i.import k e at is end before)
-        ∙ last of_headers s i (take k bs) (drop (k + 1) (take end bs)) e (at_place bs i.import k e at is).1 (none_behind bs i.import k e at is apart end)
+        ∙ last of_headers s i (take k bs) (drop (k + 1) (take end bs)) e (at_place bs i.import k e at is).1 (none_after bs i.import k e at is apart end)
 
     -- the imports of the build are linked
     pub links_known : (d f : Derived) (p : List ℕ) → list_any (nat_eq k) p ≡ true → f ≡ link_items of_headers e.1 (asked_of i e.1) d → LinksImport of_headers bs end i d p f p
@@ -360,8 +360,8 @@ module _ (of_headers : Bool) (bs : Builds) (end : ℕ) where
         subst (λ (t : LinkState). IsState bs t f p) (sym (found s ∙ ap (link_asked of_headers i e.1) skipped)) (record { derived = linked ∙ ap (link_items of_headers e.1 (asked_of i e.1)) h.derived; entered = h.entered })
 
     -- the imports of the build are linked first
-    pub links_behind : (d g f : Derived) (p q : List ℕ) → list_any (nat_eq k) p ≡ false → LinksImports of_headers bs k e.1.imports d (insert_key nat_cmp p k) g q → f ≡ link_items of_headers e.1 (asked_of i e.1) g → LinksImport of_headers bs end i d p f q
-    links_behind d g f p q new imports linked s h =
+    pub links_after : (d g f : Derived) (p q : List ℕ) → list_any (nat_eq k) p ≡ false → LinksImports of_headers bs k e.1.imports d (insert_key nat_cmp p k) g q → f ≡ link_items of_headers e.1 (asked_of i e.1) g → LinksImport of_headers bs end i d p f q
+    links_after d g f p q new imports linked s h =
         let entered : link_within (link_import of_headers (reverse (take k bs))) e s ≡ link_imports of_headers (take k bs) e.1.imports (enter e.0 s) = ap (λ (b : Bool). if b then s else fold (link_import of_headers (reverse (take k bs))) (enter e.0 s) e.1.imports) (h.entered k e is ∙ new) in
         let after = imports (enter e.0 s) (entering bs apart k e is s d p h) in
         subst (λ (t : LinkState). IsState bs t f q) (sym (found s ∙ ap (link_asked of_headers i e.1) entered)) (record { derived = linked ∙ ap (link_items of_headers e.1 (asked_of i e.1)) after.derived; entered = after.entered })

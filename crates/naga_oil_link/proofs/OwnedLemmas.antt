@@ -19,7 +19,7 @@ use Rattle.naga_oil_ir.specs.declared.types.GlobalVariable.{GlobalVariable}
 use Rattle.naga_oil_ir.specs.declared.types.Override.{Override}
 use Rattle.naga_oil_words.specs.Marks.{has_module_mark, with_decoration}
 use Rattle.naga_oil_words.specs.Texts.{with_name, in_order, is_among, texts}
-use Rattle.naga_oil_link.specs.Owned.{special_names, is_own_type, with_owned_name, owned_item, owned_function, with_text, function_names, demoted_name, demoted_function, demoted}
+use Rattle.naga_oil_link.specs.Owned.{special_names, is_own_type, with_owned_name, owned_row, owned_function, with_text, function_names, demoted_name, demoted_function, demoted}
 use Rattle.naga_oil_link.proofs.NamesLemmas.{among-in_order, among_texts, bytes-insert}
 
 -- the result for a name without a mark
@@ -62,14 +62,14 @@ module _ {T V N A : Type 0} (v : T → V) (n : V → N) (f : A → N → A) wher
 abbrev IsOwned : (d : List ℕ) → (old new : Option (String Global)) → Type 0
 IsOwned d old new = option_map string_bytes new ≡ option_map (with_decoration d) (option_map string_bytes old)
 
-pub constant_owned : (d : List ℕ) (x : Constant × Span) (n : Option (String Global)) → IsOwned d x.0.name n → (constant_row (record x.0 { name = n }), x.1) ≡ owned_item d (constant_row x.0, x.1)
-constant_owned d x n e = ap (λ t. (row ConstantKind t [] [] (constant_row x.0).names, x.1)) e
+pub constant_owned : (d : List ℕ) (x : Constant) (n : Option (String Global)) → IsOwned d x.name n → constant_row (record x { name = n }) ≡ owned_row d (constant_row x)
+constant_owned d x n e = ap (λ t. row ConstantKind t [] [] (constant_row x).names) e
 
-pub override_owned : (d : List ℕ) (x : Override × Span) (n : Option (String Global)) → IsOwned d x.0.name n → (override_row (record x.0 { name = n }), x.1) ≡ owned_item d (override_row x.0, x.1)
-override_owned d x n e = ap (λ t. (row OverrideKind t (x.0.id ∷ []) [] (override_row x.0).names, x.1)) e
+pub override_owned : (d : List ℕ) (x : Override) (n : Option (String Global)) → IsOwned d x.name n → override_row (record x { name = n }) ≡ owned_row d (override_row x)
+override_owned d x n e = ap (λ t. row OverrideKind t (x.id ∷ []) [] (override_row x).names) e
 
-pub global_owned : (d : List ℕ) (x : GlobalVariable × Span) (n : Option (String Global)) → IsOwned d x.0.name n → (global_row (record x.0 { name = n }), x.1) ≡ owned_item d (global_row x.0, x.1)
-global_owned d x n e = ap (λ t. (row GlobalKind t (Some x.0.space ∷ x.0.binding ∷ []) [] (global_row x.0).names, x.1)) e
+pub global_owned : (d : List ℕ) (x : GlobalVariable) (n : Option (String Global)) → IsOwned d x.name n → global_row (record x { name = n }) ≡ owned_row d (global_row x)
+global_owned d x n e = ap (λ t. row GlobalKind t (Some x.space ∷ x.binding ∷ []) [] (global_row x).names) e
 
 pub function_owned : (d : List ℕ) (x : Function × Span) (n : Option (String Global)) → IsOwned d x.0.name n → (function_value (record x.0 { name = n }), x.1) ≡ owned_function d (function_value x.0, x.1)
 function_owned d x n e = ap (λ t. (record (function_value x.0) { name = t }, x.1)) e

@@ -2,14 +2,11 @@
 use Rattle.std.specs.Prelude.{ℕ, ◌||◌, if◌then◌else◌, Bool, false, not, nat_lt, Some, None, option_map, unwrap_or, List, [], ◌∷◌, ◌++◌, fold, map, codes}
 use Rattle.std.specs.List.{flat_map, filter_map}
 use Rattle.naga_oil_ir.specs.ModuleValue.{ModuleValue, FunctionValue, EntryValue, ArgumentValue, function_value}
-use Rattle.naga_oil_ir.specs.Rows.{Row, Text, constant_row, override_row, global_row}
+use Rattle.naga_oil_ir.specs.Rows.{Row, Text}
 use Rattle.naga_oil_ir.specs.Spans.{undefined}
 use Rattle.naga_oil_ir.specs.declared.module.Function.{Function}
 use Rattle.naga_oil_ir.specs.declared.module.FunctionResult.{FunctionResult}
 use Rattle.naga_oil_ir.specs.declared.span.Span.{Span}
-use Rattle.naga_oil_ir.specs.declared.types.Constant.{Constant}
-use Rattle.naga_oil_ir.specs.declared.types.GlobalVariable.{GlobalVariable}
-use Rattle.naga_oil_ir.specs.declared.types.Override.{Override}
 use Rattle.naga_oil_words.specs.Marks.{has_module_mark, with_decoration}
 use Rattle.naga_oil_words.specs.Texts.{with_name, is_among}
 use Rattle.naga_oil_derive.specs.World.{special_entries}
@@ -36,22 +33,19 @@ with_text names (Some n) = with_name names n
 
 -- ---- items
 
--- the items of an arena, with their spans
-abbrev pub constant_rows : List (Constant × Span) → List (Row × Span)
-constant_rows es = map (λ e. (constant_row e.0, e.1)) es
-
-abbrev pub override_rows : List (Override × Span) → List (Row × Span)
-override_rows es = map (λ e. (override_row e.0, e.1)) es
-
-abbrev pub global_rows : List (GlobalVariable × Span) → List (Row × Span)
-global_rows es = map (λ e. (global_row e.0, e.1)) es
+-- the rows of an arena's items, or its functions, with their spans
+abbrev pub rows_by : {T : Type 0} → (row : T → Row) → List (T × Span) → List (Row × Span)
+rows_by row es = map (λ e. (row e.0, e.1)) es
 
 abbrev pub function_values : List (Function × Span) → List (FunctionValue × Span)
 function_values es = map (λ e. (function_value e.0, e.1)) es
 
 -- an item with its name decorated, if it is owned
+abbrev pub owned_row : (decoration : List ℕ) → Row → Row
+owned_row d r = record r { label = record r.label { name = option_map (with_decoration d) r.label.name } }
+
 abbrev pub owned_item : (decoration : List ℕ) → Row × Span → Row × Span
-owned_item d e = (record e.0 { label = record e.0.label { name = option_map (with_decoration d) e.0.label.name } }, e.1)
+owned_item d e = (owned_row d e.0, e.1)
 
 -- a function with its name decorated, if it is owned
 abbrev pub owned_function : (decoration : List ℕ) → FunctionValue × Span → FunctionValue × Span

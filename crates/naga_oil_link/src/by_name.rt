@@ -140,7 +140,7 @@ fn is_named_at(index: &ByName, of: Listed<'_>, at: usize, name: &str) -> bool
 // Adds the places that have a name, from a place of the index on. Returns the place of the index
 // after them.
 fn add_from(
-    places: &mut Places,
+    places: &mut PlaceSet,
     index: &ByName,
     of: Listed<'_>,
     start: usize,
@@ -151,7 +151,7 @@ fn add_from(
     ensures added { let names = listed_names of.entry in
         let more = named_from names name.now index.now.items start in
         OnOk result (places.new.keys ≡ with_places places.old.keys more) }
-    ensures behind { IfOk result (MayStart (listed_names of.entry) index.now.items) }
+    ensures following { IfOk result (MayStart (listed_names of.entry) index.now.items) }
 {
     for at in start..index.len() {
         if !of.compare(index[at], Some(name)).is_eq() {
@@ -165,7 +165,7 @@ fn add_from(
 // Adds the places that have a name, which are looked for at a guessed place of the index first.
 // Returns the place of the index after them.
 fn add_places(
-    places: &mut Places,
+    places: &mut PlaceSet,
     index: &ByName,
     of: Listed<'_>,
     guess: usize,
@@ -175,7 +175,7 @@ fn add_places(
     requires guess { MayStart (listed_names of) index.now.items guess }
     ensures added { let more = places_named (listed_names of.entry) name.now in
         OnOk result (places.new.keys ≡ with_places places.old.keys more) }
-    ensures behind { IfOk result (MayStart (listed_names of.entry) index.now.items) }
+    ensures following { IfOk result (MayStart (listed_names of.entry) index.now.items) }
 {
     if is_named_at(index, of, guess, name) {
         places.insert(index[guess])?;
@@ -186,7 +186,12 @@ fn add_places(
 }
 
 /// Adds the places of the items that have these names.
-pub fn add_named(places: &mut Places, index: &ByName, of: Listed<'_>, names: &Names) -> AllocResult
+pub fn add_named(
+    places: &mut PlaceSet,
+    index: &ByName,
+    of: Listed<'_>,
+    names: &NameSet,
+) -> AllocResult
     requires { IsIndexOf (listed_names of) index.now }
     ensures { let more = flat_map (places_named (listed_names of.entry)) (texts names.now.keys) in
         OnOk result (places.new.keys ≡ with_places places.old.keys more) }
@@ -210,7 +215,7 @@ fn decorate(text: &mut String, name: &str, decoration: &str) -> AllocResult
 // Adds the places of the requested items.
 fn add_asked(
     alloc: Global,
-    places: &mut Places,
+    places: &mut PlaceSet,
     index: &ByName,
     of: Listed<'_>,
     asked: AskedItems<'_>,
@@ -233,10 +238,10 @@ fn add_asked(
 }
 
 // The places before an end.
-fn all_places(alloc: Global, end: usize) -> AllocResult<Places>
+fn all_places(alloc: Global, end: usize) -> AllocResult<PlaceSet>
     ensures { IfOk result (λ places. places.keys ≡ with_places [] (range_with_len 0 end)) }
 {
-    let mut places = Places::new(alloc);
+    let mut places = PlaceSet::new(alloc);
     for at in 0..end {
         places.insert(at)?;
     }
@@ -244,7 +249,7 @@ fn all_places(alloc: Global, end: usize) -> AllocResult<Places>
 }
 
 /// The places of the requested items.
-pub fn wanted(alloc: Global, index: &ByName, of: Listed<'_>, asked: Asked) -> AllocResult<Places>
+pub fn wanted(alloc: Global, index: &ByName, of: Listed<'_>, asked: Asked) -> AllocResult<PlaceSet>
     requires { IsIndexOf (listed_names of) index.now }
     ensures { let is_asked = is_wanted (asked_names asked.entry) in
         IfOk result (λ places. places.keys ≡ places_where is_asked (listed_names of.entry)) }
@@ -252,7 +257,7 @@ pub fn wanted(alloc: Global, index: &ByName, of: Listed<'_>, asked: Asked) -> Al
     let Some(asked) = asked else {
         return all_places(alloc, of.len());
     };
-    let mut places = Places::new(alloc);
+    let mut places = PlaceSet::new(alloc);
     add_asked(alloc, &mut places, index, of, asked)?;
     Ok(places)
 }

@@ -43,7 +43,7 @@ pub fn import_item(into: &mut DerivedModule<'_>, place: ItemPlace) -> AllocResul
 
 /// Whether a function has one of these names. The next name is compared first: it is likely the
 /// function's where functions are visited in the order of names.
-pub fn has_name_next(function: &Function, names: &Names, next: &mut NamesIter<'_>) -> bool
+pub fn has_name_next(function: &Function, names: &NameSet, next: &mut NamesIter<'_>) -> bool
     requires { AreAmong (texts names.now.keys) (texts next.old) }
     ensures next { AreAmong (texts names.now.keys) (texts next.new) }
     ensures told { let name = (function_value function.now).name in
@@ -61,7 +61,7 @@ pub fn has_name_next(function: &Function, names: &Names, next: &mut NamesIter<'_
 }
 
 /// The decoration if all of these names end with it, or else the empty text.
-pub fn ending_of<'a>(names: &Names, decoration: &'a str) -> &'a str
+pub fn ending_of<'a>(names: &NameSet, decoration: &'a str) -> &'a str
     ensures { result.now ≡ ending_of (texts names.now.keys) decoration.now }
 {
     for name in names.iter() {
@@ -74,7 +74,7 @@ pub fn ending_of<'a>(names: &Names, decoration: &'a str) -> &'a str
 
 /// Whether a function has one of these names, all of which end with `ending`. The ending rules out
 /// most other functions.
-pub fn has_name_ending(function: &Function, names: &Names, ending: &str) -> bool
+pub fn has_name_ending(function: &Function, names: &NameSet, ending: &str) -> bool
     requires { EndWith (texts names.now.keys) ending.now }
     ensures { result ≡ has_name_among (texts names.now.keys) (function_value function.now).name }
 {
@@ -307,7 +307,7 @@ impl<'m> OwnCopies<'m> {
 fn functions_among<'m>(
     alloc: Global,
     source: &'m Module,
-    names: &Names,
+    names: &NameSet,
     decoration: &str,
 ) -> AllocResult<Vec<&'m (Function, Span)>>
     ensures there { IfOk result (λ fs. All (λ f. IsFunctionOf source.now f.now) fs.items) }

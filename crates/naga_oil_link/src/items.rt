@@ -3,7 +3,9 @@
 ghost use Rattle.std.specs.Prelude.{◌≡◌, ◌≤◌, ◌++◌, ◌||◌, ℕ, All, IfOk, OnOk, fold, length, map, not, option_map, string_bytes};
 ghost use Rattle.std.specs.List.{flat_map};
 ghost use Rattle.naga_oil_form.specs.ItemForm.{IsThere};
+ghost use Rattle.naga_oil_ir.specs.Spans.{u32_max};
 ghost use Rattle.naga_oil_ir.specs.ModuleValue.{ModuleValue, argument_value, entry_value, function_value, module_value};
+ghost use Rattle.naga_oil_ir.specs.Rows.{Row, constant_row, override_row, global_row};
 ghost use Rattle.naga_oil_form.specs.WellFormed.{WellFormed};
 ghost use Rattle.naga_oil_form_laws.specs.EntryForm.{IsModuleFormed};
 ghost use Rattle.naga_oil_words.specs.Texts.{in_order, with_name, texts, is_among};
@@ -11,7 +13,7 @@ ghost use Rattle.naga_oil_words.specs.Marks.{has_module_mark, with_decoration};
 ghost use Rattle.naga_oil_link.specs.BuiltModule.{built_of};
 ghost use Rattle.naga_oil_link.specs.ByName.{places_where};
 ghost use Rattle.naga_oil_link.specs.OwnPlaces.{own_of};
-ghost use Rattle.naga_oil_link.specs.Owned.{constant_rows, override_rows, global_rows, function_values, with_owned_name, with_owned, owned_item, owned_function, item_names, function_texts, decorated_items, special_names, is_own_name, is_own_type, own_places, with_own_type, owning, with_text, name_or_main, unbound_argument, unbound_result, demoted_name, demoted_function, demoted, demotable, function_names, with_demoted, owning_demoted, owned_module, owned_build};
+ghost use Rattle.naga_oil_link.specs.Owned.{rows_by, function_values, with_owned_name, with_owned, owned_row, owned_item, owned_function, item_names, function_texts, decorated_items, special_names, is_own_name, is_own_type, own_places, with_own_type, owning, with_text, name_or_main, unbound_argument, unbound_result, demoted_name, demoted_function, demoted, demotable, function_names, with_demoted, owning_demoted, owned_module, owned_build};
 ghost use Rattle.naga_oil_link.specs.Places.{places_of, name_at};
 
 use super::*;
@@ -60,12 +62,12 @@ pub fn name_at(of: &Module, place: ItemPlace) -> Option<&str>
 }
 
 // The names of the special types.
-fn special_names(alloc: Global, of: &Module) -> AllocResult<Names>
+fn special_names(alloc: Global, of: &Module) -> AllocResult<NameSet>
     ensures { let special = special_names (module_value of.now) in
         IfOk result (λ names. texts names.keys ≡ in_order special) }
 {
     let entries = special_entries(&of.special_types, alloc)?;
-    let mut names = Names::new(alloc);
+    let mut names = NameSet::new(alloc);
     for (_, handle) in &entries {
         note(alloc, &mut names, name_at(of, ItemPlace::TypeItem(*handle)))?;
     }
@@ -73,7 +75,7 @@ fn special_names(alloc: Global, of: &Module) -> AllocResult<Names>
 }
 
 // Whether a type with this name isn't owned: the name has a mark, or is that of a special type.
-fn is_kept(special: &Names, name: &str) -> bool
+fn is_kept(special: &NameSet, name: &str) -> bool
     ensures { result ≡ (is_among (texts special.now.keys) name.now || has_module_mark name.now) }
 {
     special.contains(name) | has_module_mark(name)
@@ -83,9 +85,9 @@ fn is_kept(special: &Names, name: &str) -> bool
 fn own_type(
     alloc: Global,
     ty: &Type,
-    special: &Names,
+    special: &NameSet,
     suffix: &str,
-    owned: &mut Names,
+    owned: &mut NameSet,
 ) -> AllocResult<bool>
     ensures own { let name = option_map string_bytes ty.now.name in
         IfOk result (λ own. (m : ModuleValue) →
@@ -105,7 +107,7 @@ fn own_type(
 }
 
 // The places of the owned types; notes their decorated names.
-fn own_types(alloc: Global, of: &Module, suffix: &str, owned: &mut Names) -> AllocResult<Places>
+fn own_types(alloc: Global, of: &Module, suffix: &str, owned: &mut NameSet) -> AllocResult<PlaceSet>
     ensures places { let m = module_value of.now in
         IfOk result (λ places. places.keys ≡ places_where (is_own_type m) (item_names m.types)) }
     ensures owned { let m = module_value of.now in
@@ -113,7 +115,7 @@ fn own_types(alloc: Global, of: &Module, suffix: &str, owned: &mut Names) -> All
         OnOk result (texts owned.new.keys ≡ own) }
 {
     let special = special_names(alloc, of)?;
-    let mut places = Places::new(alloc);
+    let mut places = PlaceSet::new(alloc);
     for (at, ty) in of.types.items().iter().enumerate() {
         if own_type(alloc, ty, &special, suffix, owned)? {
             places.insert(at)?;
@@ -123,7 +125,7 @@ fn own_types(alloc: Global, of: &Module, suffix: &str, owned: &mut Names) -> All
 }
 
 // Decorates a name and notes it, if it is owned. Returns whether it is.
-fn own_name(name: &mut String, suffix: &str, owned: &mut Names) -> AllocResult<bool>
+fn own_name(name: &mut String, suffix: &str, owned: &mut NameSet) -> AllocResult<bool>
     ensures own { IfOk result (λ own. own ≡ not (has_module_mark (string_bytes name.old))) }
     ensures name { let old = string_bytes name.old in
         OnOk result (string_bytes name.new ≡ with_decoration suffix.now old) }
@@ -139,7 +141,7 @@ fn own_name(name: &mut String, suffix: &str, owned: &mut Names) -> AllocResult<b
 }
 
 // Decorates a name and notes it, if there is one and it is owned. Returns whether it is.
-fn own_text(name: &mut Option<String>, suffix: &str, owned: &mut Names) -> AllocResult<bool>
+fn own_text(name: &mut Option<String>, suffix: &str, owned: &mut NameSet) -> AllocResult<bool>
     ensures own { IfOk result (λ own. own ≡ is_own_name (option_map string_bytes name.old)) }
     ensures name { let old = option_map string_bytes name.old in
         let decorated = option_map (with_decoration suffix.now) old in
@@ -154,77 +156,62 @@ fn own_text(name: &mut Option<String>, suffix: &str, owned: &mut Names) -> Alloc
     }
 }
 
-// Decorates the owned constants. Returns their places.
-fn own_constants(
-    alloc: Global,
-    of: &mut Arena<Constant>,
-    suffix: &str,
-    owned: &mut Names,
-) -> AllocResult<Places>
-    ensures items { let old = constant_rows of.old in
-        OnOk result (constant_rows of.new ≡ map (owned_item suffix.now) old) }
-    ensures owned { let names = item_names (constant_rows of.old) in
-        let own = fold (with_owned suffix.now) (texts owned.old.keys) names in
-        OnOk result (texts owned.new.keys ≡ own) }
-    ensures places { let names = item_names (constant_rows of.old) in
-        IfOk result (λ places. places.keys ≡ places_where is_own_name names) }
-{
-    let mut items = mem::replace(of, Arena::new(alloc)).into_items();
-    let mut places = Places::new(alloc);
-    for (at, item) in items.iter_mut().enumerate() {
-        if own_text(&mut item.0.name, suffix, owned)? {
-            places.insert(at)?;
-        }
-    }
-    *of = Arena::from_items(items);
-    Ok(places)
+// An item that its module owns if its name has no mark of a module.
+trait Ownable {
+    ghost row_of: { Self → Row };
+
+    // Decorates the name and notes it, if there is one and it is owned. Returns whether it is.
+    fn own(&mut self, suffix: &str, owned: &mut NameSet) -> AllocResult<bool>
+        ensures own { IfOk result (λ own. own ≡ is_own_name (row_of self.old).label.name) }
+        ensures item { OnOk result (row_of self.new ≡ owned_row suffix.now (row_of self.old)) }
+        ensures owned { let name = (row_of self.old).label.name in
+            let own = with_owned suffix.now (texts owned.old.keys) name in
+            OnOk result (texts owned.new.keys ≡ own) };
 }
 
-// Decorates the owned overrides. Returns their places.
-fn own_overrides(
-    alloc: Global,
-    of: &mut Arena<Override>,
-    suffix: &str,
-    owned: &mut Names,
-) -> AllocResult<Places>
-    ensures items { let old = override_rows of.old in
-        OnOk result (override_rows of.new ≡ map (owned_item suffix.now) old) }
-    ensures owned { let names = item_names (override_rows of.old) in
-        let own = fold (with_owned suffix.now) (texts owned.old.keys) names in
-        OnOk result (texts owned.new.keys ≡ own) }
-    ensures places { let names = item_names (override_rows of.old) in
-        IfOk result (λ places. places.keys ≡ places_where is_own_name names) }
-{
-    let mut items = mem::replace(of, Arena::new(alloc)).into_items();
-    let mut places = Places::new(alloc);
-    for (at, item) in items.iter_mut().enumerate() {
-        if own_text(&mut item.0.name, suffix, owned)? {
-            places.insert(at)?;
-        }
+impl Ownable for Constant {
+    ghost row_of = { constant_row };
+
+    fn own(&mut self, suffix: &str, owned: &mut NameSet) -> AllocResult<bool> {
+        own_text(&mut self.name, suffix, owned)
     }
-    *of = Arena::from_items(items);
-    Ok(places)
 }
 
-// Decorates the owned globals. Returns their places.
-fn own_vars(
+impl Ownable for Override {
+    ghost row_of = { override_row };
+
+    fn own(&mut self, suffix: &str, owned: &mut NameSet) -> AllocResult<bool> {
+        own_text(&mut self.name, suffix, owned)
+    }
+}
+
+impl Ownable for GlobalVariable {
+    ghost row_of = { global_row };
+
+    fn own(&mut self, suffix: &str, owned: &mut NameSet) -> AllocResult<bool> {
+        own_text(&mut self.name, suffix, owned)
+    }
+}
+
+// Decorates the owned items of an arena. Returns their places.
+fn own_all<T: Item + Ownable + Drop>(
     alloc: Global,
-    of: &mut Arena<GlobalVariable>,
+    of: &mut Arena<T>,
     suffix: &str,
-    owned: &mut Names,
-) -> AllocResult<Places>
-    ensures items { let old = global_rows of.old in
-        OnOk result (global_rows of.new ≡ map (owned_item suffix.now) old) }
-    ensures owned { let names = item_names (global_rows of.old) in
+    owned: &mut NameSet,
+) -> AllocResult<PlaceSet>
+    ensures items { let old = rows_by T.row_of of.old in
+        OnOk result (rows_by T.row_of of.new ≡ map (owned_item suffix.now) old) }
+    ensures owned { let names = item_names (rows_by T.row_of of.old) in
         let own = fold (with_owned suffix.now) (texts owned.old.keys) names in
         OnOk result (texts owned.new.keys ≡ own) }
-    ensures places { let names = item_names (global_rows of.old) in
+    ensures places { let names = item_names (rows_by T.row_of of.old) in
         IfOk result (λ places. places.keys ≡ places_where is_own_name names) }
 {
     let mut items = mem::replace(of, Arena::new(alloc)).into_items();
-    let mut places = Places::new(alloc);
+    let mut places = PlaceSet::new(alloc);
     for (at, item) in items.iter_mut().enumerate() {
-        if own_text(&mut item.0.name, suffix, owned)? {
+        if item.0.own(suffix, owned)? {
             places.insert(at)?;
         }
     }
@@ -237,7 +224,7 @@ fn own_functions(
     alloc: Global,
     of: &mut Arena<Function>,
     suffix: &str,
-    owned: &mut Names,
+    owned: &mut NameSet,
 ) -> AllocResult
     ensures items { let old = function_values of.old in
         OnOk result (function_values of.new ≡ map (owned_function suffix.now) old) }
@@ -266,11 +253,11 @@ fn own_items(alloc: Global, of: &mut Module, built: &mut Build) -> AllocResult<O
     let decoration = built.decorated_name.as_str();
     let types = own_types(alloc, of, decoration, &mut built.owned_types)?;
     let owned = &mut built.owned_constants;
-    let constants = own_constants(alloc, &mut of.constants, decoration, owned)?;
+    let constants = own_all(alloc, &mut of.constants, decoration, owned)?;
     let owned = &mut built.owned_pipeline_overrides;
-    let overrides = own_overrides(alloc, &mut of.overrides, decoration, owned)?;
+    let overrides = own_all(alloc, &mut of.overrides, decoration, owned)?;
     let owned = &mut built.owned_vars;
-    let globals = own_vars(alloc, &mut of.global_variables, decoration, owned)?;
+    let globals = own_all(alloc, &mut of.global_variables, decoration, owned)?;
     let owned = &mut built.owned_functions;
     own_functions(alloc, &mut of.functions, decoration, owned)?;
     #[rattlefmt::skip]
@@ -322,7 +309,7 @@ fn demoted(alloc: Global, of: EntryPoint, decoration: &str) -> AllocResult<(Stri
 }
 
 /// Notes a name, if there is one.
-pub fn note(alloc: Global, names: &mut Names, name: Option<&str>) -> AllocResult
+pub fn note(alloc: Global, names: &mut NameSet, name: Option<&str>) -> AllocResult
     ensures { let text = option_map (λ n. n.now) name.entry in
         OnOk result (texts names.new.keys ≡ with_text (texts names.old.keys) text) }
 {
@@ -333,11 +320,11 @@ pub fn note(alloc: Global, names: &mut Names, name: Option<&str>) -> AllocResult
 }
 
 // The names of functions.
-fn function_names(alloc: Global, functions: &Arena<Function>) -> AllocResult<Names>
+fn function_names(alloc: Global, functions: &Arena<Function>) -> AllocResult<NameSet>
     ensures { let values = function_values functions.now in
         IfOk result (λ names. texts names.keys ≡ in_order (function_names values)) }
 {
-    let mut names = Names::new(alloc);
+    let mut names = NameSet::new(alloc);
     for item in functions.as_slice() {
         note(alloc, &mut names, named(&item.0.name))?;
     }
@@ -350,9 +337,9 @@ fn demote_one(
     alloc: Global,
     entry_point: EntryPoint,
     decoration: &str,
-    names: &Names,
+    names: &NameSet,
     functions: &mut Arena<Function>,
-    owned: &mut Names,
+    owned: &mut NameSet,
 ) -> AllocResult
     ensures functions { let taken = texts names.now.keys in
         let more = demoted decoration.now taken (entry_value entry_point) in
@@ -378,7 +365,7 @@ fn demote_all(
     entry_points: Vec<EntryPoint>,
     decoration: &str,
     functions: &mut Arena<Function>,
-    owned: &mut Names,
+    owned: &mut NameSet,
 ) -> AllocResult
     ensures functions { let before = function_values functions.old in
         let values = map entry_value entry_points.items in
@@ -429,7 +416,7 @@ pub fn own(alloc: Global, source: &mut Module, built: &mut Build) -> AllocResult
     ensures built { let m = module_value source.old in
         OnOk result (built_of built.new ≡ owned_build built.old.index m (built_of built.old)) }
     ensures form { let passes = WellFormed source.old (string_bytes built.old.decorated_name) in
-        OnOk result ((n : ℕ) → n ≤ 4294967295 → passes n →
+        OnOk result ((n : ℕ) → n ≤ u32_max → passes n →
         IsModuleFormed (module_value source.new)) }
 {
     well_formed_modules_are_formed(source);

@@ -27,18 +27,15 @@ use naga_oil_ir::{
     Arena, Constant, EntryPoint, Function, FunctionArgument, FunctionResult, GlobalVariable,
     Handle, Index, Item, ItemPlace, Module, NamedExpressions, Override, SPAN_SHIFT, Span, Type,
 };
-use naga_oil_words::{AllocResult, add_decoration, has_module_mark};
+use naga_oil_words::{AllocResult, NameSet, add_decoration, has_module_mark};
 pub use own_items::OwnItems;
 use std::alloc::Global;
 use std::collections::{BTreeSet, btree_set};
 use std::mem;
 use std::sync::Arc;
 
-/// Names, in byte order.
-pub type Names = BTreeSet<String>;
-
 /// An iterator over names, in byte order.
 pub type NamesIter<'n> = btree_set::Iter<'n, String>;
 
 /// Places in a list of items, in order.
-pub type Places = BTreeSet<usize>;
+pub type PlaceSet = BTreeSet<usize>;

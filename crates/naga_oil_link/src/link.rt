@@ -22,7 +22,7 @@ use naga_oil_imports::ImportDefinition as Import;
 pub type Builds = IndexMap<String, Arc<Build>>;
 
 // Adds names.
-fn add_names(names: &mut Names, others: &[String]) -> AllocResult
+fn add_names(names: &mut NameSet, others: &[String]) -> AllocResult
     ensures { let more = texts others.now in
         OnOk result (texts names.new.keys ≡ fold with_name (texts names.old.keys) more) }
 {
@@ -33,11 +33,11 @@ fn add_names(names: &mut Names, others: &[String]) -> AllocResult
 }
 
 // The names of the functions that override others.
-fn overriding(alloc: Global, of: &Build) -> AllocResult<Names>
+fn overriding(alloc: Global, of: &Build) -> AllocResult<NameSet>
     ensures { let overriding = overriding_names (built_of of.now) in
         IfOk result (λ names. texts names.keys ≡ in_order overriding) }
 {
-    let mut names = Names::new(alloc);
+    let mut names = NameSet::new(alloc);
     for others in of.override_functions.values() {
         add_names(&mut names, others)?;
     }

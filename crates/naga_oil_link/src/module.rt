@@ -18,13 +18,13 @@ pub struct ComposableModule {
     /// What the module imports under these definitions.
     pub imports: Vec<ImportDefinition>,
     /// The decorated names of the module's own items.
-    pub owned_types: Names,
-    pub owned_constants: Names,
-    pub owned_pipeline_overrides: Names,
-    pub owned_vars: Names,
-    pub owned_functions: Names,
+    pub owned_types: NameSet,
+    pub owned_constants: NameSet,
+    pub owned_pipeline_overrides: NameSet,
+    pub owned_vars: NameSet,
+    pub owned_functions: NameSet,
     /// The functions that other modules may override, undecorated.
-    pub virtual_functions: Names,
+    pub virtual_functions: NameSet,
     /// The functions that are overridden in the module or in what it imports, each with those that
     /// override it.
     pub override_functions: Overrides,

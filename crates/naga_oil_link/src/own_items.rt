@@ -7,10 +7,10 @@ use super::*;
 /// Places of types, constants, overrides and globals of a module.
 #[derive(Drop)]
 pub struct OwnItems {
-    pub types: Places,
-    pub constants: Places,
-    pub overrides: Places,
-    pub globals: Places,
+    pub types: PlaceSet,
+    pub constants: PlaceSet,
+    pub overrides: PlaceSet,
+    pub globals: PlaceSet,
 }
 
 impl OwnItems {
@@ -19,10 +19,10 @@ impl OwnItems {
         ensures { own_of result ≡ nothing_own }
     {
         OwnItems {
-            types: Places::new(alloc),
-            constants: Places::new(alloc),
-            overrides: Places::new(alloc),
-            globals: Places::new(alloc),
+            types: PlaceSet::new(alloc),
+            constants: PlaceSet::new(alloc),
+            overrides: PlaceSet::new(alloc),
+            globals: PlaceSet::new(alloc),
         }
     }
 

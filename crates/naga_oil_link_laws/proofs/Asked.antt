@@ -57,15 +57,15 @@ module _ (Q : Request → Type 0) (items : (p : ItemPlace) → Q (Item p)) where
 
   tokens_each : (ks : List ℕ) (ns : List Named) (ls : Links) (ts : Tokens) → ((g : ℕ) → has (callees_of ts) g ≡ true → Q (Call g)) → All Q (flat_map (token_names ks ns ls) ts)
   tokens_each ks ns ls [] h = All-nil Q
-  tokens_each ks ns ls (t ∷ ts) h = All-append Q (token_names ks ns ls t) (flat_map (token_names ks ns ls) ts) (token_each ks ns ls t (λ g e. h g (here (callee_of t) g e))) (tokens_each ks ns ls ts (λ g e. h g (behind (callee_of t) g e)))
+  tokens_each ks ns ls (t ∷ ts) h = All-append Q (token_names ks ns ls t) (flat_map (token_names ks ns ls) ts) (token_each ks ns ls t (λ g e. h g (here (callee_of t) g e))) (tokens_each ks ns ls ts (λ g e. h g (following (callee_of t) g e)))
     where
       here : (o : Option ℕ) (g : ℕ) → o ≡ Some g → has (cons_option o (callees_of ts)) g ≡ true
       here None g e = cc
       here (Some k) g e = let same : k ≡ g = cc in or_left (k == g) (has (callees_of ts) g) (eq_eqb k g same)
 
-      behind : (o : Option ℕ) (g : ℕ) → has (callees_of ts) g ≡ true → has (cons_option o (callees_of ts)) g ≡ true
-      behind None g e = e
-      behind (Some k) g e = or_right (k == g) (has (callees_of ts) g) e
+      following : (o : Option ℕ) (g : ℕ) → has (callees_of ts) g ≡ true → has (cons_option o (callees_of ts)) g ≡ true
+      following None g e = e
+      following (Some k) g e = or_right (k == g) (has (callees_of ts) g) e
 
   arguments_each : (xs : List ArgumentValue) → All Q (map (λ (a : ArgumentValue). Item (TypeItem a.ty)) xs)
   arguments_each [] = All-nil Q

@@ -13,41 +13,22 @@ use Rattle.naga_oil_link.specs.Linked.{LinkState, Asked, links_place, links_func
 use Rattle.naga_oil_link.specs.OwnPlaces.{OwnPlaces}
 use Rattle.naga_oil_link.specs.Places.{places_of}
 use Rattle.naga_oil_link_laws.specs.Headers.{HasNamed, HasDeclarations}
+use Rattle.naga_oil_link_laws.specs.Requested.{HasPassing, AnyAsks, Chosen, Asks}
 use Rattle.naga_oil_link_laws.proofs.Names.{Function, Quiet, declared, items_quiet, set_functions}
 use Rattle.naga_oil_ir.specs.Spans.{span_stride}
 
 abbrev pub Entry : Type 0
 Entry = List ℕ × BuiltModule
 
--- ---- what imports request
-
--- a function that passes a test has a name
-abbrev pub HasPassing : (Function → Bool) → List Function → Text → Type 0
-HasPassing test fs n = (k : ℕ) × (f : Function) × (slice_get fs k ≡ Some f) × (test f ≡ true) × (f.0.name ≡ n)
-
--- one of some imports requests a name
-abbrev pub AnyAsks : (Import → Text → Type 0) → List Import → Text → Type 0
-AnyAsks asks [] n = ⊥
-AnyAsks asks (i ∷ is) n = asks i n ⊎ AnyAsks asks is n
-
-abbrev pub Chosen : Bool → Type 0 → Type 0 → Type 0
-Chosen true A B = A
-Chosen false A B = B
-
--- an import requests the name of a function: one of its build's header, or one that its build imports
-abbrev pub Asks : Builds → Import → Text → Type 0
-Asks [] i n = ⊥
-Asks (e ∷ earlier) i n = Chosen (bytes_eq i.import e.0) (HasPassing (links_function e.1 (asked_of i e.1)) e.1.header.functions n ⊎ AnyAsks (Asks earlier) e.1.imports n) (Asks earlier i n)
-
 -- each of some builds has the property over those before it, the newest first
-abbrev pub AllBehind : (Builds → Entry → Type 0) → Builds → Type 0
-AllBehind Q [] = Unit {0}
-AllBehind Q (e ∷ earlier) = Q earlier e × AllBehind Q earlier
+abbrev pub AllAfter : (Builds → Entry → Type 0) → Builds → Type 0
+AllAfter Q [] = Unit {0}
+AllAfter Q (e ∷ earlier) = Q earlier e × AllAfter Q earlier
 
 -- ---- what is declared
 
-pub passing_behind : (test : Function → Bool) (f : Function) (fs : List Function) (n : Text) → HasPassing test fs n → HasPassing test (f ∷ fs) n
-passing_behind test f fs n h = (suc h.0, h.1, h.2, h.3, h.4)
+pub passing_after : (test : Function → Bool) (f : Function) (fs : List Function) (n : Text) → HasPassing test fs n → HasPassing test (f ∷ fs) n
+passing_after test f fs n h = (suc h.0, h.1, h.2, h.3, h.4)
 
 -- functions without bodies
 abbrev pub AreBodiless : List Function → Type 0
@@ -72,9 +53,9 @@ functions_declared test (f ∷ fs) d none n h = one (test f) refl (λ e. functio
     one true q rest h =
         ⊎_elim
         (λ (old : HasNamed (link_function d f).target n). ⊎_elim (λ x. inl x) (λ (same : f.0.name ≡ n). inr (zero, f, refl, q, same)) (one_declared d f (none zero f refl) n old))
-        (λ (new : HasPassing test fs n). inr (passing_behind test f fs n new))
+        (λ (new : HasPassing test fs n). inr (passing_after test f fs n new))
         (rest (link_function d f) h)
-    one false q rest h = ⊎_elim (λ x. inl x) (λ (new : HasPassing test fs n). inr (passing_behind test f fs n new)) (rest d h)
+    one false q rest h = ⊎_elim (λ x. inl x) (λ (new : HasPassing test fs n). inr (passing_after test f fs n new)) (rest d h)
 
 -- what is linked of a module without bodies
 source_declared : (b : BuiltModule) (own : OwnPlaces) (m : ModuleValue) (asked : Asked) (d : Derived) → AreBodiless m.functions → (n : Text) → HasNamed (link_source b own m asked d).target n → HasNamed d.target n ⊎ HasPassing (links_function b asked) m.functions n
@@ -104,7 +85,7 @@ module _ (Q : Builds → Entry → Type 0) (declarations : (earlier : Builds) (e
   abbrev OnlyAsked : Builds → Type 0
   OnlyAsked bs = (s : LinkState) (i : Import) (n : Text) → HasNamed (link_import true bs s i).derived.target n → HasNamed s.derived.target n ⊎ Asks bs i n
 
-  header_asks : (bs : Builds) → AllBehind Q bs → OnlyAsked bs
+  header_asks : (bs : Builds) → AllAfter Q bs → OnlyAsked bs
   unfolding link_import link_items
   header_asks [] a s i n h = inl h
   header_asks (e ∷ bs) a s i n h = one (header_asks bs a.1) (bytes_eq i.import e.0) h
@@ -122,5 +103,5 @@ module _ (Q : Builds → Entry → Type 0) (declarations : (earlier : Builds) (e
       one rest false h = rest s i n h
 
   -- what the header of imports declares is requested by one of them
-  pub imports_ask : (bs : Builds) → AllBehind Q bs → (is : List Import) (n : Text) → HasNamed (fold (link_import true bs) nothing_linked is).derived.target n → AnyAsks (Asks bs) is n
+  pub imports_ask : (bs : Builds) → AllAfter Q bs → (is : List Import) (n : Text) → HasNamed (fold (link_import true bs) nothing_linked is).derived.target n → AnyAsks (Asks bs) is n
   imports_ask bs a is n h = ⊎_elim (λ (old : HasNamed nothing_linked.derived.target n). absurd cc) (λ y. y) (fold_asks (link_import true bs) (Asks bs) (header_asks bs a) is nothing_linked n h)

@@ -17,7 +17,8 @@ use Rattle.naga_oil_link.specs.Places.{places_of}
 use Rattle.naga_oil_link_laws.specs.Headers.{HasNamed, HasDeclarations}
 use Rattle.naga_oil_link_laws.specs.ThroughBuilds.{Holds}
 use Rattle.naga_oil_link_laws.proofs.Names.{Function, Quiet, quiet_same, quiet_then, item_quiet, rename_quiet, set_functions, Grows, grows_same, grows_then, function_grows, function_named, named_stays, declared, make_named}
-use Rattle.naga_oil_link_laws.proofs.Asks.{HasPassing, passing_behind}
+use Rattle.naga_oil_link_laws.specs.Requested.{HasPassing}
+use Rattle.naga_oil_link_laws.proofs.Asks.{passing_after}
 
 -- ---- items
 
@@ -68,16 +69,16 @@ module _ (names : List (List ℕ)) where
   stubs_declared [] d k y at = inl at
   stubs_declared (f ∷ fs) d k y at = one (among f) refl (λ e. stubs_declared fs e k y) at
     where
-      behind : IsDeclared fs y → IsDeclared (f ∷ fs) y
-      behind h = (h.0, passing_behind among f fs y.0.name h.1)
+      following : IsDeclared fs y → IsDeclared (f ∷ fs) y
+      following h = (h.0, passing_after among f fs y.0.name h.1)
 
       one : (b : Bool) → among f ≡ b → ((e : Derived) → slice_get (fold (copy_stub names) e fs).target.functions k ≡ Some y → (slice_get e.target.functions k ≡ Some y) ⊎ IsDeclared fs y) → slice_get (let r : Derived = fold (copy_stub names) (if b then import_function d (stub_of f.0) f.1 else d) fs in r.target.functions) k ≡ Some y → (slice_get d.target.functions k ≡ Some y) ⊎ IsDeclared (f ∷ fs) y
       one true q rest at =
           ⊎_elim
           (λ (old : slice_get (import_function d (stub_of f.0) f.1).target.functions k ≡ Some y). ⊎_elim (λ x. inl x) (λ (new : (f.0.name ≡ y.0.name) × (y.0.body ≡ [])). inr (new.1, (zero, f, refl, q, new.0))) (declared d (stub_of f.0) f.1 refl k y old))
-          (λ (new : IsDeclared fs y). inr (behind new))
+          (λ (new : IsDeclared fs y). inr (following new))
           (rest (import_function d (stub_of f.0) f.1) at)
-      one false q rest at = ⊎_elim (λ x. inl x) (λ (new : IsDeclared fs y). inr (behind new)) (rest d at)
+      one false q rest at = ⊎_elim (λ x. inl x) (λ (new : IsDeclared fs y). inr (following new)) (rest d at)
 
   -- ---- the module
 

@@ -1,6 +1,6 @@
 -- Entry points that are copied after what stood before.
 use Rattle.std.proofs.Common.{◌≡◌, ⊎_elim, ◌⊎◌, ℕ, suc, ◌+◌, List, [], ◌∷◌, ◌++◌, length, Some, IfSome, slice_get, All, refl, ap, sym, ◌∙◌, subst, append-nil, append_assoc, length-append}
-use Rattle.std.proofs.lemmas.Option.{none-some}
+use Rattle.std.proofs.lemmas.Option.{none-some, same_Some}
 use Rattle.naga_oil_ir.specs.ModuleValue.{ModuleValue, FunctionValue, EntryValue}
 use Rattle.naga_oil_ir.specs.declared.span.Span.{Span}
 use Rattle.naga_oil_derive.specs.CopiedEntry.{entry_names, import_items, place_entry, EntriesState, entries_state, copy_entry, copy_entries, module_of, module_by, make_module}
@@ -11,13 +11,15 @@ use Rattle.naga_oil_derive.specs.DerivedValue.{answer_requests, localize_functio
 use Rattle.naga_oil_derive.specs.Tree.{World}
 use Rattle.naga_oil_copy_laws.specs.CopiedByTree.{IsAtHand}
 use Rattle.naga_oil_copy_laws.specs.InTurn.{CanCopyWhole, CanCopyModule}
-use Rattle.naga_oil_copy_laws.proofs.HeldLemmas.{comes_there, later_again, made_later}
+use Rattle.naga_oil_copy_laws.proofs.EntryLaws.{PlacedEntry}
+use Rattle.naga_oil_copy_laws.proofs.HeldLemmas.{comes_there, later_again, later_same, made_later}
 use Rattle.naga_oil_copy_laws.proofs.TurnLaws.{MadeEntry, last_entry, stays_entry, at_end, localized_at}
-use Rattle.naga_oil_link_laws.proofs.Stages.{Setting, Stage, stage_answers, stage_named}
+use Rattle.naga_oil_link_laws.proofs.Stages.{Setting, Stage, stage_answers, stage_named, named_went}
 
 pub record Entries (x : Setting) (w : World) (vs : List EntryValue) (st : EntriesState) : Type 0 where
   pub stage : Stage x w st.derived
   pub each : (i : ℕ) (y : EntryValue) → slice_get st.entries i ≡ Some y → MadeEntry x.value stage.source st.derived.target vs i y
+  pub whole : (i : ℕ) (y v : EntryValue) → slice_get st.entries i ≡ Some y → slice_get vs i ≡ Some v → PlacedEntry stage.source v y
   pub long : length st.entries ≡ length vs
 
 module _ (x : Setting) (can : CanCopyModule x.value) (w : World) where
@@ -43,8 +45,19 @@ module _ (x : Setting) (can : CanCopyModule x.value) (w : World) where
         at = ap (slice_get (vs ++ v ∷ [])) en.long ∙ at_end vs v;
         made_of = made_later t.source u.source e.target f.target v.function g b.later b.stay own_copy;
       } in
+      let placed : PlacedEntry u.source v y = record { before = u.source; later = later_same u.source; went = named_went x can w (entry_names v) e t names; is = ap (λ o. place_entry o g v) u.is } in
+      let earlier = λ (i : ℕ) (z o : EntryValue) (q : slice_get st.entries i ≡ Some z) (there : slice_get (vs ++ v ∷ []) i ≡ Some o). (
+      let k = en.each i z q in
+      let p = en.whole i z k.entry q k.at in
+      let now : PlacedEntry u.source k.entry z = record { before = p.before; later = later_again p.before en.stage.source u.source p.later later; went = p.went; is = p.is } in
+      let same : k.entry ≡ o = same_Some k.entry o (sym (stays_entry vs v i k.entry k.at) ∙ there) in
+      subst (λ c. PlacedEntry u.source c z) same now) in
+      let last = λ (i : ℕ) (z o : EntryValue) (q : (i ≡ length st.entries) × (y ≡ z)) (there : slice_get (vs ++ v ∷ []) i ≡ Some o). (
+      let same : v ≡ o = same_Some v o (sym (at_end vs v) ∙ ap (slice_get (vs ++ v ∷ [])) (sym (q.0 ∙ en.long)) ∙ there) in
+      subst (λ c. PlacedEntry u.source c z) same (subst (PlacedEntry u.source v) q.1 placed)) in
       record {
         stage = u;
+        whole = λ i z o at there. ⊎_elim (λ q. earlier i z o q there) (λ (q : (i ≡ length st.entries) × (y ≡ z)). last i z o q there) (last_entry st.entries y i z at);
         each = λ i z at. ⊎_elim
             (λ q. let k = en.each i z q in record { entry = k.entry; at = stays_entry vs v i k.entry k.at; made_of = made_later en.stage.source u.source d.target f.target k.entry.function z.function later stay k.made_of })
             (λ (q : (i ≡ length st.entries) × (y ≡ z)). subst (λ c. MadeEntry m u.source f.target (vs ++ v ∷ []) i c) q.1 (subst (λ j. MadeEntry m u.source f.target (vs ++ v ∷ []) j y) (sym q.0) new))
@@ -69,7 +82,7 @@ module _ (x : Setting) (can : CanCopyModule x.value) (w : World) where
   -- the entry points of the source are added
   pub entries_come : (d : Derived) → Stage x w d → Entries x w m.entry_points (end d)
   entries_come d t =
-      let start : Entries x w [] (entries_state d []) = record { stage = t; each = λ i y at. absurd (none-some y at); long = refl } in
+      let start : Entries x w [] (entries_state d []) = record { stage = t; each = λ i y at. absurd (none-some y at); whole = λ i y v at there. absurd (none-some y at); long = refl } in
       all_entries m.entry_points [] (entries_state d []) can.entry_points start
 
   -- the module is finished

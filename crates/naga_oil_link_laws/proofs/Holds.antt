@@ -1,5 +1,5 @@
 -- What a build holds copies what was parsed.
-use Rattle.std.proofs.Common.{◌≡◌, ⊎_elim, ◌⊎◌, ℕ, if◌then◌else◌, List, [], ◌∷◌, fold, Option, Some, None, Bool, true, false, option_map, slice_get, unwrap_or, All, refl, ap, sym, ◌∙◌, subst, zero-le}
+use Rattle.std.proofs.Common.{◌≡◌, ⊎_elim, ◌⊎◌, ℕ, if◌then◌else◌, List, [], ◌∷◌, fold, Option, Some, None, Bool, true, false, option_map, slice_get, All, refl, ap, sym, ◌∙◌, subst, zero-le}
 use Rattle.std.proofs.lemmas.List.Elements.{All-head, All-tail, All-weaker}
 use Rattle.std.proofs.lemmas.Option.{none-some}
 use Rattle.std.specs.Option.{option_flatten}
@@ -31,6 +31,7 @@ use Rattle.naga_oil_copy_laws.specs.CopiedByTree.{IsMade}
 use Rattle.naga_oil_copy_laws.specs.Frame.{AreAlike}
 use Rattle.naga_oil_copy_laws.specs.HeldCopies.{IsCopyableFunction}
 use Rattle.naga_oil_copy_laws.specs.InTurn.{CanCopyModule}
+use Rattle.naga_oil_copy_laws.proofs.EntryLaws.{placed_entry}
 use Rattle.naga_oil_copy_laws.proofs.FrameLaws.{alike, item_alike}
 use Rattle.naga_oil_copy_laws.proofs.HeldLemmas.{comes_there}
 use Rattle.naga_oil_copy_laws.proofs.TreeCopies.{made}
@@ -41,6 +42,7 @@ use Rattle.naga_oil_link_laws.proofs.Stages.{Setting, Stage, Stages, stage_same,
 use Rattle.naga_oil_link_laws.proofs.Scopes.{entries_world, entries_of, alike_same}
 use Rattle.naga_oil_link_laws.proofs.Entries.{Entries, end, entries_come, made_with}
 use Rattle.naga_oil_form_laws.proofs.SpecialLemmas.{at_key}
+use Rattle.naga_oil_link_laws.proofs.Specials.{type_went}
 use Rattle.naga_oil_link_laws.proofs.SpecialTypes.{specials_placed, special_placed}
 use Rattle.naga_oil_link_laws.proofs.Decorates.{first_source, hold_begins, places_held}
 use Rattle.naga_oil_link_laws.proofs.Links.{source_there}
@@ -55,11 +57,11 @@ module _ (m : ModuleValue) (can : CanCopyModule m) where
   abbrev StandsIn : FunctionValue × Span → Type 0
   StandsIn y = (k : ℕ) × (slice_get m.functions k ≡ Some y)
 
-  body_held : (w : World) (names : List (List ℕ)) (d : Derived) (y : FunctionValue × Span) (t : Stage x w d) → StandsIn y → (b : Bool) → Stages x w d (if b then import_function d y.0 y.1 else d) t.source
+  pub body_held : (w : World) (names : List (List ℕ)) (d : Derived) (y : FunctionValue × Span) (t : Stage x w d) → StandsIn y → (b : Bool) → Stages x w d (if b then import_function d y.0 y.1 else d) t.source
   body_held w names d y t at true = stage_function x can w d at.0 y t at.1
   body_held w names d y t at false = stage_same x can w d t
 
-  bodies_held : (w : World) (names : List (List ℕ)) (fs : List (FunctionValue × Span)) (d : Derived) (t : Stage x w d) → All StandsIn fs → Stages x w d (fold (copy_with_body names) d fs) t.source
+  pub bodies_held : (w : World) (names : List (List ℕ)) (fs : List (FunctionValue × Span)) (d : Derived) (t : Stage x w d) → All StandsIn fs → Stages x w d (fold (copy_with_body names) d fs) t.source
   bodies_held w names [] d t a = stage_same x can w d t
   bodies_held w names (y ∷ fs) d t a =
       let e = copy_with_body names d y in
@@ -108,10 +110,6 @@ nothing_there (GlobalItem k) r e = none-some r e
 nothing_there (ExpressionItem k) r e = none-some r e
 
 -- ---- special types
-
-type_went : (o : Option ℕ) (k at : ℕ) → option_map TypeItem o ≡ Some (TypeItem at) → unwrap_or o k ≡ at
-type_went None k at e = absurd (none-some (TypeItem at) e)
-type_went (Some h) k at e = cc
 
 names_under : (n : Option Text) (r : Row) → (under_name n r).names ≡ r.names
 names_under None r = refl
@@ -211,7 +209,7 @@ module _ (m : ModuleValue) (can : CanCopyModule m) (w : World) (d : Derived) (t 
       record {
         functions = λ k g at.
             let h = stage_made (first_source m) can w st.derived v k g zero-le at in
-            record { place = h.place; function = h.function; at = h.at; copies = made_plainly m w st.derived v h.function.0 g.0 st.entries (can.functions h.place h.function h.at).0.copyable h.made };
+            record { place = h.place; function = h.function; at = h.at; copies = made_plainly m w st.derived v h.function.0 g.0 st.entries (can.functions h.place h.function h.at).0.copyable h.made; span = h.span ∙ ap (λ j. shifted j h.function.1) v.offset };
         items = λ q r at.
             ⊎_elim
             (λ o. absurd (nothing_there q r o))
@@ -219,7 +217,14 @@ module _ (m : ModuleValue) (can : CanCopyModule m) (w : World) (d : Derived) (t 
             (v.items q r (sym (ap (λ (z : World). z q) (entries_world st.derived.target st.entries)) ∙ at));
         entry_points = λ i y at.
             let e = came.each i y at in
-            record { entry = e.entry; at = e.at; copies = made_plainly m w st.derived v e.entry.function y.function st.entries (can.entry_points i e.entry e.at).0.copyable e.made_of };
+            let reads = λ (p q : ItemPlace) (z : goes v.source.places p ≡ Some q). (let r : ReadAlike (scope_reading w m) (scope_of u) p q = item_alike (scope_reading w m) (scope_of st.derived.target) (scope_reading w m) (scope_of u) p q (alike_same (scope_reading w m)) (entries_of st.derived.target st.entries) (placed_reads m w st.derived v p q z) in r) in
+            record {
+              entry = e.entry;
+              at = e.at;
+              copies = made_plainly m w st.derived v e.entry.function y.function st.entries (can.entry_points i e.entry e.at).0.copyable e.made_of;
+              whole = placed_entry (scope_reading w m) (scope_of u) v.source e.entry y reads (came.whole i y e.entry at e.at);
+            };
+        as_many = came.long;
       }
 
   -- the finished module copies the source, and has its special types

@@ -2,6 +2,7 @@
 use Rattle.std.proofs.Common.{◌≡◌, ⊎_elim, ◌⊎◌, ℕ, zero, suc, ◌||◌, ◌&&◌, if◌then◌else◌, List, [], ◌∷◌, fold, take, reverse, Some, Bool, true, false, slice_get, bytes_eq, inl, inr, refl, sym, ◌∙◌, subst}
 use mathlib.Core.List.{reverse_aux}
 use Rattle.std.proofs.lemmas.Bool.{false≢true}
+use Rattle.std.proofs.lemmas.List.Elements.{All-nil}
 use Rattle.std.proofs.lemmas.Option.{none-some}
 use Rattle.std.proofs.lemmas.Slice.Eq.{bytes_eq-Decides}
 use Rattle.naga_oil_ir.specs.Rows.{Row, Text}
@@ -11,6 +12,7 @@ use Rattle.naga_oil_words.specs.Texts.{is_among}
 use Rattle.naga_oil_imports.specs.Uses.{Import}
 use Rattle.naga_oil_derive.specs.Derived.{Derived, nothing}
 use Rattle.naga_oil_derive.specs.World.{world}
+use Rattle.naga_oil_derive.specs.declared.special.SpecialKey.{SpecialKey}
 use Rattle.naga_oil_form_laws.specs.EntryForm.{IsModuleFormed}
 use Rattle.naga_oil_link.specs.BuiltModule.{BuiltModule, Builds}
 use Rattle.naga_oil_link.specs.Linked.{LinkState, passes, is_wanted_function, links_function, link_asked, asked_of, enter, link_within, link_import, link_imports, nothing_linked}
@@ -18,9 +20,10 @@ use Rattle.naga_oil_link.proofs.GoodFormLemmas.{nothing_formed_yet}
 use Rattle.naga_oil_copy_laws.proofs.HeldLemmas.{FunctionsStay}
 use Rattle.naga_oil_copy_laws.proofs.TurnLaws.{no_meaning}
 use Rattle.naga_oil_link_laws.specs.Headers.{HasNamed, HasDeclarations, has_build}
-use Rattle.naga_oil_link_laws.specs.LinkedCopies.{HeaderOf}
+use Rattle.naga_oil_link_laws.specs.LinkedCopies.{HeaderOf, ComesFromBuild}
 use Rattle.naga_oil_link_laws.proofs.Names.{named_stays}
-use Rattle.naga_oil_link_laws.proofs.Asks.{Entry, HasPassing, AnyAsks, Chosen, Asks, AllBehind}
+use Rattle.naga_oil_link_laws.specs.Requested.{HasPassing, AnyAsks, Chosen, Asks}
+use Rattle.naga_oil_link_laws.proofs.Asks.{Entry, AllAfter}
 use Rattle.naga_oil_link_laws.proofs.Links.{Linked, Links, items_linked}
 
 -- ---- names of builds
@@ -182,7 +185,7 @@ module _ (P : BuiltModule → Type 0) (H : HeaderOf P) where
           named = a.named;
         }
 
-  import_comes : (bs : Builds) → AllBehind (MayLink P H) bs → ComesSo bs (link_import false bs) (Asks bs)
+  import_comes : (bs : Builds) → AllAfter (MayLink P H) bs → ComesSo bs (link_import false bs) (Asks bs)
   unfolding link_import
   import_comes [] a s i l c = record { linked = l; stay = λ k y at. at; entered = λ n is. inl is; closed = tt; named = λ n none. absurd none }
   import_comes (e ∷ bs) a s i l c = one (import_comes bs a.1) (bytes_eq i.import e.0)
@@ -207,6 +210,7 @@ nothing_is_linked P H = record {
   are_true = λ n h e. absurd (no_meaning n h e);
   functions = λ k g at. absurd (none-some g at);
   items = λ q r at. absurd (nothing_there q r at);
+  special = All-nil (λ (e : SpecialKey × ℕ). ComesFromBuild P nothing.target e.0 e.1);
 }
 
 nothing_entered : (bs : Builds) → Closed bs nothing_linked
@@ -214,7 +218,7 @@ nothing_entered [] = tt
 nothing_entered (e ∷ bs) = ((λ is. absurd (false≢true is)), nothing_entered bs)
 
 -- each build over those before it, in reverse order
-pub gathered : (Q : Builds → Entry → Type 0) (xs done : Builds) → ((k : ℕ) (e : Entry) → slice_get xs k ≡ Some e → AllBehind Q (reverse_aux (take k xs) done) → Q (reverse_aux (take k xs) done) e) → AllBehind Q done → AllBehind Q (reverse_aux xs done)
+pub gathered : (Q : Builds → Entry → Type 0) (xs done : Builds) → ((k : ℕ) (e : Entry) → slice_get xs k ≡ Some e → AllAfter Q (reverse_aux (take k xs) done) → Q (reverse_aux (take k xs) done) e) → AllAfter Q done → AllAfter Q (reverse_aux xs done)
 gathered Q [] done h a = a
 gathered Q (x ∷ xs) done h a = gathered Q xs (x ∷ done) (λ k e at b. h (suc k) e at b) (h zero x refl a, a)
 
@@ -223,7 +227,7 @@ pub record LinksImports (P : BuiltModule → Type 0) (H : HeaderOf P) (bs : Buil
   pub linked : Linked P H (link_imports false bs is nothing_linked).derived
   pub named : (n : Text) → AnyAsks (Asks (reverse bs)) is n → HasNamed (link_imports false bs is nothing_linked).derived.target n
 
-pub imports_linked : (P : BuiltModule → Type 0) (H : HeaderOf P) (bs : Builds) (is : List Import) → AllBehind (MayLink P H) (reverse bs) → LinksImports P H bs is
+pub imports_linked : (P : BuiltModule → Type 0) (H : HeaderOf P) (bs : Builds) (is : List Import) → AllAfter (MayLink P H) (reverse bs) → LinksImports P H bs is
 imports_linked P H bs is a =
     let c = each_comes P H (reverse bs) (link_import false (reverse bs)) (Asks (reverse bs)) (import_comes P H (reverse bs) a) is nothing_linked (nothing_is_linked P H) (nothing_entered (reverse bs)) in
     record { linked = c.linked; named = c.named }

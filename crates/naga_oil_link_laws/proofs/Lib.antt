@@ -11,12 +11,14 @@ pub mod KeptScopes
 pub mod Lifts
 pub mod Links
 pub mod Names
+pub mod Once
 pub mod Orders
 pub mod ParsedShapes
 pub mod Scopes
 pub mod SentForms
 pub mod ShapedFunctions
 pub mod ShapedItems
+pub mod Specials
 pub mod SpecialTypes
 pub mod Stages
 pub mod Throughs

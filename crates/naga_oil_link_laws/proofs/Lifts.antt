@@ -126,14 +126,14 @@ module _ (v w : World) where
   names_alike f g h (Some q ∷ qs) (Some p ∷ ps) a =
       ap (λ t. Then t (trees f qs)) (h p q (λ n. first_same _ _ _ _ (a n))) ∙ ap (Then (g p)) (names_alike f g h qs ps (λ n. rest_same _ _ _ _ (a n)))
 
-  rows_alike : (f g : ItemPlace → Tree) → ((p q : ItemPlace) → Alike v w p q → f q ≡ g p) → (s r : Option Row) → ((n : ℕ) → row_tree (tree n v) s ≡ row_tree (tree n w) r) → row_tree f s ≡ row_tree g r
+  pub rows_alike : (f g : ItemPlace → Tree) → ((p q : ItemPlace) → Alike v w p q → f q ≡ g p) → (s r : Option Row) → ((n : ℕ) → row_tree (tree n v) s ≡ row_tree (tree n w) r) → row_tree f s ≡ row_tree g r
   rows_alike f g h None None a = refl
   rows_alike f g h None (Some r) a = let e = a zero in absurd cc
   rows_alike f g h (Some s) None a = let e = a zero in absurd cc
   rows_alike f g h (Some s) (Some r) a =
       ap (λ l. Item l (trees f s.names)) (label_same _ _ _ _ (a zero)) ∙ ap (Item r.label) (names_alike f g h s.names r.names (λ n. names_same _ _ _ _ (a n)))
 
-  row_at : (p q : ItemPlace) → Alike v w p q → (n : ℕ) → row_tree (tree n v) (v q) ≡ row_tree (tree n w) (w p)
+  pub row_at : (p q : ItemPlace) → Alike v w p q → (n : ℕ) → row_tree (tree n v) (v q) ≡ row_tree (tree n w) (w p)
   unfolding tree
   row_at p q a n = a (suc n)
 
@@ -281,4 +281,5 @@ module _ (s : Text → Text) (a b c d : Scope) (reads : (p q : ItemPlace) → Re
       expressions = λ k e r at. named_on w.goes e.0.named (w.alike.expressions k e r at);
       callees = λ i x at. callee_on w.goes x (w.alike.callees i x at);
     };
+    nothing_else = w.nothing_else;
   }

@@ -18,7 +18,7 @@ use Rattle.naga_oil_copy_laws.proofs.FrameLaws.{tree_stays, reading_stays, kept_
 use Rattle.naga_oil_copy_laws.proofs.HeldLemmas.{comes_there}
 use Rattle.naga_oil_copy_laws.proofs.TurnLaws.{own_names}
 use Rattle.naga_oil_link_laws.specs.ReadIn.{scope_in, HasKeysOf}
-use Rattle.naga_oil_link_laws.proofs.Stages.{Stage, behind, read_behind}
+use Rattle.naga_oil_link_laws.proofs.Stages.{Stage, following, read_after}
 
 pub alike_same : (a : Scope) → AreAlike a a
 alike_same a = record { reads = λ p n. refl; names = λ k. refl }
@@ -45,8 +45,8 @@ none_before first now still p n = one (first p) refl
     one (Some q) e = absurd (none-some q (sym n ∙ still p q e))
 
 -- a source that is copied after what stood before reads as its module does in the target
-pub behind_alike : (before : Derived) (m : ModuleValue) (shift : ℕ) (d : Derived) → (t : Stage (behind before m shift) (read_behind before m) d) → AreAlike (scope_from t.source d.target) (scope_in m d.target)
-behind_alike before m shift d t =
+pub after_alike : (before : Derived) (m : ModuleValue) (shift : ℕ) (d : Derived) → (t : Stage (following before m shift) (read_after before m) d) → AreAlike (scope_from t.source d.target) (scope_in m d.target)
+after_alike before m shift d t =
     let s = t.source in
     let first = kept_of m.special_types before.target.special_types in
     let of = comes_there d.source s (λ y. IsSourceOf first y d.target) t.is t.derivation.source in
@@ -58,7 +58,7 @@ behind_alike before m shift d t =
 
 -- ---- modules that grow
 
-kept_there : (m t : ModuleValue) → AreThere t → (p q : ItemPlace) → kept_of m.special_types t.special_types p ≡ Some q → HasAt t q
+pub kept_there : (m t : ModuleValue) → AreThere t → (p q : ItemPlace) → kept_of m.special_types t.special_types p ≡ Some q → HasAt t q
 unfolding kept_of
 kept_there m t a (TypeItem k) q e = one (kept_in (special_at t.special_types) (special_entries m.special_types) k) refl e
   where

@@ -127,7 +127,7 @@ module _ (m : ModuleValue) (shape : HasModuleShape m) (items : are_items_formed 
     there = there q (all_at Told r.names i (Some q) a e);
     kind = all_at (λ o. IfSome o (λ p. may_name_kind 0 (place_number p) ≡ true)) r.names i (Some q) s e;
     of_type = less_than q e;
-    behind = tt;
+    following = tt;
   }
     where
       less_than : (q : ItemPlace) → slice_get r.names i ≡ Some (Some q) → OfType (λ j. j < k) q
@@ -166,19 +166,19 @@ module _ (m : ModuleValue) (shape : HasModuleShape m) (items : are_items_formed 
   constant_names k e at =
       let s = all_at (λ (x : Row × Span). NamesTypeAndValue x.0.names) m.constants k e shape.constants at in
       let n = well_told e.0 (all_at (λ (x : Row × Span). names_well m x.0 ≡ true) m.constants k e names.constants at) in
-      shaped_names (ConstantItem k) e.0 s n.0 (λ h. record { there = h; kind = refl; of_type = shaped_unsized e.0 s n.1; behind = tt }) (λ j h. record { there = h; kind = refl; of_type = tt; behind = tt })
+      shaped_names (ConstantItem k) e.0 s n.0 (λ h. record { there = h; kind = refl; of_type = shaped_unsized e.0 s n.1; following = tt }) (λ j h. record { there = h; kind = refl; of_type = tt; following = tt })
 
   override_names : (k : ℕ) (e : Row × Span) → slice_get m.overrides k ≡ Some e → All (λ o. IfSome o (MayName w (OverrideItem k))) e.0.names
   override_names k e at =
       let s = all_at (λ (x : Row × Span). NamesTypeAndValue x.0.names) m.overrides k e shape.overrides at in
       let n = well_told e.0 (all_at (λ (x : Row × Span). names_well m x.0 ≡ true) m.overrides k e names.overrides at) in
-      shaped_names (OverrideItem k) e.0 s n.0 (λ h. record { there = h; kind = refl; of_type = shaped_unsized e.0 s n.1; behind = tt }) (λ j h. record { there = h; kind = refl; of_type = tt; behind = tt })
+      shaped_names (OverrideItem k) e.0 s n.0 (λ h. record { there = h; kind = refl; of_type = shaped_unsized e.0 s n.1; following = tt }) (λ j h. record { there = h; kind = refl; of_type = tt; following = tt })
 
   global_names : (k : ℕ) (e : Row × Span) → slice_get m.global_variables k ≡ Some e → All (λ o. IfSome o (MayName w (GlobalItem k))) e.0.names
   global_names k e at =
       let s = all_at (λ (x : Row × Span). NamesTypeAndValue x.0.names) m.global_variables k e shape.globals at in
       let n = names_told e.0 (all_at (λ (x : Row × Span). names_there m x.0 ≡ true) m.global_variables k e names.globals at) in
-      shaped_names (GlobalItem k) e.0 s n (λ h. record { there = h; kind = refl; of_type = tt; behind = tt }) (λ j h. record { there = h; kind = refl; of_type = tt; behind = tt })
+      shaped_names (GlobalItem k) e.0 s n (λ h. record { there = h; kind = refl; of_type = tt; following = tt }) (λ j h. record { there = h; kind = refl; of_type = tt; following = tt })
 
   -- ---- global expressions
 
@@ -234,9 +234,9 @@ module _ (m : ModuleValue) (shape : HasModuleShape m) (items : are_items_formed 
 
   named_name : (k : ℕ) (x : Named) (ns : List (Option ItemPlace)) → All Told (named_place x ∷ ns) → list_any (is_size_pending m) (filter_map type_at (named_place x ∷ ns)) ≡ false → IfSome (initialiser_of m (named_place x)) (λ i. i < k) → ((g : ℕ) → x ≡ GlobalAt g → ⊥) → IfSome (named_place x) (MayName w (ExpressionItem k))
   named_name k Nothing ns a u i g = tt
-  named_name k (TypeOf t) ns a u i g = record { there = there (TypeItem t) (All-head Told (Some (TypeItem t)) ns a); kind = refl; of_type = first_unsized t ns u; behind = tt }
-  named_name k (ConstantAt c) ns a u i g = record { there = there (ConstantItem c) (All-head Told (Some (ConstantItem c)) ns a); kind = refl; of_type = tt; behind = constant_before k c i }
-  named_name k (OverrideAt c) ns a u i g = record { there = there (OverrideItem c) (All-head Told (Some (OverrideItem c)) ns a); kind = refl; of_type = tt; behind = override_before k c i }
+  named_name k (TypeOf t) ns a u i g = record { there = there (TypeItem t) (All-head Told (Some (TypeItem t)) ns a); kind = refl; of_type = first_unsized t ns u; following = tt }
+  named_name k (ConstantAt c) ns a u i g = record { there = there (ConstantItem c) (All-head Told (Some (ConstantItem c)) ns a); kind = refl; of_type = tt; following = constant_before k c i }
+  named_name k (OverrideAt c) ns a u i g = record { there = there (OverrideItem c) (All-head Told (Some (OverrideItem c)) ns a); kind = refl; of_type = tt; following = override_before k c i }
   named_name k (GlobalAt c) ns a u i g = absurd (g c refl)
   named_name k (LocalAt c) ns a u i g = tt
   named_name k (ArgumentAt c) ns a u i g = tt
@@ -249,7 +249,7 @@ module _ (m : ModuleValue) (shape : HasModuleShape m) (items : are_items_formed 
       let rest = map (option_map ExpressionItem) os in
       let here = there (ExpressionItem j) (All-head Told (Some (ExpressionItem j)) rest a) in
       let l : j < k = All-head (λ x. x < k) j (flat_map option_to_list os) b in
-      All-cons (λ o. IfSome o (MayName w (ExpressionItem k))) (Some (ExpressionItem j)) rest (record { there = here; kind = refl; of_type = tt; behind = l }) (operand_names k os (All-tail Told (Some (ExpressionItem j)) rest a) (All-tail (λ x. x < k) j (flat_map option_to_list os) b))
+      All-cons (λ o. IfSome o (MayName w (ExpressionItem k))) (Some (ExpressionItem j)) rest (record { there = here; kind = refl; of_type = tt; following = l }) (operand_names k os (All-tail Told (Some (ExpressionItem j)) rest a) (All-tail (λ x. x < k) j (flat_map option_to_list os) b))
 
   expression_names : (k : ℕ) (e : Parts × Span) → slice_get m.global_expressions k ≡ Some e → All (λ o. IfSome o (MayName w (ExpressionItem k))) (parts_row e.0).names
   expression_names k e at =

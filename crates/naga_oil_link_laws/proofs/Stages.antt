@@ -1,6 +1,6 @@
 -- A source whose items and functions are copied after what stood before.
 use Rattle.std.proofs.Common.{◌≡◌, ℕ, ◌≤◌, if◌then◌else◌, List, [], ◌∷◌, length, Option, Some, None, is_some, IsSome, IfSome, Bool, true, false, slice_get, All, refl, ap, sym, ◌∙◌, subst}
-use Rattle.std.proofs.lemmas.List.Elements.{All-head, All-tail, All-weaker}
+use Rattle.std.proofs.lemmas.List.Elements.{All-nil, All-cons, All-head, All-tail, All-weaker}
 use Rattle.std.proofs.lemmas.Option.{same_Some}
 use Rattle.naga_oil_ir.specs.ModuleValue.{ModuleValue, FunctionValue, SpecialValue}
 use Rattle.naga_oil_ir.specs.declared.names.ItemPlace.{ItemPlace}
@@ -11,12 +11,12 @@ use Rattle.naga_oil_derive.specs.declared.special.SpecialKey.{SpecialKey}
 use Rattle.naga_oil_derive.specs.AnsweredLaw.{HaveCopies, HasCopies, CanAnswer}
 use Rattle.naga_oil_derive.specs.CopiedEntry.{import_items}
 use Rattle.naga_oil_derive.specs.CopiedLaw.{HasAt}
-use Rattle.naga_oil_derive.specs.Derived.{Source, Derived, as_read, HasItem, IsLaterSource, KeepsItems, Sets, with_special_types}
+use Rattle.naga_oil_derive.specs.Derived.{Source, Derived, as_read, HasItem, Imports, IsLaterSource, KeepsItems, Sets, with_special_types}
 use Rattle.naga_oil_derive.specs.DerivedFunctions.{meant, MayAsk, MayCall, MayCopy, CanCopy, CanImport, KeepsFunctions, Answers, FunctionStands, requests_of, with_functions}
 use Rattle.naga_oil_derive.specs.DerivedLaw.{IsDerivation}
 use Rattle.naga_oil_derive.specs.DerivedValue.{import_item, import_function, import_function_if_new, answer_requests, set_source}
 use Rattle.naga_oil_derive.specs.Tree.{World, Kept}
-use Rattle.naga_oil_derive.specs.World.{world, named_world, kept_of, special_at, special_entries}
+use Rattle.naga_oil_derive.specs.World.{goes, shifted, world, named_world, kept_of, special_at, special_entries}
 use Rattle.naga_oil_derive.proofs.AnsweredLaws.{answer_law, function_law}
 use Rattle.naga_oil_derive.proofs.DerivedLaws.{import_law, special_same}
 use Rattle.naga_oil_derive.proofs.EntrySteps.{kept_functions}
@@ -25,14 +25,15 @@ use Rattle.naga_oil_derive.proofs.SetLaws.{set_law, world_at}
 use Rattle.naga_oil_derive.proofs.WorldLemmas.{Extends-stays}
 use Rattle.naga_oil_copy_laws.specs.CopiedByTree.{AreTrueIn, IsMade}
 use Rattle.naga_oil_copy_laws.specs.Frame.{HasMore}
-use Rattle.naga_oil_copy_laws.specs.HeldCopies.{IsCopyableFunction, HaveSource, HoldsCopies, AreAtHand}
+use Rattle.naga_oil_copy_laws.specs.HeldCopies.{HaveSource, HoldsCopies, AreAtHand}
 use Rattle.naga_oil_copy_laws.specs.InTurn.{CanCopyWhole, CanCopyModule}
 use Rattle.naga_oil_copy_laws.specs.ItemsByTree.{HoldsItems, HoldsItemsOf, AsksThere, HaveItems}
+use Rattle.naga_oil_copy_laws.proofs.EntryLaws.{IsWent, AreWent}
 use Rattle.naga_oil_copy_laws.proofs.FrameLaws.{key_stays, keys}
 use Rattle.naga_oil_copy_laws.proofs.HeldLaws.{answers_hold, function_holds, items_hold, source_holds}
 use Rattle.naga_oil_copy_laws.proofs.HeldLemmas.{FunctionsStay, comes_there, later_again, later_same, source_is}
 use Rattle.naga_oil_copy_laws.proofs.ItemLaws.{source_items, imported_items, answered_items, function_items}
-use Rattle.naga_oil_copy_laws.proofs.TurnLaws.{ReadsThen, if_both, reads_last, reads_then, functions_in, among_functions, one_back, begins_with, copy_any, has_copies, into, of_value}
+use Rattle.naga_oil_copy_laws.proofs.TurnLaws.{ReadsThen, if_both, reads_last, reads_then, functions_in, begins_with, copy_any, has_copies, into, of_value}
 use Rattle.naga_oil_link_laws.specs.ReadIn.{HasKeysOf}
 
 -- ---- modules that grow
@@ -102,8 +103,8 @@ pub record Stages (x : Setting) (w : World) (d e : Derived) (s : Source) : Type 
   pub stay : FunctionsStay d.target e.target
 
 -- a module is the source, after what d has
-abbrev pub behind : Derived → ModuleValue → ℕ → Setting
-behind d m shift = record {
+abbrev pub following : Derived → ModuleValue → ℕ → Setting
+following d m shift = record {
   value = m;
   shift = shift;
   before = d.target;
@@ -112,10 +113,10 @@ behind d m shift = record {
 }
 
 -- the module also reads as the source
-abbrev pub read_behind : Derived → ModuleValue → World
-read_behind d m = named_world (world m) (world d.target) (kept_of m.special_types d.target.special_types)
+abbrev pub read_after : Derived → ModuleValue → World
+read_after d m = named_world (world m) (world d.target) (kept_of m.special_types d.target.special_types)
 
-pub stage_begins : (first : Kept) (d : Derived) (m : ModuleValue) (shift : ℕ) → CanCopyModule m → IsDerivation first d → AreTrueIn d.target d.function_names → Stage (behind d m shift) (read_behind d m) (set_source d m shift)
+pub stage_begins : (first : Kept) (d : Derived) (m : ModuleValue) (shift : ℕ) → CanCopyModule m → IsDerivation first d → AreTrueIn d.target d.function_names → Stage (following d m shift) (read_after d m) (set_source d m shift)
 stage_begins first d m shift can i names =
     let e = set_source d m shift in
     let law = set_law first d m shift i can.items can.special in
@@ -153,7 +154,7 @@ module _ (x : Setting) (can : CanCopyModule x.value) where
   abbrev m : ModuleValue
   m = x.value
 
-  abbrev fs : List FunctionValue
+  abbrev fs : List (FunctionValue × Span)
   fs = functions_in m
 
   abbrev base : ℕ
@@ -167,8 +168,8 @@ module _ (x : Setting) (can : CanCopyModule x.value) where
 
   stage_source : (w : World) (d : Derived) (t : Stage x w d) → HaveSource fs t.source
   stage_source w d t = record {
-    copyable = λ f z. let b = one_back m f z in subst IsCopyableFunction b.3 (can.functions b.0 b.1 b.2).0.copyable;
-    functions = λ k y at. among_functions m k y (ap (λ (v : ModuleValue). slice_get v.functions k) (sym t.value) ∙ at);
+    copyable = λ f z. (can.functions z.0 f z.1).0.copyable;
+    functions = λ k y at. (k, ap (λ (v : ModuleValue). slice_get v.functions k) (sym t.value) ∙ at);
   }
 
   stage_have : (w : World) (d : Derived) (t : Stage x w d) → IfSome d.source (HaveSource fs)
@@ -228,7 +229,7 @@ module _ (x : Setting) (can : CanCopyModule x.value) where
       let s = source_is d.source e.source t.source t.is law.keeps.source in
       let stands : FunctionStands d e y.0 y.1 law.place s.0 = comes_there e.source s.0 (FunctionStands d e y.0 y.1 law.place) s.1 law.imported in
       let r = reads_then s.0.value w stands.answered (ap is_some t.is) (stage_reads w d t) in
-      stage_by w w d e t law.derivation law.keeps (function_holds fs base x.first d y.0 y.1 t.derivation c z may (stage_have w d t) (among_functions m k y at) (stage_held w d t)) (function_items x.before x.first d y.0 y.1 t.derivation (stage_asks w d y.0 t own.0) (stage_items w d t)) (reads_last s.0 y.0 y.1 stands.between e law.place w (sym stands.last.source ∙ s.1) stands.last r.1)
+      stage_by w w d e t law.derivation law.keeps (function_holds fs base x.first d y.0 y.1 t.derivation c z may (stage_have w d t) (k, at) (stage_held w d t)) (function_items x.before x.first d y.0 y.1 t.derivation (stage_asks w d y.0 t own.0) (stage_items w d t)) (reads_last s.0 y.0 y.1 stands.between e law.place w (sym stands.last.source ∙ s.1) stands.last r.1)
 
   -- a function of the source is imported, unless its name is known
   pub stage_new : (w : World) (d : Derived) (k : ℕ) (y : FunctionValue × Span) (t : Stage x w d) → slice_get m.functions k ≡ Some y → Stages x w d (import_function_if_new d y.0 y.1) t.source
@@ -246,6 +247,17 @@ module _ (x : Setting) (can : CanCopyModule x.value) where
       let law = import_law x.first d p t.derivation there in
       let s = source_is d.source e.source t.source t.is law.keeps.source in
       stage_by w w d e t law.derivation (kept_functions d e law.keeps) (items_hold fs base d e law.keeps (stage_held w d t)) (imported_items x.before x.first d p t.derivation there (stage_items w d t)) (λ y at. ap (λ (z : Source). as_read z e.target) (same_Some y s.0 (sym at ∙ s.1)) ∙ if_both d.source e.source (λ a b. as_read b e.target ≡ as_read a d.target) t.source s.0 t.is s.1 law.reads ∙ t.reads)
+
+  -- an imported item is mapped
+  item_went : (w : World) (d : Derived) (p : ItemPlace) (t : Stage x w d) (h : HasAt m p) → IsWent (stage_item w d p t h).stage.source p
+  item_went w d p t h =
+      let e = import_item d p in
+      let there : HasItem d p = (ap is_some t.is, into d.source t.source (λ s. HasAt s.value p) t.is (of_value m t.source.value (λ v. HasAt v p) t.value h)) in
+      let law = import_law x.first d p t.derivation there in
+      let one = stage_item w d p t h in
+      let q = law.imported.0 in
+      let i : Imports t.source (as_read t.source d.target) d e p q = comes_there d.source t.source (λ s. Imports s (as_read s d.target) d e p q) t.is law.imported.1 in
+      (q, comes_there e.source one.stage.source (λ s. goes s.places p ≡ Some q) one.stage.is i.goes)
 
   -- requests are fulfilled
   pub stage_answers : (w : World) (d : Derived) (f : FunctionValue) (t : Stage x w d) → CanCopyWhole m f → Stages x w d (answer_requests d (requests_of f)) t.source × AreAtHand (answer_requests d (requests_of f)) (requests_of f)
@@ -270,17 +282,33 @@ module _ (x : Setting) (can : CanCopyModule x.value) where
       let one = stage_item w d p t (All-head (λ o. IfSome o (HasAt m)) (Some p) ps a) in
       stage_then w w w d e (import_items e ps) t one (stage_named w ps e one.stage (All-tail (λ o. IfSome o (HasAt m)) (Some p) ps a))
 
+  -- they are mapped then
+  pub named_went : (w : World) (ps : List (Option ItemPlace)) (d : Derived) (t : Stage x w d) (a : All (λ o. IfSome o (HasAt m)) ps) → AreWent (stage_named w ps d t a).stage.source ps
+  unfolding stage_named stage_then stage_same
+  named_went w [] d t a = All-nil (λ o. IfSome o (IsWent t.source))
+  named_went w (None ∷ ps) d t a =
+      let s = (stage_named w (None ∷ ps) d t a).stage.source in
+      All-cons (λ o. IfSome o (IsWent s)) None ps tt (named_went w ps d t (All-tail (λ o. IfSome o (HasAt m)) None ps a))
+  named_went w (Some p ∷ ps) d t a =
+      let e = import_item d p in
+      let h = All-head (λ o. IfSome o (HasAt m)) (Some p) ps a in
+      let more = All-tail (λ o. IfSome o (HasAt m)) (Some p) ps a in
+      let one = stage_item w d p t h in
+      let rest = stage_named w ps e one.stage more in
+      let q = item_went w d p t h in
+      All-cons (λ o. IfSome o (IsWent rest.stage.source)) (Some p) ps (q.0, rest.later.went p q.0 q.1) (named_went w ps e one.stage more)
+
   -- ---- functions that were made
 
-  -- g was made of a function of the source
-  pub record MadeOfOne (s : Source) (t : ModuleValue) (g : FunctionValue) : Type 0 where
+  -- g was made of a function of the source, and has its span, moved
+  pub record MadeOfOne (s : Source) (t : ModuleValue) (g : FunctionValue × Span) : Type 0 where
     pub place : ℕ
     pub function : FunctionValue × Span
     pub at : slice_get m.functions place ≡ Some function
-    pub made : IsMade s t function.0 g
+    pub made : IsMade s t function.0 g.0
+    pub span : g.1 ≡ shifted s.offset function.1
 
-  pub stage_made : (w : World) (d : Derived) (t : Stage x w d) (k : ℕ) (g : FunctionValue × Span) → base ≤ k → slice_get d.target.functions k ≡ Some g → MadeOfOne t.source d.target g.0
+  pub stage_made : (w : World) (d : Derived) (t : Stage x w d) (k : ℕ) (g : FunctionValue × Span) → base ≤ k → slice_get d.target.functions k ≡ Some g → MadeOfOne t.source d.target g
   stage_made w d t k g l at =
       let z = t.holds.made k g l at in
-      let b = one_back m z.function z.among in
-      record { place = b.0; function = b.1; at = b.2; made = subst (λ f. IsMade t.source d.target f g.0) (sym b.3) z.made }
+      record { place = z.among.0; function = z.function; at = z.among.1; made = z.made; span = z.span }

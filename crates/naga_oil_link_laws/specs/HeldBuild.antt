@@ -17,6 +17,7 @@ use Rattle.naga_oil_link.specs.OwnPlaces.{OwnPlaces, is_own}
 use Rattle.naga_oil_copy_laws.specs.Scope.{Scope, ReadAlike, name_of_function, scope_of}
 use Rattle.naga_oil_copy_laws.specs.ByTree.{CopiesByTree}
 use Rattle.naga_oil_copy_laws.specs.ByTreeLaw.{HasEarlierOperands}
+use Rattle.naga_oil_copy_laws.specs.EntryByTree.{EntryAlike}
 
 -- a module whose items read as a world says
 abbrev pub scope_reading : World → ModuleValue → Scope
@@ -52,25 +53,28 @@ pub record CopiesPlainly (w : World) (m u : ModuleValue) (f g : FunctionValue) :
   pub copies : CopiesByTree (shifted 0) (λ n. n) (scope_reading w m) f (scope_of u) g
   pub earlier : HasEarlierOperands g
 
--- g copies a function of the module
-pub record CopiesOneOf (w : World) (m u : ModuleValue) (g : FunctionValue) : Type 0 where
+-- g copies a function of the module, and has its span
+pub record CopiesOneOf (w : World) (m u : ModuleValue) (g : FunctionValue × Span) : Type 0 where
   pub place : ℕ
   pub function : FunctionValue × Span
   pub at : slice_get m.functions place ≡ Some function
-  pub copies : CopiesPlainly w m u function.0 g
+  pub copies : CopiesPlainly w m u function.0 g.0
+  pub span : g.1 ≡ shifted 0 function.1
 
--- the function of y copies that of the module's entry point at i
+-- y copies the module's entry point at i
 pub record CopiesEntryAt (w : World) (m u : ModuleValue) (i : ℕ) (y : EntryValue) : Type 0 where
   pub entry : EntryValue
   pub at : slice_get m.entry_points i ≡ Some entry
   pub copies : CopiesPlainly w m u entry.function y.function
+  pub whole : EntryAlike (λ s. s) (scope_reading w m) (scope_of u) entry y
 
--- in u each function copies one of a module that reads as w, each item reads as one of the module, and the function of each entry
--- point copies that of the entry point at its place
+-- in u each function copies one of a module that reads as w, each item reads as one of the module, and each entry point copies
+-- the one at its place
 pub record CopiesAs (w : World) (m u : ModuleValue) : Type 0 where
-  pub functions : (k : ℕ) (g : FunctionValue × Span) → slice_get u.functions k ≡ Some g → CopiesOneOf w m u g.0
+  pub functions : (k : ℕ) (g : FunctionValue × Span) → slice_get u.functions k ≡ Some g → CopiesOneOf w m u g
   pub items : (q : ItemPlace) (r : Row) → world u q ≡ Some r → (p : ItemPlace) × HasAt m p × ReadAlike (scope_reading w m) (scope_of u) p q
   pub entry_points : (i : ℕ) (y : EntryValue) → slice_get u.entry_points i ≡ Some y → CopiesEntryAt w m u i y
+  pub as_many : length u.entry_points ≡ length m.entry_points
 
 -- the same for a module whose own types may have their decorated names
 pub record CopiesParse (m : ModuleValue) (own : OwnPlaces) (decoration : List ℕ) (u : ModuleValue) : Type 0 where

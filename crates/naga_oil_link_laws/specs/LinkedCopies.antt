@@ -1,20 +1,24 @@
 -- Linked modules as copies of what builds hold.
 use mathlib.Core.Logic.{inl, inr}
-use Rattle.std.specs.Prelude.{ℕ, ◌≡◌, ◌⊎◌, ◌*◌, List, take, slice_get, Some}
+use Rattle.std.specs.Prelude.{ℕ, ◌≡◌, ◌⊎◌, ◌*◌, List, length, take, slice_get, Some}
 use Rattle.naga_oil_ir.specs.ModuleValue.{ModuleValue, FunctionValue, EntryValue}
 use Rattle.naga_oil_ir.specs.Rows.{Row}
 use Rattle.naga_oil_ir.specs.declared.names.ItemPlace.{ItemPlace}
 use Rattle.naga_oil_ir.specs.declared.span.Span.{Span}
 use Rattle.naga_oil_derive.specs.CopiedLaw.{HasAt}
-use Rattle.naga_oil_derive.specs.World.{world, shifted}
+use Rattle.naga_oil_derive.specs.Tree.{World}
+use Rattle.naga_oil_derive.specs.World.{world, shifted, special_at}
+use Rattle.naga_oil_derive.specs.declared.special.SpecialKey.{SpecialKey}
 use Rattle.naga_oil_form_laws.specs.EntryForm.{IsModuleFormed}
 use Rattle.naga_oil_link.specs.BuiltModule.{BuiltModule, Builds}
 use Rattle.naga_oil_link.specs.Linked.{link_header, link_whole}
-use Rattle.naga_oil_copy_laws.specs.Scope.{ReadAlike, scope_of}
+use Rattle.naga_oil_copy_laws.specs.Scope.{ReadAlike, scope_of, scope_by}
 use Rattle.naga_oil_copy_laws.specs.ByTree.{CopiesByTree}
 use Rattle.naga_oil_copy_laws.specs.ByTreeLaw.{HasEarlierOperands}
+use Rattle.naga_oil_copy_laws.specs.EntryByTree.{EntryAlike}
 use Rattle.naga_oil_link_laws.specs.Headers.{HasNamed, HaveDeclarations, HaveOwnNames}
 use Rattle.naga_oil_link_laws.specs.ReadIn.{scope_in, HasKeysOf}
+use Rattle.naga_oil_link_laws.specs.SpecialComes.{SpecialComes}
 use Rattle.naga_oil_ir.specs.Spans.{span_stride}
 
 -- ---- of which build
@@ -43,23 +47,37 @@ pub record CopiesOfBuild (b : BuiltModule) (t : ModuleValue) (f g : FunctionValu
   pub copies : CopiesByTree (shifted (b.index * span_stride)) (λ n. n) (scope_in b.value t) f (scope_of t) g
   pub earlier : HasEarlierOperands g
 
--- g copies a function of a build; t has a special type for each key of the build
-pub record CopiesFunctionOf (b : BuiltModule) (t : ModuleValue) (g : FunctionValue) : Type 0 where
+-- g copies a function of a build, with its span; t has a special type for each key of the build
+pub record CopiesFunctionOf (b : BuiltModule) (t : ModuleValue) (g : FunctionValue × Span) : Type 0 where
   pub keys : HasKeysOf b.value t
   pub place : ℕ
   pub function : FunctionValue × Span
   pub at : slice_get b.value.functions place ≡ Some function
-  pub copies : CopiesOfBuild b t function.0 g
+  pub copies : CopiesOfBuild b t function.0 g.0
+  pub span : g.1 ≡ shifted (b.index * span_stride) function.1
 
--- the function of y copies that of the build's entry point at i
+-- y copies the build's entry point at i
 pub record CopiesEntryOf (b : BuiltModule) (t : ModuleValue) (i : ℕ) (y : EntryValue) : Type 0 where
   pub entry : EntryValue
   pub at : slice_get b.value.entry_points i ≡ Some entry
   pub copies : CopiesOfBuild b t entry.function y.function
+  pub whole : EntryAlike (λ s. s) (scope_in b.value t) (scope_of t) entry y
 
 -- the item at q of t reads as one of a build
 abbrev pub ReadsAsItemOf : BuiltModule → ModuleValue → ItemPlace → Type 0
 ReadsAsItemOf b t q = (p : ItemPlace) × HasAt b.value p × ReadAlike (scope_in b.value t) (scope_of t) p q
+
+-- a build is one of some, and its module, which reads as it stands, is m; t has a special type for each of its keys
+pub record IsBuildOf (P : BuiltModule → Type 0) (t : ModuleValue) (w : World) (m : ModuleValue) : Type 0 where
+  pub build : BuiltModule
+  pub among : P build
+  pub value : build.value ≡ m
+  pub reads : world m ≡ w
+  pub keys : HasKeysOf m t
+
+-- the special type of t for a key, at q, comes from one of some builds
+abbrev pub ComesFromBuild : (BuiltModule → Type 0) → ModuleValue → SpecialKey → ℕ → Type 0
+ComesFromBuild P t key q = SpecialComes (IsBuildOf P t) (scope_by t) t key q
 
 -- ---- the whole
 
@@ -68,19 +86,21 @@ abbrev pub HeaderOf : (BuiltModule → Type 0) → Type 0
 HeaderOf P = (b : BuiltModule) → P b → ModuleValue
 
 -- g, in t, copies a function of one of some builds, whose header has none with its name
-pub record CopiesFunctionOfOne (P : BuiltModule → Type 0) (header : HeaderOf P) (t : ModuleValue) (g : FunctionValue) : Type 0 where
+pub record CopiesFunctionOfOne (P : BuiltModule → Type 0) (header : HeaderOf P) (t : ModuleValue) (g : FunctionValue × Span) : Type 0 where
   pub build : BuiltModule
   pub among : P build
   pub copies : CopiesFunctionOf build t g
-  pub undeclared : HasNamed (header build among) g.name → ⊥
+  pub undeclared : HasNamed (header build among) g.0.name → ⊥
 
--- in t each function copies one of some builds, each item reads as one of theirs, and the function of each entry point copies
--- that of the entry point at its place in b; t has a special type for each key of b
+-- in t each function copies one of some builds, each item reads as one of theirs, and each entry point copies the one at its
+-- place in b; t has a special type for each key of b, and each of its special types comes from one of the builds
 pub record CopiesBuilds (P : BuiltModule → Type 0) (header : HeaderOf P) (b : BuiltModule) (t : ModuleValue) : Type 0 where
   pub keys : HasKeysOf b.value t
-  pub functions : (k : ℕ) (g : FunctionValue × Span) → slice_get t.functions k ≡ Some g → CopiesFunctionOfOne P header t g.0
+  pub special : (key : SpecialKey) (q : ℕ) → special_at t.special_types key ≡ Some q → ComesFromBuild P t key q
+  pub functions : (k : ℕ) (g : FunctionValue × Span) → slice_get t.functions k ≡ Some g → CopiesFunctionOfOne P header t g
   pub items : (q : ItemPlace) (r : Row) → world t q ≡ Some r → (c : BuiltModule) × P c × ReadsAsItemOf c t q
   pub entry_points : (i : ℕ) (y : EntryValue) → slice_get t.entry_points i ≡ Some y → CopiesEntryOf b t i y
+  pub as_many : length t.entry_points ≡ length b.value.entry_points
 
 -- the modules of these builds are of good form
 abbrev pub AreFormedBuilds : Builds → Type 0

@@ -4,6 +4,7 @@ use Rattle.naga_oil_ir.specs.ModuleValue.{ModuleValue, FunctionValue, EntryValue
 use Rattle.naga_oil_form.specs.NameForm.{Name}
 use Rattle.naga_oil_ir.specs.declared.names.ItemPlace.TheVariants.{TypeItem}
 use Rattle.naga_oil_ir.specs.declared.span.Span.{Span}
+use Rattle.naga_oil_ir.specs.Spans.{u32_max}
 use Rattle.naga_oil_derive.specs.CopiedLaw.{IsCopyable, AreSpecial}
 use Rattle.naga_oil_derive.specs.declared.special.SpecialKey.{SpecialKey}
 use Rattle.naga_oil_derive.specs.World.{world, special_at}
@@ -25,8 +26,8 @@ pub record CallsAnywhere (m : ModuleValue) : Type 0 where
   pub distinct :
       (j k : ℕ) (e f : FunctionValue × Span) → slice_get m.functions j ≡ Some e → slice_get m.functions k ≡ Some f →
       e.0.name ≡ f.0.name → j ≡ k
-  pub forms : (k : ℕ) (e : FunctionValue × Span) → slice_get m.functions k ≡ Some e → IsFunctionFormed m (length m.functions) 4294967295 e.0
-  pub entry_points : (i : ℕ) (v : EntryValue) → slice_get m.entry_points i ≡ Some v → IsEntryFormed m 4294967295 v
+  pub forms : (k : ℕ) (e : FunctionValue × Span) → slice_get m.functions k ≡ Some e → IsFunctionFormed m (length m.functions) u32_max e.0
+  pub entry_points : (i : ℕ) (v : EntryValue) → slice_get m.entry_points i ≡ Some v → IsEntryFormed m u32_max v
 
 -- LAW: this holds of a module of good form
 abbrev pub FormedCallsLaw : Type 0

@@ -1,5 +1,5 @@
 -- Linked modules as copies of what was parsed.
-use Rattle.std.specs.Prelude.{ℕ, ◌≡◌, ◌*◌, List, slice_get, Some}
+use Rattle.std.specs.Prelude.{ℕ, ◌≡◌, ◌*◌, List, length, slice_get, Some}
 use Rattle.naga_oil_ir.specs.ModuleValue.{ModuleValue, FunctionValue, EntryValue}
 use Rattle.naga_oil_ir.specs.declared.names.ItemPlace.{ItemPlace}
 use Rattle.naga_oil_ir.specs.declared.span.Span.{Span}
@@ -14,6 +14,7 @@ use Rattle.naga_oil_link.specs.OwnPlaces.{OwnPlaces}
 use Rattle.naga_oil_copy_laws.specs.Scope.{ReadAlike, scope_of}
 use Rattle.naga_oil_copy_laws.specs.ByTree.{CopiesByTree}
 use Rattle.naga_oil_copy_laws.specs.ByTreeLaw.{HasEarlierOperands}
+use Rattle.naga_oil_copy_laws.specs.EntryByTree.{EntryAlike}
 use Rattle.naga_oil_link_laws.specs.HeldBuild.{DecoratesTypes}
 use Rattle.naga_oil_link_laws.specs.KeptAlike.{scope_alike}
 use Rattle.naga_oil_link_laws.specs.ReadIn.{HasKeysOf}
@@ -36,19 +37,21 @@ pub record CopiesHeld (b : BuiltModule) (m : ModuleValue) (own : OwnPlaces) (t :
   pub source_earlier : HasEarlierOperands f
   pub earlier : HasEarlierOperands g
 
--- g copies a function of that module; t has a special type for each key of the module
-pub record CopiesHeldFunction (b : BuiltModule) (m : ModuleValue) (own : OwnPlaces) (t : ModuleValue) (g : FunctionValue) : Type 0 where
+-- g copies a function of that module, with its span; t has a special type for each key of the module
+pub record CopiesHeldFunction (b : BuiltModule) (m : ModuleValue) (own : OwnPlaces) (t : ModuleValue) (g : FunctionValue × Span) : Type 0 where
   pub keys : HasKeysOf m t
   pub place : ℕ
   pub function : FunctionValue × Span
   pub at : slice_get m.functions place ≡ Some function
-  pub copies : CopiesHeld b m own t function.0 g
+  pub copies : CopiesHeld b m own t function.0 g.0
+  pub span : g.1 ≡ shifted (b.index * span_stride) function.1
 
--- the function of y copies that of the module's entry point at i
+-- y copies the module's entry point at i
 pub record CopiesHeldEntry (b : BuiltModule) (m : ModuleValue) (own : OwnPlaces) (t : ModuleValue) (i : ℕ) (y : EntryValue) : Type 0 where
   pub entry : EntryValue
   pub at : slice_get m.entry_points i ≡ Some entry
   pub copies : CopiesHeld b m own t entry.function y.function
+  pub whole : EntryAlike (λ s. s) (scope_alike copies.reads m t) (scope_of t) entry y
 
 -- the item at q of t reads as one of that module
 pub record ReadsAsHeld (b : BuiltModule) (m : ModuleValue) (own : OwnPlaces) (t : ModuleValue) (q : ItemPlace) : Type 0 where
@@ -61,8 +64,9 @@ pub record ReadsAsHeld (b : BuiltModule) (m : ModuleValue) (own : OwnPlaces) (t 
 -- what has the build's keys, and copies the build, has the keys of what the build holds, and copies that
 pub record GoesThrough (b : BuiltModule) (m : ModuleValue) (own : OwnPlaces) (t : ModuleValue) : Type 0 where
   pub keys : HasKeysOf b.value t → HasKeysOf m t
-  pub function : (g : FunctionValue) → CopiesFunctionOf b t g → CopiesHeldFunction b m own t g
+  pub function : (g : FunctionValue × Span) → CopiesFunctionOf b t g → CopiesHeldFunction b m own t g
   pub entry_point : (i : ℕ) (y : EntryValue) → CopiesEntryOf b t i y → CopiesHeldEntry b m own t i y
+  pub as_many : length b.value.entry_points ≡ length m.entry_points
   pub item : (q : ItemPlace) → ReadsAsItemOf b t q → ReadsAsHeld b m own t q
 
 -- LAW: this holds of each build

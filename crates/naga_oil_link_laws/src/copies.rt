@@ -1,6 +1,7 @@
 //! Builds and linked modules copy what was parsed.
 ghost use Rattle.naga_oil_link_laws.specs.HeldBuild.{HeldBuildLaw};
 ghost use Rattle.naga_oil_link_laws.specs.LinkedCopies.{LinkedCopiesLaw};
+ghost use Rattle.naga_oil_link_laws.specs.Once.{HeldAllLaw, HeldOnceLaw, LinkedOnceLaw};
 ghost use Rattle.naga_oil_link_laws.specs.OrderedCopies.{FormedCallsLaw, SentCallsLaw, OrderedCopiesLaw};
 ghost use Rattle.naga_oil_link_laws.specs.ThroughBuilds.{ThroughLaw};
 
@@ -27,4 +28,13 @@ pub fn ordered_modules_are_copies()
     ensures formed { FormedCallsLaw }
     ensures sent { SentCallsLaw }
     ensures ordered { OrderedCopiesLaw }
+{}
+
+/// What a build holds, and the linked whole of a shader's build, has no item twice and no two
+/// functions of one name. A build has each function that it is to hold; the whole has each function
+/// that the shader's build owns, and each that imports request.
+pub fn wholes_hold_each_once()
+    ensures held { HeldOnceLaw }
+    ensures all { HeldAllLaw }
+    ensures linked { LinkedOnceLaw }
 {}

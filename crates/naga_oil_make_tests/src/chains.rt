@@ -1,6 +1,7 @@
 // A function that many others override, one module after another.
 use super::composing::{adds, shown};
-use naga_oil::compose::{Composer, ImportDefinition, NagaModuleDescriptor};
+use naga_oil::compose::{Composer, ComposerError, ImportDefinition, NagaModuleDescriptor};
+use naga_oil_ir::Module;
 use naga_oil_mini_front::Mini;
 use std::alloc::{AllocError, Global};
 use std::process::Abort;
@@ -47,17 +48,34 @@ fn chained(alloc: Global) -> Result<String, AllocError> {
     Ok(made)
 }
 
-#[test]
-fn sends_calls_down_twenty_modules(rt: HostRuntime) -> Result<(), Fail> {
-    let alloc = rt.alloc();
-    let mut composer = Composer::new(alloc, Mini);
-    let imports = add_all(&rt, &mut composer)?;
-    let mut desc = NagaModuleDescriptor::new(alloc);
+fn makes_chained(
+    rt: &(impl Abort + AllocGlobal),
+    composer: &mut Composer<Mini>,
+    imports: &[ImportDefinition],
+) -> Result<(), AllocError> {
+    let mut desc = NagaModuleDescriptor::new(rt.alloc());
     desc.source = "entry main = a::f(5)";
     desc.file_path = "top";
-    desc.additional_imports = imports.as_slice();
+    desc.additional_imports = imports;
     let made = composer.make_naga_module(desc);
-    let text = shown(alloc, &composer, &made)?;
-    assert_eq!(rt; text, chained(alloc)?);
+    is_chained(rt, composer, &made)
+}
+
+fn is_chained(
+    rt: &(impl Abort + AllocGlobal),
+    composer: &Composer<Mini>,
+    made: &Result<Module, ComposerError>,
+) -> Result<(), AllocError> {
+    let text = shown(rt.alloc(), composer, made)?;
+    let wanted = chained(rt.alloc())?;
+    assert_eq!(rt; text, wanted);
+    Ok(())
+}
+
+#[test]
+fn sends_calls_down_twenty_modules(rt: HostRuntime) -> Result<(), Fail> {
+    let mut composer = Composer::new(rt.alloc(), Mini);
+    let imports = add_all(&rt, &mut composer)?;
+    makes_chained(&rt, &mut composer, imports.as_slice())?;
     Ok(())
 }

@@ -300,12 +300,28 @@ fn merges_initialisers(rt: HostRuntime) -> Result<(), Fail> {
     let mut composer = Composer::new(rt.alloc(), Mini);
     let source = "var G = 3\nfn f(x) with V = 1 + 2, W = 1 + 2 = G + V + W";
     adds(&rt, &mut composer, "m", source, &[])?;
+    makes_merged(&rt, &mut composer)?;
+    Ok(())
+}
+
+fn makes_merged(
+    rt: &(impl Abort + AllocGlobal),
+    composer: &mut Composer<Mini>,
+) -> Result<(), AllocError> {
     let mut desc = NagaModuleDescriptor::new(rt.alloc());
     desc.source = "entry main = m::f(4)";
     desc.file_path = "top";
     let made = composer.make_naga_module(desc);
-    let text = shown(rt.alloc(), &composer, &made)?;
-    assert_eq!(&rt;
+    shows_merged(rt, composer, &made)
+}
+
+fn shows_merged(
+    rt: &(impl Abort + AllocGlobal),
+    composer: &Composer<Mini>,
+    made: &Result<Module, ComposerError>,
+) -> Result<(), AllocError> {
+    let text = shown(rt.alloc(), composer, made)?;
+    assert_eq!(rt;
         text.as_str(),
         "var GX_naga_oil_mod_XNUX = 3\nfn fX_naga_oil_mod_XNUX(x) with V = 1 + 2, W = 1 + 2 = GX_naga_oil_mod_XNUX + V + W\nentry main = fX_naga_oil_mod_XNUX(4)\n"
     );
@@ -313,7 +329,7 @@ fn merges_initialisers(rt: HostRuntime) -> Result<(), Fail> {
         .as_ref()
         .ok()
         .and_then(|made| made.functions.as_slice().first());
-    assert!(&rt; f.is_some_and(|f| is_merged(&f.0)));
+    assert!(rt; f.is_some_and(|f| is_merged(&f.0)));
     Ok(())
 }
 
@@ -444,12 +460,23 @@ fn commands<'a>(alloc: Global) -> Result<Vec<Command<'a>>, AllocError> {
 
 #[test]
 fn replies_to_each_command(rt: HostRuntime) -> Result<(), Fail> {
-    let alloc = rt.alloc();
-    let mut composer = Composer::new(alloc, Mini);
-    let replies = run(&mut composer, commands(alloc)?)?;
-    replies_are(&rt, &composer, &replies)?;
-    assert_eq!(&rt; run(&mut composer, Vec::new(alloc))?.len(), 0);
+    let mut composer = Composer::new(rt.alloc(), Mini);
+    replies_to_all(&rt, &mut composer)?;
+    assert_eq!(&rt; replies_to_none(rt.alloc(), &mut composer)?, 0);
     Ok(())
+}
+
+fn replies_to_all(
+    rt: &(impl Abort + AllocGlobal),
+    composer: &mut Composer<Mini>,
+) -> Result<(), AllocError> {
+    let replies = run(composer, commands(rt.alloc())?)?;
+    replies_are(rt, composer, &replies)
+}
+
+fn replies_to_none(alloc: Global, composer: &mut Composer<Mini>) -> Result<usize, AllocError> {
+    let replies = run(composer, Vec::new(alloc))?;
+    Ok(replies.len())
 }
 
 fn replies_are(

@@ -82,19 +82,29 @@ fn variants(
     Ok(told)
 }
 
+// Builds a shader before and after its import is added, and then for each of three values.
+fn builds(alloc: Global, composer: &mut Composer<Mini>, top: &str) -> Result<String, AllocError> {
+    let light = "#define_import_path light\nfn shade(x) = x + #STEPS\n";
+    let mut told = make(alloc, composer, top, steps(alloc, 2)?)?;
+    told.push_str(&add(alloc, composer, "light.txt", light)?)?;
+    told.push_str(&make(alloc, composer, top, steps(alloc, 2)?)?)?;
+    told.push_str(&variants(alloc, composer, top)?)?;
+    Ok(told)
+}
+
+// The file has changed: it is added again, and its builds are removed.
+fn changes(alloc: Global, composer: &mut Composer<Mini>, top: &str) -> Result<String, AllocError> {
+    let light = "#define_import_path light\nfn shade(x, y) = x + y + #STEPS\n";
+    let mut told = add(alloc, composer, "light.txt", light)?;
+    told.push_str(&make(alloc, composer, top, steps(alloc, 2)?)?)?;
+    Ok(told)
+}
+
 fn example(alloc: Global) -> Result<String, AllocError> {
     let mut composer = Composer::new(alloc, Mini);
-    let light = "#define_import_path light\nfn shade(x) = x + #STEPS\n";
     let top = "#import light::{shade}\nentry main = shade(5)\n";
-    let mut told = make(alloc, &mut composer, top, steps(alloc, 2)?)?;
-    told.push_str(&add(alloc, &mut composer, "light.txt", light)?)?;
-    told.push_str(&make(alloc, &mut composer, top, steps(alloc, 2)?)?)?;
-    told.push_str(&variants(alloc, &mut composer, top)?)?;
-
-    // The file has changed: it is added again, and its builds are removed.
-    let light = "#define_import_path light\nfn shade(x, y) = x + y + #STEPS\n";
-    told.push_str(&add(alloc, &mut composer, "light.txt", light)?)?;
-    told.push_str(&make(alloc, &mut composer, top, steps(alloc, 2)?)?)?;
+    let mut told = builds(alloc, &mut composer, top)?;
+    told.push_str(&changes(alloc, &mut composer, top)?)?;
     Ok(told)
 }
 

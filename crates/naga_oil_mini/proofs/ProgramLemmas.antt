@@ -5,7 +5,7 @@ use Rattle.std.proofs.lemmas.Bool.{false≢true}
 use Rattle.std.proofs.lemmas.Slice.Eq.{bytes_eq-Decides}
 use Rattle.naga_oil_pre.specs.Metadata.{metadata}
 use Rattle.naga_oil_mini.specs.Extra.{Extra, help, version, metadata_of_file, extra, extra_of_word, extra_of_file, RefusesExtra, WritesExtra, WritesBy, RefusesBy, WritesAny, RefusesAny}
-use Rattle.naga_oil_mini.specs.Told.{Reports, RefusesFiles}
+use Rattle.naga_oil_mini.specs.Shown.{Reports, RefusesFiles}
 use Rattle.naga_oil_mini.specs.Words.{asked, imports, is_file, takes}
 use Rattle.naga_oil_mini.specs.declared.mini.words.Task.TheVariants.{Preprocess}
 use Rattle.naga_oil_mini.specs.declared.mini.refusal.Refusal.{Refusal}

@@ -1,6 +1,7 @@
 -- The definitions of a command line.
 use Rattle.std.specs.Prelude.{ℕ, Bool, true, ◌==◌, if◌then◌else◌, nat_lt, List, [], ◌∷◌, length, slice_index, Option, Some, None, option_map, Result, Ok, Err}
 use Rattle.std.specs.List.{before_first, after_first, position_or_len}
+use Rattle.naga_oil_words.specs.Bytes.{plus_sign, is_equals}
 use Rattle.naga_oil_conditions.specs.DefineValue.{defined_value}
 use Rattle.naga_oil_conditions.specs.Fault.{Definitions}
 use Rattle.naga_oil_conditions.specs.LineKinds.{is_name}
@@ -11,11 +12,7 @@ use Rattle.naga_oil_mini.specs.Words.{is_definition}
 
 -- the value in a word: that of a define, but without the sign `+`, and true for the empty text
 abbrev pub given_value : List ℕ → Option ShaderDefValue
-given_value text = if length text == 0 then Some (def.Bool true) else (if slice_index text 0 == 43 then None else defined_value (Some text))
-
--- whether the byte is `=`
-abbrev pub is_equals : ℕ → Bool
-is_equals b = b == 61
+given_value text = if length text == 0 then Some (def.Bool true) else (if slice_index text 0 == plus_sign then None else defined_value (Some text))
 
 -- the name before the first `=`, where that is a name, and the value after it
 abbrev pub definition_word : List ℕ → Option (List ℕ × ShaderDefValue)

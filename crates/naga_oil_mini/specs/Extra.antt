@@ -4,7 +4,7 @@ use Rattle.std.specs.Io.KnownBytes.{Appends}
 use Rattle.naga_oil_pre.specs.Metadata.{metadata}
 use Rattle.naga_oil_mini.specs.Help as text
 use Rattle.naga_oil_mini.specs.Listing.{IsListed}
-use Rattle.naga_oil_mini.specs.Told.{Reports, Refuses, Writes}
+use Rattle.naga_oil_mini.specs.Shown.{Reports, Refuses, Writes}
 use Rattle.naga_oil_mini.specs.Words.{is_file}
 use Rattle.naga_oil_mini.specs.declared.mini.program.Extra.{Extra as ExtraCode}
 use Rattle.naga_oil_mini.specs.declared.mini.program.Extra.TheVariants as code

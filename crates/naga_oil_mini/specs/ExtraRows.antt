@@ -29,8 +29,8 @@ option_with_a_definition = refl
 pub file_of_the_options_name : asked (codes "pre" ∷ codes "--metadata" ∷ codes "K=2" ∷ []) ≡ Some (record { task = Preprocess; override_any = false; files = codes "--metadata" ∷ []; imports = [] })
 file_of_the_options_name = refl
 
-pub option_behind_its_file : extra (codes "pre" ∷ codes "t.txt" ∷ codes "--metadata" ∷ []) ≡ None
-option_behind_its_file = refl
+pub option_after_its_file : extra (codes "pre" ∷ codes "t.txt" ∷ codes "--metadata" ∷ []) ≡ None
+option_after_its_file = refl
 
 -- ---- lines
 pub listed_row : listing (record {

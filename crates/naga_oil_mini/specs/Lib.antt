@@ -1,6 +1,6 @@
 pub mod Words
 pub mod Defined
-pub mod Told
+pub mod Shown
 pub mod Printed
 pub mod WordRows
 pub mod Help

@@ -5,6 +5,7 @@ use Rattle.std.specs.List.{flat_map}
 use Rattle.std.specs.List.Sorted.{IsStrictlySortedBy}
 use Rattle.std.specs.Map.{keys_of, lookup}
 use Rattle.std.specs.Ordering.{nat_cmp}
+use Rattle.naga_oil_words.specs.Bytes.{tab, newline, carriage_return, backslash}
 use Rattle.naga_oil_words.specs.Texts.{is_among}
 use Rattle.naga_oil_imports.specs.Uses.{Import}
 use Rattle.naga_oil_pre.specs.Metadata.{Metadata, metadata}
@@ -17,10 +18,10 @@ use Rattle.naga_oil_registry.specs.Registered.{Defs}
 -- a byte of a field: a tab, a line end and a backslash become a backslash and a character
 abbrev pub escaped_byte : ℕ → List ℕ
 escaped_byte b =
-    if b == 9 then codes "\\t"
-    else (if b == 10 then codes "\\n"
-    else (if b == 13 then codes "\\r"
-    else (if b == 92 then codes "\\\\" else b ∷ [])))
+    if b == tab then codes "\\t"
+    else (if b == newline then codes "\\n"
+    else (if b == carriage_return then codes "\\r"
+    else (if b == backslash then codes "\\\\" else b ∷ [])))
 
 -- a tab and a field
 abbrev pub field : List ℕ → List ℕ

@@ -37,8 +37,8 @@ pub make_with_the_option : asked (codes "make" ∷ codes "--override-any" ∷ co
 make_with_the_option = refl
 
 -- elsewhere the option is the name of a file
-pub option_behind_a_file : asked (codes "make" ∷ codes "top.txt" ∷ codes "--override-any" ∷ []) ≡ Some (record { task = Make; override_any = false; files = codes "top.txt" ∷ codes "--override-any" ∷ []; imports = [] })
-option_behind_a_file = refl
+pub option_after_a_file : asked (codes "make" ∷ codes "top.txt" ∷ codes "--override-any" ∷ []) ≡ Some (record { task = Make; override_any = false; files = codes "top.txt" ∷ codes "--override-any" ∷ []; imports = [] })
+option_after_a_file = refl
 
 pub pre_of_the_option : asked (codes "pre" ∷ codes "--override-any" ∷ []) ≡ Some (record { task = Preprocess; override_any = false; files = codes "--override-any" ∷ []; imports = [] })
 pre_of_the_option = refl

@@ -1,20 +1,21 @@
 -- The request of a command line.
 use Rattle.std.specs.Prelude.{ℕ, Bool, true, false, not, ◌==◌, ◌&&◌, if◌then◌else◌, Option, Some, None, is_none, List, [], ◌∷◌, bytes_eq, codes, filter, length}
 use Rattle.std.specs.List.{list_any, filter_map}
+use Rattle.naga_oil_words.specs.Bytes.{equals_sign, plus_sign}
 use Rattle.naga_oil_words.specs.OptionSteps.{◌>>=◌}
-use Rattle.naga_oil_mini_symbols.specs.Names.{texts_of}
+use Rattle.naga_oil_mini_symbols.specs.NameTable.{texts_of}
 use Rattle.naga_oil_mini.specs.declared.mini.words.Task.{Task}
 use Rattle.naga_oil_mini.specs.declared.mini.words.Task.TheVariants.{Preprocess, Make}
 use Rattle.naga_oil_mini.specs.declared.mini.words.Request.{Request}
 
 -- a word with `=` is a definition
 abbrev pub is_definition : List ℕ → Bool
-is_definition word = list_any (λ b. b == 61) word
+is_definition word = list_any (λ b. b == equals_sign) word
 
 -- the name after `+`
 abbrev pub import_of : List ℕ → Option (List ℕ)
 import_of [] = None
-import_of (b ∷ name) = if b == 43 then Some name else None
+import_of (b ∷ name) = if b == plus_sign then Some name else None
 
 -- the import that a word adds, unless it is a definition
 abbrev pub added_import : List ℕ → Option (List ℕ)

@@ -2,10 +2,10 @@
 ghost use Rattle.std.specs.Prelude.{◌≡◌, ◌≤◌, None, map, OnOk, IfOk, IfErr};
 ghost use Rattle.std.specs.Io.KnownBytes.{Appends};
 ghost use Rattle.naga_oil_mini.specs.declared.mini.refusal.Refusal.{Refusal};
-ghost use Rattle.naga_oil_mini_symbols.specs.Names.{texts_of};
+ghost use Rattle.naga_oil_mini_symbols.specs.NameTable.{texts_of};
 ghost use Rattle.naga_oil_mini.specs.Words.{asked};
 ghost use Rattle.naga_oil_words.specs.Texts.{texts};
-ghost use Rattle.naga_oil_mini.specs.Told.{AppendsFront, IsAsked, Refuses, RefusesFiles, LeavesOut, Tells, TellsFront, Writes, status_of};
+ghost use Rattle.naga_oil_mini.specs.Shown.{AppendsFront, IsAsked, Refuses, RefusesFiles, LeavesOut, Tells, TellsFront, Writes, status_of};
 
 mod definitions;
 mod help;

@@ -24,8 +24,8 @@ stripped_without : (l : List ℕ) → ((front : List ℕ) → l ≢ front ++ 13 
 stripped_without [] h = refl
 stripped_without (b ∷ l) h = stripped_if (b ∷ l) false (ne_eqb (get_or (b ∷ l) (length (b ∷ l) - 1) 0) 13 (λ e. h (take (length (b ∷ l) - 1) (b ∷ l)) (grind (arith, common_steps))))
 
-stripped_behind : (x : List ℕ) → strip_carriage_return (x ++ 13 ∷ []) ≡ x
-stripped_behind x =
+stripped_after : (x : List ℕ) → strip_carriage_return (x ++ 13 ∷ []) ≡ x
+stripped_after x =
     let last : get_or (x ++ 13 ∷ []) (length (x ++ 13 ∷ []) - 1) 0 ≡ 13 = grind (arith, common_steps) in
     let front : take (length (x ++ 13 ∷ []) - 1) (x ++ 13 ∷ []) ≡ x = grind (arith, common_steps) in
     stripped_if (x ++ 13 ∷ []) true (eq-eqb _ 13 last) ∙ front
@@ -35,7 +35,7 @@ pub return_stripped : (line got : Bor (List ℕ)) (r : Option (Bor (List ℕ)))
     → MatchOption r (FindsCharSuffix 13 line.now None) (λ x. (n : ℕ) × FindsCharSuffix 13 line.now (Some n) × (x.now ≡ take (length line.now - n) line.now) × (length x.now + n ≡ length line.now))
     → got ≡ unwrap_or r line → got.now ≡ strip_carriage_return line.now
 return_stripped line got None h e = ap (λ t. t.now) e ∙ sym (stripped_without line.now (strip_suffix_char 13 line.now None h (omega arith)))
-return_stripped line got (Some x) h e = ap (λ t. t.now) e ∙ sym (ap strip_carriage_return (strip_suffix_char 13 line.now (Some x) h (omega arith)) ∙ stripped_behind x.now)
+return_stripped line got (Some x) h e = ap (λ t. t.now) e ∙ sym (ap strip_carriage_return (strip_suffix_char 13 line.now (Some x) h (omega arith)) ∙ stripped_after x.now)
 
 length-stripped : (l : List ℕ) (b : Bool) → eqb (get_or l (length l - 1) 0) 13 ≡ b → length (strip_carriage_return l) ≤ length l
 length-stripped l true e = omega (arith, ap length (stripped_if l true e), length-take (length l - 1) l)
@@ -68,19 +68,19 @@ last_begins at w some none =
 cut_begins : (at : ℕ) (w : List ℕ) → position_or_len ends w < length w → Begins at w (strip_carriage_return (before_first ends w)) (after_first ends w)
 cut_begins at w cut =
     let front : length (before_first ends w) ≡ position_or_len ends w = length-take-le (position_or_len ends w) w (omega (arith, cut)) in
-    let behind : length (after_first ends w) ≡ length w - (position_or_len ends w + 1) = length-drop (position_or_len ends w + 1) w in
-    let next : at + length (before_first ends w) + 1 ≡ at + (length w - length (after_first ends w)) = omega (arith, cut, front, behind) in
+    let following : length (after_first ends w) ≡ length w - (position_or_len ends w + 1) = length-drop (position_or_len ends w + 1) w in
+    let next : at + length (before_first ends w) + 1 ≡ at + (length w - length (after_first ends w)) = omega (arith, cut, front, following) in
     record {
       first = ap (placed at) (slice_split_first ends w 0 cut)
           ∙ placed_more at (before_first ends w) (slice_split ends (after_first ends w)) (omega (arith, length-slice_split ends (after_first ends w)))
           ∙ ap (λ k. (at, strip_carriage_return (before_first ends w)) ∷ placed_lines k (after_first ends w)) next;
-      line = omega (arith, cut, front, behind, length-stripped (before_first ends w) _ refl);
-      shorter = omega (arith, cut, behind);
+      line = omega (arith, cut, front, following, length-stripped (before_first ends w) _ refl);
+      shorter = omega (arith, cut, following);
     }
 
 pub cut_first : (text line rest : List ℕ) → line ≡ before_first ends text → rest ≡ after_first ends text → position_or_len ends text < length text → (strip_carriage_return line, rest) ≡ first_line text
-cut_first text line rest before behind cut =
-    (λ i. (strip_carriage_return (before i), behind i)) ∙ ap (λ t. cond t (text, []) (strip_carriage_return (before_first ends text), after_first ends text)) (sym (ne_eqb (position_or_len ends text) (length text) (λ z. omega (arith, z, cut))))
+cut_first text line rest before following cut =
+    (λ i. (strip_carriage_return (before i), following i)) ∙ ap (λ t. cond t (text, []) (strip_carriage_return (before_first ends text), after_first ends text)) (sym (ne_eqb (position_or_len ends text) (length text) (λ z. omega (arith, z, cut))))
 
 pub first_begins : (at : ℕ) (w x rest : List ℕ) → 0 < length w → (x, rest) ≡ first_line w → Begins at w x rest
 first_begins at w x rest some e =

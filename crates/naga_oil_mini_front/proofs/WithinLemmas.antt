@@ -25,13 +25,13 @@ lacks_none (b ∷ w) h =
     ] refl h
 
 -- after the first `)`
-pub lacks_behind : (w : List ℕ) → position_or_len closes w < length w → lacks_space w ≡ (starts_with eqb (after_first closes w) (codes "with") || lacks_space (after_first closes w))
-lacks_behind [] h = absurd (omega arith)
-lacks_behind (b ∷ w) h =
+pub lacks_after : (w : List ℕ) → position_or_len closes w < length w → lacks_space w ≡ (starts_with eqb (after_first closes w) (codes "with") || lacks_space (after_first closes w))
+lacks_after [] h = absurd (omega arith)
+lacks_after (b ∷ w) h =
     let n = position_or_len closes w in
     let next : 1 + n + 1 ≡ suc (n + 1) = omega arith in
     elim (eqb b 41) as (λ t. eqb b 41 ≡ t → cond (not t) (1 + n) 0 < suc (length w)
     → lacks_space (b ∷ w) ≡ (starts_with eqb (drop (cond (not t) (1 + n) 0 + 1) (b ∷ w)) (codes "with") || lacks_space (drop (cond (not t) (1 + n) 0 + 1) (b ∷ w)))) [
       | true ↦ λ e k. lacks_more b w true e
-      | false ↦ λ e k. lacks_more b w false e ∙ lacks_behind w (omega arith) ∙ ap (λ t. starts_with eqb t (codes "with") || lacks_space t) (ap (λ i. drop i (b ∷ w)) (sym next))
+      | false ↦ λ e k. lacks_more b w false e ∙ lacks_after w (omega arith) ∙ ap (λ t. starts_with eqb t (codes "with") || lacks_space t) (ap (λ i. drop i (b ∷ w)) (sym next))
     ] refl h

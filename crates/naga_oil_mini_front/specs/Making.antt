@@ -7,15 +7,15 @@ use Rattle.naga_oil_ir.specs.Parts.{Parts, expr}
 use Rattle.naga_oil_ir.specs.Body.{Tokens, spanned_tokens, block_tokens}
 use Rattle.naga_oil_ir.specs.declared.expression.Expression.{Expression}
 use Rattle.naga_oil_ir.specs.declared.statement.Block.{Block}
-use Rattle.naga_oil_ir.specs.ModuleValue.{expression_values, LocalValue}
+use Rattle.naga_oil_ir.specs.ModuleValue.{expression_values, LocalValue, local_values}
 use Rattle.naga_oil_ir.specs.declared.parts.Named.TheVariants.{Nothing, ConstantAt, GlobalAt, LocalAt, ArgumentAt, FunctionAt}
 use Rattle.naga_oil_ir.specs.declared.span.Span.{Span}
 use Rattle.naga_oil_ir.specs.declared.types.LocalVariable.{LocalVariable}
 use Rattle.naga_oil_ir.specs.declared.tokens.Token.TheVariants.{At, Head, Use, GiveCall, Emitted, Callee}
-use Rattle.naga_oil_mini_symbols.specs.Names.{last_place}
+use Rattle.naga_oil_ir.specs.Spans.{u32_max}
+use Rattle.naga_oil_mini_symbols.specs.NameTable.{last_place}
 use Rattle.naga_oil_mini_symbols.specs.Refused.{LineFault, not_understood, unknown, ◌>>◌}
 use Rattle.naga_oil_mini_symbols.specs.Symbols.{Symbol, name, opens, number, equals, plus, comma, closes}
-use Rattle.naga_oil_mini_writer.specs.Writer.{local_values}
 use Rattle.naga_oil_mini_front.specs.declared.making.OpenCall.{OpenCall as OpenCallOfCode}
 use Rattle.naga_oil_mini_front.specs.declared.making.Making.{Making}
 use Rattle.naga_oil_mini_front.specs.declared.making.Scope.{Scope as ScopeOfCode}
@@ -44,7 +44,7 @@ local l = expr 5 [] (LocalAt l) []
 
 -- a parameter, whose number is capped at the largest u32
 abbrev pub argument_number : ℕ → ℕ
-argument_number k = min k 4294967295
+argument_number k = min k u32_max
 
 abbrev pub parameter : ℕ → Parts
 parameter k = expr 6 [] (ArgumentAt (argument_number k)) []
@@ -178,14 +178,14 @@ abbrev pub added : ℕ → Made → Made
 added h m = record m { left = Some h; sum = None }
 
 -- the state after a symbol, where this is the sum so far
-abbrev pub read_behind : Option ℕ → Symbol → Made → Result Made LineFault
-read_behind None (number n) m = Ok (with_term (literal n) m)
-read_behind None (name n) m = Ok (with_name n m)
-read_behind None (opens f) m = Ok (function_met f m)
-read_behind (Some h) plus m = Ok (added h m)
-read_behind (Some h) comma m = last_call m >> λ r. Ok (call_again r)
-read_behind o closes m = last_call m >> λ r. Ok (call_ended r.0 r.1)
-read_behind o s m = Err not_understood
+abbrev pub read_after : Option ℕ → Symbol → Made → Result Made LineFault
+read_after None (number n) m = Ok (with_term (literal n) m)
+read_after None (name n) m = Ok (with_name n m)
+read_after None (opens f) m = Ok (function_met f m)
+read_after (Some h) plus m = Ok (added h m)
+read_after (Some h) comma m = last_call m >> λ r. Ok (call_again r)
+read_after o closes m = last_call m >> λ r. Ok (call_ended r.0 r.1)
+read_after o s m = Err not_understood
 
 -- another local, with the initialiser at a place
 abbrev pub with_local : List ℕ → ℕ → Wanted → Made → Made
@@ -202,7 +202,7 @@ read_initialiser l o s m = Err not_understood
 
 -- the state after a symbol, where this part is expected
 abbrev pub read_wanted : Wanted → Symbol → Made → Result Made LineFault
-read_wanted a_sum s m = read_behind m.sum s m
+read_wanted a_sum s m = read_after m.sum s m
 read_wanted a_local (name n) m = Ok (record m { wanted = an_equals n })
 read_wanted (an_equals n) equals m = Ok (record m { wanted = an_initialiser n })
 read_wanted (an_initialiser n) s m = read_initialiser n m.sum s m

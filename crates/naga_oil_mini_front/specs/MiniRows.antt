@@ -3,6 +3,7 @@ use lib.Utf8.{encode}
 use Rattle.std.specs.Prelude.{◌≡◌, refl, ℕ, true, Some, None, Option, List, [], ◌∷◌, ◌++◌, map, Result, Ok, Err, codes}
 use Rattle.std.specs.Fmt.{digits}
 use Rattle.std.specs.Str.{chars, trim_start}
+use Rattle.naga_oil_words.specs.Bytes.{carriage_return, newline}
 use Rattle.ucd_perl.proofs.Computing.{ucd_perl}
 use Rattle.naga_oil_ir.specs.Kinds.{emit_head, return_head}
 use Rattle.naga_oil_ir.specs.Backend.{FaultValue}
@@ -14,7 +15,7 @@ use Rattle.naga_oil_ir.specs.declared.tokens.Token.TheVariants.{At, Head, Use, E
 use Rattle.naga_oil_ir.specs.Spans.{undefined}
 use Rattle.naga_oil_conditions.specs.Values.{read_u32}
 use Rattle.naga_oil_mini_writer.specs.BodyReader.{end_of}
-use Rattle.naga_oil_mini_symbols.specs.Names.{last_place}
+use Rattle.naga_oil_mini_symbols.specs.NameTable.{last_place}
 use Rattle.naga_oil_mini_writer.specs.Order.{has_order}
 use Rattle.naga_oil_mini_front.specs.Making.{Inside, literal, global, local, load, binary}
 use Rattle.naga_oil_mini_front.specs.Reader.{is_skipped, with_line, start, with_constant, with_global, with_function, function_of, parsed}
@@ -108,13 +109,13 @@ unfolding rows_unfold
 second_line_refused = refl
 
 -- ---- spans of lines that end in `\r\n`
-pub lines_behind_returns : parsed (codes "const N = 3" ++ 13 ∷ 10 ∷ codes "const M = 4" ++ 13 ∷ 10 ∷ []) ≡ Ok (with_constant (codes "M") 4 (record { start = 13; end = 24 }) (with_constant (codes "N") 3 (record { start = 0; end = 11 }) start))
+pub lines_after_returns : parsed (codes "const N = 3" ++ carriage_return ∷ newline ∷ codes "const M = 4" ++ carriage_return ∷ newline ∷ []) ≡ Ok (with_constant (codes "M") 4 (record { start = 13; end = 24 }) (with_constant (codes "N") 3 (record { start = 0; end = 11 }) start))
 unfolding rows_unfold
-lines_behind_returns = refl
+lines_after_returns = refl
 
-pub fault_behind_return : rewritten (codes "const N = 3" ++ 13 ∷ 10 ∷ codes "nonsense") ≡ Err (record { message = message not_understood; spans = (record { start = 13; end = 21 }, []) ∷ []; notes = [] })
+pub fault_after_return : rewritten (codes "const N = 3" ++ carriage_return ∷ newline ∷ codes "nonsense") ≡ Err (record { message = message not_understood; spans = (record { start = 13; end = 21 }, []) ∷ []; notes = [] })
 unfolding rows_unfold
-fault_behind_return = refl
+fault_after_return = refl
 
 -- ---- globals and locals
 -- a body's statements

@@ -3,10 +3,11 @@ use Rattle.std.specs.Prelude.{◌≡◌, ℕ, ◌+◌, min, Bool, ◌||◌, ◌=
 use Rattle.std.specs.List.{starts_with, list_any, slice_split, position_or_len, before_first, after_first}
 use Rattle.std.specs.Str.{trim_start}
 use Rattle.std.specs.Str.Lines.{strip_carriage_return}
+use Rattle.naga_oil_words.specs.Bytes.{newline}
 use Rattle.naga_oil_ir.specs.Rows.{Row, row, TypeKind, ConstantKind, GlobalKind}
 use Rattle.naga_oil_ir.specs.ModuleValue.{ModuleValue, FunctionValue, ArgumentValue, argument_value, EntryValue, no_items, module_value}
 use Rattle.naga_oil_ir.specs.Backend.{FaultValue}
-use Rattle.naga_oil_ir.specs.Spans.{undefined}
+use Rattle.naga_oil_ir.specs.Spans.{undefined, u32_max}
 use Rattle.naga_oil_ir.specs.declared.module.FunctionArgument.{FunctionArgument}
 use Rattle.naga_oil_ir.specs.declared.module.FunctionResult.{FunctionResult}
 use Rattle.naga_oil_ir.specs.declared.names.ItemPlace.TheVariants.{TypeItem, ExpressionItem}
@@ -157,7 +158,7 @@ with_line line at m =
 -- ---- texts
 -- a place in a text, capped at the largest u32
 abbrev pub capped : ℕ → ℕ
-capped k = min k 4294967295
+capped k = min k u32_max
 
 -- the span of a line that begins at a place
 abbrev pub span_at : ℕ → List ℕ → Span
@@ -172,7 +173,7 @@ placed at (part ∷ more ∷ parts) = (at, strip_carriage_return part) ∷ place
 
 -- the lines of a text whose first byte has a place
 abbrev pub placed_lines : ℕ → List ℕ → List (ℕ × List ℕ)
-placed_lines at text = placed at (slice_split (λ b. b == 10) text)
+placed_lines at text = placed at (slice_split (λ b. b == newline) text)
 
 -- the error of a line: its span, with an empty text, and no notes
 abbrev pub fault_at : Span → LineFault → FaultValue
@@ -191,8 +192,8 @@ parsed text = with_lines (placed_lines 0 text) start
 -- a text's first line and the rest after its end
 abbrev pub first_line : List ℕ → List ℕ × List ℕ
 first_line text =
-    if position_or_len (λ b. b == 10) text == length text then (text, [])
-    else (strip_carriage_return (before_first (λ b. b == 10) text), after_first (λ b. b == 10) text)
+    if position_or_len (λ b. b == newline) text == length text then (text, [])
+    else (strip_carriage_return (before_first (λ b. b == newline) text), after_first (λ b. b == newline) text)
 
 abbrev pub arguments_of : List FunctionArgument → List ArgumentValue
 arguments_of xs = map argument_value xs

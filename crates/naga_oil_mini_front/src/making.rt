@@ -8,18 +8,18 @@ ghost use Rattle.naga_oil_mini_symbols.specs.Refused.{Gives};
 ghost use Rattle.naga_oil_mini_front.specs.Making as spec;
 
 use naga_oil_ir::{
-    Arena, Block, Expression, Function, Handle, Index, LocalVariable, Places, Span, Statement,
+    Arena, Block, Expression, Function, Handle, Index, LocalVariable, PlaceRange, Span, Statement,
 };
-use naga_oil_mini_symbols::{Names, Refusal, Symbol};
+use naga_oil_mini_symbols::{NameTable, Refusal, Symbol};
 use std::alloc::{AllocError, Global};
 
 /// The names that a sum may use: parameters, and the constants, globals and functions of earlier lines.
 #[derive(Clone, Copy)]
 pub struct Scope<'n, 'a> {
-    pub parameters: &'n Names<'a>,
-    pub constants: &'n Names<'a>,
-    pub globals: &'n Names<'a>,
-    pub functions: &'n Names<'a>,
+    pub parameters: &'n NameTable<'a>,
+    pub constants: &'n NameTable<'a>,
+    pub globals: &'n NameTable<'a>,
+    pub functions: &'n NameTable<'a>,
 }
 
 /// The inside of a function: its locals, its expressions and its body.
@@ -50,7 +50,7 @@ struct Making<'n, 'a> {
     alloc: Global,
     scope: Scope<'n, 'a>,
     span: Span,
-    names: Names<'a>,
+    names: NameTable<'a>,
     locals: Arena<LocalVariable>,
     expressions: Arena<Expression>,
     body: Vec<(Statement, Span)>,
@@ -86,7 +86,7 @@ impl<'a> Making<'_, 'a> {
     {
         let place = self.put(expression)?;
         let end = self.expressions.len();
-        self.state(Statement::Emit(Places::new(place.index(), end)))?;
+        self.state(Statement::Emit(PlaceRange::new(place.index(), end)))?;
         Ok(place)
     }
 
@@ -203,7 +203,7 @@ impl<'a> Making<'_, 'a> {
 
     fn read_sum(&mut self, symbol: Symbol<'a>) -> Result<(), Refusal<'a>>
         ensures { let old = spec.made_of self.old in
-            let read = spec.read_behind self.old.sum (symbol_of symbol.entry) old in
+            let read = spec.read_after self.old.sum (symbol_of symbol.entry) old in
             Gives (λ _. spec.made_of self.new) result read }
     {
         match (symbol, self.sum) {
@@ -361,7 +361,7 @@ pub fn made<'a>(
         alloc,
         scope,
         span,
-        names: Names::new(alloc),
+        names: NameTable::new(alloc),
         locals: Arena::new(alloc),
         expressions: Arena::new(alloc),
         body: Vec::new(alloc),

@@ -15,7 +15,7 @@ use naga_oil_ir::{
     FunctionResult, GlobalVariable, Index, Module, NamedExpressions, ParseFault, Span, Type,
     TypeInner, rounded_room,
 };
-use naga_oil_mini_symbols::{Names, Refusal, Symbol, read_symbols};
+use naga_oil_mini_symbols::{NameTable, Refusal, Symbol, read_symbols};
 use std::alloc::{AllocError, Global};
 use std::mem;
 
@@ -27,10 +27,10 @@ struct Reader<'a> {
     length: usize,
     span: Span,
     module_: Module,
-    constants: Names<'a>,
-    globals: Names<'a>,
-    functions: Names<'a>,
-    parameters: Names<'a>,
+    constants: NameTable<'a>,
+    globals: NameTable<'a>,
+    functions: NameTable<'a>,
+    parameters: NameTable<'a>,
 }
 
 #[tactic(auto, using(std::proofs::lemmas::Str::Pattern::starts_text))]
@@ -80,7 +80,7 @@ fn lacks_space(line: &str) -> bool
 // Reads the parameters that a line's symbols begin with, up to `)`, into `names`, in place of what was there. Returns
 // the rest.
 fn read_parameters<'s, 'a>(
-    names: &mut Names<'a>,
+    names: &mut NameTable<'a>,
     symbols: &'s [Symbol<'a>],
 ) -> Result<&'s [Symbol<'a>], Refusal<'a>>
     ensures { let said = spec.read_parameters (line_of symbols.now) in
@@ -102,7 +102,7 @@ fn read_parameters<'s, 'a>(
     Ok(rest)
 }
 
-fn arguments(alloc: Global, parameters: &Names<'_>) -> Result<Vec<FunctionArgument>, AllocError>
+fn arguments(alloc: Global, parameters: &NameTable<'_>) -> Result<Vec<FunctionArgument>, AllocError>
     ensures { IfOk result (λ v. spec.arguments_of v.items ≡ spec.arguments parameters.now) }
 {
     let names = parameters.texts();
@@ -148,10 +148,10 @@ impl<'a> Reader<'a> {
             length,
             span: Span::UNDEFINED,
             module_,
-            constants: Names::new(alloc),
-            globals: Names::new(alloc),
-            functions: Names::new(alloc),
-            parameters: Names::new(alloc),
+            constants: NameTable::new(alloc),
+            globals: NameTable::new(alloc),
+            functions: NameTable::new(alloc),
+            parameters: NameTable::new(alloc),
         })
     }
 
@@ -377,7 +377,7 @@ pub fn parsed(alloc: Global, text: &str) -> Result<Module, BackendRefusal<ParseF
     let mut symbols = Vec::new(alloc);
     let mut rest = text;
     while !rest.is_empty() {
-        let (line, behind) = first_line(rest);
+        let (line, following) = first_line(rest);
         let start = text.len() - rest.len();
         let span = Span::new(place(start), place(start + line.len()));
         reader.span = span;
@@ -385,7 +385,7 @@ pub fn parsed(alloc: Global, text: &str) -> Result<Module, BackendRefusal<ParseF
             let fault = fault_at(alloc, refusal, span)?;
             return Err(BackendRefusal::Fault(fault));
         }
-        rest = behind;
+        rest = following;
     }
     Ok(reader.module_)
 }

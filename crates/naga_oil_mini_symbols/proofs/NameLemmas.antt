@@ -5,7 +5,7 @@ use Rattle.std.specs.Option.{option_or}
 use Rattle.std.specs.HashMap as hash
 use Rattle.std.specs.HashMap.{HashMap}
 use Rattle.std.proofs.lemmas.Map.Text.{hash_map_updates_str}
-use Rattle.naga_oil_mini_symbols.specs.Names.{last_place, place_in, texts_of}
+use Rattle.naga_oil_mini_symbols.specs.NameTable.{last_place, place_in, texts_of}
 
 -- another name
 pub last_place-push : (q n : List ℕ) (ns : List (List ℕ)) → last_place q (ns ++ n ∷ []) ≡ cond (bytes_eq n q) (Some (length ns)) (last_place q ns)

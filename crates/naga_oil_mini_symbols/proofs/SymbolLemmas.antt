@@ -72,10 +72,10 @@ run_stops (b ∷ bs) =
     ] refl
 
 pub run_stands : (text front rest : List ℕ) → front ≡ take (prefix_len is_name_char text) text → rest ≡ drop (prefix_len is_name_char text) text → SplitsRun text front rest
-run_stands text front rest is behind = record {
-  bytes = sym (take-append-drop (prefix_len is_name_char text) text) ∙ (λ i. sym is i ++ sym behind i);
+run_stands text front rest is following = record {
+  bytes = sym (take-append-drop (prefix_len is_name_char text) text) ∙ (λ i. sym is i ++ sym following i);
   passing = subst IsRun (sym is) (run_passes text);
-  ends = subst (λ t. begins_with_name_char t ≡ false) (sym behind) (run_stops text);
+  ends = subst (λ t. begins_with_name_char t ≡ false) (sym following) (run_stops text);
 }
 
 both_more : (m n : ℕ) → eqb (suc m) (suc n) ≡ eqb m n
@@ -136,24 +136,24 @@ NotOpened-pieces (b ∷ bs) h k =
       | false ↦ let space : eqb b 32 ≡ false = grind (arith, nat_tests) in let opened : eqb b 40 ≡ false = grind (arith, nat_tests) in subst (λ t. NotOpened (cond t (pieces bs) (byte b ∷ pieces bs))) (sym space) opened
     ]
 
-pub symbols_behind_run : (r text : List ℕ) → get_or text 0 0 ≢ 32 → ((rest : List ℕ) → text ≢ 40 ∷ rest) → symbols_of (run r ∷ pieces text) ≡ symbol_before (word r) (symbols_of (pieces text))
-symbols_behind_run r text h k = symbols_unopened r (pieces text) (NotOpened-pieces text h (not_first 40 text (omega arith) k))
+pub symbols_after_run : (r text : List ℕ) → get_or text 0 0 ≢ 32 → ((rest : List ℕ) → text ≢ 40 ∷ rest) → symbols_of (run r ∷ pieces text) ≡ symbol_before (word r) (symbols_of (pieces text))
+symbols_after_run r text h k = symbols_unopened r (pieces text) (NotOpened-pieces text h (not_first 40 text (omega arith) k))
 
-pub symbols_behind_opening : (r text rest : List ℕ) (n : ℕ) → HasCharAt 40 text 0 n → rest ≡ drop n text → symbols_of (run r ∷ pieces text) ≡ symbol_before (opening r) (symbols_of (pieces rest))
-symbols_behind_opening r text rest n at e = ap (λ t. symbols_of (run r ∷ pieces t)) (drop_at_char 40 text 0 n at (omega arith)) ∙ ap (λ t. symbol_before (opening r) (symbols_of (pieces t))) (sym e)
+pub symbols_after_opening : (r text rest : List ℕ) (n : ℕ) → HasCharAt 40 text 0 n → rest ≡ drop n text → symbols_of (run r ∷ pieces text) ≡ symbol_before (opening r) (symbols_of (pieces rest))
+symbols_after_opening r text rest n at e = ap (λ t. symbols_of (run r ∷ pieces t)) (drop_at_char 40 text 0 n at (omega arith)) ∙ ap (λ t. symbol_before (opening r) (symbols_of (pieces t))) (sym e)
 
 Match-weaker : {X : Type 0} (found : Option X) (P : Type 0) (Q R : X → Type 0) → MatchOption found P Q → ((x : X) → Q x → R x) → MatchOption found P R
 Match-weaker None P Q R h f = h
 Match-weaker (Some x) P Q R h f = f x h
 
 -- a text that begins with a run
-pub Begins-run : (text r rest behind : List ℕ) (found : Option (SymbolOfCode × Bor (List ℕ))) → SplitsRun text r rest → 0 < length r
-    → pieces behind ≡ pieces rest → length behind ≤ length rest → Begins (run r ∷ pieces behind) (length behind + 1) found → Begins (pieces text) (length text) found
-Begins-run text [] rest behind found s some same bound h = absurd (omega arith)
-Begins-run text (b ∷ r) rest behind found s some same bound h =
-    let cut : pieces text ≡ run (b ∷ r) ∷ pieces behind = ap pieces s.bytes ∙ pieces_run b r rest s.passing s.ends ∙ ap (λ ps. run (b ∷ r) ∷ ps) (sym same) in
-    let len : length behind + 1 ≤ length text = omega (arith, ap length s.bytes, length-append (b ∷ r) rest) in
-    Match-weaker found _ (λ r. (symbols_of (pieces text) ≡ symbol_before (Some (symbol_of r.0)) (symbols_of (pieces r.1.now))) × (length r.1.now < length behind + 1)) (λ r. (symbols_of (pieces text) ≡ symbol_before (Some (symbol_of r.0)) (symbols_of (pieces r.1.now))) × (length r.1.now < length text)) (subst (λ ps. Begins ps (length behind + 1) found) (sym cut) h) (λ p q. (q.0, omega (arith, q.1, len)))
+pub Begins-run : (text r rest following : List ℕ) (found : Option (SymbolOfCode × Bor (List ℕ))) → SplitsRun text r rest → 0 < length r
+    → pieces following ≡ pieces rest → length following ≤ length rest → Begins (run r ∷ pieces following) (length following + 1) found → Begins (pieces text) (length text) found
+Begins-run text [] rest following found s some same bound h = absurd (omega arith)
+Begins-run text (b ∷ r) rest following found s some same bound h =
+    let cut : pieces text ≡ run (b ∷ r) ∷ pieces following = ap pieces s.bytes ∙ pieces_run b r rest s.passing s.ends ∙ ap (λ ps. run (b ∷ r) ∷ ps) (sym same) in
+    let len : length following + 1 ≤ length text = omega (arith, ap length s.bytes, length-append (b ∷ r) rest) in
+    Match-weaker found _ (λ r. (symbols_of (pieces text) ≡ symbol_before (Some (symbol_of r.0)) (symbols_of (pieces r.1.now))) × (length r.1.now < length following + 1)) (λ r. (symbols_of (pieces text) ≡ symbol_before (Some (symbol_of r.0)) (symbols_of (pieces r.1.now))) × (length r.1.now < length text)) (subst (λ ps. Begins ps (length following + 1) found) (sym cut) h) (λ p q. (q.0, omega (arith, q.1, len)))
 
 sign-none : (b : ℕ) → 128 ≤ b → sign b ≡ None
 sign-none b h =

@@ -1,4 +1,4 @@
-pub mod Names
+pub mod NameTable
 pub mod Symbols
 pub mod SymbolSplits
 pub mod Refused

@@ -2,6 +2,7 @@
 use Rattle.std.specs.Prelude.{ℕ, Bool, false, ◌||◌, ◌&&◌, ◌==◌, not, nat_lt, if◌then◌else◌, List, [], ◌∷◌, length, slice_index, Option, Some, None, map}
 use Rattle.std.specs.Char.{is_ascii_digit, is_ascii_alphanumeric}
 use Rattle.std.specs.List.{list_all}
+use Rattle.naga_oil_words.specs.Bytes.{underscore, space, equals_sign, plus_sign, comma as comma_byte, close_parenthesis, open_parenthesis}
 use Rattle.naga_oil_conditions.specs.Values.{read_u32}
 use Rattle.naga_oil_mini_symbols.specs.declared.symbol.Symbol.{Symbol as SymbolOfCode}
 use Rattle.naga_oil_mini_symbols.specs.declared.symbol.Symbol.TheVariants as code
@@ -23,7 +24,7 @@ pub data Piece : Type 0 where
 
 -- a character of a name
 abbrev pub is_name_char : ℕ → Bool
-is_name_char c = is_ascii_alphanumeric c || (c == 95)
+is_name_char c = is_ascii_alphanumeric c || (c == underscore)
 
 abbrev pub begins_with_name_char : List ℕ → Bool
 begins_with_name_char [] = false
@@ -39,7 +40,7 @@ abbrev pub pieces : List ℕ → List Piece
 pieces [] = []
 pieces (b ∷ bs) =
     if is_name_char b then (if begins_with_name_char bs then extended b (pieces bs) else run (b ∷ []) ∷ pieces bs)
-    else (if b == 32 then pieces bs else byte b ∷ pieces bs)
+    else (if b == space then pieces bs else byte b ∷ pieces bs)
 
 -- a name: letters, digits and `_`, no digit first
 abbrev pub is_name : List ℕ → Bool
@@ -64,10 +65,10 @@ opening bs = if is_name bs then Some (opens bs) else None
 -- the symbol of any other byte
 abbrev pub sign : ℕ → Option Symbol
 sign b =
-    if b == 61 then Some equals
-    else (if b == 43 then Some plus
-    else (if b == 44 then Some comma
-    else (if b == 41 then Some closes else None)))
+    if b == equals_sign then Some equals
+    else (if b == plus_sign then Some plus
+    else (if b == comma_byte then Some comma
+    else (if b == close_parenthesis then Some closes else None)))
 
 -- a symbol before others
 abbrev pub symbol_before : Option Symbol → Option (List Symbol) → Option (List Symbol)
@@ -80,7 +81,7 @@ abbrev pub symbols_of : List Piece → Option (List Symbol)
 symbols_of [] = Some []
 symbols_of (run r ∷ []) = symbol_before (word r) (Some [])
 symbols_of (run r ∷ run s ∷ ps) = symbol_before (word r) (symbols_of (run s ∷ ps))
-symbols_of (run r ∷ byte b ∷ ps) = if b == 40 then symbol_before (opening r) (symbols_of ps) else symbol_before (word r) (symbols_of (byte b ∷ ps))
+symbols_of (run r ∷ byte b ∷ ps) = if b == open_parenthesis then symbol_before (opening r) (symbols_of ps) else symbol_before (word r) (symbols_of (byte b ∷ ps))
 symbols_of (byte b ∷ ps) = symbol_before (sign b) (symbols_of ps)
 
 -- the symbols of a line

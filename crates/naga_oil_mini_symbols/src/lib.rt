@@ -7,5 +7,5 @@
 mod names;
 mod symbol;
 
-pub use names::Names;
+pub use names::NameTable;
 pub use symbol::{GREATEST, Refusal, Symbol, is_name, read_symbols};

@@ -1,6 +1,6 @@
 // Names in order. Many names are looked up by a map.
 ghost use Rattle.std.specs.Prelude.{◌≡◌, ◌++◌, ◌∷◌, [], IfOk, OnOk, ℕ, List, option_copied, option_map, slice_get, length};
-ghost use Rattle.naga_oil_mini_symbols.specs.Names.{last_place, place_in, texts_of};
+ghost use Rattle.naga_oil_mini_symbols.specs.NameTable.{last_place, place_in, texts_of};
 
 use std::alloc::{AllocError, Global};
 use std::collections::HashMap;
@@ -11,16 +11,16 @@ const FEW: usize = 8;
 
 /// Names in order. A lookup finds the last of equal names.
 #[derive(Drop)]
-pub struct Names<'a> {
+pub struct NameTable<'a> {
     alloc: Global,
     texts: Vec<&'a str>,
     // The map, once there are more than `FEW` names.
     places: Option<HashMap<&'a str, usize>>,
 }
 
-impl<'a> Model for Names<'a> {
+impl<'a> Model for NameTable<'a> {
     ghost use Rattle.std.specs.Prelude.{ℕ, List};
-    ghost use Rattle.naga_oil_mini_symbols.specs.Names.{texts_of, Finds};
+    ghost use Rattle.naga_oil_mini_symbols.specs.NameTable.{texts_of, Finds};
 
     ghost Value = { List (List ℕ) };
 
@@ -58,11 +58,11 @@ fn places_of<'a>(
     Ok(places)
 }
 
-impl<'a> Names<'a> {
-    pub fn new(alloc: Global) -> Names<'a>
+impl<'a> NameTable<'a> {
+    pub fn new(alloc: Global) -> NameTable<'a>
         ensures { result ≡ [] }
     {
-        Names {
+        NameTable {
             alloc,
             texts: Vec::new(alloc),
             places: None,

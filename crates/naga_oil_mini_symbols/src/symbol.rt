@@ -91,7 +91,7 @@ fn split_run(text: &str) -> (&str, &str)
 }
 
 // A text without the spaces that it begins with.
-fn behind_spaces(text: &str) -> &str
+fn spaces_skipped(text: &str) -> &str
     ensures pieces { pieces result.now ≡ pieces text.now }
     ensures bound { length result.now ≤ length text.now }
     ensures begins { BeginsWithoutSpace result.now }
@@ -155,9 +155,9 @@ fn symbol_at(text: &str) -> Option<(Symbol<'_>, &str)>
         };
         return Some((sign, more));
     }
-    let behind = behind_spaces(rest);
-    match behind.strip_prefix('(') {
-        None => Some((word(run)?, behind)),
+    let following = spaces_skipped(rest);
+    match following.strip_prefix('(') {
+        None => Some((word(run)?, following)),
         Some(more) if is_name_run(run) => Some((Symbol::Opens(run), more)),
         Some(_) => None,
     }
@@ -168,11 +168,11 @@ pub fn read_symbols<'a>(symbols: &mut Vec<Symbol<'a>>, line: &'a str) -> Result<
     ensures { Gives (λ _. line_of symbols.new.items) result (understood (symbols_in line.now)) }
 {
     symbols.clear();
-    let mut rest = behind_spaces(line);
+    let mut rest = spaces_skipped(line);
     while !rest.is_empty() {
         let (symbol, more) = symbol_at(rest).ok_or(Refusal::NotUnderstood)?;
         symbols.push(symbol)?;
-        rest = behind_spaces(more);
+        rest = spaces_skipped(more);
     }
     Ok(())
 }

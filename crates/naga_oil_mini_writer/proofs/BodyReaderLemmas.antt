@@ -7,7 +7,7 @@ use Rattle.naga_oil_ir.specs.ModuleValue.{expression_values}
 use Rattle.naga_oil_ir.specs.declared.expression.Expression.{Expression}
 use Rattle.naga_oil_ir.specs.declared.span.Span.{Span}
 use Rattle.naga_oil_words.specs.OptionSteps.{◌>>=◌}
-use Rattle.naga_oil_mini_writer.specs.BodyReader.{Reading, shape, shape_at, one_part, parts_read}
+use Rattle.naga_oil_mini_writer.specs.BodyReader.{LineReading, shape, shape_at, one_part, parts_read}
 use Rattle.naga_oil_mini_writer.specs.declared.body_reader.Shape.{Shape}
 use Rattle.naga_oil_mini_writer.specs.declared.body_reader.Shape.TheVariants.{Other}
 
@@ -25,5 +25,5 @@ pub shape_at_value : (es : List (Expression × Span)) (k : ℕ) → shape_at (ex
 shape_at_value es k =
     ap (λ o. elim o as (λ _. Shape) [ None ↦ Other | Some e ↦ shape e.0 ]) (slice_get-map {A = Expression × Span} {B = Parts × Span} (λ e. (parts e.0, e.1)) es k) ∙ shape_mapped (slice_get es k)
 
-pub parts_next : (n i : ℕ) (r : Reading) → i < n → parts_read (n - i) r ≡ (one_part r.parts r >>= λ q. parts_read (n - (i + 1)) q)
+pub parts_next : (n i : ℕ) (r : LineReading) → i < n → parts_read (n - i) r ≡ (one_part r.parts r >>= λ q. parts_read (n - (i + 1)) q)
 parts_next n i r h = let e : n - i ≡ suc (n - (i + 1)) = omega arith in ap (λ k. parts_read k r) e

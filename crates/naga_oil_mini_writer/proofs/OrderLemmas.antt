@@ -6,7 +6,7 @@ use Rattle.std.specs.Option.{option_or, IfSome}
 use Rattle.std.proofs.lemmas.Bool.Decides.{same_from_decides, nat_tests}
 use Rattle.std.proofs.lemmas.List.{length-replicate, reverse-append, replicate_more}
 use Rattle.std.proofs.lemmas.Slice.Eq.{bytes_eq-Decides}
-use Rattle.naga_oil_mini_symbols.specs.Names.{last_place, texts_of}
+use Rattle.naga_oil_mini_symbols.specs.NameTable.{last_place, texts_of}
 use Rattle.naga_oil_mini_writer.specs.Order.{greatest_count, place_from, next_places, bounds_used, take_last, fits, fit, anywhere, needing, has_order}
 use Rattle.naga_oil_mini_writer.specs.declared.order.Bounds.{Bounds}
 use Rattle.naga_oil_mini_writer.specs.declared.order.Room.{Room}

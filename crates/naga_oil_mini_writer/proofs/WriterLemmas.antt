@@ -22,7 +22,7 @@ use Rattle.naga_oil_mini_writer.specs.BodyReader.{NamedInitialiser, context, end
 use Rattle.naga_oil_mini_writer.specs.Order.{anywhere, greatest_count, has_order}
 use Rattle.naga_oil_mini_writer.specs.declared.order.Items.{Items}
 use Rattle.naga_oil_mini_writer.specs.declared.order.Room.{Room}
-use Rattle.naga_oil_mini_writer.specs.Writer.{when, fits_types, is_scalar, is_empty, is_plain_function, valid_name, cons_some, parameter_words, parameters_text, body_words, with_header, body_text, body_line, header_text, function_text, Lines, behind, before, functions_text, functions_behind, stub_text, counted, one_more, stubs_text, function_words, entries_text, is_plain_module, ends_with_stubs, begin_text, items_text, rest_text, module_text, local_words, opening, symbols_text, end_text}
+use Rattle.naga_oil_mini_writer.specs.Writer.{when, fits_types, is_scalar, is_empty, is_plain_function, valid_name, cons_some, parameter_words, parameters_text, body_words, with_header, body_text, body_line, header_text, function_text, Lines, following, before, functions_text, functions_after, stub_text, counted, one_more, stubs_text, function_words, entries_text, is_plain_module, ends_with_stubs, begin_text, items_text, rest_text, module_text, local_words, opening, symbols_text, end_text}
 use Rattle.naga_oil_mini_writer.proofs.OrderLemmas.{anywhere_has_order}
 use Rattle.naga_oil_mini_writer.specs.declared.not_written.NotWritten.{NotWritten}
 use Rattle.naga_oil_mini_writer.specs.declared.not_written.NotWritten.TheVariants.{NotInMini, Memory}
@@ -73,25 +73,25 @@ some_body i ps f some plain = rw plain (by f.body some)
 
 -- ---- parameters
 -- parameters after the first, each after its `, `
-abbrev pub behind_first : List ℕ → Option (List (List ℕ)) → Option (List ℕ)
-behind_first text o = option_map (λ ps. text ++ flat_map (λ p. codes ", " ++ p) ps) o
+abbrev pub past_first : List ℕ → Option (List (List ℕ)) → Option (List ℕ)
+past_first text o = option_map (λ ps. text ++ flat_map (λ p. codes ", " ++ p) ps) o
 
-pub first_parameter : (text more w : List ℕ) (o : Option (List (List ℕ))) → more ≡ text ++ w → behind_first more o ≡ option_map (λ ps. text ++ parameters_text ps) (cons_some (Some w) o)
+pub first_parameter : (text more w : List ℕ) (o : Option (List (List ℕ))) → more ≡ text ++ w → past_first more o ≡ option_map (λ ps. text ++ parameters_text ps) (cons_some (Some w) o)
 first_parameter text more w None e = refl
 first_parameter text more w (Some ps) e = let rest = flat_map (λ (p : List ℕ). codes ", " ++ p) ps in ap Some (ap (λ t. t ++ rest) e ∙ append_assoc text w rest)
 
-pub next_parameter : (text more w : List ℕ) (o : Option (List (List ℕ))) → more ≡ (text ++ codes ", ") ++ w → behind_first more o ≡ behind_first text (cons_some (Some w) o)
+pub next_parameter : (text more w : List ℕ) (o : Option (List (List ℕ))) → more ≡ (text ++ codes ", ") ++ w → past_first more o ≡ past_first text (cons_some (Some w) o)
 next_parameter text more w None e = refl
 next_parameter text more w (Some ps) e =
     let rest = flat_map (λ (p : List ℕ). codes ", " ++ p) ps in
     ap Some (ap (λ t. t ++ rest) e ∙ append_assoc (text ++ codes ", ") w rest ∙ append_assoc text (codes ", ") (w ++ rest) ∙ ap (λ t. text ++ t) (sym (append_assoc (codes ", ") w rest)))
 
-pub last_parameter : (text : List ℕ) → behind_first text (Some []) ≡ Some text
+pub last_parameter : (text : List ℕ) → past_first text (Some []) ≡ Some text
 last_parameter text = ap Some (append-nil text)
 
 -- a parameter that can't be written
-pub parameter_lacks : (text : List ℕ) (o : Option (List ℕ)) (os : Option (List (List ℕ))) (e : NotWritten) → Lacks e o → Lacks e (behind_first text (cons_some o os))
-parameter_lacks text o os NotInMini h = ap (λ p. behind_first text (cons_some p os)) h
+pub parameter_lacks : (text : List ℕ) (o : Option (List ℕ)) (os : Option (List (List ℕ))) (e : NotWritten) → Lacks e o → Lacks e (past_first text (cons_some o os))
+parameter_lacks text o os NotInMini h = ap (λ p. past_first text (cons_some p os)) h
 parameter_lacks text o os Memory h = tt
 
 -- ---- a function's line
@@ -140,10 +140,10 @@ end_written i ps f ts ls ns ss room words named read =
     rw (words, known) refl
 
 -- names of all functions are names of the last ones
-pub named_behind : (n : ℕ) (fs : List (FunctionValue × Span)) → IsSome (function_words fs) → IsSome (function_words (drop n fs))
-named_behind zero fs h = h
-named_behind (suc n) [] h = h
-named_behind (suc n) (f ∷ fs) h = named_behind n fs (rest (valid_name f.0.name) (function_words fs) h)
+pub named_after : (n : ℕ) (fs : List (FunctionValue × Span)) → IsSome (function_words fs) → IsSome (function_words (drop n fs))
+named_after zero fs h = h
+named_after (suc n) [] h = h
+named_after (suc n) (f ∷ fs) h = named_after n fs (rest (valid_name f.0.name) (function_words fs) h)
   where
     rest : (o : Option (List ℕ)) (os : Option (List (List ℕ))) → IsSome (cons_some o os) → IsSome os
     rest None os h = let no : false ≡ true = h in cc
@@ -215,32 +215,32 @@ stub_lacks text old n (Some t) os whole h NotInMini l = absurd (none-some (text 
 stub_lacks text old n None os None h NotInMini l = refl
 stub_lacks text old n None os (Some s) h NotInMini l = absurd (none-some (old ++ s.0, 0 + s.1) h)
 
-nothing_behind : (o : Option (Lines Room)) → option_map (behind ([], [])) o ≡ o
-nothing_behind None = refl
-nothing_behind (Some r) = refl
+nothing_after : (o : Option (Lines Room)) → option_map (following ([], [])) o ≡ o
+nothing_after None = refl
+nothing_after (Some r) = refl
 
-one_behind : (t u : List ℕ) (n : ℕ) (o : Option (Lines Room)) → option_map (behind (t, anywhere ∷ [])) (option_map (behind (u, replicate n anywhere)) o) ≡ option_map (behind (t ++ u, replicate (suc n) anywhere)) o
-one_behind t u n None = refl
-one_behind t u n (Some r) = ap (λ x. Some (x, anywhere ∷ (replicate n anywhere ++ r.1))) (sym (append_assoc t u r.0))
+one_after : (t u : List ℕ) (n : ℕ) (o : Option (Lines Room)) → option_map (following (t, anywhere ∷ [])) (option_map (following (u, replicate n anywhere)) o) ≡ option_map (following (t ++ u, replicate (suc n) anywhere)) o
+one_after t u n None = refl
+one_after t u n (Some r) = ap (λ x. Some (x, anywhere ∷ (replicate n anywhere ++ r.1))) (sym (append_assoc t u r.0))
 
 -- the lines of functions after those of stubs
-abbrev pub behind_stubs : Items → List (FunctionValue × Span) → Option (List ℕ × ℕ) → Option (Lines Room)
-behind_stubs i fs o = o >>= λ s. option_map (behind (s.0, replicate s.1 anywhere)) (functions_text i (drop s.1 fs))
+abbrev pub after_stubs : Items → List (FunctionValue × Span) → Option (List ℕ × ℕ) → Option (Lines Room)
+after_stubs i fs o = o >>= λ s. option_map (following (s.0, replicate s.1 anywhere)) (functions_text i (drop s.1 fs))
 
-stub_behind : (i : Items) (f : FunctionValue × Span) (fs : List (FunctionValue × Span)) (o : Option (List ℕ)) (os : Option (List ℕ × ℕ)) → before (option_map (λ t. (t, anywhere)) o) (behind_stubs i fs os) ≡ behind_stubs i (f ∷ fs) (one_more o os)
-stub_behind i f fs None os = refl
-stub_behind i f fs (Some t) None = refl
-stub_behind i f fs (Some t) (Some s) =
+stub_after : (i : Items) (f : FunctionValue × Span) (fs : List (FunctionValue × Span)) (o : Option (List ℕ)) (os : Option (List ℕ × ℕ)) → before (option_map (λ t. (t, anywhere)) o) (after_stubs i fs os) ≡ after_stubs i (f ∷ fs) (one_more o os)
+stub_after i f fs None os = refl
+stub_after i f fs (Some t) None = refl
+stub_after i f fs (Some t) (Some s) =
     let next : suc s.1 ≡ 1 + s.1 = omega arith in
-    one_behind t s.0 s.1 (functions_text i (drop s.1 fs)) ∙ ap (λ n. option_map (behind (t ++ s.0, replicate n anywhere)) (functions_text i (drop n (f ∷ fs)))) next
+    one_after t s.0 s.1 (functions_text i (drop s.1 fs)) ∙ ap (λ n. option_map (following (t ++ s.0, replicate n anywhere)) (functions_text i (drop n (f ∷ fs)))) next
 
-stubs_first : (i : Items) (fs : List (FunctionValue × Span)) → functions_text i fs ≡ behind_stubs i fs (stubs_text fs)
+stubs_first : (i : Items) (fs : List (FunctionValue × Span)) → functions_text i fs ≡ after_stubs i fs (stubs_text fs)
 stubs_first i [] = refl
 stubs_first i (f ∷ fs) = by (is_empty f.0.body) refl (stubs_first i fs)
   where
-    by : (b : Bool) → is_empty f.0.body ≡ b → functions_text i fs ≡ behind_stubs i fs (stubs_text fs) → functions_text i (f ∷ fs) ≡ behind_stubs i (f ∷ fs) (cond b (one_more (stub_text f.0) (stubs_text fs)) (Some ([], 0)))
-    by false e rest = sym (nothing_behind (functions_text i (f ∷ fs)))
-    by true e rest = ap (λ l. before l (functions_text i fs)) (stub_line i f.0 e) ∙ ap (before (option_map (λ t. (t, anywhere)) (stub_text f.0))) rest ∙ stub_behind i f fs (stub_text f.0) (stubs_text fs)
+    by : (b : Bool) → is_empty f.0.body ≡ b → functions_text i fs ≡ after_stubs i fs (stubs_text fs) → functions_text i (f ∷ fs) ≡ after_stubs i (f ∷ fs) (cond b (one_more (stub_text f.0) (stubs_text fs)) (Some ([], 0)))
+    by false e rest = sym (nothing_after (functions_text i (f ∷ fs)))
+    by true e rest = ap (λ l. before l (functions_text i fs)) (stub_line i f.0 e) ∙ ap (before (option_map (λ t. (t, anywhere)) (stub_text f.0))) rest ∙ stub_after i f fs (stub_text f.0) (stubs_text fs)
 
 stub_name : (f : FunctionValue) (t : List ℕ) → stub_text f ≡ Some t → IsSome (valid_name f.name)
 unfolding stub_text
@@ -274,7 +274,7 @@ stubs_named (f ∷ fs) t e = by (is_empty f.0.body) (stub_text f.0) (stubs_text 
 abbrev pub rest_named : ModuleValue → Items → Option (List (List ℕ)) → ℕ → Option (List ℕ)
 rest_named m i o n = do
   ns ← o
-  fs ← functions_behind (record i { functions = ns }) n (drop n m.functions)
+  fs ← functions_after (record i { functions = ns }) n (drop n m.functions)
   es ← entries_text (record i { functions = ns }) m.entry_points
   when (has_order fs.1 es.1) (fs.0 ++ es.0)
 
@@ -305,8 +305,8 @@ abbrev pub with_words : List ℕ × Items → List (List ℕ) → Option (List �
 with_words c ns = Some (c.0, record c.1 { functions = ns })
 
 -- a text with the lines of functions and entry points after it
-abbrev pub lines_behind : ModuleValue → List ℕ → Items → Option (Lines Room) → Option (List ℕ)
-lines_behind m t i o = do
+abbrev pub lines_after : ModuleValue → List ℕ → Items → Option (Lines Room) → Option (List ℕ)
+lines_after m t i o = do
   fs ← o
   es ← entries_text i m.entry_points
   when (has_order fs.1 es.1) ((t ++ fs.0) ++ es.0)
@@ -321,14 +321,14 @@ module_parts m plain = rw plain (begin (begin_text m))
     chosen true t s r e = ap Some (ap (λ u. u ++ e) (sym (append_assoc t s r)) ∙ append_assoc (t ++ s) r e)
 
     ending : (t s : List ℕ) (rs : List Room) (o : Option (Lines Room)) (os : Option (Lines Room))
-        → (option_map (behind (s, rs)) o >>= λ fs. os >>= λ es. when (has_order fs.1 es.1) ((t ++ fs.0) ++ es.0))
-        ≡ option_map (λ u. (t ++ s) ++ u) (option_map (behind ([], rs)) o >>= λ fs. os >>= λ es. when (has_order fs.1 es.1) (fs.0 ++ es.0))
+        → (option_map (following (s, rs)) o >>= λ fs. os >>= λ es. when (has_order fs.1 es.1) ((t ++ fs.0) ++ es.0))
+        ≡ option_map (λ u. (t ++ s) ++ u) (option_map (following ([], rs)) o >>= λ fs. os >>= λ es. when (has_order fs.1 es.1) (fs.0 ++ es.0))
     ending t s rs None os = refl
     ending t s rs (Some r) None = refl
     ending t s rs (Some r) (Some e) = chosen (has_order (rs ++ r.1) e.1) t s r.0 e.0
 
     stubs : (c : List ℕ × Items) (ns : List (List ℕ)) (o : Option (List ℕ × ℕ))
-        → lines_behind m c.0 (record c.1 { functions = ns }) (behind_stubs (record c.1 { functions = ns }) m.functions o) ≡ (o >>= λ s. option_map (λ t. (c.0 ++ s.0) ++ t) (rest_named m c.1 (Some ns) s.1))
+        → lines_after m c.0 (record c.1 { functions = ns }) (after_stubs (record c.1 { functions = ns }) m.functions o) ≡ (o >>= λ s. option_map (λ t. (c.0 ++ s.0) ++ t) (rest_named m c.1 (Some ns) s.1))
     stubs c ns None = refl
     stubs c ns (Some s) = ending c.0 s.0 (replicate s.1 anywhere) (functions_text (record c.1 { functions = ns }) (drop s.1 m.functions)) (entries_text (record c.1 { functions = ns }) m.entry_points)
 
@@ -337,19 +337,19 @@ module_parts m plain = rw plain (begin (begin_text m))
     none t i (Some s) = refl
 
     words : (c : List ℕ × Items) (o : Option (List (List ℕ)))
-        → (o >>= λ ns. lines_behind m c.0 (record c.1 { functions = ns }) (functions_text (record c.1 { functions = ns }) m.functions)) ≡ (stubs_text m.functions >>= λ s. option_map (λ t. (c.0 ++ s.0) ++ t) (rest_named m c.1 o s.1))
+        → (o >>= λ ns. lines_after m c.0 (record c.1 { functions = ns }) (functions_text (record c.1 { functions = ns }) m.functions)) ≡ (stubs_text m.functions >>= λ s. option_map (λ t. (c.0 ++ s.0) ++ t) (rest_named m c.1 o s.1))
     words c None = none c.0 c.1 (stubs_text m.functions)
-    words c (Some ns) = let i : Items = record c.1 { functions = ns } in ap (lines_behind m c.0 i) (stubs_first i m.functions) ∙ stubs c ns (stubs_text m.functions)
+    words c (Some ns) = let i : Items = record c.1 { functions = ns } in ap (lines_after m c.0 i) (stubs_first i m.functions) ∙ stubs c ns (stubs_text m.functions)
 
     begin : (o : Option (List ℕ × Items))
-        → ((o >>= λ c. function_words m.functions >>= λ ns. with_words c ns) >>= λ cs. lines_behind m cs.0 cs.1 (functions_text cs.1 m.functions))
+        → ((o >>= λ c. function_words m.functions >>= λ ns. with_words c ns) >>= λ cs. lines_after m cs.0 cs.1 (functions_text cs.1 m.functions))
         ≡ (o >>= λ c. stubs_text m.functions >>= λ s. option_map (λ t. (c.0 ++ s.0) ++ t) (rest_named m c.1 (function_words m.functions) s.1))
     begin None = refl
     begin (Some c) = joined (function_words m.functions) ∙ words c (function_words m.functions)
       where
         joined : (o : Option (List (List ℕ)))
-            → ((o >>= λ ns. with_words c ns) >>= λ cs. lines_behind m cs.0 cs.1 (functions_text cs.1 m.functions))
-            ≡ (o >>= λ ns. lines_behind m c.0 (record c.1 { functions = ns }) (functions_text (record c.1 { functions = ns }) m.functions))
+            → ((o >>= λ ns. with_words c ns) >>= λ cs. lines_after m cs.0 cs.1 (functions_text cs.1 m.functions))
+            ≡ (o >>= λ ns. lines_after m c.0 (record c.1 { functions = ns }) (functions_text (record c.1 { functions = ns }) m.functions))
         joined None = refl
         joined (Some ns) = refl
 

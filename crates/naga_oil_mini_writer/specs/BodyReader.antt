@@ -2,7 +2,7 @@
 use Rattle.std.specs.Prelude.{ℕ, ◌+◌, ◌*◌, zero, suc, min, Bool, true, false, ◌==◌, ◌&&◌, ◌||◌, nat_le, if◌then◌else◌, List, [], ◌∷◌, ◌++◌, length, map, take, drop, replicate, reverse, slice_get, slice_set, Option, Some, None, option_map}
 use Rattle.std.specs.List.{prefix_len}
 use Rattle.std.specs.Borrow.{Bor}
-use Rattle.naga_oil_ir.specs.Kinds.{literal_kind, load_kind, binary_kind}
+use Rattle.naga_oil_ir.specs.Kinds.{literal_kind, load_kind, binary_kind, return_head}
 use Rattle.naga_oil_ir.specs.Parts.{Parts}
 use Rattle.naga_oil_ir.specs.Body.{Tokens}
 use Rattle.naga_oil_ir.specs.ModuleValue.{expression_values}
@@ -12,13 +12,13 @@ use Rattle.naga_oil_ir.specs.declared.span.Span.{Span}
 use Rattle.naga_oil_ir.specs.declared.tokens.Token.{Token}
 use Rattle.naga_oil_ir.specs.declared.tokens.Token.TheVariants.{Head, Use, GiveCall, Emitted, Callee}
 use Rattle.naga_oil_words.specs.OptionSteps.{◌>>=◌}
-use Rattle.naga_oil_mini_symbols.specs.Names.{last_place}
+use Rattle.naga_oil_mini_symbols.specs.NameTable.{last_place}
 use Rattle.naga_oil_mini_writer.specs.Order.{anywhere, name_used, bounds_used, place_from}
 use Rattle.naga_oil_mini_symbols.specs.Symbols.{Symbol, name, opens, number, equals, plus, comma, closes, greatest_number, symbol_of, line_of}
 use Rattle.naga_oil_mini_writer.specs.declared.body_reader.Shape.{Shape}
 use Rattle.naga_oil_mini_writer.specs.declared.body_reader.Shape.TheVariants.{Number, Argument, Constant, Global, Local, CallOf, Load, Sum, Other}
-use Rattle.naga_oil_mini_writer.specs.declared.body_reader.Part.{Part as PartOfCode}
-use Rattle.naga_oil_mini_writer.specs.declared.body_reader.Part.TheVariants as code
+use Rattle.naga_oil_mini_writer.specs.declared.body_reader.LinePart.{LinePart as PartOfCode}
+use Rattle.naga_oil_mini_writer.specs.declared.body_reader.LinePart.TheVariants as code
 use Rattle.naga_oil_mini_writer.specs.declared.body_reader.BodyReader.{BodyReader}
 use Rattle.naga_oil_mini_writer.specs.declared.body_reader.OwnNames.{OwnNames}
 use Rattle.naga_oil_mini_writer.specs.declared.order.Room.{Room}
@@ -88,18 +88,18 @@ past_call f h ts = None
 
 -- after a return, with the value that is returned
 abbrev pub past_return : Tokens → Option (ℕ × Tokens)
-past_return (Use v ∷ Head k ∷ s ∷ ts) = if k == 10 then Some (v, ts) else None
+past_return (Use v ∷ Head k ∷ s ∷ ts) = if k == return_head then Some (v, ts) else None
 past_return ts = None
 
 -- ---- a line's end that is being read
 -- a part that isn't read yet: a symbol, a sum, a term, the arguments of a call (the last first), an initialiser, or a term of one
-pub data Part : Type 0 where
-  shown : Symbol → Part
-  sum_at : ℕ → Part
-  term_at : ℕ → Part
-  arguments : Tokens → Part
-  initialiser_at : ℕ → Part
-  initial_term_at : ℕ → Part
+pub data LinePart : Type 0 where
+  shown : Symbol → LinePart
+  sum_at : ℕ → LinePart
+  term_at : ℕ → LinePart
+  arguments : Tokens → LinePart
+  initialiser_at : ℕ → LinePart
+  initial_term_at : ℕ → LinePart
 
 -- the expressions, the function's own names and the items that it may use
 pub record Context : Type 0 where
@@ -110,19 +110,19 @@ pub record Context : Type 0 where
 -- the parts that aren't read yet (the last of the line first), the statements to their left (from the end), the
 -- expressions that were met, the expression of each parameter, the symbols to their right, and the room of the items that
 -- they name
-pub record Reading : Type 0 where
+pub record LineReading : Type 0 where
   pub context : Context
-  pub parts : List Part
+  pub parts : List LinePart
   pub tokens : Tokens
   pub met : List Bool
   pub parameters_met : List (Option ℕ)
   pub symbols : List Symbol
   pub room : Room
 
-abbrev pub with_symbol : Symbol → Reading → Reading
+abbrev pub with_symbol : Symbol → LineReading → LineReading
 with_symbol s r = record r { symbols = s ∷ r.symbols }
 
-abbrev pub with_name : Option (List ℕ) → Reading → Option Reading
+abbrev pub with_name : Option (List ℕ) → LineReading → Option LineReading
 with_name o r = option_map (λ n. with_symbol (name n) r) o
 
 -- ---- what names mean
@@ -151,17 +151,17 @@ abbrev pub outer_name : OwnNames → List ℕ → Option (List ℕ)
 outer_name x n = if is_outer x n then Some n else None
 
 -- ---- the room of a line
-abbrev pub use_constant : ℕ → Reading → Reading
+abbrev pub use_constant : ℕ → LineReading → LineReading
 use_constant c r = record r { room = record r.room { constants = bounds_used r.context.items.constants c r.room.constants } }
 
-abbrev pub use_global : ℕ → Reading → Reading
+abbrev pub use_global : ℕ → LineReading → LineReading
 use_global g r = record r { room = record r.room { globals = bounds_used r.context.items.globals g r.room.globals } }
 
-abbrev pub use_function : ℕ → Reading → Reading
+abbrev pub use_function : ℕ → LineReading → LineReading
 use_function f r = record r { room = record r.room { functions = bounds_used r.context.items.functions f r.room.functions } }
 
 -- before each global with a name
-abbrev pub before_globals : List ℕ → Reading → Reading
+abbrev pub before_globals : List ℕ → LineReading → LineReading
 before_globals n r = record r { room = record r.room { globals = record r.room.globals { most = min r.room.globals.most (place_from 0 n r.context.items.globals) } } }
 
 -- ---- expressions
@@ -178,37 +178,37 @@ abbrev pub meet_parameter : ℕ → ℕ → List (Option ℕ) → Option (List (
 meet_parameter k h ms = slice_get ms k >>= λ m. if is_free h m then Some (slice_set ms k (Some h)) else None
 
 -- a sum: its last term, `+`, and the rest
-abbrev pub with_sum : ℕ → ℕ → ℕ → Reading → Option Reading
+abbrev pub with_sum : ℕ → ℕ → ℕ → LineReading → Option LineReading
 with_sum h l x r = past_emit h r.tokens >>= λ ts. Some (record r { tokens = ts; parts = term_at x ∷ shown plus ∷ sum_at l ∷ r.parts })
 
 -- a call: `)`, its arguments from the last on, and its name
-abbrev pub with_call : ℕ → ℕ → Reading → Option Reading
+abbrev pub with_call : ℕ → ℕ → LineReading → Option LineReading
 with_call h f r = name_used r.context.items.functions f >>= λ n. past_call f h r.tokens >>= λ p.
     Some (record (with_symbol closes (use_function f r)) { tokens = p.1; parts = arguments p.0 ∷ shown (opens n) ∷ r.parts })
 
 -- a parameter
-abbrev pub with_parameter : ℕ → ℕ → Reading → Option Reading
+abbrev pub with_parameter : ℕ → ℕ → LineReading → Option LineReading
 with_parameter h k r = meet_parameter k h r.parameters_met >>= λ ms. with_name (parameter_name r.context.names k) (record r { parameters_met = ms })
 
 -- a constant; its line is before each global with its name
-abbrev pub with_constant : ℕ → Reading → Option Reading
+abbrev pub with_constant : ℕ → LineReading → Option LineReading
 with_constant c r = name_used r.context.items.constants c >>= λ n. with_name (outer_name r.context.names n) (before_globals n (use_constant c r))
 
-abbrev pub with_global : ℕ → Reading → Option Reading
+abbrev pub with_global : ℕ → LineReading → Option LineReading
 with_global g r = name_used r.context.items.globals g >>= λ n. with_name (outer_name r.context.names n) (use_global g r)
 
 -- a local or a global by its shape
-abbrev pub with_variable : Shape → Reading → Option Reading
+abbrev pub with_variable : Shape → LineReading → Option LineReading
 with_variable (Local l) r = with_name (local_name r.context.names l) r
 with_variable (Global g) r = with_global g r
 with_variable s r = None
 
 -- a load of a variable, which is emitted alone
-abbrev pub with_load : ℕ → ℕ → Reading → Option Reading
+abbrev pub with_load : ℕ → ℕ → LineReading → Option LineReading
 with_load h p r = past_emit h r.tokens >>= λ ts. meet p r.met >>= λ ms. with_variable (shape_at r.context.expressions p) (record r { tokens = ts; met = ms })
 
 -- an expression by its shape, where it may be a sum or not
-abbrev pub with_shape : Bool → ℕ → Shape → Reading → Option Reading
+abbrev pub with_shape : Bool → ℕ → Shape → LineReading → Option LineReading
 with_shape b h (CallOf f) r = with_call h f r
 with_shape true h (Sum l x) r = with_sum h l x r
 with_shape b h (Load p) r = with_load h p r
@@ -217,44 +217,44 @@ with_shape b h (Constant c) r = with_constant c r
 with_shape b h s r = None
 
 -- an expression that occurs once
-abbrev pub with_own : Bool → ℕ → Shape → Reading → Option Reading
+abbrev pub with_own : Bool → ℕ → Shape → LineReading → Option LineReading
 with_own b h s r = meet h r.met >>= λ ms. with_shape b h s (record r { met = ms })
 
 -- a parameter, or an expression that occurs once
-abbrev pub with_either : Bool → ℕ → Shape → Reading → Option Reading
+abbrev pub with_either : Bool → ℕ → Shape → LineReading → Option LineReading
 with_either b h (Argument k) r = with_parameter h k r
 with_either b h s r = with_own b h s r
 
-abbrev pub with_expression : Bool → ℕ → Reading → Option Reading
+abbrev pub with_expression : Bool → ℕ → LineReading → Option LineReading
 with_expression b h r = with_either b h (shape_at r.context.expressions h) r
 
 -- ---- arguments: the last, and before it a `,` and the others
-abbrev pub argument_parts : Tokens → List Part
+abbrev pub argument_parts : Tokens → List LinePart
 argument_parts (Use h ∷ []) = sum_at h ∷ []
 argument_parts (Use h ∷ t ∷ ts) = sum_at h ∷ shown comma ∷ arguments (t ∷ ts) ∷ []
 argument_parts ts = []
 
-abbrev pub with_argument : Tokens → Reading → Reading
+abbrev pub with_argument : Tokens → LineReading → LineReading
 with_argument ts r = record r { parts = argument_parts ts ++ r.parts }
 
 -- ---- initialisers, which may share equal expressions, but none with the sum
-abbrev pub with_initial_sum : ℕ → ℕ → ℕ → Reading → Option Reading
+abbrev pub with_initial_sum : ℕ → ℕ → ℕ → LineReading → Option LineReading
 with_initial_sum h l x r = past_initialiser h r.tokens >>= λ ts. Some (record r { tokens = ts; parts = initial_term_at x ∷ shown plus ∷ initialiser_at l ∷ r.parts })
 
-abbrev pub with_initial_constant : ℕ → Reading → Option Reading
+abbrev pub with_initial_constant : ℕ → LineReading → Option LineReading
 with_initial_constant c r = with_name (name_used r.context.items.constants c) (use_constant c r)
 
-abbrev pub with_initial_shape : Bool → ℕ → Shape → Reading → Option Reading
+abbrev pub with_initial_shape : Bool → ℕ → Shape → LineReading → Option LineReading
 with_initial_shape b h (Number n) r = Some (with_symbol (number n) r)
 with_initial_shape b h (Constant c) r = with_initial_constant c r
 with_initial_shape true h (Sum l x) r = with_initial_sum h l x r
 with_initial_shape b h s r = None
 
-abbrev pub with_initialiser : Bool → ℕ → Reading → Option Reading
+abbrev pub with_initialiser : Bool → ℕ → LineReading → Option LineReading
 with_initialiser b h r = slice_get r.met h >>= λ m. if m then None else with_initial_shape b h (shape_at r.context.expressions h) r
 
 -- ---- all parts
-abbrev pub next_part : Part → Reading → Option Reading
+abbrev pub next_part : LinePart → LineReading → Option LineReading
 next_part (shown x) r = Some (with_symbol x r)
 next_part (sum_at h) r = with_expression true h r
 next_part (term_at h) r = with_expression false h r
@@ -262,17 +262,17 @@ next_part (arguments ts) r = Some (with_argument ts r)
 next_part (initialiser_at h) r = with_initialiser true h r
 next_part (initial_term_at h) r = with_initialiser false h r
 
-abbrev pub one_part : List Part → Reading → Option Reading
+abbrev pub one_part : List LinePart → LineReading → Option LineReading
 one_part [] r = Some r
 one_part (p ∷ ps) r = next_part p (record r { parts = ps })
 
 -- the first parts, by their number
-abbrev pub parts_read : ℕ → Reading → Option Reading
+abbrev pub parts_read : ℕ → LineReading → Option LineReading
 parts_read zero r = Some r
 parts_read (suc n) r = one_part r.parts r >>= λ q. parts_read n q
 
 -- what was read, if nothing is left
-abbrev pub when_done : Reading → Option (List Symbol × Room)
+abbrev pub when_done : LineReading → Option (List Symbol × Room)
 when_done r = if (length r.parts == 0) && (length r.tokens == 0) then Some (r.symbols, r.room) else None
 
 -- ---- a function's body
@@ -281,21 +281,21 @@ abbrev pub NamedInitialiser : Type 0
 NamedInitialiser = List ℕ × ℕ
 
 -- the `,` before each local but the first
-abbrev pub separator : List Part → List Part
+abbrev pub separator : List LinePart → List LinePart
 separator ps = if length ps == 0 then [] else shown comma ∷ []
 
 -- the parts of locals, after the separator before the first
-abbrev pub local_parts : List Part → List NamedInitialiser → List Part
+abbrev pub local_parts : List LinePart → List NamedInitialiser → List LinePart
 local_parts sep [] = []
 local_parts sep (l ∷ ls) = sep ++ (shown (name l.0) ∷ shown equals ∷ initialiser_at l.1 ∷ local_parts (shown comma ∷ []) ls)
 
 -- the `=` after locals
-abbrev pub behind_locals : List Part → List Part
-behind_locals ps = if length ps == 0 then [] else shown equals ∷ []
+abbrev pub after_locals : List LinePart → List LinePart
+after_locals ps = if length ps == 0 then [] else shown equals ∷ []
 
 -- locals and the sum that is returned
-abbrev pub line_parts : List NamedInitialiser → ℕ → List Part
-line_parts ls v = let ps = local_parts [] ls in ps ++ behind_locals ps ++ sum_at v ∷ []
+abbrev pub line_parts : List NamedInitialiser → ℕ → List LinePart
+line_parts ls v = let ps = local_parts [] ls in ps ++ after_locals ps ++ sum_at v ∷ []
 
 -- a bound of the number of parts: three for each token of the statements, and four for each local
 abbrev pub part_count : Tokens → List NamedInitialiser → ℕ
@@ -305,7 +305,7 @@ abbrev pub context : List (Parts × Span) → List (List ℕ) → List NamedInit
 context es ps ls i = record { expressions = es; names = record { parameters = ps; locals = map (λ l. l.0) ls }; items = i }
 
 -- nothing is read yet
-abbrev pub unread : Context → List NamedInitialiser → ℕ × Tokens → Reading
+abbrev pub unread : Context → List NamedInitialiser → ℕ × Tokens → LineReading
 unread x ls p = record {
   context = x;
   parts = reverse (line_parts ls p.0);
@@ -324,7 +324,7 @@ end_of x ls ts = do
   when_done r
 
 -- ---- as the code has them
-abbrev pub part_of : PartOfCode → Part
+abbrev pub part_of : PartOfCode → LinePart
 part_of (code.Show s) = shown (symbol_of s)
 part_of (code.Sum h) = sum_at h
 part_of (code.Term h) = term_at h
@@ -332,7 +332,7 @@ part_of (code.Arguments ts) = arguments ts.now
 part_of (code.Initialiser h) = initialiser_at h
 part_of (code.InitialTerm h) = initial_term_at h
 
-abbrev pub parts_of : List PartOfCode → List Part
+abbrev pub parts_of : List PartOfCode → List LinePart
 parts_of ps = map part_of ps
 
 -- locals with their names as texts
@@ -342,7 +342,7 @@ locals_of ls = map (λ l. (l.0.now, l.1)) ls
 abbrev pub context_of : BodyReader → Context
 context_of r = record { expressions = expression_values r.expressions.now; names = r.names.now; items = r.items.now }
 
-abbrev pub reading_of : BodyReader → Reading
+abbrev pub reading_of : BodyReader → LineReading
 reading_of r = record {
   context = context_of r;
   parts = reverse (parts_of r.parts.items);

@@ -5,13 +5,12 @@ use Rattle.std.specs.List.{flat_map, join_by}
 use Rattle.naga_oil_ir.specs.Parts.{Parts}
 use Rattle.naga_oil_ir.specs.Rows.{Row, constant_row, global_row, Kind, TypeKind}
 use Rattle.naga_oil_ir.specs.Body.{Tokens}
-use Rattle.naga_oil_ir.specs.ModuleValue.{ModuleValue, FunctionValue, function_value, ArgumentValue, LocalValue, local_value, EntryValue, SpecialValue}
+use Rattle.naga_oil_ir.specs.ModuleValue.{ModuleValue, FunctionValue, function_value, ArgumentValue, LocalValue, EntryValue, SpecialValue}
 use Rattle.naga_oil_ir.specs.Backend.{FaultValue}
 use Rattle.naga_oil_ir.specs.declared.module.Function.{Function}
 use Rattle.naga_oil_ir.specs.declared.module.FunctionResult.{FunctionResult}
 use Rattle.naga_oil_ir.specs.declared.types.Constant.{Constant as ConstantItself}
 use Rattle.naga_oil_ir.specs.declared.types.GlobalVariable.{GlobalVariable}
-use Rattle.naga_oil_ir.specs.declared.types.LocalVariable.{LocalVariable}
 use Rattle.naga_oil_ir.specs.declared.names.ItemPlace.{ItemPlace}
 use Rattle.naga_oil_ir.specs.declared.names.ItemPlace.TheVariants.{TypeItem, ExpressionItem}
 use Rattle.naga_oil_ir.specs.declared.span.Span.{Span}
@@ -88,12 +87,12 @@ abbrev pub Lines : Type 0 → Type 0
 Lines A = List ℕ × List A
 
 -- lines after others
-abbrev pub behind : {A : Type 0} → Lines A → Lines A → Lines A
-behind a b = (a.0 ++ b.0, a.1 ++ b.1)
+abbrev pub following : {A : Type 0} → Lines A → Lines A → Lines A
+following a b = (a.0 ++ b.0, a.1 ++ b.1)
 
 -- a line before others
 abbrev pub before : {A : Type 0} → Option (List ℕ × A) → Option (Lines A) → Option (Lines A)
-before l ls = l >>= λ x. option_map (behind (x.0, x.1 ∷ [])) ls
+before l ls = l >>= λ x. option_map (following (x.0, x.1 ∷ [])) ls
 
 -- a constant's line, and its name
 abbrev pub constant_text : List (Parts × Span) → Row → Option (List ℕ × List ℕ)
@@ -210,8 +209,8 @@ stubs_text [] = Some ([], 0)
 stubs_text (f ∷ fs) = if is_empty f.0.body then one_more (stub_text f.0) (stubs_text fs) else Some ([], 0)
 
 -- the lines of functions, after a number of lines that name nothing
-abbrev pub functions_behind : Items → ℕ → List (FunctionValue × Span) → Option (Lines Room)
-functions_behind i n fs = option_map (behind ([], replicate n anywhere)) (functions_text i fs)
+abbrev pub functions_after : Items → ℕ → List (FunctionValue × Span) → Option (Lines Room)
+functions_after i n fs = option_map (following ([], replicate n anywhere)) (functions_text i fs)
 
 -- ---- entry points
 abbrev pub is_ones : List ℕ → Bool
@@ -297,7 +296,7 @@ ends_with_stubs m n = (n == length m.functions) && is_empty m.entry_points
 unfoldable pub rest_text : Items → ModuleValue → ℕ → Option (List ℕ)
 rest_text i m n = do
   ns ← function_words m.functions
-  fs ← functions_behind (record i { functions = ns }) n (drop n m.functions)
+  fs ← functions_after (record i { functions = ns }) n (drop n m.functions)
   es ← entries_text (record i { functions = ns }) m.entry_points
   when (has_order fs.1 es.1) (fs.0 ++ es.0)
 
@@ -314,6 +313,3 @@ global_rows gs = map (λ g. (global_row g.0, g.1)) gs
 
 abbrev pub function_values : List (Function × Span) → List (FunctionValue × Span)
 function_values fs = map (λ f. (function_value f.0, f.1)) fs
-
-abbrev pub local_values : List (LocalVariable × Span) → List (LocalValue × Span)
-local_values ls = map (λ l. (local_value l.0, l.1)) ls

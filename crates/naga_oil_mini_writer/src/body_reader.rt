@@ -11,7 +11,7 @@ ghost use Rattle.naga_oil_mini_writer.specs.NotWritten.{Finds, Becomes};
 use crate::not_written::{NotWritten, WriteResult};
 use crate::order::{ANYWHERE, Items, Room};
 use naga_oil_ir::{Arena, Block, Expression, Index, Token, push_block};
-use naga_oil_mini_symbols::{GREATEST, Names, Symbol};
+use naga_oil_mini_symbols::{GREATEST, NameTable, Symbol};
 use std::alloc::{AllocError, Global};
 
 /// What an expression is in a sum.
@@ -32,14 +32,14 @@ pub enum Shape {
 /// The names of a function's own variables.
 #[derive(Drop)]
 pub struct OwnNames<'m> {
-    pub parameters: Names<'m>,
-    pub locals: Names<'m>,
+    pub parameters: NameTable<'m>,
+    pub locals: NameTable<'m>,
 }
 
 // A part of a line's end that isn't read yet: a symbol, a sum, a term, the arguments of a call (the last first), an
 // initialiser, or a term of one.
 #[derive(Clone, Copy)]
-enum Part<'t, 'm> {
+enum LinePart<'t, 'm> {
     Show(Symbol<'m>),
     Sum(usize),
     Term(usize),
@@ -56,7 +56,7 @@ struct BodyReader<'t, 'r, 'm> {
     expressions: &'r Arena<Expression>,
     names: &'r OwnNames<'m>,
     items: &'r Items<'m>,
-    parts: Vec<Part<'t, 'm>>,
+    parts: Vec<LinePart<'t, 'm>>,
     tokens: &'t [Token],
     met: Vec<bool>,
     parameters_met: Vec<Option<usize>>,
@@ -171,11 +171,11 @@ fn past_call(tokens: &[Token], function: usize, place: usize) -> Option<(&[Token
     ensures { let past = spec.past_call function place tokens.now in
         option_map (λ p. (p.0.now, p.1.now)) result ≡ past }
 {
-    let [Token::GiveCall(callee, given), behind @ ..] = tokens else {
+    let [Token::GiveCall(callee, given), following @ ..] = tokens else {
         return None;
     };
-    let (arguments, behind) = behind.split_at(use_count(behind));
-    let [Token::Callee(_), _, _, rest @ ..] = behind else {
+    let (arguments, following) = following.split_at(use_count(following));
+    let [Token::Callee(_), _, _, rest @ ..] = following else {
         return None;
     };
     let is_right = callee.index() == function && given.index() == place;
@@ -243,8 +243,8 @@ impl<'t, 'm> BodyReader<'t, '_, 'm> {
         let (arguments, rest) = call.ok_or(NotWritten::NotInMini)?;
         self.tokens = rest;
         self.symbols.push(Symbol::Closes)?;
-        self.parts.push(Part::Show(Symbol::Opens(name)))?;
-        Ok(self.parts.push(Part::Arguments(arguments))?)
+        self.parts.push(LinePart::Show(Symbol::Opens(name)))?;
+        Ok(self.parts.push(LinePart::Arguments(arguments))?)
     }
 
     // Reads a sum: its last term, `+`, and the rest.
@@ -253,9 +253,9 @@ impl<'t, 'm> BodyReader<'t, '_, 'm> {
             Becomes result (spec.with_sum place left right old) (spec.reading_of self.new) }
     {
         self.tokens = past_emit(self.tokens, place).ok_or(NotWritten::NotInMini)?;
-        self.parts.push(Part::Sum(left))?;
-        self.parts.push(Part::Show(Symbol::Plus))?;
-        Ok(self.parts.push(Part::Term(right))?)
+        self.parts.push(LinePart::Sum(left))?;
+        self.parts.push(LinePart::Show(Symbol::Plus))?;
+        Ok(self.parts.push(LinePart::Term(right))?)
     }
 
     fn read_parameter(&mut self, place: usize, number: usize) -> WriteResult<()>
@@ -337,9 +337,9 @@ impl<'t, 'm> BodyReader<'t, '_, 'm> {
             Becomes result (spec.with_initial_sum place left right old) (spec.reading_of self.new) }
     {
         self.tokens = past_initialiser(self.tokens, place).ok_or(NotWritten::NotInMini)?;
-        self.parts.push(Part::Initialiser(left))?;
-        self.parts.push(Part::Show(Symbol::Plus))?;
-        Ok(self.parts.push(Part::InitialTerm(right))?)
+        self.parts.push(LinePart::Initialiser(left))?;
+        self.parts.push(LinePart::Show(Symbol::Plus))?;
+        Ok(self.parts.push(LinePart::InitialTerm(right))?)
     }
 
     // Reads a constant of an initialiser.
@@ -386,10 +386,10 @@ impl<'t, 'm> BodyReader<'t, '_, 'm> {
             return Ok(());
         };
         if !rest.is_empty() {
-            self.parts.push(Part::Arguments(rest))?;
-            self.parts.push(Part::Show(Symbol::Comma))?;
+            self.parts.push(LinePart::Arguments(rest))?;
+            self.parts.push(LinePart::Show(Symbol::Comma))?;
         }
-        Ok(self.parts.push(Part::Sum(last.index()))?)
+        Ok(self.parts.push(LinePart::Sum(last.index()))?)
     }
 
     // Reads the next part.
@@ -399,12 +399,12 @@ impl<'t, 'm> BodyReader<'t, '_, 'm> {
     {
         match self.parts.pop() {
             None => Ok(()),
-            Some(Part::Show(symbol)) => Ok(self.symbols.push(symbol)?),
-            Some(Part::Sum(place)) => self.read(true, place),
-            Some(Part::Term(place)) => self.read(false, place),
-            Some(Part::Arguments(arguments)) => Ok(self.read_argument(arguments)?),
-            Some(Part::Initialiser(place)) => self.read_initialiser(true, place),
-            Some(Part::InitialTerm(place)) => self.read_initialiser(false, place),
+            Some(LinePart::Show(symbol)) => Ok(self.symbols.push(symbol)?),
+            Some(LinePart::Sum(place)) => self.read(true, place),
+            Some(LinePart::Term(place)) => self.read(false, place),
+            Some(LinePart::Arguments(arguments)) => Ok(self.read_argument(arguments)?),
+            Some(LinePart::Initialiser(place)) => self.read_initialiser(true, place),
+            Some(LinePart::InitialTerm(place)) => self.read_initialiser(false, place),
         }
     }
 
@@ -422,7 +422,7 @@ impl<'t, 'm> BodyReader<'t, '_, 'm> {
 
 // Adds the parts of a local, after a `,` for each but the first.
 fn push_local<'m>(
-    parts: &mut Vec<Part<'_, 'm>>,
+    parts: &mut Vec<LinePart<'_, 'm>>,
     name: &'m str,
     initialiser: usize,
 ) -> Result<(), AllocError>
@@ -431,11 +431,11 @@ fn push_local<'m>(
         OnOk result (spec.parts_of parts.new.items ≡ old ++ local) }
 {
     if !parts.is_empty() {
-        parts.push(Part::Show(Symbol::Comma))?;
+        parts.push(LinePart::Show(Symbol::Comma))?;
     }
-    parts.push(Part::Show(Symbol::Name(name)))?;
-    parts.push(Part::Show(Symbol::Equals))?;
-    Ok(parts.push(Part::Initialiser(initialiser))?)
+    parts.push(LinePart::Show(Symbol::Name(name)))?;
+    parts.push(LinePart::Show(Symbol::Equals))?;
+    Ok(parts.push(LinePart::Initialiser(initialiser))?)
 }
 
 // The parts of locals and the sum that is returned.
@@ -443,7 +443,7 @@ fn line_parts<'t, 'm>(
     alloc: Global,
     locals: &[(&'m str, usize)],
     value: usize,
-) -> Result<Vec<Part<'t, 'm>>, AllocError>
+) -> Result<Vec<LinePart<'t, 'm>>, AllocError>
     ensures { let told = spec.line_parts (spec.locals_of locals.now) value in
         IfOk result (λ v. spec.parts_of v.items ≡ told) }
 {
@@ -452,9 +452,9 @@ fn line_parts<'t, 'm>(
         push_local(&mut parts, *name, *initialiser)?;
     }
     if !parts.is_empty() {
-        parts.push(Part::Show(Symbol::Equals))?;
+        parts.push(LinePart::Show(Symbol::Equals))?;
     }
-    parts.push(Part::Sum(value))?;
+    parts.push(LinePart::Sum(value))?;
     Ok(parts)
 }
 

@@ -1,9 +1,9 @@
 // The order of lines, in which each name means its item.
 ghost use Rattle.std.specs.Prelude.{◌≡◌, ◌++◌, ◌∷◌, [], ◌&&◌, ◌<◌, Some, length, nat_le, OnOk, IfOk, drop, is_some, slice_get, map, reverse, option_map};
-ghost use Rattle.naga_oil_mini_symbols.specs.Names.{last_place, texts_of};
+ghost use Rattle.naga_oil_mini_symbols.specs.NameTable.{last_place, texts_of};
 ghost use Rattle.naga_oil_mini_writer.specs.Order as spec;
 
-use naga_oil_mini_symbols::Names;
+use naga_oil_mini_symbols::NameTable;
 use std::alloc::{AllocError, Global};
 use std::marker::Model;
 
@@ -49,7 +49,7 @@ fn place_from(names: &[&str], from: usize, name: &str) -> usize
 /// Names, and for each the place of the next equal name.
 #[derive(Drop)]
 struct NextNames<'m> {
-    names: Names<'m>,
+    names: NameTable<'m>,
     next: Vec<usize>,
 }
 
@@ -69,7 +69,7 @@ impl<'m> NextNames<'m> {
     fn new(alloc: Global, room: usize) -> NextNames<'m>
         ensures { result ≡ [] }
     {
-        let mut names = Names::new(alloc);
+        let mut names = NameTable::new(alloc);
         names.make_room(room);
         let mut next = Vec::new(alloc);
         let _ = next.reserve(room);
@@ -129,7 +129,7 @@ pub struct ItemNames<'m> {
 
 impl<'m> Model for ItemNames<'m> {
     ghost use Rattle.std.specs.Prelude.{◌≡◌, ℕ, List, IfSome};
-    ghost use Rattle.naga_oil_mini_symbols.specs.Names.{texts_of};
+    ghost use Rattle.naga_oil_mini_symbols.specs.NameTable.{texts_of};
 
     ghost Value = { List (List ℕ) };
 

@@ -1,9 +1,8 @@
 // The text of a module: a line for each constant, global, function and entry point.
 ghost use Rattle.std.specs.Prelude.{◌≡◌, ◌++◌, ◌≤◌, OnOk, IfOk, IsSome, IsTrue, Some, ℕ, List, drop, length, map, reverse, replicate, option_map, string_bytes};
 ghost use Rattle.naga_oil_ir.specs.Rows.{global_row};
-ghost use Rattle.naga_oil_ir.specs.ModuleValue.{module_value, function_value, entry_value, argument_value, local_value, expression_values};
+ghost use Rattle.naga_oil_ir.specs.ModuleValue.{module_value, function_value, entry_value, argument_value, local_value, expression_values, local_values};
 ghost use Rattle.naga_oil_mini_symbols.specs.Symbols.{symbol_of, line_of};
-ghost use Rattle.naga_oil_mini_writer.specs.Writer.{local_values};
 ghost use Rattle.naga_oil_mini_writer.specs.BodyReader.{locals_of};
 ghost use Rattle.naga_oil_mini_writer.specs.Order.{anywhere};
 ghost use Rattle.naga_oil_mini_writer.specs.NotWritten.{Becomes, Finds, Writes};
@@ -16,7 +15,7 @@ use naga_oil_ir::{
     EntryPoint, Function, FunctionArgument, GlobalVariable, Handle, LocalVariable, Module, Span,
     Token, Type, TypeInner, rounded_room,
 };
-use naga_oil_mini_symbols::{Names, Symbol, is_name};
+use naga_oil_mini_symbols::{NameTable, Symbol, is_name};
 use std::alloc::{AllocError, Global};
 
 fn push_symbol(out: &mut String, symbol: Symbol<'_>) -> Result<(), AllocError>
@@ -77,10 +76,13 @@ fn parameter_word(argument: &FunctionArgument) -> WriteResult<&str>
     valid_name(&argument.name)
 }
 
-fn parameter_words<'m>(alloc: Global, arguments: &'m [FunctionArgument]) -> WriteResult<Names<'m>>
+fn parameter_words<'m>(
+    alloc: Global,
+    arguments: &'m [FunctionArgument],
+) -> WriteResult<NameTable<'m>>
     ensures { Finds (λ n. n) result (spec.parameter_words (map argument_value arguments.now)) }
 {
-    let mut names = Names::new(alloc);
+    let mut names = NameTable::new(alloc);
     for argument in arguments {
         names.push(parameter_word(argument)?)?;
     }
@@ -141,10 +143,10 @@ fn local_words<'m>(
 }
 
 // The names of locals.
-fn local_names<'m>(alloc: Global, locals: &[(&'m str, usize)]) -> Result<Names<'m>, AllocError>
+fn local_names<'m>(alloc: Global, locals: &[(&'m str, usize)]) -> Result<NameTable<'m>, AllocError>
     ensures { IfOk result (λ n. n ≡ map (λ l. l.0) (locals_of locals.now)) }
 {
-    let mut names = Names::new(alloc);
+    let mut names = NameTable::new(alloc);
     for (name, _) in locals {
         names.push(*name)?;
     }
@@ -279,7 +281,7 @@ impl<'m> Writer<'m> {
     // Pushes locals and a sum, whose tokens are listed from the last on. Returns the line's room.
     fn push_end(
         &mut self,
-        parameters: Names<'m>,
+        parameters: NameTable<'m>,
         function: &'m Function,
         tokens: &[Token],
     ) -> WriteResult<Room>
@@ -330,7 +332,7 @@ impl<'m> Writer<'m> {
 
     // Pushes the end of a line, after its header. Returns the line's room.
     #[tactic(auto, unfolding(crate::specs::Writer::body_line))]
-    fn push_body(&mut self, parameters: Names<'m>, function: &'m Function) -> WriteResult<Room>
+    fn push_body(&mut self, parameters: NameTable<'m>, function: &'m Function) -> WriteResult<Room>
         ensures text { let value = function_value function.now in
             let line = spec.body_line self.old.items parameters.entry value in
             Writes (λ r. r) result line (string_bytes self.old.text) (string_bytes self.new.text) }
@@ -376,7 +378,7 @@ impl<'m> Writer<'m> {
         }
         self.text.push_str("entry ")?;
         self.text.push_str(name)?;
-        self.push_body(Names::new(self.alloc), &entry_point.function)
+        self.push_body(NameTable::new(self.alloc), &entry_point.function)
     }
 
     // Pushes the line of a function without body.
@@ -420,7 +422,7 @@ impl<'m> Writer<'m> {
     ) -> WriteResult<Vec<Room>>
         requires named { IsSome (spec.function_words (spec.function_values functions.now)) }
         ensures text { let values = spec.function_values functions.now in
-            let lines = spec.functions_behind self.old.items stubs values in
+            let lines = spec.functions_after self.old.items stubs values in
             let text = string_bytes self.new.text in
             Writes (λ v. v.items) result lines (string_bytes self.old.text) text }
         ensures items { OnOk result (self.new.items ≡ self.old.items) }

@@ -10,7 +10,7 @@ use Rattle.naga_oil_ir.specs.ModuleValue.{ModuleValue, expression_values}
 use Rattle.naga_oil_ir.specs.declared.expression.Expression.{Expression}
 use Rattle.naga_oil_ir.specs.declared.span.Span.{Span}
 use Rattle.naga_oil_ir.specs.declared.types.Constant.{Constant}
-use Rattle.naga_oil_palette.specs.Writer.{shape, shape_at, behind_name, name_at, line}
+use Rattle.naga_oil_palette.specs.Writer.{shape, shape_at, name_rest, name_at, line}
 use Rattle.naga_oil_palette.specs.declared.writer.Shape.{Shape}
 use Rattle.naga_oil_palette.specs.declared.writer.Shape.TheVariants.{Own, Constant as ConstantShape, Other}
 
@@ -48,20 +48,20 @@ position_rows p cs =
 
 -- the line of a constant of a name and a shape
 pub line_value : (m : ModuleValue) (c : Constant) (name : List ℕ) (s : Shape) → option_map string_bytes c.name ≡ Some name → s ≡ shape_at m.global_expressions c.init
-    → line m (constant_row c) ≡ option_map (λ more. name ++ more ++ 10 ∷ []) (behind_name m s)
+    → line m (constant_row c) ≡ option_map (λ more. name ++ more ++ 10 ∷ []) (name_rest m s)
 line_value m c name s named shaped =
-    ap (option_and_then (λ n. option_map (λ more. n ++ more ++ 10 ∷ []) (behind_name m (shape_at m.global_expressions c.init)))) named
-    ∙ ap (λ t. option_map (λ more. name ++ more ++ 10 ∷ []) (behind_name m t)) (sym shaped)
+    ap (option_and_then (λ n. option_map (λ more. n ++ more ++ 10 ∷ []) (name_rest m (shape_at m.global_expressions c.init)))) named
+    ∙ ap (λ t. option_map (λ more. name ++ more ++ 10 ∷ []) (name_rest m t)) (sym shaped)
 
 -- the line of a colour of its own
 pub own_line : (m : ModuleValue) (c : Constant) (name text : List ℕ) (s : Shape) → option_map string_bytes c.name ≡ Some name → s ≡ shape_at m.global_expressions c.init → s ≡ Own
     → text ≡ name ++ 10 ∷ [] → Some text ≡ line m (constant_row c)
 own_line m c name text s named shaped own shown =
-    ap Some (shown ∙ ap (λ t. t ++ 10 ∷ []) (sym (append-nil name))) ∙ sym (line_value m c name s named shaped ∙ ap (λ t. option_map (λ more. name ++ more ++ 10 ∷ []) (behind_name m t)) own)
+    ap Some (shown ∙ ap (λ t. t ++ 10 ∷ []) (sym (append-nil name))) ∙ sym (line_value m c name s named shaped ∙ ap (λ t. option_map (λ more. name ++ more ++ 10 ∷ []) (name_rest m t)) own)
 
 -- the line of another name of a colour
 pub other_line : (m : ModuleValue) (c : Constant) (name other text : List ℕ) (s : Shape) (k : ℕ) → option_map string_bytes c.name ≡ Some name → s ≡ shape_at m.global_expressions c.init → s ≡ ConstantShape k
     → name_at m k ≡ Some other → text ≡ name ++ (codes " = " ++ (other ++ 10 ∷ [])) → Some text ≡ line m (constant_row c)
 other_line m c name other text s k named shaped at known shown =
     ap Some (shown ∙ sym (append_assoc name (codes " = " ++ other) (10 ∷ [])))
-    ∙ sym (line_value m c name s named shaped ∙ ap (λ t. option_map (λ more. name ++ more ++ 10 ∷ []) (behind_name m t)) at ∙ ap (λ o. option_map (λ more. name ++ more ++ 10 ∷ []) (option_map (λ other. codes " = " ++ other) o)) known)
+    ∙ sym (line_value m c name s named shaped ∙ ap (λ t. option_map (λ more. name ++ more ++ 10 ∷ []) (name_rest m t)) at ∙ ap (λ o. option_map (λ more. name ++ more ++ 10 ∷ []) (option_map (λ other. codes " = " ++ other) o)) known)

@@ -3,11 +3,12 @@ use denote.Ref.{Bor}
 use Rattle.std.specs.Prelude.{◌≡◌, ℕ, ◌+◌, ◌==◌, ◌||◌, min, Bool, false, if◌then◌else◌, nat_lt, List, [], ◌∷◌, ◌++◌, length, map, position, slice_index, Option, Some, None, option_map, Result, Ok, Err, bytes_eq, codes}
 use Rattle.std.specs.List.{before_first, after_first, position_or_len, slice_split}
 use Rattle.std.specs.Str.{trim}
+use Rattle.naga_oil_words.specs.Bytes.{is_equals, hash, newline}
 use Rattle.naga_oil_ir.specs.Backend.{FaultValue}
 use Rattle.naga_oil_ir.specs.ModuleValue.{ModuleValue, no_items}
 use Rattle.naga_oil_ir.specs.Parts.{Parts, expr}
 use Rattle.naga_oil_ir.specs.Rows.{Row, row, TypeKind, ConstantKind}
-use Rattle.naga_oil_ir.specs.Spans.{undefined}
+use Rattle.naga_oil_ir.specs.Spans.{undefined, u32_max}
 use Rattle.naga_oil_ir.specs.declared.names.ItemPlace.TheVariants.{TypeItem, ExpressionItem}
 use Rattle.naga_oil_ir.specs.declared.parts.Named.TheVariants.{Nothing, ConstantAt}
 use Rattle.naga_oil_ir.specs.declared.span.Span.{Span}
@@ -15,7 +16,7 @@ use Rattle.naga_oil_ir.specs.declared.span.Span.{Span}
 -- ---- places
 -- the place n bytes after another, capped at the largest u32
 abbrev pub after : ℕ → ℕ → ℕ
-after at n = min (at + n) 4294967295
+after at n = min (at + n) u32_max
 
 -- the span of a line that begins at a place
 abbrev pub span_at : ℕ → List ℕ → Span
@@ -53,9 +54,6 @@ with_constant at m d = record m {
 }
 
 -- ---- lines
-abbrev pub is_equals : ℕ → Bool
-is_equals b = b == 61
-
 -- the name before the first `=`, and the colour that is named after it; without a `=`, a new colour
 abbrev pub definition : ModuleValue → List ℕ → Option (List ℕ × Parts)
 definition m text =
@@ -64,7 +62,7 @@ definition m text =
 
 -- the empty text, or a `#` first
 abbrev pub is_skipped : List ℕ → Bool
-is_skipped text = (length text == 0) || (slice_index text 0 == 35)
+is_skipped text = (length text == 0) || (slice_index text 0 == hash)
 
 abbrev pub with_line : List ℕ → Span → ModuleValue → Option ModuleValue
 with_line line at m = if is_skipped (trim line) then Some m else option_map (with_constant at m) (definition m (trim line))
@@ -80,7 +78,7 @@ with_lines at (l ∷ ls) m = elim (with_line l (span_at at l) m) [ None ↦ Err 
 
 -- the lines of a text
 abbrev pub lines : List ℕ → List (List ℕ)
-lines text = slice_split (λ b. b == 10) text
+lines text = slice_split (λ b. b == newline) text
 
 abbrev pub parsed : List ℕ → Result ModuleValue FaultValue
 parsed text = with_lines 0 (lines text) no_lines

@@ -37,19 +37,19 @@ abbrev pub name_at : ModuleValue → ℕ → Option (List ℕ)
 name_at m k = name_in (slice_get m.constants k)
 
 -- the text after the name of a constant: nothing for a new colour, or the name of an earlier one
-abbrev pub behind_name : ModuleValue → Shape → Option (List ℕ)
-behind_name m Own = Some []
-behind_name m (Constant k) = option_map (λ other. codes " = " ++ other) (name_at m k)
-behind_name m Other = None
+abbrev pub name_rest : ModuleValue → Shape → Option (List ℕ)
+name_rest m Own = Some []
+name_rest m (Constant k) = option_map (λ other. codes " = " ++ other) (name_at m k)
+name_rest m Other = None
 
 -- the text after the name of a constant that names these
-abbrev pub behind : ModuleValue → List (Option ItemPlace) → Option (List ℕ)
-behind m (t ∷ Some (ExpressionItem h) ∷ []) = behind_name m (shape_at m.global_expressions h)
-behind m ps = None
+abbrev pub following : ModuleValue → List (Option ItemPlace) → Option (List ℕ)
+following m (t ∷ Some (ExpressionItem h) ∷ []) = name_rest m (shape_at m.global_expressions h)
+following m ps = None
 
 -- the line of a constant
 abbrev pub line : ModuleValue → Row → Option (List ℕ)
-line m r = option_and_then (λ name. option_map (λ more. name ++ more ++ 10 ∷ []) (behind m r.names)) r.label.name
+line m r = option_and_then (λ name. option_map (λ more. name ++ more ++ 10 ∷ []) (following m r.names)) r.label.name
 
 abbrev pub lines_of : ModuleValue → List (Row × Span) → Option (List ℕ)
 lines_of m [] = Some []

@@ -173,9 +173,9 @@ same_written d e k end levels zero (l ∷ more) h =
 same_written d e k end levels (suc n) (l ∷ more) h =
     ap (prepend (end_line (spaces l))) (same_written d e k end levels (braces_after (suc n) l.covered) more (agree_right d e (line_names l) (flat_map line_names more) h))
 
-behind_nothing : (r : Result Output Fault) → prepend [] r ≡ r
-behind_nothing (Ok o) = refl
-behind_nothing (Err f) = refl
+after_nothing : (r : Result Output Fault) → prepend [] r ≡ r
+after_nothing (Ok o) = refl
+after_nothing (Err f) = refl
 
 pub recorded_names_decide : (text : List ℕ) (d e : Definitions) → AgreeOn (is_recorded text) d e → preprocessed d text ≡ preprocessed e text
 unfolding names_of

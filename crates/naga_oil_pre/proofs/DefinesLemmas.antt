@@ -13,10 +13,10 @@ use Rattle.naga_oil_conditions.specs.View.{Fails, fault_of}
 use Rattle.naga_oil_imports.specs.Leaves.{Leaf, SyntaxFault, import_leaves}
 use Rattle.naga_oil_lines.specs.Directives.{Directives}
 use Rattle.naga_oil_pre.specs.Extracted.{extracted}
-use Rattle.naga_oil_pre.specs.Metadata.{Found, Metadata, nothing_found, none_defined, defined_behind, with_defines, with_import, found_behind, left_open, going_on, found_in, defines_of, defining, own_defines, metadata_with, metadata, source_and_defines}
+use Rattle.naga_oil_pre.specs.Metadata.{Found, Metadata, nothing_found, none_defined, defined_after, with_defines, with_import, found_after, left_open, going_on, found_in, defines_of, defining, own_defines, metadata_with, metadata, source_and_defines}
 use Rattle.naga_oil_pre.specs.Preprocessed.{import_text}
-use Rattle.naga_oil_pre.specs.Reading.{braces_after, taken, behind_taken}
-use Rattle.naga_oil_pre.proofs.MetadataLemmas.{found_behind_taken, metadata_cleaned, directives_refused}
+use Rattle.naga_oil_pre.specs.Reading.{braces_after, taken, after_taken}
+use Rattle.naga_oil_pre.proofs.MetadataLemmas.{found_after_taken, metadata_cleaned, directives_refused}
 
 -- ---- one line
 defined_alone : (found : Found) (r : Result Definitions Fault) → defines_of (with_defines found r) ≡ r
@@ -27,17 +27,17 @@ import_alike : (f g : Found) (at : ℕ) (r : Result (List Leaf) SyntaxFault) →
 import_alike f g at (Ok leaves) e = ap Ok e
 import_alike f g at (Err fault) e = refl
 
-behind_alike : (allow : Bool) (f g : Found) (l : Line) (k : LineKind) (more : List Line) → f.defines ≡ g.defines → defines_of (found_behind allow f l k more) ≡ defines_of (found_behind allow g l k more)
-behind_alike allow f g l (condition is_else c) more e = ap Ok e
-behind_alike allow f g l endif more e = ap Ok e
-behind_alike allow f g l imports more e = import_alike f g l.at (import_leaves (import_text (l ∷ taken (braces_after 0 l.covered) more))) e
-behind_alike allow f g l (import_path name) more e = ap Ok e
-behind_alike allow f g l (define name text) more e =
-    defined_alone f (defined_behind allow f.defines l.at name text)
-    ∙ ap (λ defs. defined_behind allow defs l.at name text) e
-    ∙ sym (defined_alone g (defined_behind allow g.defines l.at name text))
-behind_alike allow f g l (version known) more e = ap Ok e
-behind_alike allow f g l other more e = ap Ok e
+after_alike : (allow : Bool) (f g : Found) (l : Line) (k : LineKind) (more : List Line) → f.defines ≡ g.defines → defines_of (found_after allow f l k more) ≡ defines_of (found_after allow g l k more)
+after_alike allow f g l (condition is_else c) more e = ap Ok e
+after_alike allow f g l endif more e = ap Ok e
+after_alike allow f g l imports more e = import_alike f g l.at (import_leaves (import_text (l ∷ taken (braces_after 0 l.covered) more))) e
+after_alike allow f g l (import_path name) more e = ap Ok e
+after_alike allow f g l (define name text) more e =
+    defined_alone f (defined_after allow f.defines l.at name text)
+    ∙ ap (λ defs. defined_after allow defs l.at name text) e
+    ∙ sym (defined_alone g (defined_after allow g.defines l.at name text))
+after_alike allow f g l (version known) more e = ap Ok e
+after_alike allow f g l other more e = ap Ok e
 
 going_alike : (a b : Result Found Fault) (rest : Found → Result Found Fault) → ((x y : Found) → x.defines ≡ y.defines → defines_of (rest x) ≡ defines_of (rest y))
     → defines_of a ≡ defines_of b → defines_of (going_on a rest) ≡ defines_of (going_on b rest)
@@ -51,21 +51,21 @@ alike : (allow : Bool) (f g : Found) (n : ℕ) (ls : List Line) → f.defines �
 alike allow f g zero [] e = ap Ok e
 alike allow f g (suc n) [] e = ap Ok e
 alike allow f g zero (l ∷ ls) e =
-    going_alike (found_behind allow f l (unversioned_kind_of l.covered) ls) (found_behind allow g l (unversioned_kind_of l.covered) ls)
+    going_alike (found_after allow f l (unversioned_kind_of l.covered) ls) (found_after allow g l (unversioned_kind_of l.covered) ls)
     (λ next. found_in allow next (left_open l (unversioned_kind_of l.covered)) ls)
     (λ x y same. alike allow x y (left_open l (unversioned_kind_of l.covered)) ls same)
-    (behind_alike allow f g l (unversioned_kind_of l.covered) ls e)
+    (after_alike allow f g l (unversioned_kind_of l.covered) ls e)
 alike allow f g (suc n) (l ∷ ls) e = alike allow f g (braces_after (suc n) l.covered) ls e
 
 -- a line with its defines, and the lines that it takes
-pub line_read : (allow : Bool) (old new : Definitions) (l : Line) (k : LineKind) (left after : List Line) → k ≡ unversioned_kind_of l.covered → after ≡ behind_taken (left_open l k) left
-    → defines_of (found_behind allow (defining old) l k left) ≡ Ok new → own_defines allow new after ≡ own_defines allow old (l ∷ left)
+pub line_read : (allow : Bool) (old new : Definitions) (l : Line) (k : LineKind) (left after : List Line) → k ≡ unversioned_kind_of l.covered → after ≡ after_taken (left_open l k) left
+    → defines_of (found_after allow (defining old) l k left) ≡ Ok new → own_defines allow new after ≡ own_defines allow old (l ∷ left)
 line_read allow old new l k left after kind is e =
     let rest : Found → Result Found Fault = λ next. found_in allow next (left_open l k) left in
     ap (own_defines allow new) is
-    ∙ ap defines_of (sym (found_behind_taken allow (defining new) (left_open l k) left))
-    ∙ going_alike (Ok (defining new)) (found_behind allow (defining old) l k left) rest (λ x y same. alike allow x y (left_open l k) left same) (sym e)
-    ∙ ap (λ (kind : LineKind). defines_of (going_on (found_behind allow (defining old) l kind left) (λ next. found_in allow next (left_open l kind) left))) kind
+    ∙ ap defines_of (sym (found_after_taken allow (defining new) (left_open l k) left))
+    ∙ going_alike (Ok (defining new)) (found_after allow (defining old) l k left) rest (λ x y same. alike allow x y (left_open l k) left same) (sym e)
+    ∙ ap (λ (kind : LineKind). defines_of (going_on (found_after allow (defining old) l kind left) (λ next. found_in allow next (left_open l kind) left))) kind
 
 refused_first : (o : Option Fault) (r : Result Found Fault) (rest : Found → Result Found Fault) → MatchOption o (Unit {0}) (λ f. defines_of r ≡ Err f)
     → MatchOption o (Unit {0}) (λ f. defines_of (going_on r rest) ≡ Err f)
@@ -75,9 +75,9 @@ refused_first (Some f) (Ok found) rest h = cc
 
 -- a line that has a fault
 pub line_refused : (e : ComposerErrorInner) (allow : Bool) (old : Definitions) (l : Line) (k : LineKind) (left : List Line) → k ≡ unversioned_kind_of l.covered
-    → Fails e (defines_of (found_behind allow (defining old) l k left)) → Fails e (own_defines allow old (l ∷ left))
+    → Fails e (defines_of (found_after allow (defining old) l k left)) → Fails e (own_defines allow old (l ∷ left))
 line_refused e allow old l k left kind h =
-    refused_first (fault_of e) (found_behind allow (defining old) l (unversioned_kind_of l.covered) left) (λ next. found_in allow next (left_open l (unversioned_kind_of l.covered)) left)
+    refused_first (fault_of e) (found_after allow (defining old) l (unversioned_kind_of l.covered) left) (λ next. found_in allow next (left_open l (unversioned_kind_of l.covered)) left)
     (rw kind at h)
 
 refused_defines : (o : Option Fault) (r : Result Found Fault) → MatchOption o (Unit {0}) (λ f. r ≡ Err f) → MatchOption o (Unit {0}) (λ f. defines_of r ≡ Err f)
@@ -89,9 +89,9 @@ pub import_checked : (found : Found) (at : ℕ) (r : Result (List Leaf) SyntaxFa
 import_checked found at (Ok leaves) ok = refl
 import_checked found at (Err f) ok = cc
 
-pub import_refuses : (e : ComposerErrorInner) (allow : Bool) (old : Definitions) (l : Line) (left : List Line) → Fails e (found_behind allow (defining old) l imports left)
-    → Fails e (defines_of (found_behind allow (defining old) l imports left))
-import_refuses e allow old l left h = refused_defines (fault_of e) (found_behind allow (defining old) l imports left) h
+pub import_refuses : (e : ComposerErrorInner) (allow : Bool) (old : Definitions) (l : Line) (left : List Line) → Fails e (found_after allow (defining old) l imports left)
+    → Fails e (defines_of (found_after allow (defining old) l imports left))
+import_refuses e allow old l left h = refused_defines (fault_of e) (found_after allow (defining old) l imports left) h
 
 -- ---- a line of another kind
 pub line_passes : (allow : Bool) (defs : Definitions) (l : Line) (k : code.LineKind) (left : List Line) → line_kind_of k ≡ unversioned_kind_of l.covered

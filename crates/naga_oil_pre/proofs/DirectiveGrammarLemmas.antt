@@ -19,27 +19,27 @@ use Rattle.naga_oil_pre.specs.DirectiveGrammar.{IsUpTo, IsList, HasList, IsNamin
 use Rattle.naga_oil_conditions.proofs.RunLemmas.{some_is, bind_some, run-only, run-is}
 
 -- ---- up to a byte
-behind_first : (before behind : List ℕ) (c n : ℕ) (text : List ℕ) → text ≡ before ++ (c ∷ behind) → n ≡ length before → drop (n + 1) text ≡ behind
-behind_first before behind c n text e size =
+past_first : (before following : List ℕ) (c n : ℕ) (text : List ℕ) → text ≡ before ++ (c ∷ following) → n ≡ length before → drop (n + 1) text ≡ following
+past_first before following c n text e size =
     let more : n + 1 ≡ length (before ++ (c ∷ [])) = omega (arith, length-append before (c ∷ [])) in
-    (λ i. drop (more i) ((e ∙ sym (append_assoc before (c ∷ []) behind)) i)) ∙ drop-append_seam (before ++ (c ∷ [])) behind
+    (λ i. drop (more i) ((e ∙ sym (append_assoc before (c ∷ []) following)) i)) ∙ drop-append_seam (before ++ (c ∷ [])) following
 
-cut-reads : (c : ℕ) (text before behind : List ℕ) → IsUpTo c text before behind → cut_at c text ≡ Some (before, behind)
+cut-reads : (c : ℕ) (text before following : List ℕ) → IsUpTo c text before following → cut_at c text ≡ Some (before, following)
 unfolding cut_at
-cut-reads c text before behind h =
+cut-reads c text before following h =
     let p = λ (b : ℕ). not (b == c) in
-    let u = run-only p text before (c ∷ behind) h in
+    let u = run-only p text before (c ∷ following) h in
     let size = ap length h.whole in
     let back = ap length u.1 in
     let some : position_or_len (λ b. b == c) text ≢ length text = λ z. omega (arith, z, back, length-drop (position_or_len (λ b. b == c) text) text) in
-    let at : position_or_len (λ b. b == c) text ≡ length before = omega (arith, size, length-append before (c ∷ behind), back, length-drop (position_or_len (λ b. b == c) text) text) in
-    rw (ne_eqb (position_or_len (λ b. b == c) text) (length text) some, sym u.0, behind_first before behind c (position_or_len (λ b. b == c) text) text h.whole at) refl
+    let at : position_or_len (λ b. b == c) text ≡ length before = omega (arith, size, length-append before (c ∷ following), back, length-drop (position_or_len (λ b. b == c) text) text) in
+    rw (ne_eqb (position_or_len (λ b. b == c) text) (length text) some, sym u.0, past_first before following c (position_or_len (λ b. b == c) text) text h.whole at) refl
 
 cut_from : (c : ℕ) (text before rest a b : List ℕ) (n : ℕ) → IsRun (λ b. not (b == c)) text before rest → length rest ≢ 0 → n ≡ length before → a ≡ before → b ≡ drop (n + 1) text → IsUpTo c text a b
 cut_from c text before [] a b n h some size p q = absurd (some refl)
 cut_from c text before (d ∷ rest) a b n h some size p q =
     let same : d ≡ c = eqb-true d c (elim (d == c) as (λ t. not t ≡ false → t ≡ true) [ true ↦ λ e. refl | false ↦ λ e. cc ] h.stops) in
-    let rest_is : b ≡ rest = q ∙ behind_first before rest d n text h.whole size in
+    let rest_is : b ≡ rest = q ∙ past_first before rest d n text h.whole size in
     subst (λ x. IsRun (λ y. not (y == c)) text x (c ∷ b)) (sym p) (subst (IsRun (λ y. not (y == c)) text before) (λ i. same i ∷ sym rest_is i) h)
 
 cut-is : (c : ℕ) (text a b : List ℕ) → cut_at c text ≡ Some (a, b) → IsUpTo c text a b
@@ -73,7 +73,7 @@ listed_by word line rest list more p q r = rw (p, q, r) refl
 
 listed-reads : (word line list : List ℕ) → HasList word line list → listed word line ≡ Some list
 listed-reads word line list h =
-    listed_by word line h.behind list h.rest (ap (past_word word) h.start ∙ past_word-append word h.behind) (cut-reads (byte ";") h.behind list h.rest h.end) (list_reads list h.is)
+    listed_by word line h.following list h.rest (ap (past_word word) h.start ∙ past_word-append word h.following) (cut-reads (byte ";") h.following list h.rest h.end) (list_reads list h.is)
 
 listed-is : (word line list : List ℕ) → listed word line ≡ Some list → HasList word line list
 unfolding listed
@@ -88,7 +88,7 @@ listed-is word line list h =
     tested rest found more p q true e h =
         let same = some_is _ _ h in
         record {
-          behind = rest;
+          following = rest;
           rest = more;
           start = past_word-some word line rest p;
           end = subst (λ x. IsUpTo (byte ";") rest x more) same (cut-is (byte ";") rest found more q);
@@ -99,14 +99,14 @@ listed-is word line list h =
 no_length : (xs : List ℕ) → (xs ≡ [] → ⊥) → (length xs == 0) ≡ false
 no_length xs some = ne_eqb (length xs) 0 (λ z. some (nil_from_length xs z))
 
-treated_by : (line behind inside first more second end rest : List ℕ) → past_word (codes "diagnostic") line ≡ Some behind → past_word (codes "(") (trim_start behind) ≡ Some inside → cut_at (byte ",") inside ≡ Some (first, more)
+treated_by : (line following inside first more second end rest : List ℕ) → past_word (codes "diagnostic") line ≡ Some following → past_word (codes "(") (trim_start following) ≡ Some inside → cut_at (byte ",") inside ≡ Some (first, more)
     → cut_at (byte ")") more ≡ Some (second, end) → past_word (codes ";") (trim_start end) ≡ Some rest → (length first == 0) ≡ false → (length second == 0) ≡ false → treated line ≡ Some (trim first, trim second)
 unfolding treated
-treated_by line behind inside first more second end rest p q r s t u v = rw (p, q, r, s, t, u, v) refl
+treated_by line following inside first more second end rest p q r s t u v = rw (p, q, r, s, t, u, v) refl
 
 diagnostic-reads : (severity rule line : List ℕ) → IsDiagnostic severity rule line → treated line ≡ Some (severity, rule)
 diagnostic-reads severity rule line h =
-    treated_by line h.behind h.inside h.first h.more h.second h.end h.rest (ap (past_word (codes "diagnostic")) h.word ∙ past_word-append (codes "diagnostic") h.behind)
+    treated_by line h.following h.inside h.first h.more h.second h.end h.rest (ap (past_word (codes "diagnostic")) h.word ∙ past_word-append (codes "diagnostic") h.following)
     (ap (past_word (codes "(")) h.opens ∙ past_word-append (codes "(") h.inside) (cut-reads (byte ",") h.inside h.first h.more h.comma) (cut-reads (byte ")") h.more h.second h.end h.bracket)
     (ap (past_word (codes ";")) h.closes ∙ past_word-append (codes ";") h.rest) (no_length h.first h.some_severity) (no_length h.second h.some_rule)
     ∙ (λ i. Some (sym h.severity_is i, sym h.rule_is i))
@@ -115,30 +115,30 @@ diagnostic-is : (severity rule line : List ℕ) → treated line ≡ Some (sever
 unfolding treated
 diagnostic-is severity rule line h =
     let last = λ (s r : List ℕ × List ℕ) (end : List ℕ). (let x : Option (List ℕ × List ℕ) = cond (length s.0 == 0 || (length r.0 == 0)) None (Some (trim s.0, trim r.0)) in x) in
-    let a = bind_some (past_word (codes "diagnostic") line) (λ behind. past_word (codes "(") (trim_start behind) >>= (λ inside. cut_at (byte ",") inside >>= (λ s. cut_at (byte ")") s.1 >>= (λ r. past_word (codes ";") (trim_start r.1) >>= last s r)))) (severity, rule) h in
+    let a = bind_some (past_word (codes "diagnostic") line) (λ following. past_word (codes "(") (trim_start following) >>= (λ inside. cut_at (byte ",") inside >>= (λ s. cut_at (byte ")") s.1 >>= (λ r. past_word (codes ";") (trim_start r.1) >>= last s r)))) (severity, rule) h in
     let b = bind_some (past_word (codes "(") (trim_start a.0)) (λ inside. cut_at (byte ",") inside >>= (λ s. cut_at (byte ")") s.1 >>= (λ r. past_word (codes ";") (trim_start r.1) >>= last s r))) (severity, rule) a.2 in
     let d = bind_some (cut_at (byte ",") b.0) (λ s. cut_at (byte ")") s.1 >>= (λ r. past_word (codes ";") (trim_start r.1) >>= last s r)) (severity, rule) b.2 in
     let e = bind_some (cut_at (byte ")") d.0.1) (λ r. past_word (codes ";") (trim_start r.1) >>= last d.0 r) (severity, rule) d.2 in
     let f = bind_some (past_word (codes ";") (trim_start e.0.1)) (last d.0 e.0) (severity, rule) e.2 in
     tested a.0 b.0 d.0.0 d.0.1 e.0.0 e.0.1 f.0 a.1 b.1 d.1 e.1 f.1 (length d.0.0 == 0) (length e.0.0 == 0) refl refl f.2
   where
-    tested : (behind inside first more second end rest : List ℕ) → past_word (codes "diagnostic") line ≡ Some behind → past_word (codes "(") (trim_start behind) ≡ Some inside → cut_at (byte ",") inside ≡ Some (first, more)
+    tested : (following inside first more second end rest : List ℕ) → past_word (codes "diagnostic") line ≡ Some following → past_word (codes "(") (trim_start following) ≡ Some inside → cut_at (byte ",") inside ≡ Some (first, more)
         → cut_at (byte ")") more ≡ Some (second, end) → past_word (codes ";") (trim_start end) ≡ Some rest → (t u : Bool) → (length first == 0) ≡ t → (length second == 0) ≡ u
         → (let x : Option (List ℕ × List ℕ) = cond (t || u) None (Some (trim first, trim second)) in x ≡ Some (severity, rule)) → IsDiagnostic severity rule line
-    tested behind inside first more second end rest p q r s v true u e f h = cc
-    tested behind inside first more second end rest p q r s v false true e f h = cc
-    tested behind inside first more second end rest p q r s v false false e f h =
+    tested following inside first more second end rest p q r s v true u e f h = cc
+    tested following inside first more second end rest p q r s v false true e f h = cc
+    tested following inside first more second end rest p q r s v false false e f h =
         let both : (let x : List ℕ × List ℕ = (trim first, trim second) in x ≡ (severity, rule)) = some_is _ _ h in
         record {
-          behind = behind;
+          following = following;
           inside = inside;
           first = first;
           more = more;
           second = second;
           end = end;
           rest = rest;
-          word = past_word-some (codes "diagnostic") line behind p;
-          opens = past_word-some (codes "(") (trim_start behind) inside q;
+          word = past_word-some (codes "diagnostic") line following p;
+          opens = past_word-some (codes "(") (trim_start following) inside q;
           comma = cut-is (byte ",") inside first more r;
           bracket = cut-is (byte ")") more second end s;
           closes = past_word-some (codes ";") (trim_start end) rest v;
@@ -157,17 +157,17 @@ listed_elsewhere : (word line : List ℕ) → past_word word line ≡ None → l
 unfolding listed
 listed_elsewhere word line e = rw e refl
 
-requires_no_enable : (behind : List ℕ) → past_word (codes "enable") (codes "requires" ++ behind) ≡ None
+requires_no_enable : (following : List ℕ) → past_word (codes "enable") (codes "requires" ++ following) ≡ None
 unfolding past_word
-requires_no_enable behind = refl
+requires_no_enable following = refl
 
-diagnostic_no_enable : (behind : List ℕ) → past_word (codes "enable") (codes "diagnostic" ++ behind) ≡ None
+diagnostic_no_enable : (following : List ℕ) → past_word (codes "enable") (codes "diagnostic" ++ following) ≡ None
 unfolding past_word
-diagnostic_no_enable behind = refl
+diagnostic_no_enable following = refl
 
-diagnostic_no_requires : (behind : List ℕ) → past_word (codes "requires") (codes "diagnostic" ++ behind) ≡ None
+diagnostic_no_requires : (following : List ℕ) → past_word (codes "requires") (codes "diagnostic" ++ following) ≡ None
 unfolding past_word
-diagnostic_no_requires behind = refl
+diagnostic_no_requires following = refl
 
 by_enable : (line list : List ℕ) → listed (codes "enable") line ≡ Some list → directive_of line ≡ named enabling (extensions list)
 unfolding directive_of listed past_word
@@ -190,12 +190,12 @@ enables_read line list h = by_enable line list (listed-reads (codes "enable") li
 
 requires_read : (line list : List ℕ) → HasList (codes "requires") line list → directive_of line ≡ named requiring (extensions list)
 requires_read line list h =
-    by_requires line list (listed_elsewhere (codes "enable") line (ap (past_word (codes "enable")) h.start ∙ requires_no_enable h.behind)) (listed-reads (codes "requires") line list h)
+    by_requires line list (listed_elsewhere (codes "enable") line (ap (past_word (codes "enable")) h.start ∙ requires_no_enable h.following)) (listed-reads (codes "requires") line list h)
 
 diagnostic_read : (line severity rule : List ℕ) → IsDiagnostic severity rule line → directive_of line ≡ graded severity rule
 diagnostic_read line severity rule h =
-    by_diagnostic line severity rule (listed_elsewhere (codes "enable") line (ap (past_word (codes "enable")) h.word ∙ diagnostic_no_enable h.behind))
-    (listed_elsewhere (codes "requires") line (ap (past_word (codes "requires")) h.word ∙ diagnostic_no_requires h.behind)) (diagnostic-reads severity rule line h)
+    by_diagnostic line severity rule (listed_elsewhere (codes "enable") line (ap (past_word (codes "enable")) h.word ∙ diagnostic_no_enable h.following))
+    (listed_elsewhere (codes "requires") line (ap (past_word (codes "requires")) h.word ∙ diagnostic_no_requires h.following)) (diagnostic-reads severity rule line h)
 
 none_read : (line : List ℕ) → IsNone line → directive_of line ≡ cond (is_between line) passing ending
 none_read line h =

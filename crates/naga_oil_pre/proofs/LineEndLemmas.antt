@@ -196,12 +196,12 @@ piece_made defs known (noted f) h p d = tt
 abbrev HasEnds : ℕ → Result Output Fault → Type 0
 HasEnds n r = IfOk r (λ o. count_by is_end o.text ≡ n)
 
-ends_behind : (text : List ℕ) (n : ℕ) (r : Result Output Fault) → count_by is_end text ≡ 1 → HasEnds n r → HasEnds (suc n) (prepend text r)
-ends_behind text n (Ok o) e h = sum_by-append (λ x. cond (is_end x) 1 0) text o.text ∙ omega arith
-ends_behind text n (Err f) e h = tt
+ends_past : (text : List ℕ) (n : ℕ) (r : Result Output Fault) → count_by is_end text ≡ 1 → HasEnds n r → HasEnds (suc n) (prepend text r)
+ends_past text n (Ok o) e h = sum_by-append (λ x. cond (is_end x) 1 0) text o.text ∙ omega arith
+ends_past text n (Err f) e h = tt
 
 ends_joined : (r : Result Passage Fault) (rest : Known → Result Output Fault) (n : ℕ) → IfOk r Made → ((known : Known) → DeclaresNoEnd known.declared → HasEnds n (rest known)) → HasEnds (suc n) (prepend_passage r rest)
-ends_joined (Ok p) rest n m go = ends_behind p.0 n (rest p.1) m.one (go p.1 m.declares)
+ends_joined (Ok p) rest n m go = ends_past p.0 n (rest p.1) m.one (go p.1 m.declares)
 ends_joined (Err f) rest n m go = tt
 
 ends_at_end : (defs : Definitions) (known : Known) (end : ℕ) (is_open : Bool) → HasEnds 0 (written defs known (end_status end is_open))
@@ -245,7 +245,7 @@ ends_scanned defs end known levels zero (l ∷ more) h p d =
     (λ next e. ends_scanned defs end next (step defs levels l k more).1 (opened levels l k) more (All-tail HasOneLine l more h) (none_in_right (paths_by s) (flat_map paths_by rest) p) e)
 ends_scanned defs end known levels (suc n) (l ∷ more) h p d =
     let rest = scanned defs end levels (braces_after (suc n) l.covered) more in
-    ends_behind (end_line (spaces l)) (length more) (written defs known rest) (one_end (spaces l) (no_ends_in_spaces (length l.text))) (ends_scanned defs end known levels (braces_after (suc n) l.covered) more (All-tail HasOneLine l more h) p d)
+    ends_past (end_line (spaces l)) (length more) (written defs known rest) (one_end (spaces l) (no_ends_in_spaces (length l.text))) (ends_scanned defs end known levels (braces_after (suc n) l.covered) more (All-tail HasOneLine l more h) p d)
 
 -- ---- a whole text
 lines_placed : (s : CommentState) (at : ℕ) (texts : List (List ℕ)) → All IsOneLine texts → All HasOneLine (placed at texts (covered_lines s texts))

@@ -4,7 +4,7 @@ use Rattle.std.specs.declared.alloc.Global.{Global}
 use Rattle.naga_oil_imports.specs.declared.import_definition.ImportDefWithOffset.{ImportDefWithOffset}
 use Rattle.std.proofs.Common.{◌≡◌, ℕ, zero, suc, ◌+◌, ◌<◌, ◌≤◌, ◌^◌, true, false, List, [], ◌∷◌, ◌++◌, map, length, refl, sym, ap, subst, ◌∙◌, append_assoc, append-nil, Option, Some, None, MatchOption, Result, Ok, Err, arith}
 use Rattle.naga_oil_imports.specs.Declarations.{Declared}
-use Rattle.naga_oil_imports.specs.Leaves.{Leaf, SyntaxFault, import_leaves, with_leaves, with_import as declared_behind}
+use Rattle.naga_oil_imports.specs.Leaves.{Leaf, SyntaxFault, import_leaves, with_leaves, with_import as declared_after}
 use Rattle.naga_oil_imports.specs.Uses.{Use, Uses, use_of, use_entry}
 use Rattle.naga_oil_imports.specs.Substituted.{Site, substituted, sites, first_ambiguous, usize_sites, used_by}
 use Rattle.std.specs.Str.{IsUtf8, chars}
@@ -24,7 +24,7 @@ use Rattle.naga_oil_pre.specs.declared.preprocess.Treatment.TheVariants.{Blank, 
 use Rattle.naga_oil_conditions.specs.Line.{Line, source_lines, end_place}
 use Rattle.naga_oil_conditions.specs.Kind.{kind_of}
 use Rattle.naga_oil_conditions.specs.Fault.{Fault, Definitions, invalid_import}
-use Rattle.naga_oil_pre.specs.Reading.{braces_after, reading, taken, behind_taken}
+use Rattle.naga_oil_pre.specs.Reading.{braces_after, reading, taken, after_taken}
 use Rattle.naga_oil_conditions.specs.Replaced.{replaced}
 use Rattle.naga_oil_pre.specs.Preprocessed.{Status, blanked, shown, imported, noted, Known, nothing_known, Output, Passage, written, end_line, spaces, padded, blanks, import_text, tokens_of, using_tokens, ambiguous, shown_passage, imported_passage, passage, prepend, prepend_passage, end_status, preprocessed}
 use Rattle.naga_oil_pre.specs.Step.{Step, step, opened, scanned}
@@ -35,13 +35,13 @@ use Rattle.naga_oil_conditions.specs.View.{Fails, fault_of}
 use Rattle.naga_oil_pre.proofs.Machine.{scanned_reading}
 use Rattle.naga_oil_pre.proofs.ReadingLemmas.{IsReading-reading}
 
-behind_behind : (front text : List ℕ) (r : Result Output Fault) → prepend (front ++ text) r ≡ prepend front (prepend text r)
-behind_behind front text (Ok o) = ap (λ t. Ok (record o { text = t })) (append_assoc front text o.text)
-behind_behind front text (Err f) = refl
+after_after : (front text : List ℕ) (r : Result Output Fault) → prepend (front ++ text) r ≡ prepend front (prepend text r)
+after_after front text (Ok o) = ap (λ t. Ok (record o { text = t })) (append_assoc front text o.text)
+after_after front text (Err f) = refl
 
-behind_nothing : (r : Result Output Fault) → prepend [] r ≡ r
-behind_nothing (Ok o) = refl
-behind_nothing (Err f) = refl
+after_nothing : (r : Result Output Fault) → prepend [] r ≡ r
+after_nothing (Ok o) = refl
+after_nothing (Err f) = refl
 
 -- the status of a line by its treatment, and those of the rest
 pub scanned_first : (defs : Definitions) (end : ℕ) (levels next : List ScopeLevel) (l : Line) (more : List Line) (t : Treatment)
@@ -51,20 +51,20 @@ scanned_first defs end levels next l more t e o =
     ap (λ (s : Step). s.0 ∷ scanned defs end s.1 (opened levels l (kind_of l.covered)) more) (e more) ∙ ap (λ n. status_of t l more ∷ scanned defs end next n more) o
 
 -- the lines that an import takes, and those after them
-scanned_behind : (defs : Definitions) (end : ℕ) (levels : List ScopeLevel) (n : ℕ) (ls : List Line) → scanned defs end levels n ls ≡ map blanked (taken n ls) ++ scanned defs end levels 0 (behind_taken n ls)
-scanned_behind defs end levels zero ls = refl
-scanned_behind defs end levels (suc n) [] = refl
-scanned_behind defs end levels (suc n) (l ∷ ls) = ap (λ v. blanked l ∷ v) (scanned_behind defs end levels (braces_after (suc n) l.covered) ls)
+scanned_after : (defs : Definitions) (end : ℕ) (levels : List ScopeLevel) (n : ℕ) (ls : List Line) → scanned defs end levels n ls ≡ map blanked (taken n ls) ++ scanned defs end levels 0 (after_taken n ls)
+scanned_after defs end levels zero ls = refl
+scanned_after defs end levels (suc n) [] = refl
+scanned_after defs end levels (suc n) (l ∷ ls) = ap (λ v. blanked l ∷ v) (scanned_after defs end levels (braces_after (suc n) l.covered) ls)
 
 written_blanks : (defs : Definitions) (k : Known) (ls : List Line) (rest : List Status) → written defs k (map blanked ls ++ rest) ≡ prepend (blanks ls) (written defs k rest)
-written_blanks defs k [] rest = sym (behind_nothing (written defs k rest))
-written_blanks defs k (l ∷ ls) rest = ap (prepend (end_line (spaces l))) (written_blanks defs k ls rest) ∙ sym (behind_behind (end_line (spaces l)) (blanks ls) (written defs k rest))
+written_blanks defs k [] rest = sym (after_nothing (written defs k rest))
+written_blanks defs k (l ∷ ls) rest = ap (prepend (end_line (spaces l))) (written_blanks defs k ls rest) ∙ sym (after_after (end_line (spaces l)) (blanks ls) (written defs k rest))
 
 -- ---- a blanked line
 pub blank_turn : (defs : Definitions) (k : Known) (l : Line) (rest all : List Status) (out out' : List ℕ) → all ≡ blanked l ∷ rest → out' ≡ out ++ end_line (spaces l)
     → prepend out' (written defs k rest) ≡ prepend out (written defs k all)
 blank_turn defs k l rest all out out' e p =
-    ap (λ v. prepend v (written defs k rest)) p ∙ behind_behind out (end_line (spaces l)) (written defs k rest) ∙ ap (λ v. prepend out (written defs k v)) (sym e)
+    ap (λ v. prepend v (written defs k rest)) p ∙ after_after out (end_line (spaces l)) (written defs k rest) ∙ ap (λ v. prepend out (written defs k v)) (sym e)
 
 -- ---- a shown line
 pub shown_turn : (defs : Definitions) (k next : Known) (l : Line) (rest : List Status) (out out' : List ℕ)
@@ -76,7 +76,7 @@ shown_turn defs k next l rest out out' clear same uses p =
     let then : Known = record k { uses = used_by k.declared l.at (using_tokens defs l) k.uses } in
     let is_then : next ≡ then = (λ i. record { declared = same i; uses = uses i }) in
     let text : Known → List ℕ = λ kk. end_line (padded (length l.text) (substituted kk.declared (tokens_of (replaced defs l.text)))) in
-    ap (λ v. prepend v (written defs next rest)) p ∙ behind_behind out (text next) (written defs next rest)
+    ap (λ v. prepend v (written defs next rest)) p ∙ after_after out (text next) (written defs next rest)
     ∙ ap (λ (kk : Known). prepend out (prepend (text kk) (written defs kk rest))) is_then
     ∙ ap (λ o. prepend out (prepend_passage (shown_passage defs k l o) (λ kk. written defs kk rest))) (sym clear)
 
@@ -117,27 +117,27 @@ pub import_faults : (known : Known) (l : Line) (leaves : Result (List Leaf) Synt
 import_faults known l leaves offset place text said at e same =
     ap (imported_passage known l) e ∙ ap (λ n. Err (invalid_import text (n + place))) at ∙ ap (λ t. Err (invalid_import t (offset + place))) (sym same)
 
-declared_piece : (k : Known) (l : Line) (r : Result (List Leaf) SyntaxFault) (declared : Declared) → declared_behind k.declared r ≡ Ok declared
+declared_piece : (k : Known) (l : Line) (r : Result (List Leaf) SyntaxFault) (declared : Declared) → declared_after k.declared r ≡ Ok declared
     → (let p : Passage = (end_line (spaces l), record k { declared = declared }) in imported_passage k l r ≡ Ok p)
 declared_piece k l (Ok ls) declared e = let same : with_leaves k.declared ls ≡ declared = cc in ap (λ d. (let p : Passage = (end_line (spaces l), record k { declared = d }) in Ok p)) same
 declared_piece k l (Err f) declared e = cc
 
 pub import_turn : (defs : Definitions) (end : ℕ) (levels : List ScopeLevel) (k next : Known) (l : Line) (n : ℕ) (left after : List Line) (out first out' import : List ℕ)
-    → after ≡ behind_taken n left → import ≡ import_text (l ∷ taken n left)
-    → declared_behind k.declared (import_leaves import) ≡ Ok next.declared → next.uses ≡ k.uses
+    → after ≡ after_taken n left → import ≡ import_text (l ∷ taken n left)
+    → declared_after k.declared (import_leaves import) ≡ Ok next.declared → next.uses ≡ k.uses
     → first ≡ out ++ end_line (spaces l) → out' ≡ first ++ blanks (taken n left)
     → prepend out' (written defs next (scanned defs end levels 0 after)) ≡ prepend out (written defs k (imported l (taken n left) ∷ scanned defs end levels n left))
-import_turn defs end levels k next l n left after out first out' import behind_is text_is declares uses p q =
+import_turn defs end levels k next l n left after out first out' import after_is text_is declares uses p q =
     let then : Known = record k { declared = next.declared } in
     let is_then : next ≡ then = (λ i. record { declared = next.declared; uses = uses i }) in
-    let rest : List Status = scanned defs end levels 0 (behind_taken n left) in
+    let rest : List Status = scanned defs end levels 0 (after_taken n left) in
     let reads : (let p : Passage = (end_line (spaces l), then) in imported_passage k l (import_leaves (import_text (l ∷ taken n left))) ≡ Ok p) =
-    declared_piece k l (import_leaves (import_text (l ∷ taken n left))) next.declared (ap (λ t. declared_behind k.declared (import_leaves t)) (sym text_is) ∙ declares) in
-    ap (λ ls. prepend out' (written defs next (scanned defs end levels 0 ls))) behind_is
+    declared_piece k l (import_leaves (import_text (l ∷ taken n left))) next.declared (ap (λ t. declared_after k.declared (import_leaves t)) (sym text_is) ∙ declares) in
+    ap (λ ls. prepend out' (written defs next (scanned defs end levels 0 ls))) after_is
     ∙ ap (λ v. prepend v (written defs next rest)) (q ∙ ap (λ v. v ++ blanks (taken n left)) p)
-    ∙ behind_behind (out ++ end_line (spaces l)) (blanks (taken n left)) (written defs next rest)
-    ∙ behind_behind out (end_line (spaces l)) (prepend (blanks (taken n left)) (written defs next rest))
-    ∙ ap (λ v. prepend out (prepend (end_line (spaces l)) v)) (sym (written_blanks defs next (taken n left) rest) ∙ ap (written defs next) (sym (scanned_behind defs end levels n left)))
+    ∙ after_after (out ++ end_line (spaces l)) (blanks (taken n left)) (written defs next rest)
+    ∙ after_after out (end_line (spaces l)) (prepend (blanks (taken n left)) (written defs next rest))
+    ∙ ap (λ v. prepend out (prepend (end_line (spaces l)) v)) (sym (written_blanks defs next (taken n left) rest) ∙ ap (written defs next) (sym (scanned_after defs end levels n left)))
     ∙ ap (λ (kk : Known). prepend out (prepend (end_line (spaces l)) (written defs kk (scanned defs end levels n left)))) is_then
     ∙ ap (λ r. prepend out (prepend_passage r (λ kk. written defs kk (scanned defs end levels n left)))) (sym reads)
 
@@ -146,17 +146,17 @@ pub taken_first : (n : ℕ) (l : Line) (ls : List Line) → 0 < n → taken n (l
 taken_first zero l ls some = absurd (omega arith)
 taken_first (suc n) l ls some = refl
 
-pub behind_first : (n : ℕ) (l : Line) (ls : List Line) → 0 < n → behind_taken n (l ∷ ls) ≡ behind_taken (braces_after n l.covered) ls
-behind_first zero l ls some = absurd (omega arith)
-behind_first (suc n) l ls some = refl
+pub past_first : (n : ℕ) (l : Line) (ls : List Line) → 0 < n → after_taken n (l ∷ ls) ≡ after_taken (braces_after n l.covered) ls
+past_first zero l ls some = absurd (omega arith)
+past_first (suc n) l ls some = refl
 
 pub taken_none : (n : ℕ) → taken n [] ≡ []
 taken_none zero = refl
 taken_none (suc n) = refl
 
-pub behind_none : (n : ℕ) → behind_taken n [] ≡ []
-behind_none zero = refl
-behind_none (suc n) = refl
+pub after_none : (n : ℕ) → after_taken n [] ≡ []
+after_none zero = refl
+after_none (suc n) = refl
 
 -- ---- faults
 fails_along : {Y : Type 0} (o : Option Fault) (a : Status) (b : Result Y Fault) → ((f : Fault) → a ≡ noted f → b ≡ Err f) → MatchOption o (Unit {0}) (λ f. a ≡ noted f) → MatchOption o (Unit {0}) (λ f. b ≡ Err f)
@@ -197,7 +197,7 @@ unfolding preprocessed
 told_first defs k text out n e =
     let end : ℕ = end_place 0 (source_lines text) in
     ap (λ v. prepend v (written defs k (scanned defs end [] 0 (source_lines text)))) e
-    ∙ behind_nothing (written defs k (scanned defs end [] 0 (source_lines text)))
+    ∙ after_nothing (written defs k (scanned defs end [] 0 (source_lines text)))
     ∙ ap (λ kk. written defs kk (scanned defs end [] 0 (source_lines text))) n
     ∙ scanned_reading defs end (source_lines text) (reading defs (source_lines text)) (IsReading-reading defs (source_lines text))
 

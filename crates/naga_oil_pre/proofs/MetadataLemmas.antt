@@ -16,7 +16,7 @@ use Rattle.naga_oil_pre.specs.Extracted.{extracted}
 use Rattle.naga_oil_conditions.specs.Line.{Line, source_lines}
 use Rattle.naga_oil_pre.specs.MetadataView.{has_with, Gains, metadata_of}
 use Rattle.naga_oil_pre.specs.Preprocessed.{Passage, imported_passage, preprocessed}
-use Rattle.naga_oil_pre.specs.Reading.{braces_after, taken, behind_taken}
+use Rattle.naga_oil_pre.specs.Reading.{braces_after, taken, after_taken}
 use Rattle.naga_oil_pre.specs.Recorded.{line_names, names_of, is_recorded, AgreeOn}
 use Rattle.naga_oil_conditions.specs.View.{Fails, fault_of}
 use Rattle.naga_oil_pre.proofs.Agreement.{recorded_names_decide}
@@ -32,7 +32,7 @@ use Rattle.std.proofs.lemmas.Map.Text.{btree_map_updates_text}
 use Rattle.naga_oil_conditions.specs.declared.shader_def.ShaderDefValue.{ShaderDefValue}
 use Rattle.naga_oil_conditions.specs.Fault.{Fault, Definitions}
 use Rattle.naga_oil_conditions.specs.DefineValue.{defined_value}
-use Rattle.naga_oil_pre.specs.Metadata.{Found, Metadata, nothing_found, metadata_with, metadata_of_cleaned, metadata_behind, metadata, data_of, with_definition, defined_as, defined_behind, with_import, going_on, found_in}
+use Rattle.naga_oil_pre.specs.Metadata.{Found, Metadata, nothing_found, metadata_with, metadata_of_cleaned, metadata_after, metadata, data_of, with_definition, defined_as, defined_after, with_import, going_on, found_in}
 
 -- ---- defines
 all_alike : {A : Type 0} (f g : List ℕ → A) → ((name : List ℕ) → f name ≡ g name) → f ≡ g
@@ -41,7 +41,7 @@ all_alike f g h = λ i name. h name i
 -- a name that is inserted
 pub defines_name : (old new : BTreeMap (String Global) ShaderDefValue) (key : String Global) (name : List ℕ) (text : Option (List ℕ)) (at : ℕ) (value : ShaderDefValue)
     → string_bytes key ≡ name → defined_value text ≡ Some value → tree.UpdatesBy string_cmp (λ k. slice_cmp nat_cmp (string_bytes key) (string_bytes k)) old new (Some value)
-    → defined_behind true (get_by_text old) at name text ≡ Ok (get_by_text new)
+    → defined_after true (get_by_text old) at name text ≡ Ok (get_by_text new)
 defines_name old new key name text at value e is updates =
     ap (defined_as (get_by_text old) at name text) is
     ∙ ap (λ n. Ok (with_definition (get_by_text old) n value)) (sym e)
@@ -59,20 +59,20 @@ unfolding names_of
 takes_names old new [] h = λ name. ap (λ s. contains_text s name) h ∙ gains_nothing old name
 takes_names old new (l ∷ ls) h = gains_both old h.0 new (line_names l) (names_of ls) h.1 (takes_names h.0 new ls h.2)
 
-taken_and_behind : (n : ℕ) (ls : List Line) → taken n ls ++ behind_taken n ls ≡ ls
-taken_and_behind zero ls = refl
-taken_and_behind (suc n) [] = refl
-taken_and_behind (suc n) (l ∷ ls) = ap (λ v. l ∷ v) (taken_and_behind (braces_after (suc n) l.covered) ls)
+taken_and_after : (n : ℕ) (ls : List Line) → taken n ls ++ after_taken n ls ≡ ls
+taken_and_after zero ls = refl
+taken_and_after (suc n) [] = refl
+taken_and_after (suc n) (l ∷ ls) = ap (λ v. l ∷ v) (taken_and_after (braces_after (suc n) l.covered) ls)
 
-names_of_all : (n : ℕ) (ls : List Line) → names_of ls ≡ names_of (taken n ls) ++ names_of (behind_taken n ls)
+names_of_all : (n : ℕ) (ls : List Line) → names_of ls ≡ names_of (taken n ls) ++ names_of (after_taken n ls)
 unfolding names_of
-names_of_all n ls = ap (flat_map line_names) (sym (taken_and_behind n ls)) ∙ flat_map-append line_names (taken n ls) (behind_taken n ls)
+names_of_all n ls = ap (flat_map line_names) (sym (taken_and_after n ls)) ∙ flat_map-append line_names (taken n ls) (after_taken n ls)
 
 -- an import has recorded the names of the lines that it takes
-pub import_recorded : (old new : BTreeSet (String Global)) (n : ℕ) (left after : List Line) → after ≡ behind_taken n left → Gains old new (names_of (taken n left))
+pub import_recorded : (old new : BTreeSet (String Global)) (n : ℕ) (left after : List Line) → after ≡ after_taken n left → Gains old new (names_of (taken n left))
     → (name : List ℕ) → has_with new (names_of after) name ≡ has_with old (names_of left) name
 import_recorded old new n left after e h name =
-    ap (λ ls. has_with new (names_of ls) name) e ∙ gained old new (names_of (taken n left)) (names_of (behind_taken n left)) (names_of left) h (names_of_all n left) name
+    ap (λ ls. has_with new (names_of ls) name) e ∙ gained old new (names_of (taken n left)) (names_of (after_taken n left)) (names_of left) h (names_of_all n left) name
 
 -- a line has recorded its names
 pub line_recorded : (old new : BTreeSet (String Global)) (l : Line) (more : List Line) (names : List (List ℕ)) → names ≡ line_names l → Gains old new names
@@ -91,15 +91,15 @@ unfolding names_of
 all_recorded set left records e h name = sym (or_false (contains_text set name)) ∙ ap (λ ls. has_with set (names_of ls) name) (sym e) ∙ h name
 
 -- ---- imports
-pub found_behind_taken : (allow : Bool) (found : Found) (n : ℕ) (ls : List Line) → found_in allow found n ls ≡ found_in allow found 0 (behind_taken n ls)
-found_behind_taken allow found zero ls = refl
-found_behind_taken allow found (suc n) [] = refl
-found_behind_taken allow found (suc n) (l ∷ ls) = found_behind_taken allow found (braces_after (suc n) l.covered) ls
+pub found_after_taken : (allow : Bool) (found : Found) (n : ℕ) (ls : List Line) → found_in allow found n ls ≡ found_in allow found 0 (after_taken n ls)
+found_after_taken allow found zero ls = refl
+found_after_taken allow found (suc n) [] = refl
+found_after_taken allow found (suc n) (l ∷ ls) = found_after_taken allow found (braces_after (suc n) l.covered) ls
 
-pub import_read : (allow : Bool) (next : Found) (n : ℕ) (left after : List Line) (first : Result Found Fault) → first ≡ Ok next → after ≡ behind_taken n left
+pub import_read : (allow : Bool) (next : Found) (n : ℕ) (left after : List Line) (first : Result Found Fault) → first ≡ Ok next → after ≡ after_taken n left
     → found_in allow next 0 after ≡ going_on first (λ found. found_in allow found n left)
 import_read allow next n left after first e is =
-    ap (found_in allow next 0) is ∙ sym (found_behind_taken allow next n left) ∙ ap (λ r. going_on r (λ found. found_in allow found n left)) (sym e)
+    ap (found_in allow next 0) is ∙ sym (found_after_taken allow next n left) ∙ ap (λ r. going_on r (λ found. found_in allow found n left)) (sym e)
 
 refused_alike : (X Y : Type 0) (o : Option Fault) (own : Fault) → (let a : Result X Fault = Err own in MatchOption o (Unit {0}) (λ f. a ≡ Err f)) → (let b : Result Y Fault = Err own in MatchOption o (Unit {0}) (λ f. b ≡ Err f))
 refused_alike X Y None own h = tt
@@ -142,11 +142,11 @@ agreed text names records d e h = recorded_names_decide text d e (λ name is. h 
 -- ---- the metadata of a text
 pub metadata_cleaned : (allow : Bool) (text cleaned : List ℕ) (directives : Directives) → extracted text ≡ Ok (cleaned, directives) → metadata allow text ≡ metadata_of_cleaned allow cleaned directives
 unfolding metadata
-metadata_cleaned allow text cleaned directives e = ap (metadata_behind allow) e
+metadata_cleaned allow text cleaned directives e = ap (metadata_after allow) e
 
 metadata_refused : (allow : Bool) (text : List ℕ) (f : Fault) → extracted text ≡ Err f → metadata allow text ≡ Err f
 unfolding metadata
-metadata_refused allow text f e = ap (metadata_behind allow) e
+metadata_refused allow text f e = ap (metadata_after allow) e
 
 fails_on : (o : Option Fault) (allow : Bool) (text : List ℕ) → MatchOption o (Unit {0}) (λ f. extracted text ≡ Err f) → MatchOption o (Unit {0}) (λ f. metadata allow text ≡ Err f)
 fails_on None allow text h = tt

@@ -3,7 +3,7 @@ use Rattle.std.proofs.Common.{◌≡◌, ℕ, zero, suc, ◌+◌, ◌*◌, ◌�
 use Rattle.naga_oil_conditions.specs.Line.{Line}
 use Rattle.naga_oil_conditions.specs.Kind.{LineKind, version, condition, endif, imports, import_path, define, other, kind_of}
 use Rattle.naga_oil_conditions.specs.Fault.{Definitions, holds}
-use Rattle.naga_oil_pre.specs.Reading.{Block, nothing, line, import, chain, unclosed, Arms, last_arm, arm, lines_of, arm_lines, begins_arm, ends_chain, is_import, is_plain, braces_after, taken, behind_taken, Takes, is_nothing, IsBlock, AreArms, IsReading, Role, plain, opens, takes, leaves, role_of, role, Read, ReadArms, chain_read, unit_read, block_read, arms_on, arms_read, read_block, read_arms, reading}
+use Rattle.naga_oil_pre.specs.Reading.{Block, nothing, line, import, chain, unclosed, Arms, last_arm, arm, lines_of, arm_lines, begins_arm, ends_chain, is_import, is_plain, braces_after, taken, after_taken, Takes, is_nothing, IsBlock, AreArms, IsReading, Role, plain, opens, takes, leaves, role_of, role, Read, ReadArms, chain_read, unit_read, block_read, arms_on, arms_read, read_block, read_arms, reading}
 use Rattle.naga_oil_pre.proofs.ReadingLemmas.{Stops}
 
 role_plain : (active in_arm : Bool) (k : LineKind) → is_plain active in_arm k ≡ true → role active in_arm k ≡ plain
@@ -50,10 +50,10 @@ role_end active (define name value) h = cc
 role_end active other h = cc
 
 -- the lines that an import takes
-taken_again : (n : ℕ) (e : Bool) (ls back : List Line) → Takes n e ls → (e ≡ true → back ≡ []) → (taken n (ls ++ back) ≡ ls) × (behind_taken n (ls ++ back) ≡ back)
+taken_again : (n : ℕ) (e : Bool) (ls back : List Line) → Takes n e ls → (e ≡ true → back ≡ []) → (taken n (ls ++ back) ≡ ls) × (after_taken n (ls ++ back) ≡ back)
 taken_again zero e [] back h ends = (refl, refl)
 taken_again zero e (l ∷ ls) back h ends = absurd h
-taken_again (suc n) e [] back h ends = (ap (taken (suc n)) (ends h), ap (behind_taken (suc n)) (ends h) ∙ sym (ends h))
+taken_again (suc n) e [] back h ends = (ap (taken (suc n)) (ends h), ap (after_taken (suc n)) (ends h) ∙ sym (ends h))
 taken_again (suc n) e (l ∷ ls) back h ends =
     let r = taken_again (braces_after (suc n) l.covered) e ls back h ends in
     (ap (λ v. l ∷ v) r.0, r.1)

@@ -10,7 +10,7 @@ use Rattle.std.proofs.lemmas.List.Elements.{All-cons, All-nil, All-head, All-tai
 use Rattle.unicode_ident.specs.Ident.{is_xid_start, is_xid_continue}
 use Rattle.unicode_ident.proofs.Computing.{unicode_ident}
 use Rattle.naga_oil_lines.specs.Tokens.{Lexeme, identifier, other, whitespace, tail_len, more_in_token, lexeme_at, lexemes, is_whitespace_lexeme, emit as emitted}
-use Rattle.naga_oil_imports.specs.Leaves.{SyntaxFault, Alias, no_alias, as_name, lacking, alias_after, alias_len, Part, head, leaf, close, nothing, wrong, before_brace, unit_part, unit_len, at_semicolon, mark_part, parts, is_open, open_heads, Leaf, part_leaves, at_end, is_old_head, then_leaves, leaves_of, behind_hash, behind_import, line_leaves, import_leaves, key_of}
+use Rattle.naga_oil_imports.specs.Leaves.{SyntaxFault, Alias, no_alias, as_name, lacking, alias_after, alias_len, ImportPart, head, leaf, close, nothing, wrong, before_brace, unit_part, unit_len, at_semicolon, mark_part, parts, is_open, open_heads, Leaf, part_leaves, at_end, is_old_head, then_leaves, leaves_of, after_hash, after_import, line_leaves, import_leaves, key_of}
 use Rattle.naga_oil_conditions.specs.declared.scope.ScopeLevel.{ScopeLevel}
 use Rattle.naga_oil_conditions.specs.Line.{Line, source_lines}
 use Rattle.naga_oil_conditions.specs.Kind.{LineKind, version, condition, endif, imports, import_path, define, other as other_line, kind_of}
@@ -100,22 +100,22 @@ no_end_emitted (t ∷ ts) h =
       | false ↦ no_end_emitted ts h.1
     ]
 
-no_end_behind_hash : (end : ℕ) (ts : List Lexeme) → NoEndAmong ts → IfOk (behind_hash end ts) NoEndAmong
-no_end_behind_hash end [] h = tt
-no_end_behind_hash end (identifier word at ∷ ts) h =
+no_end_after_hash : (end : ℕ) (ts : List Lexeme) → NoEndAmong ts → IfOk (after_hash end ts) NoEndAmong
+no_end_after_hash end [] h = tt
+no_end_after_hash end (identifier word at ∷ ts) h =
     elim (bytes_eq word (codes "import")) as (λ t. IfOk (let r : Result (List Lexeme) SyntaxFault = cond t (Ok ts) (Err (codes "expected `#import`", at)) in r) NoEndAmong) [ true ↦ h.1 | false ↦ tt ]
-no_end_behind_hash end (other c at ∷ ts) h = tt
-no_end_behind_hash end (whitespace text at ∷ ts) h = tt
+no_end_after_hash end (other c at ∷ ts) h = tt
+no_end_after_hash end (whitespace text at ∷ ts) h = tt
 
-no_end_behind_import : (end : ℕ) (ts : List Lexeme) → NoEndAmong ts → IfOk (behind_import end ts) NoEndAmong
-no_end_behind_import end [] h = tt
-no_end_behind_import end (identifier word at ∷ ts) h = tt
-no_end_behind_import end (other c at ∷ ts) h =
-    elim (eqb c 35) as (λ t. IfOk (cond t (behind_hash end ts) (Err (codes "expected `#import`", at))) NoEndAmong) [ true ↦ no_end_behind_hash end ts h.1 | false ↦ tt ]
-no_end_behind_import end (whitespace text at ∷ ts) h = tt
+no_end_after_import : (end : ℕ) (ts : List Lexeme) → NoEndAmong ts → IfOk (after_import end ts) NoEndAmong
+no_end_after_import end [] h = tt
+no_end_after_import end (identifier word at ∷ ts) h = tt
+no_end_after_import end (other c at ∷ ts) h =
+    elim (eqb c 35) as (λ t. IfOk (cond t (after_hash end ts) (Err (codes "expected `#import`", at))) NoEndAmong) [ true ↦ no_end_after_hash end ts h.1 | false ↦ tt ]
+no_end_after_import end (whitespace text at ∷ ts) h = tt
 
 -- ---- parts
-abbrev NoEndInPart : Part → Type 0
+abbrev NoEndInPart : ImportPart → Type 0
 NoEndInPart (head is_old text) = HoldsNoEnd text
 NoEndInPart (leaf key name) = HoldsNoEnd name
 NoEndInPart (close at) = Unit {0}
@@ -154,7 +154,7 @@ no_end_in_mark c at ts = go (eqb c 44) (eqb c 125) (eqb c 123) (eqb c 59)
     go false false false true = no_end_at_semicolon ts
     go false false false false = tt
 
-abbrev NoEndInParts : List Part → Type 0
+abbrev NoEndInParts : List ImportPart → Type 0
 NoEndInParts ps = AllByRecursion NoEndInPart ps
 
 no_end_in_parts : (told : ℕ) (ts : List Lexeme) → NoEndAmong ts → NoEndInParts (parts told ts)
@@ -170,7 +170,7 @@ no_end_in_parts zero (whitespace text at ∷ ts) h = (tt, no_end_in_parts zero t
 abbrev NoEndInTexts : List (List ℕ) → Type 0
 NoEndInTexts texts = AllByRecursion HoldsNoEnd texts
 
-no_end_in_heads : (ps : List Part) → NoEndInParts ps → NoEndInTexts (open_heads ps)
+no_end_in_heads : (ps : List ImportPart) → NoEndInParts ps → NoEndInTexts (open_heads ps)
 no_end_in_heads [] h = tt
 no_end_in_heads (head is_old text ∷ ps) h =
     elim (is_open ps) as (λ t. NoEndInTexts (cond t (text ∷ open_heads ps) (open_heads ps))) [ true ↦ (h.0, no_end_in_heads ps h.1) | false ↦ no_end_in_heads ps h.1 ]
@@ -186,7 +186,7 @@ no_end_in_concat (text ∷ more) h = no_ends_in_both text (concat more) h.0 (no_
 abbrev NoEndInLeaves : List Leaf → Type 0
 NoEndInLeaves leaves = All HoldsNoEnd (map (λ l. l.1) leaves)
 
-no_end_added : (before : List Part) (p : Part) → NoEndInParts before → NoEndInPart p → IfOk (part_leaves before p) NoEndInLeaves
+no_end_added : (before : List ImportPart) (p : ImportPart) → NoEndInParts before → NoEndInPart p → IfOk (part_leaves before p) NoEndInLeaves
 no_end_added before (head is_old text) h k = All-nil HoldsNoEnd
 no_end_added before (leaf key name) h k =
     All-cons HoldsNoEnd (concat (open_heads before) ++ name) [] (no_ends_in_both (concat (open_heads before)) name (no_end_in_concat (open_heads before) (no_end_in_heads before h)) k) (All-nil HoldsNoEnd)
@@ -195,7 +195,7 @@ no_end_added before (close at) h k =
 no_end_added before nothing h k = All-nil HoldsNoEnd
 no_end_added before (wrong f) h k = tt
 
-no_end_at_end : (end : ℕ) (before : List Part) → IfOk (at_end end before) NoEndInLeaves
+no_end_at_end : (end : ℕ) (before : List ImportPart) → IfOk (at_end end before) NoEndInLeaves
 no_end_at_end end before =
     elim (nat_le (length (open_heads before)) (cond (list_any is_old_head before) 1 0)) as (λ t. IfOk (let r : Result (List Leaf) SyntaxFault = cond t (Ok []) (Err (codes "missing close brace", end)) in r) NoEndInLeaves) [ true ↦ All-nil HoldsNoEnd | false ↦ tt ]
 
@@ -208,11 +208,11 @@ no_end_then (Ok ls) (Ok more) h k = go ls h
     go [] p = k
     go (x ∷ xs) p = All-cons HoldsNoEnd x.1 _ (All-head HoldsNoEnd x.1 (map (λ l. l.1) xs) p) (go xs (All-tail HoldsNoEnd x.1 (map (λ l. l.1) xs) p))
 
-one_part_more : (before : List Part) (p : Part) → NoEndInParts before → NoEndInPart p → NoEndInParts (before ++ p ∷ [])
+one_part_more : (before : List ImportPart) (p : ImportPart) → NoEndInParts before → NoEndInPart p → NoEndInParts (before ++ p ∷ [])
 one_part_more [] p h k = (k, tt)
 one_part_more (q ∷ before) p h k = (h.0, one_part_more before p h.1 k)
 
-no_end_in_leaves : (end : ℕ) (before ps : List Part) → NoEndInParts before → NoEndInParts ps → IfOk (leaves_of end before ps) NoEndInLeaves
+no_end_in_leaves : (end : ℕ) (before ps : List ImportPart) → NoEndInParts before → NoEndInParts ps → IfOk (leaves_of end before ps) NoEndInLeaves
 unfolding leaves_of
 no_end_in_leaves end before [] h k = no_end_at_end end before
 no_end_in_leaves end before (p ∷ ps) h k =
@@ -221,10 +221,10 @@ no_end_in_leaves end before (p ∷ ps) h k =
 no_end_in_line : (end : ℕ) (ts : List Lexeme) → NoEndAmong ts → IfOk (line_leaves end ts) NoEndInLeaves
 unfolding line_leaves
 no_end_in_line end ts h =
-    elim (behind_import end ts) as (λ r. IfOk r NoEndAmong → IfOk (elim r [ Ok behind ↦ leaves_of end [] (parts 0 behind) | Err f ↦ Err f ]) NoEndInLeaves) [
-      | Ok behind ↦ λ k. no_end_in_leaves end [] (parts 0 behind) tt (no_end_in_parts 0 behind k)
+    elim (after_import end ts) as (λ r. IfOk r NoEndAmong → IfOk (elim r [ Ok following ↦ leaves_of end [] (parts 0 following) | Err f ↦ Err f ]) NoEndInLeaves) [
+      | Ok following ↦ λ k. no_end_in_leaves end [] (parts 0 following) tt (no_end_in_parts 0 following k)
       | Err f ↦ λ k. tt
-    ] (no_end_behind_import end ts h)
+    ] (no_end_after_import end ts h)
 
 no_end_in_paths : (r : Result (List Leaf) SyntaxFault) → IfOk r NoEndInLeaves → All HoldsNoEnd (paths_among r)
 no_end_in_paths (Ok leaves) h = h

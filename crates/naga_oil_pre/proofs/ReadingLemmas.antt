@@ -3,7 +3,7 @@ use Rattle.std.proofs.Common.{◌≡◌, ℕ, zero, suc, ◌+◌, ◌*◌, ◌<�
 use Rattle.naga_oil_conditions.specs.Line.{Line}
 use Rattle.naga_oil_conditions.specs.Kind.{LineKind, version, condition, endif, imports, import_path, define, other, kind_of}
 use Rattle.naga_oil_conditions.specs.Fault.{Definitions, holds}
-use Rattle.naga_oil_pre.specs.Reading.{Block, nothing, line, import, chain, unclosed, Arms, last_arm, arm, lines_of, arm_lines, begins_arm, ends_chain, is_import, is_plain, braces_after, taken, behind_taken, Takes, is_nothing, IsBlock, AreArms, IsReading, Role, plain, opens, takes, leaves, role_of, role, Read, ReadArms, chain_read, unit_read, arms_on, arms_read, read_block, read_arms, reading}
+use Rattle.naga_oil_pre.specs.Reading.{Block, nothing, line, import, chain, unclosed, Arms, last_arm, arm, lines_of, arm_lines, begins_arm, ends_chain, is_import, is_plain, braces_after, taken, after_taken, Takes, is_nothing, IsBlock, AreArms, IsReading, Role, plain, opens, takes, leaves, role_of, role, Read, ReadArms, chain_read, unit_read, arms_on, arms_read, read_block, read_arms, reading}
 
 abbrev is_empty : List Line → Bool
 is_empty [] = true
@@ -93,12 +93,12 @@ leaves_ends active in_arm (import_path name) e b = cc
 leaves_ends active in_arm (define name value) e b = cc
 leaves_ends active in_arm other e b = cc
 
-taken-behind : (n : ℕ) (ls : List Line) → taken n ls ++ behind_taken n ls ≡ ls
-taken-behind zero ls = refl
-taken-behind (suc n) [] = refl
-taken-behind (suc n) (l ∷ ls) = ap (λ v. l ∷ v) (taken-behind (braces_after (suc n) l.covered) ls)
+taken-following : (n : ℕ) (ls : List Line) → taken n ls ++ after_taken n ls ≡ ls
+taken-following zero ls = refl
+taken-following (suc n) [] = refl
+taken-following (suc n) (l ∷ ls) = ap (λ v. l ∷ v) (taken-following (braces_after (suc n) l.covered) ls)
 
-takes_taken : (n : ℕ) (e : Bool) (ls : List Line) → (length (behind_taken n ls) ≡ 0 → e ≡ true) → Takes n e (taken n ls)
+takes_taken : (n : ℕ) (e : Bool) (ls : List Line) → (length (after_taken n ls) ≡ 0 → e ≡ true) → Takes n e (taken n ls)
 takes_taken zero e ls h = tt
 takes_taken (suc n) e [] h = h refl
 takes_taken (suc n) e (l ∷ ls) h = takes_taken (braces_after (suc n) l.covered) e ls h
@@ -140,8 +140,8 @@ unit_good defs active in_arm block arms opens l more go go_arms e =
     chain_good defs active in_arm (length more) block (l ∷ more) (arms l more) go (omega arith) (go_arms (opens_is active in_arm (kind_of l.covered) e))
 unit_good defs active in_arm block arms takes l more go go_arms e =
     let n = braces_after 0 l.covered in
-    let back = behind_taken n more in
-    let split = taken-behind n more in
+    let back = after_taken n more in
+    let split = taken-following n more in
     let r = go back (omega (arith, ap length split, length-append (taken n more) back)) in
     record {
       whole = ap (λ v. l ∷ v) (append_assoc (taken n more) (lines_of (block back).0) (block back).1 ∙ ap (λ v. taken n more ++ v) r.whole ∙ split);

@@ -110,14 +110,14 @@ names_at_name : (cs : List ℕ) (h : HashName) → hash_name cs ≡ Some h → n
 unfolding names_from
 names_at_name cs h e = names_at_told cs h e ∙ ap (λ ps. encode_utf8_all h.name ∷ flat_map name_of ps) (told h.taken cs)
 
-names_behind_plain : (cs ds : List ℕ) → NonePass (λ c. eqb c 35) cs → names_from (cs ++ ds) ≡ names_from ds
-names_behind_plain [] ds none = refl
-names_behind_plain (c ∷ cs) ds none = names_at_plain c (cs ++ ds) none.0 ∙ names_behind_plain cs ds none.1
+names_after_plain : (cs ds : List ℕ) → NonePass (λ c. eqb c 35) cs → names_from (cs ++ ds) ≡ names_from ds
+names_after_plain [] ds none = refl
+names_after_plain (c ∷ cs) ds none = names_at_plain c (cs ++ ds) none.0 ∙ names_after_plain cs ds none.1
 
 -- a front without `#` has none
 names_front : (front cs : List ℕ) → IsUtf8 front → NoCharPasses (λ c. eqb c 35) front → names_from (chars front ++ cs) ≡ names_from cs
 names_front front cs u none =
-    ap (λ l. names_from (l ++ cs)) (sym (chars_from_encodes none.0 front u none.1)) ∙ names_behind_plain none.0 cs none.2
+    ap (λ l. names_from (l ++ cs)) (sym (chars_from_encodes none.0 front u none.1)) ∙ names_after_plain none.0 cs none.2
 
 chars_hash : (bs : List ℕ) → chars (35 ∷ bs) ≡ 35 ∷ chars bs
 unfolding chars
@@ -141,4 +141,4 @@ pub name_recorded : (old new : BTreeSet (String Global)) (text spelled rest : Li
     → (name : List ℕ) → has_with new (names_from (chars rest)) name ≡ has_with old (names_from (35 ∷ chars text)) name
 name_recorded old new text spelled rest s h =
     gained old new (spelled ∷ []) (names_from (chars rest)) (names_from (35 ∷ chars text)) h
-    (names_at_name (chars text) s.found s.is ∙ ap (λ n. n ∷ names_from (drop s.found.taken (chars text))) (sym s.spelled) ∙ ap (λ cs. spelled ∷ names_from cs) (sym s.behind.left))
+    (names_at_name (chars text) s.found s.is ∙ ap (λ n. n ∷ names_from (drop s.found.taken (chars text))) (sym s.spelled) ∙ ap (λ cs. spelled ∷ names_from cs) (sym s.following.left))

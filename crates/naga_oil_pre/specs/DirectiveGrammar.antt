@@ -7,8 +7,8 @@ use Rattle.naga_oil_conditions.specs.LineGrammar.{IsRun}
 use Rattle.naga_oil_pre.specs.DirectiveLines.{Directive, enabling, requiring, treating, wrong, passing, ending, extensions, is_severity, unknown_severity, is_between}
 
 -- the bytes before the first byte c, and those after it
-abbrev pub IsUpTo : (c : ℕ) (text before behind : List ℕ) → Type 0
-IsUpTo c text before behind = IsRun (λ b. not (b == c)) text before (c ∷ behind)
+abbrev pub IsUpTo : (c : ℕ) (text before following : List ℕ) → Type 0
+IsUpTo c text before following = IsRun (λ b. not (b == c)) text before (c ∷ following)
 
 -- a white space character and at least one more
 pub record IsList (text : List ℕ) : Type 0 where
@@ -20,10 +20,10 @@ pub record IsList (text : List ℕ) : Type 0 where
 
 -- a word, and the list after it up to the first `;`
 pub record HasList (word line list : List ℕ) : Type 0 where
-  pub behind : List ℕ
+  pub following : List ℕ
   pub rest : List ℕ
-  pub start : line ≡ word ++ behind
-  pub end : IsUpTo (byte ";") behind list rest
+  pub start : line ≡ word ++ following
+  pub end : IsUpTo (byte ";") following list rest
   pub is : IsList list
 
 -- a word and the names of at least one extension
@@ -46,15 +46,15 @@ IsNameless line = (list : List ℕ) × (HasList (codes "enable") line list ⊎ H
 -- `diagnostic`, and in parentheses a severity up to the first `,` and a rule up to the first `)`
 -- after it; then `;`
 pub record IsDiagnostic (severity rule line : List ℕ) : Type 0 where
-  pub behind : List ℕ
+  pub following : List ℕ
   pub inside : List ℕ
   pub first : List ℕ
   pub more : List ℕ
   pub second : List ℕ
   pub end : List ℕ
   pub rest : List ℕ
-  pub word : line ≡ codes "diagnostic" ++ behind
-  pub opens : trim_start behind ≡ codes "(" ++ inside
+  pub word : line ≡ codes "diagnostic" ++ following
+  pub opens : trim_start following ≡ codes "(" ++ inside
   pub comma : IsUpTo (byte ",") inside first more
   pub bracket : IsUpTo (byte ")") more second end
   pub closes : trim_start end ≡ codes ";" ++ rest

@@ -44,8 +44,8 @@ extensions list = filter (λ name. not (length name == 0)) (map trim (slice_spli
 -- after it; then `;`
 unfoldable pub treated : List ℕ → Option (List ℕ × List ℕ)
 treated line = do
-  behind ← past_word (codes "diagnostic") line
-  inside ← past_word (codes "(") (trim_start behind)
+  following ← past_word (codes "diagnostic") line
+  inside ← past_word (codes "(") (trim_start following)
   severity ← cut_at (byte ",") inside
   rule ← cut_at (byte ")") severity.1
   end ← past_word (codes ";") (trim_start rule.1)

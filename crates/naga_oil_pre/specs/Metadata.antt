@@ -40,8 +40,8 @@ defined_as defs at name text (Some value) = Ok (with_definition defs name value)
 defined_as defs at name text None = Err (invalid_definition at name (unwrap_or text []))
 
 -- the definitions after a define at the place
-abbrev pub defined_behind : (allow_defines : Bool) → Definitions → ℕ → (name : List ℕ) → (text : Option (List ℕ)) → Result Definitions Fault
-defined_behind allow_defines defs at name text = if allow_defines then defined_as defs at name text (defined_value text) else Err (define_in_module at)
+abbrev pub defined_after : (allow_defines : Bool) → Definitions → ℕ → (name : List ℕ) → (text : Option (List ℕ)) → Result Definitions Fault
+defined_after allow_defines defs at name text = if allow_defines then defined_as defs at name text (defined_value text) else Err (define_in_module at)
 
 -- the findings after a define
 abbrev pub with_defines : Found → Result Definitions Fault → Result Found Fault
@@ -59,14 +59,14 @@ abbrev pub with_uses : Found → Line → Found
 with_uses found l = record found { known = record found.known { uses = used_by found.known.declared l.at (tokens_of l.covered) found.known.uses } }
 
 -- the findings after a line of this kind, with more lines after it; conditions select nothing
-abbrev pub found_behind : (allow_defines : Bool) → Found → Line → LineKind → (more : List Line) → Result Found Fault
-found_behind allow_defines found l (condition is_else c) more = Ok found
-found_behind allow_defines found l endif more = Ok found
-found_behind allow_defines found l imports more = with_import found l.at (import_leaves (import_text (l ∷ taken (braces_after 0 l.covered) more)))
-found_behind allow_defines found l (import_path name) more = Ok (record found { name = Some name })
-found_behind allow_defines found l (define name text) more = with_defines found (defined_behind allow_defines found.defines l.at name text)
-found_behind allow_defines found l (version known) more = Ok (with_uses found l)
-found_behind allow_defines found l other more = Ok (with_uses found l)
+abbrev pub found_after : (allow_defines : Bool) → Found → Line → LineKind → (more : List Line) → Result Found Fault
+found_after allow_defines found l (condition is_else c) more = Ok found
+found_after allow_defines found l endif more = Ok found
+found_after allow_defines found l imports more = with_import found l.at (import_leaves (import_text (l ∷ taken (braces_after 0 l.covered) more)))
+found_after allow_defines found l (import_path name) more = Ok (record found { name = Some name })
+found_after allow_defines found l (define name text) more = with_defines found (defined_after allow_defines found.defines l.at name text)
+found_after allow_defines found l (version known) more = Ok (with_uses found l)
+found_after allow_defines found l other more = Ok (with_uses found l)
 
 -- the number of braces that a line leaves open for the lines after it
 abbrev pub left_open : Line → LineKind → ℕ
@@ -83,7 +83,7 @@ going_on (Err f) rest = Err f
 abbrev pub found_in : (allow_defines : Bool) → Found → (braces : ℕ) → List Line → Result Found Fault
 found_in allow_defines found braces [] = Ok found
 found_in allow_defines found zero (l ∷ more) =
-    going_on (found_behind allow_defines found l (unversioned_kind_of l.covered) more) (λ next. found_in allow_defines next (left_open l (unversioned_kind_of l.covered)) more)
+    going_on (found_after allow_defines found l (unversioned_kind_of l.covered) more) (λ next. found_in allow_defines next (left_open l (unversioned_kind_of l.covered)) more)
 found_in allow_defines found (suc n) (l ∷ more) = found_in allow_defines found (braces_after (suc n) l.covered) more
 
 -- the defines of the findings
@@ -122,13 +122,13 @@ metadata_with cleaned directives (Err f) = Err f
 abbrev pub metadata_of_cleaned : (allow_defines : Bool) → (cleaned : List ℕ) → Directives → Result Metadata Fault
 metadata_of_cleaned allow_defines cleaned directives = metadata_with cleaned directives (found_in allow_defines nothing_found 0 (source_lines cleaned))
 
-abbrev pub metadata_behind : (allow_defines : Bool) → Result (List ℕ × Directives) Fault → Result Metadata Fault
-metadata_behind allow_defines (Ok r) = metadata_of_cleaned allow_defines r.0 r.1
-metadata_behind allow_defines (Err f) = Err f
+abbrev pub metadata_after : (allow_defines : Bool) → Result (List ℕ × Directives) Fault → Result Metadata Fault
+metadata_after allow_defines (Ok r) = metadata_of_cleaned allow_defines r.0 r.1
+metadata_after allow_defines (Err f) = Err f
 
 -- the metadata of a text, whose directives are removed first, or its first fault
 unfoldable pub metadata : (allow_defines : Bool) → (text : List ℕ) → Result Metadata Fault
-metadata allow_defines text = metadata_behind allow_defines (extracted text)
+metadata allow_defines text = metadata_after allow_defines (extracted text)
 
 -- the import path, the uses of each module, and the defines; nothing if there is a fault
 abbrev pub data_of : Result Metadata Fault → Option (List ℕ) × List Import × Definitions

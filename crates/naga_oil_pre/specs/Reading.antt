@@ -72,10 +72,10 @@ taken zero lines = []
 taken (suc n) [] = []
 taken (suc n) (l ∷ more) = l ∷ taken (braces_after (suc n) l.covered) more
 
-abbrev pub behind_taken : ℕ → List Line → List Line
-behind_taken zero lines = lines
-behind_taken (suc n) [] = []
-behind_taken (suc n) (l ∷ more) = behind_taken (braces_after (suc n) l.covered) more
+abbrev pub after_taken : ℕ → List Line → List Line
+after_taken zero lines = lines
+after_taken (suc n) [] = []
+after_taken (suc n) (l ∷ more) = after_taken (braces_after (suc n) l.covered) more
 
 -- the taken lines: up to the closing of the last brace, or to the end of the text
 abbrev pub Takes : ℕ → (at_end : Bool) → List Line → Type 0
@@ -148,7 +148,7 @@ chain_read block (arms, end ∷ more) = let r = block more in (chain arms end r.
 abbrev pub unit_read : (List Line → Read) → (Line → List Line → ReadArms) → Role → Line → List Line → Read
 unit_read block arms plain l more = let r = block more in (line l r.0, r.1)
 unit_read block arms opens l more = chain_read block (arms l more)
-unit_read block arms takes l more = let r = block (behind_taken (braces_after 0 l.covered) more) in (import l (taken (braces_after 0 l.covered) more) r.0, r.1)
+unit_read block arms takes l more = let r = block (after_taken (braces_after 0 l.covered) more) in (import l (taken (braces_after 0 l.covered) more) r.0, r.1)
 unit_read block arms leaves l more = (nothing, l ∷ more)
 
 abbrev pub block_read : (List Line → Read) → (Line → List Line → ReadArms) → (active in_arm : Bool) → List Line → Read

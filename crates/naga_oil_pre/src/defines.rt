@@ -5,9 +5,9 @@ ghost use Rattle.naga_oil_conditions.specs.Line.{source_lines};
 ghost use Rattle.naga_oil_conditions.specs.SourceView.{line_of};
 ghost use Rattle.naga_oil_conditions.specs.View.{Fails, Gives};
 ghost use Rattle.naga_oil_imports.specs.Leaves.{import_leaves};
-ghost use Rattle.naga_oil_pre.specs.Metadata.{Found, none_defined, with_definition, defined_behind, with_import, defines_of, own_defines, metadata, source_and_defines};
+ghost use Rattle.naga_oil_pre.specs.Metadata.{Found, none_defined, with_definition, defined_after, with_import, defines_of, own_defines, metadata, source_and_defines};
 ghost use Rattle.naga_oil_pre.specs.Preprocessed.{import_text};
-ghost use Rattle.naga_oil_pre.specs.Reading.{braces_after, taken, behind_taken};
+ghost use Rattle.naga_oil_pre.specs.Reading.{braces_after, taken, after_taken};
 
 use super::imports::{TakesLine, check_import, read_import};
 use super::*;
@@ -23,11 +23,11 @@ pub fn define(
     defines: &mut BTreeMap<String, ShaderDefValue>,
 ) -> Result<(), ComposerErrorInner>
     ensures ok { let old = get_by_text defines.old in
-        let behind = defined_behind allow_defines old offset name.now (option_copied value.entry) in
-        OnOk result (behind ≡ Ok (get_by_text defines.new)) }
+        let following = defined_after allow_defines old offset name.now (option_copied value.entry) in
+        OnOk result (following ≡ Ok (get_by_text defines.new)) }
     ensures err { let old = get_by_text defines.old in
-        let behind = defined_behind allow_defines old offset name.now (option_copied value.entry) in
-        IfErr result (λ e. Fails e behind) }
+        let following = defined_after allow_defines old offset name.now (option_copied value.entry) in
+        IfErr result (λ e. Fails e following) }
 {
     if !allow_defines {
         return Err(ComposerErrorInner::DefineInModule(offset));
@@ -65,12 +65,12 @@ fn skip_import(
     requires even { length (line_of line.now).covered ≤ length line.now.text.now }
     requires room { source.old.place ≤ 2 ^ 63 }
     ensures left { let braces = braces_after 0 (line_of line.now).covered in
-        OnOk result (source.new.left ≡ behind_taken braces source.old.left) }
+        OnOk result (source.new.left ≡ after_taken braces source.old.left) }
     ensures ok { let first = line_of line.now in
         let more = taken (braces_after 0 first.covered) source.old.left in
         let leaves = import_leaves (import_text (first ∷ more)) in
-        (found : Found) → let behind = with_import found line.now.offset leaves in
-        OnOk result (defines_of behind ≡ Ok found.defines) }
+        (found : Found) → let following = with_import found line.now.offset leaves in
+        OnOk result (defines_of following ≡ Ok found.defines) }
     ensures shorter { OnOk result (length source.new.left ≤ length source.old.left) }
     ensures err { let first = line_of line.now in
         let more = taken (braces_after 0 first.covered) source.old.left in

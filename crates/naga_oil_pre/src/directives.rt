@@ -76,8 +76,8 @@ fn extensions(alloc: Global, list: &str) -> Result<Vec<String>, AllocError>
 fn treated(line: &str) -> Option<(&str, &str)>
     ensures { option_map (λ r. (r.0.now, r.1.now)) result ≡ grammar.treated line.now }
 {
-    let behind = past_word(line, "diagnostic")?;
-    let inside = past_word(behind.trim_start(), "(")?;
+    let following = past_word(line, "diagnostic")?;
+    let inside = past_word(following.trim_start(), "(")?;
     let (severity, more) = cut_at(inside, ',')?;
     let (rule, end) = cut_at(more, ')')?;
     past_word(end.trim_start(), ";")?;

@@ -12,7 +12,7 @@ ghost use Rattle.naga_oil_conditions.specs.Line.{Line, end_place};
 ghost use Rattle.naga_oil_conditions.specs.View.{Fails};
 ghost use Rattle.naga_oil_pre.specs.Preprocessed.{Known, end_line, spaces, padded, import_text, tokens_of, using_tokens, imported_passage, shown_passage};
 ghost use Rattle.naga_oil_conditions.specs.Replaced.{replaced};
-ghost use Rattle.naga_oil_pre.specs.Reading.{braces_after, taken, behind_taken};
+ghost use Rattle.naga_oil_pre.specs.Reading.{braces_after, taken, after_taken};
 ghost use Rattle.naga_oil_pre.specs.KnownView.{HasMarks, ReportsRefused};
 ghost use Rattle.naga_oil_pre.specs.Taking.{TakesAll};
 ghost use Rattle.naga_oil_conditions.specs.SourceView.{line_of};
@@ -161,7 +161,7 @@ fn take_lines<S: TakesLine>(
     sink: &mut S,
 ) -> Result<(), AllocError>
     requires { braces ≤ source.old.place }
-    ensures left { OnOk result (source.new.left ≡ behind_taken braces source.old.left) }
+    ensures left { OnOk result (source.new.left ≡ after_taken braces source.old.left) }
     ensures sink { let more = taken braces source.old.left in
         OnOk result (TakesAll S.Takes sink.old more sink.new) }
     ensures import { let more = taken braces source.old.left in
@@ -198,7 +198,7 @@ pub fn read_import<S: TakesLine>(
     requires even { length (line_of line.now).covered ≤ length line.now.text.now }
     requires room { source.old.place ≤ 2 ^ 63 }
     requires braces { braces ≤ length (line_of line.now).covered }
-    ensures left { OnOk result (source.new.left ≡ behind_taken braces source.old.left) }
+    ensures left { OnOk result (source.new.left ≡ after_taken braces source.old.left) }
     ensures sink { let more = taken braces source.old.left in
         OnOk result (TakesAll S.Takes sink.old more sink.new) }
     ensures text { let more = taken braces source.old.left in

@@ -10,10 +10,10 @@ ghost use Rattle.naga_oil_imports.specs.Uses.{uses_of, use_of, import_of};
 ghost use Rattle.naga_oil_conditions.specs.Line.{source_lines};
 ghost use Rattle.naga_oil_pre.specs.KnownView.{HasMarks};
 ghost use Rattle.naga_oil_conditions.specs.KindView.{line_kind_of};
-ghost use Rattle.naga_oil_pre.specs.Metadata.{nothing_found, defined_behind, with_import, found_behind, left_open, going_on, found_in, metadata_of_cleaned, metadata, data_of};
+ghost use Rattle.naga_oil_pre.specs.Metadata.{nothing_found, defined_after, with_import, found_after, left_open, going_on, found_in, metadata_of_cleaned, metadata, data_of};
 ghost use Rattle.naga_oil_pre.specs.MetadataView.{has_with, Gains, found_of, metadata_of};
 ghost use Rattle.naga_oil_pre.specs.Preprocessed.{import_text, tokens_of, preprocessed};
-ghost use Rattle.naga_oil_pre.specs.Reading.{braces_after, taken, behind_taken};
+ghost use Rattle.naga_oil_pre.specs.Reading.{braces_after, taken, after_taken};
 ghost use Rattle.naga_oil_pre.specs.Recorded.{is_recorded, line_names, names_of, AgreeOn};
 ghost use Rattle.naga_oil_conditions.specs.SourceView.{line_of};
 ghost use Rattle.naga_oil_conditions.specs.Fault.{Definitions};
@@ -106,7 +106,7 @@ fn declare_import(
     requires room { source.old.place ≤ 2 ^ 63 }
     requires marked { HasMarks findings.old.imports }
     ensures left { let braces = braces_after 0 (line_of line.now).covered in
-        OnOk result (source.new.left ≡ behind_taken braces source.old.left) }
+        OnOk result (source.new.left ≡ after_taken braces source.old.left) }
     ensures ok { let first = line_of line.now in
         let more = taken (braces_after 0 first.covered) source.old.left in
         let leaves = import_leaves (import_text (first ∷ more)) in
@@ -149,9 +149,9 @@ fn read_kind(
     requires marked { HasMarks findings.old.imports }
     ensures ok { let here = line_of line.now in
         let seen = line_kind_of kind.entry in
-        let behind = found_behind allow_defines (found_of findings.old) here seen source.old.left in
+        let following = found_after allow_defines (found_of findings.old) here seen source.old.left in
         OnOk result (found_in allow_defines (found_of findings.new) 0 source.new.left
-        ≡ going_on behind (λ next.
+        ≡ going_on following (λ next.
         found_in allow_defines next (left_open here seen) source.old.left)) }
     ensures names { let before = has_with findings.old.names (names_of source.old.left) in
         let after = has_with findings.new.names (names_of source.new.left) in
@@ -160,8 +160,8 @@ fn read_kind(
     ensures shorter { OnOk result (length source.new.left ≤ length source.old.left) }
     ensures err { let here = line_of line.now in
         let seen = line_kind_of kind.entry in
-        let behind = found_behind allow_defines (found_of findings.old) here seen source.old.left in
-        IfErr result (λ e. Fails e behind) }
+        let following = found_after allow_defines (found_of findings.old) here seen source.old.left in
+        IfErr result (λ e. Fails e following) }
 {
     match kind {
         LineKind::Condition { .. } | LineKind::EndIf => Ok(()),

@@ -22,19 +22,19 @@ fn record_name(alloc: Global, names: &mut BTreeSet<String>, name: &str) -> Resul
 }
 
 // Records the name after a `#`, if there is one. Returns the rest.
-fn record_behind_hash<'a>(
+fn record_after_hash<'a>(
     alloc: Global,
     names: &mut BTreeSet<String>,
-    behind: &'a str,
+    following: &'a str,
 ) -> Result<&'a str, AllocError>
-    ensures names { let before = has_with names.old (names_from (hash ∷ chars behind.now)) in
+    ensures names { let before = has_with names.old (names_from (hash ∷ chars following.now)) in
         IfOk result (λ rest. (name : List ℕ) →
         has_with names.new (names_from (chars rest.now)) name ≡ before name) }
     ensures utf8 { IfOk result (λ rest. IsUtf8 rest.now) }
-    ensures bound { IfOk result (λ rest. length rest.now ≤ length behind.now) }
+    ensures bound { IfOk result (λ rest. length rest.now ≤ length following.now) }
 {
-    let Some((name, rest)) = split_hash_name(behind) else {
-        return Ok(behind);
+    let Some((name, rest)) = split_hash_name(following) else {
+        return Ok(following);
     };
     record_name(alloc, names, name)?;
     Ok(rest)
@@ -49,8 +49,8 @@ fn record_hash_names(
     ensures { OnOk result (Gains names.old names.new (hash_names text.now)) }
 {
     let mut rest = text;
-    while let Some((_, behind)) = split_at_hash(rest) {
-        rest = record_behind_hash(alloc, names, behind)?;
+    while let Some((_, following)) = split_at_hash(rest) {
+        rest = record_after_hash(alloc, names, following)?;
     }
     Ok(())
 }

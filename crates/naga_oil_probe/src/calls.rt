@@ -13,7 +13,7 @@ use naga_oil::derive::DerivedModule;
 use naga_oil::redirect::{RedirectError, Redirector};
 use naga_oil_form::check_form::{FormFault, check_form};
 use naga_oil_ir::{
-    Arena, Constant, Expression, Index, Module, Places, Span, Type, TypeInner, UniqueArena,
+    Arena, Constant, Expression, Index, Module, PlaceRange, Span, Type, TypeInner, UniqueArena,
 };
 use naga_oil_lines::comment_strip_iter::CommentReplaceExt;
 use naga_oil_lines::tokenizer::{Token, Tokenizer};
@@ -73,7 +73,7 @@ fn arenas(alloc: Global, module_: &Module) -> bool {
         && constants.iter().next().is_some()
         && span.to_range() == Some(1..2)
         && ty.index() == 0
-        && Places::<Constant>::new(1, 2).end() == 2
+        && PlaceRange::<Constant>::new(1, 2).end() == 2
 }
 
 // A module that nothing is copied into, and a module whose calls aren't redirected.

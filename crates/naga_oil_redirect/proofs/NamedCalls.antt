@@ -19,12 +19,12 @@ use Rattle.naga_oil_ir.specs.declared.span.Span.{Span}
 use Rattle.naga_oil_form.proofs.LinkLemmas.{linked-map}
 use Rattle.naga_oil_derive.proofs.FormFunctions.{function_named}
 use Rattle.naga_oil_redirect.specs.Chain.{CallsWithin, HasNamedCalls}
-use Rattle.naga_oil_redirect.specs.ChainLaw.{SendsOn, SendsApart, KeepsSent}
+use Rattle.naga_oil_redirect.specs.ChainLaw.{BeginsChains, SendsOn, SendsApart, KeepsSent}
 use Rattle.naga_oil_redirect.specs.Ordered.{callees_of, calls_of}
 use Rattle.naga_oil_redirect.specs.PutInOrder.{put_in_order}
 use Rattle.naga_oil_redirect.specs.Redirectable.{Redirectable}
 use Rattle.naga_oil_redirect.specs.Redirected.{function_values, matched, redirected}
-use Rattle.naga_oil_redirect.proofs.ChainLemmas.{step_law}
+use Rattle.naga_oil_redirect.proofs.ChainLemmas.{start_law, step_law}
 use Rattle.naga_oil_redirect.proofs.RedirectForm.{callees_below, stay_within}
 use Rattle.naga_oil_redirect.proofs.TurnCalls.{order_law}
 
@@ -102,3 +102,7 @@ sends m v o r omitted pair fs es h is e a b =
 
 pub keeps_order : (m : Module) (v n : ModuleValue) → Redirectable m → module_value m ≡ v → put_in_order v ≡ Ok n → KeepsSent v n
 keeps_order m v n h is e = order_law v n (subst HasNamedCalls is (named_calls m h)) e
+
+-- before a redirection each chain begins
+pub begins_chains : (m : Module) → Redirectable m → BeginsChains (module_value m)
+begins_chains m h base = start_law (module_value m) base (named_calls m h)

@@ -49,6 +49,10 @@ StepLaw = (m : ModuleValue) (original replacement : Name) (omitted : Name → Bo
 abbrev pub StartLaw : Type 0
 StartLaw = (m : ModuleValue) (base : Name) → HasNamedCalls m → IsSentDown base [] m m
 
+-- no call of any base was redirected yet: its chain has no replacements
+abbrev pub BeginsChains : ModuleValue → Type 0
+BeginsChains m = (base : Name) → IsSentDown base [] m m
+
 -- LAW: sorting functions keeps redirected calls
 abbrev pub OrderLaw : Type 0
 OrderLaw = (m n : ModuleValue) → HasNamedCalls m → put_in_order m ≡ Ok n → KeepsSent m n

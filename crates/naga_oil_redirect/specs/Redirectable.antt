@@ -3,6 +3,7 @@ use Rattle.std.specs.Prelude.{[], length, All}
 use Rattle.naga_oil_form.specs.NameForm.{NameForm}
 use Rattle.naga_oil_form.specs.WellFormed.{FunctionForm, EntryForm}
 use Rattle.naga_oil_ir.specs.declared.module.Module.{Module}
+use Rattle.naga_oil_ir.specs.Spans.{u32_max}
 use Rattle.naga_oil_derive.specs.Copyable.{CopyableItems}
 
 -- the items of a module can be copied, its functions have names of their own, and each passes the test of form, except that it
@@ -10,5 +11,5 @@ use Rattle.naga_oil_derive.specs.Copyable.{CopyableItems}
 pub record Redirectable (m : Module) : Type 0 where
   pub items : CopyableItems m
   pub names : NameForm m []
-  pub functions : All (λ e. FunctionForm m (length m.functions) 4294967295 e.0) m.functions
-  pub entry_points : All (EntryForm m 4294967295) m.entry_points.items
+  pub functions : All (λ e. FunctionForm m (length m.functions) u32_max e.0) m.functions
+  pub entry_points : All (EntryForm m u32_max) m.entry_points.items

@@ -11,7 +11,7 @@ ghost use Rattle.naga_oil_redirect.specs.Ordered.{calls_of, ordered};
 ghost use Rattle.naga_oil_derive.specs.World.{value_of};
 ghost use Rattle.naga_oil_derive.specs.DerivedEntries.{CanCopyEntries};
 ghost use Rattle.naga_oil_derive.specs.DerivedValue.{set_source};
-ghost use Rattle.naga_oil_redirect.specs.ChainLaw.{SendsOn, SendsApart, KeepsSent};
+ghost use Rattle.naga_oil_redirect.specs.ChainLaw.{BeginsChains, SendsOn, SendsApart, KeepsSent};
 ghost use Rattle.naga_oil_redirect.specs.PutInOrder.{import_in_turn, in_turn, put_in_order};
 ghost use Rattle.naga_oil_redirect.specs.Redirected.{function_values, is_named, same_results, found, matched, send_at, send_entry, redirected};
 
@@ -124,10 +124,12 @@ impl Model for Redirector {
 }
 
 impl Redirector {
-    /// Returns a redirector of a module. The module passes the test of form, except that a function may call any function.
+    /// Returns a redirector of a module. The module passes the test of form, except that a function may call any function. Each
+    /// chain of replacements begins here: `redirect_function` extends it.
     pub fn new(alloc: Global, shader: Module) -> Self
         requires { Redirectable shader }
-        ensures { result ≡ module_value shader }
+        ensures value { result ≡ module_value shader }
+        ensures begins { BeginsChains result }
     {
         #[rattlefmt::skip]
         Redirector { module: shader, alloc }

@@ -64,8 +64,8 @@ module _ {X : Type 0} (p : X → Bool) where
       ap (λ b. cond b (Some x) (find p xs)) (o.others 0 d (omega arith) (λ e. omega (arith, e)))
       ∙ find_only xs place d (record { within = omega (arith, h); passes = o.passes; others = λ k d lt ne. o.others (suc k) d (omega (arith, lt)) (λ e. ne (omega (arith, e))) })
 
-  only_behind : (xs : List X) (place from : ℕ) → from ≤ place → IsOnly p xs place → IsOnly p (drop from xs) (place - from)
-  only_behind xs place from le o =
+  only_after : (xs : List X) (place from : ℕ) → from ≤ place → IsOnly p xs place → IsOnly p (drop from xs) (place - from)
+  only_after xs place from le o =
       let h = o.within in
       let size = length-drop from xs in
       let at : from + (place - from) ≡ place = omega (arith, le) in
@@ -81,11 +81,11 @@ module _ {X : Type 0} (p : X → Bool) where
       let first : position_or_len p xs ≡ place = prefix_len_is (λ y. not (p y)) xs place d (omega (arith, h)) (λ k lt. ap not (o.others k d (omega (arith, lt, h)) (λ e. omega (arith, e, lt)))) (λ lt. ap not (o.passes d)) in
       ap (λ n. cond (nat_lt n (length xs)) (Some n) None) first ∙ ap (λ b. cond b (Some place) None) (lt-ltb place (length xs) h)
 
-  pub position_behind : (xs : List X) (place from : ℕ) (d : X) → from ≤ place → IsOnly p xs place → position p (drop from xs) ≡ Some (place - from)
-  position_behind xs place from d le o = position_only (drop from xs) (place - from) d (only_behind xs place from le o)
+  pub position_after : (xs : List X) (place from : ℕ) (d : X) → from ≤ place → IsOnly p xs place → position p (drop from xs) ≡ Some (place - from)
+  position_after xs place from d le o = position_only (drop from xs) (place - from) d (only_after xs place from le o)
 
-  pub none_behind : (xs : List X) (place from : ℕ) → place < from → IsOnly p xs place → list_any p (drop from xs) ≡ false
-  none_behind xs place from above o =
+  pub none_after : (xs : List X) (place from : ℕ) → place < from → IsOnly p xs place → list_any p (drop from xs) ≡ false
+  none_after xs place from above o =
       none_passes p (drop from xs) (λ k d lt.
       let size = length-drop from xs in
       ap p (get_or-drop from xs k d) ∙ o.others (from + k) d (omega (arith, lt, size)) (λ e. omega (arith, e, above)))

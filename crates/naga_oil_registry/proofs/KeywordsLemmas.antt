@@ -46,29 +46,29 @@ module _ (cs : List ℕ) where
         let none : past_word (codes "fn") a ≡ None = ap (λ w. past_word w a) (sym word) ∙ sym e in
         rw (← first) (rw none refl)
 
-    module _ (b : List ℕ) (behind : Some b ≡ past_word w a) where
+    module _ (b : List ℕ) (following : Some b ≡ past_word w a) where
       pub none_second : None ≡ past_spaces b → None ≡ marked_name cs
       unfolding marked_name
       none_second e =
-          let some : past_word (codes "fn") a ≡ Some b = ap (λ w. past_word w a) (sym word) ∙ sym behind in
+          let some : past_word (codes "fn") a ≡ Some b = ap (λ w. past_word w a) (sym word) ∙ sym following in
           rw (← first) (rw some (rw (← e) refl))
 
       pub onwards : (o : List ℕ) → Some o ≡ past_spaces b → name_at_front o ≡ marked_name cs
       unfolding marked_name
       onwards o e =
-          let some : past_word (codes "fn") a ≡ Some b = ap (λ w. past_word w a) (sym word) ∙ sym behind in
+          let some : past_word (codes "fn") a ≡ Some b = ap (λ w. past_word w a) (sym word) ∙ sym following in
           rw (← first) (rw some (rw (← e) refl))
 
-module _ (o w rest : List ℕ) (word : w ≡ codes "(") (behind : rest ≡ after_spaces (drop (prefix_len is_name_char o) o)) where
+module _ (o w rest : List ℕ) (word : w ≡ codes "(") (following : rest ≡ after_spaces (drop (prefix_len is_name_char o) o)) where
   pub none_open : None ≡ past_word w rest → None ≡ name_at_front o
   none_open e =
-      let none : past_word (codes "(") (after_spaces (drop (prefix_len is_name_char o) o)) ≡ None = ap (past_word (codes "(")) (sym behind) ∙ ap (λ w. past_word w rest) (sym word) ∙ sym e in
+      let none : past_word (codes "(") (after_spaces (drop (prefix_len is_name_char o) o)) ≡ None = ap (past_word (codes "(")) (sym following) ∙ ap (λ w. past_word w rest) (sym word) ∙ sym e in
       rw none refl
 
   pub name_found : (arguments name : List ℕ) (empty : Bool) → Some arguments ≡ past_word w rest → name ≡ take (prefix_len is_name_char o) o → empty ≡ eqb (length name) 0
       → then_some {T = List ℕ × List ℕ × List ℕ} (not empty) (name, o, arguments) ≡ name_at_front o
   name_found arguments name empty e f g =
-      let some : past_word (codes "(") (after_spaces (drop (prefix_len is_name_char o) o)) ≡ Some arguments = ap (past_word (codes "(")) (sym behind) ∙ ap (λ w. past_word w rest) (sym word) ∙ sym e in
+      let some : past_word (codes "(") (after_spaces (drop (prefix_len is_name_char o) o)) ≡ Some arguments = ap (past_word (codes "(")) (sym following) ∙ ap (λ w. past_word w rest) (sym word) ∙ sym e in
       rw (some, ← f, ← g) (by empty)
     where
       by : (b : Bool) → then_some {T = List ℕ × List ℕ × List ℕ} (not b) (name, o, arguments) ≡ cond b None (Some (name, o, arguments))

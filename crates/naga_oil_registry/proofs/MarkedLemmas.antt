@@ -14,7 +14,7 @@ use Rattle.std.specs.declared.cmp.Ordering.TheVariants.{Less, Equal, Greater}
 use Rattle.std.specs.Prelude.{◌==◌, nat_lt, if◌then◌else◌}
 use Rattle.std.specs.Str.{chars, encode_utf8_all, IsUtf8}
 use Rattle.std.specs.Str.Pattern.{FindsText, LacksTextAt, SplitsAroundMatch}
-use Rattle.naga_oil_registry.specs.Keywords.{MarkedFunction, marked_name, name_behind, marked_at, marked_behind}
+use Rattle.naga_oil_registry.specs.Keywords.{MarkedFunction, marked_name, name_after, marked_at, marked_after}
 
 same_marked : (m : MarkedFunction) (keyword : ℕ) (name : List ℕ) (place : ℕ) → m.keyword ≡ keyword → m.name ≡ name → m.place ≡ place → m ≡ record { keyword = keyword; name = name; place = place }
 same_marked m keyword name place p q r = ap (λ x. record { keyword = x; name = m.name; place = m.place }) p ∙ ap (λ x. record { keyword = keyword; name = x; place = m.place }) q ∙ ap (λ x. record { keyword = keyword; name = name; place = x }) r
@@ -31,96 +31,96 @@ begins_not mark text none = by (starts_with eqb text mark) refl
 
 module _ (k : ℕ) (ks : List ℕ) where
   -- no keyword is there
-  pub none_marked : (at : ℕ) (text : List ℕ) → ((i : ℕ) → i ≤ length text → LacksTextAt (k ∷ ks) text i) → marked_behind 0 (k ∷ ks) at text ≡ []
-  unfolding marked_behind
+  pub none_marked : (at : ℕ) (text : List ℕ) → ((i : ℕ) → i ≤ length text → LacksTextAt (k ∷ ks) text i) → marked_after 0 (k ∷ ks) at text ≡ []
+  unfolding marked_after
   none_marked at [] none = refl
   none_marked at (b ∷ more) none = rw (begins_not (k ∷ ks) (b ∷ more) (none 0 (omega arith))) (none_marked (at + 1) more (λ i le. none (suc i) (omega (arith, le))))
 
   -- no keyword is there up to a place
-  pub marked_later : (at : ℕ) (text : List ℕ) (i : ℕ) → i ≤ length text → ((j : ℕ) → j < i → LacksTextAt (k ∷ ks) text j) → marked_behind 0 (k ∷ ks) at text ≡ marked_behind 0 (k ∷ ks) (at + i) (drop i text)
-  unfolding marked_behind
-  marked_later at text zero le none = let e : at ≡ at + 0 = omega arith in ap (λ n. marked_behind 0 (k ∷ ks) n text) e
+  pub marked_later : (at : ℕ) (text : List ℕ) (i : ℕ) → i ≤ length text → ((j : ℕ) → j < i → LacksTextAt (k ∷ ks) text j) → marked_after 0 (k ∷ ks) at text ≡ marked_after 0 (k ∷ ks) (at + i) (drop i text)
+  unfolding marked_after
+  marked_later at text zero le none = let e : at ≡ at + 0 = omega arith in ap (λ n. marked_after 0 (k ∷ ks) n text) e
   marked_later at [] (suc i) le none = absurd (omega arith)
   marked_later at (b ∷ more) (suc i) le none =
       let e : at + 1 + i ≡ at + suc i = omega arith in
-      rw (begins_not (k ∷ ks) (b ∷ more) (none 0 (omega arith))) (marked_later (at + 1) more i (omega arith) (λ j lt. none (suc j) (omega (arith, lt))) ∙ ap (λ n. marked_behind 0 (k ∷ ks) n (drop i more)) e)
+      rw (begins_not (k ∷ ks) (b ∷ more) (none 0 (omega arith))) (marked_later (at + 1) more i (omega arith) (λ j lt. none (suc j) (omega (arith, lt))) ∙ ap (λ n. marked_after 0 (k ∷ ks) n (drop i more)) e)
 
   -- bytes that were read are skipped
-  pub past_read : (read text : List ℕ) (at : ℕ) → marked_behind (length read) (k ∷ ks) at (read ++ text) ≡ marked_behind 0 (k ∷ ks) (at + length read) text
-  unfolding marked_behind
-  past_read [] text at = let e : at ≡ at + 0 = omega arith in ap (λ n. marked_behind 0 (k ∷ ks) n text) e
-  past_read (c ∷ read) text at = let e : at + 1 + length read ≡ at + suc (length read) = omega arith in past_read read text (at + 1) ∙ ap (λ n. marked_behind 0 (k ∷ ks) n text) e
+  pub past_read : (read text : List ℕ) (at : ℕ) → marked_after (length read) (k ∷ ks) at (read ++ text) ≡ marked_after 0 (k ∷ ks) (at + length read) text
+  unfolding marked_after
+  past_read [] text at = let e : at ≡ at + 0 = omega arith in ap (λ n. marked_after 0 (k ∷ ks) n text) e
+  past_read (c ∷ read) text at = let e : at + 1 + length read ≡ at + suc (length read) = omega arith in past_read read text (at + 1) ∙ ap (λ n. marked_after 0 (k ∷ ks) n text) e
 
   -- a keyword at the front
-  pub marked_here : (at : ℕ) (behind : List ℕ) → marked_behind 0 (k ∷ ks) at (k ∷ ks ++ behind) ≡ marked_at (k ∷ ks) at (length (k ∷ ks ++ behind)) (name_behind behind) (λ passed. marked_behind (passed - 1) (k ∷ ks) (at + 1) (ks ++ behind))
-  unfolding marked_behind
-  marked_here at behind =
-      rw (begins (k ∷ ks) behind) (ap (λ text. marked_at (k ∷ ks) at (length (k ∷ ks ++ behind)) (name_behind text) (λ passed. marked_behind (passed - 1) (k ∷ ks) (at + 1) (ks ++ behind))) (drop-append_seam (k ∷ ks) behind))
+  pub marked_here : (at : ℕ) (following : List ℕ) → marked_after 0 (k ∷ ks) at (k ∷ ks ++ following) ≡ marked_at (k ∷ ks) at (length (k ∷ ks ++ following)) (name_after following) (λ passed. marked_after (passed - 1) (k ∷ ks) (at + 1) (ks ++ following))
+  unfolding marked_after
+  marked_here at following =
+      rw (begins (k ∷ ks) following) (ap (λ text. marked_at (k ∷ ks) at (length (k ∷ ks ++ following)) (name_after text) (λ passed. marked_after (passed - 1) (k ∷ ks) (at + 1) (ks ++ following))) (drop-append_seam (k ∷ ks) following))
 
   -- no function follows the keyword
-  pub nothing_marked : (at : ℕ) (behind : List ℕ) → name_behind behind ≡ None → marked_behind 0 (k ∷ ks) at (k ∷ ks ++ behind) ≡ marked_behind 0 (k ∷ ks) (at + length (k ∷ ks)) behind
-  nothing_marked at behind none =
+  pub nothing_marked : (at : ℕ) (following : List ℕ) → name_after following ≡ None → marked_after 0 (k ∷ ks) at (k ∷ ks ++ following) ≡ marked_after 0 (k ∷ ks) (at + length (k ∷ ks)) following
+  nothing_marked at following none =
       let e : length (k ∷ ks) - 1 ≡ length ks = omega arith in
       let f : at + 1 + length ks ≡ at + length (k ∷ ks) = omega arith in
-      marked_here at behind ∙ ap (λ o. marked_at (k ∷ ks) at (length (k ∷ ks ++ behind)) o (λ passed. marked_behind (passed - 1) (k ∷ ks) (at + 1) (ks ++ behind))) none
-      ∙ ap (λ n. marked_behind n (k ∷ ks) (at + 1) (ks ++ behind)) e ∙ past_read ks behind (at + 1) ∙ ap (λ n. marked_behind 0 (k ∷ ks) n behind) f
+      marked_here at following ∙ ap (λ o. marked_at (k ∷ ks) at (length (k ∷ ks ++ following)) o (λ passed. marked_after (passed - 1) (k ∷ ks) (at + 1) (ks ++ following))) none
+      ∙ ap (λ n. marked_after n (k ∷ ks) (at + 1) (ks ++ following)) e ∙ past_read ks following (at + 1) ∙ ap (λ n. marked_after 0 (k ∷ ks) n following) f
 
   -- a function follows the keyword
-  pub function_marked : (at : ℕ) (behind name front rest : List ℕ) (onwards : ℕ) → name_behind behind ≡ Some (name, onwards, length rest) → behind ≡ front ++ rest
-      → marked_behind 0 (k ∷ ks) at (k ∷ ks ++ behind) ≡ record { keyword = at; name = name; place = at + (length (k ∷ ks ++ behind) - onwards) } ∷ marked_behind 0 (k ∷ ks) (at + length (k ∷ ks) + length front) rest
-  function_marked at behind name front rest onwards found split =
-      let whole : ks ++ behind ≡ (ks ++ front) ++ rest = ap (λ l. ks ++ l) split ∙ sym (append_assoc ks front rest) in
-      let size : length (k ∷ ks ++ behind) - length rest - 1 ≡ length (ks ++ front) = omega (arith, ap length whole, length-append (ks ++ front) rest) in
+  pub function_marked : (at : ℕ) (following name front rest : List ℕ) (onwards : ℕ) → name_after following ≡ Some (name, onwards, length rest) → following ≡ front ++ rest
+      → marked_after 0 (k ∷ ks) at (k ∷ ks ++ following) ≡ record { keyword = at; name = name; place = at + (length (k ∷ ks ++ following) - onwards) } ∷ marked_after 0 (k ∷ ks) (at + length (k ∷ ks) + length front) rest
+  function_marked at following name front rest onwards found split =
+      let whole : ks ++ following ≡ (ks ++ front) ++ rest = ap (λ l. ks ++ l) split ∙ sym (append_assoc ks front rest) in
+      let size : length (k ∷ ks ++ following) - length rest - 1 ≡ length (ks ++ front) = omega (arith, ap length whole, length-append (ks ++ front) rest) in
       let f : at + 1 + length (ks ++ front) ≡ at + length (k ∷ ks) + length front = omega (arith, length-append ks front) in
-      let first : MarkedFunction = record { keyword = at; name = name; place = at + (length (k ∷ ks ++ behind) - onwards) } in
-      marked_here at behind ∙ ap (λ o. marked_at (k ∷ ks) at (length (k ∷ ks ++ behind)) o (λ passed. marked_behind (passed - 1) (k ∷ ks) (at + 1) (ks ++ behind))) found
-      ∙ ap (λ ms. first ∷ ms) (ap (λ n. marked_behind n (k ∷ ks) (at + 1) (ks ++ behind)) size ∙ ap (λ l. marked_behind (length (ks ++ front)) (k ∷ ks) (at + 1) l) whole ∙ past_read (ks ++ front) rest (at + 1) ∙ ap (λ n. marked_behind 0 (k ∷ ks) n rest) f)
+      let first : MarkedFunction = record { keyword = at; name = name; place = at + (length (k ∷ ks ++ following) - onwards) } in
+      marked_here at following ∙ ap (λ o. marked_at (k ∷ ks) at (length (k ∷ ks ++ following)) o (λ passed. marked_after (passed - 1) (k ∷ ks) (at + 1) (ks ++ following))) found
+      ∙ ap (λ ms. first ∷ ms) (ap (λ n. marked_after n (k ∷ ks) (at + 1) (ks ++ following)) size ∙ ap (λ l. marked_after (length (ks ++ front)) (k ∷ ks) (at + 1) l) whole ∙ past_read (ks ++ front) rest (at + 1) ∙ ap (λ n. marked_after 0 (k ∷ ks) n rest) f)
 
 -- the name after a keyword, by its bytes
-pub name_by_bytes : (text name onwards arguments : List ℕ) → Some (chars name, chars onwards, chars arguments) ≡ marked_name (chars text) → IsUtf8 name → IsUtf8 onwards → IsUtf8 arguments → name_behind text ≡ Some (name, length onwards, length arguments)
+pub name_by_bytes : (text name onwards arguments : List ℕ) → Some (chars name, chars onwards, chars arguments) ≡ marked_name (chars text) → IsUtf8 name → IsUtf8 onwards → IsUtf8 arguments → name_after text ≡ Some (name, length onwards, length arguments)
 name_by_bytes text name onwards arguments e u v w =
     ap (option_map (λ m. (encode_utf8_all m.0, length (encode_utf8_all m.1), length (encode_utf8_all m.2)))) (sym e)
     ∙ ap (λ n. Some (n, length (encode_utf8_all (chars onwards)), length (encode_utf8_all (chars arguments)))) (encodes-chars name u)
     ∙ ap (λ o. Some (name, length o, length (encode_utf8_all (chars arguments)))) (encodes-chars onwards v)
     ∙ ap (λ a. Some (name, length onwards, length a)) (encodes-chars arguments w)
 
-pub no_name : (text : List ℕ) → None ≡ marked_name (chars text) → name_behind text ≡ None
+pub no_name : (text : List ℕ) → None ≡ marked_name (chars text) → name_after text ≡ None
 no_name text e = ap (option_map (λ m. (encode_utf8_all m.0, length (encode_utf8_all m.1), length (encode_utf8_all m.2)))) (sym e)
 
 -- where a text is cut at a keyword
-module _ (k : ℕ) (ks text before behind : List ℕ) (cut : SplitsAroundMatch (FindsText (k ∷ ks)) text before behind) where
-  pub cut_here : (at : ℕ) → marked_behind 0 (k ∷ ks) at text ≡ marked_behind 0 (k ∷ ks) (at + length before) (k ∷ ks ++ behind)
+module _ (k : ℕ) (ks text before following : List ℕ) (cut : SplitsAroundMatch (FindsText (k ∷ ks)) text before following) where
+  pub cut_here : (at : ℕ) → marked_after 0 (k ∷ ks) at text ≡ marked_after 0 (k ∷ ks) (at + length before) (k ∷ ks ++ following)
   cut_here at =
       let f = cut.2 in
       let le : cut.0 ≤ length text = omega (arith, f.1.ends, cut.7) in
-      marked_later k ks at text cut.0 le f.0 ∙ ap (λ i. marked_behind 0 (k ∷ ks) (at + i) (drop cut.0 text)) (sym cut.6) ∙ ap (marked_behind 0 (k ∷ ks) (at + length before)) (f.1.split ∙ ap (λ l. k ∷ ks ++ l) (sym cut.4))
+      marked_later k ks at text cut.0 le f.0 ∙ ap (λ i. marked_after 0 (k ∷ ks) (at + i) (drop cut.0 text)) (sym cut.6) ∙ ap (marked_after 0 (k ∷ ks) (at + length before)) (f.1.split ∙ ap (λ l. k ∷ ks ++ l) (sym cut.4))
 
 -- the lengths of the parts
-pub cut_sizes : (keyword text before behind : List ℕ) → SplitsAroundMatch (FindsText keyword) text before behind → length before + length keyword + length behind ≡ length text
-cut_sizes keyword text before behind cut = let f = cut.2 in omega (arith, f.1.ends, cut.6, cut.7)
+pub cut_sizes : (keyword text before following : List ℕ) → SplitsAroundMatch (FindsText keyword) text before following → length before + length keyword + length following ≡ length text
+cut_sizes keyword text before following cut = let f = cut.2 in omega (arith, f.1.ends, cut.6, cut.7)
 
 -- one more keyword, and no more
-pub step_end : (keyword text : List ℕ) (at : ℕ) → 0 < length keyword → FindsText keyword text None → marked_behind 0 keyword at text ≡ []
+pub step_end : (keyword text : List ℕ) (at : ℕ) → 0 < length keyword → FindsText keyword text None → marked_after 0 keyword at text ≡ []
 step_end [] text at some none = absurd (omega arith)
 step_end (k ∷ ks) text at some none = none_marked k ks at text none
 
-pub step_past : (keyword text before behind : List ℕ) (at next : ℕ) → 0 < length keyword → SplitsAroundMatch (FindsText keyword) text before behind → name_behind behind ≡ None → next ≡ at + length before + length keyword
-    → marked_behind 0 keyword next behind ≡ marked_behind 0 keyword at text
-step_past [] text before behind at next some cut none e = absurd (omega arith)
-step_past (k ∷ ks) text before behind at next some cut none e =
-    ap (λ n. marked_behind 0 (k ∷ ks) n behind) e ∙ sym (cut_here k ks text before behind cut at ∙ nothing_marked k ks (at + length before) behind none)
+pub step_past : (keyword text before following : List ℕ) (at next : ℕ) → 0 < length keyword → SplitsAroundMatch (FindsText keyword) text before following → name_after following ≡ None → next ≡ at + length before + length keyword
+    → marked_after 0 keyword next following ≡ marked_after 0 keyword at text
+step_past [] text before following at next some cut none e = absurd (omega arith)
+step_past (k ∷ ks) text before following at next some cut none e =
+    ap (λ n. marked_after 0 (k ∷ ks) n following) e ∙ sym (cut_here k ks text before following cut at ∙ nothing_marked k ks (at + length before) following none)
 
-pub step_marked : (keyword text before behind name front rest : List ℕ) (onwards at next : ℕ) (m : MarkedFunction) → 0 < length keyword → SplitsAroundMatch (FindsText keyword) text before behind
-    → name_behind behind ≡ Some (name, onwards, length rest) → behind ≡ front ++ rest → next ≡ at + length before + length keyword + length front
-    → m.keyword ≡ at + length before → m.name ≡ name → m.place ≡ at + length before + (length keyword + length behind - onwards)
-    → m ∷ marked_behind 0 keyword next rest ≡ marked_behind 0 keyword at text
-step_marked [] text before behind name front rest onwards at next m some cut found split e p q r = absurd (omega arith)
-step_marked (k ∷ ks) text before behind name front rest onwards at next m some cut found split e p q r =
-    let size : length (k ∷ ks ++ behind) ≡ length (k ∷ ks) + length behind = length-append (k ∷ ks) behind in
-    let place : m.place ≡ at + length before + (length (k ∷ ks ++ behind) - onwards) = r ∙ ap (λ n. at + length before + (n - onwards)) (sym size) in
-    ap (λ n. m ∷ marked_behind 0 (k ∷ ks) n rest) e
-    ∙ ap (λ (x : MarkedFunction). x ∷ marked_behind 0 (k ∷ ks) (at + length before + length (k ∷ ks) + length front) rest) (same_marked m (at + length before) name (at + length before + (length (k ∷ ks ++ behind) - onwards)) p q place)
-    ∙ sym (cut_here k ks text before behind cut at ∙ function_marked k ks (at + length before) behind name front rest onwards found split)
+pub step_marked : (keyword text before following name front rest : List ℕ) (onwards at next : ℕ) (m : MarkedFunction) → 0 < length keyword → SplitsAroundMatch (FindsText keyword) text before following
+    → name_after following ≡ Some (name, onwards, length rest) → following ≡ front ++ rest → next ≡ at + length before + length keyword + length front
+    → m.keyword ≡ at + length before → m.name ≡ name → m.place ≡ at + length before + (length keyword + length following - onwards)
+    → m ∷ marked_after 0 keyword next rest ≡ marked_after 0 keyword at text
+step_marked [] text before following name front rest onwards at next m some cut found split e p q r = absurd (omega arith)
+step_marked (k ∷ ks) text before following name front rest onwards at next m some cut found split e p q r =
+    let size : length (k ∷ ks ++ following) ≡ length (k ∷ ks) + length following = length-append (k ∷ ks) following in
+    let place : m.place ≡ at + length before + (length (k ∷ ks ++ following) - onwards) = r ∙ ap (λ n. at + length before + (n - onwards)) (sym size) in
+    ap (λ n. m ∷ marked_after 0 (k ∷ ks) n rest) e
+    ∙ ap (λ (x : MarkedFunction). x ∷ marked_after 0 (k ∷ ks) (at + length before + length (k ∷ ks) + length front) rest) (same_marked m (at + length before) name (at + length before + (length (k ∷ ks ++ following) - onwards)) p q place)
+    ∙ sym (cut_here k ks text before following cut at ∙ function_marked k ks (at + length before) following name front rest onwards found split)
 
 -- ---- edits
 before_other : (a b : ℕ) → a ≢ b → (b < a → ⊥) → a < b

@@ -18,7 +18,7 @@ use Rattle.naga_oil_lines.proofs.NamesInOrder.{names_rise}
 use Rattle.naga_oil_pre.specs.Extracted.{extracted}
 use Rattle.naga_oil_conditions.specs.Fault.{Fault}
 use Rattle.naga_oil_conditions.specs.Line.{source_lines}
-use Rattle.naga_oil_pre.specs.Metadata.{Found, Metadata, metadata, metadata_behind, metadata_with, found_in, nothing_found}
+use Rattle.naga_oil_pre.specs.Metadata.{Found, Metadata, metadata, metadata_after, metadata_with, found_in, nothing_found}
 use Rattle.naga_oil_pre.specs.Recorded.{is_recorded}
 
 abbrev order : List ℕ → List ℕ → Ordering
@@ -73,8 +73,8 @@ first_among : (x : List ℕ) (xs : List (List ℕ)) → is_among (x ∷ xs) x �
 first_among x xs = ap (λ b. b || is_among xs x) ((bytes_eq-Decides x x).1 refl)
 
 -- what follows the same first name
-behind : (x n : List ℕ) (xs ys : List (List ℕ)) → is_among xs x ≡ false → is_among ys x ≡ false → is_among (x ∷ xs) n ≡ is_among (x ∷ ys) n → is_among xs n ≡ is_among ys n
-behind x n xs ys p q e = by (bytes_eq n x) refl e
+following : (x n : List ℕ) (xs ys : List (List ℕ)) → is_among xs x ≡ false → is_among ys x ≡ false → is_among (x ∷ xs) n ≡ is_among (x ∷ ys) n → is_among xs n ≡ is_among ys n
+following x n xs ys p q e = by (bytes_eq n x) refl e
   where
     by : (b : Bool) → bytes_eq n x ≡ b → (b || is_among xs n) ≡ (b || is_among ys n) → is_among xs n ≡ is_among ys n
     by true same e = let is : n ≡ x = (bytes_eq-Decides n x).0 same in ap (is_among xs) is ∙ p ∙ sym q ∙ ap (is_among ys) (sym is)
@@ -95,7 +95,7 @@ sorted_unique (x ∷ xs) (y ∷ ys) s t h = by (order x y) refl (λ k. sorted_un
     by Equal e rest =
         let same : x ≡ y = exact_bytes x y e in
         let above : is_among ys x ≡ false = ap (is_among ys) same ∙ not_above y ys t.0 in
-        ap (λ z. z ∷ xs) same ∙ ap (λ zs. y ∷ zs) (rest (λ n. behind x n xs ys (not_above x xs s.0) above (h n ∙ ap (λ z. is_among (z ∷ ys) n) (sym same))))
+        ap (λ z. z ∷ xs) same ∙ ap (λ zs. y ∷ zs) (rest (λ n. following x n xs ys (not_above x xs s.0) above (h n ∙ ap (λ z. is_among (z ∷ ys) n) (sym same))))
 
 -- ---- a set of names
 all_texts : (k : String Global) (ks : List (String Global)) → AllByRecursion (λ l. string_cmp k l ≡ Less) ks → AllByRecursion (λ n. order (string_bytes k) n ≡ Less) (texts ks)
@@ -124,10 +124,10 @@ found-records : (cleaned : List ℕ) (directives : Directives) (r : Result Found
 found-records cleaned directives (Ok found) = refl
 found-records cleaned directives (Err f) = tt
 
-behind-records : (allow_defines : Bool) (r : Result (List ℕ × Directives) Fault) → RecordsOwn (metadata_behind allow_defines r)
-behind-records allow_defines (Ok r) = found-records r.0 r.1 (found_in allow_defines nothing_found 0 (source_lines r.0))
-behind-records allow_defines (Err f) = tt
+following-records : (allow_defines : Bool) (r : Result (List ℕ × Directives) Fault) → RecordsOwn (metadata_after allow_defines r)
+following-records allow_defines (Ok r) = found-records r.0 r.1 (found_in allow_defines nothing_found 0 (source_lines r.0))
+following-records allow_defines (Err f) = tt
 
 pub records-cleaned : (allow_defines : Bool) (text : List ℕ) (m : Metadata) → metadata allow_defines text ≡ Ok m → m.records ≡ is_recorded m.cleaned
 unfolding metadata
-records-cleaned allow_defines text m e = subst RecordsOwn e (behind-records allow_defines (extracted text))
+records-cleaned allow_defines text m e = subst RecordsOwn e (following-records allow_defines (extracted text))

@@ -36,15 +36,15 @@ module _ (ds : List Registered) (m : ModuleSource) (d : Described) (uses : List 
   unfolding new_definition
   new-refused f e = ap (λ (r : Result (List Registered) Fault). r >>= λ imported. indexed (free_index ds) >>= λ index. Ok (definition_over m d imported index)) (ap (imported_among ds) (sym same) ∙ e)
 
-  behind-imports : (imported : List Registered) → imported_among ds uses ≡ Ok imported → new_definition ds m d ≡ (indexed (free_index ds) >>= λ index. Ok (definition_over m d imported index))
+  following-imports : (imported : List Registered) → imported_among ds uses ≡ Ok imported → new_definition ds m d ≡ (indexed (free_index ds) >>= λ index. Ok (definition_over m d imported index))
   unfolding new_definition
-  behind-imports imported e = ap (λ (r : Result (List Registered) Fault). r >>= λ imported. indexed (free_index ds) >>= λ index. Ok (definition_over m d imported index)) (ap (imported_among ds) (sym same) ∙ e)
+  following-imports imported e = ap (λ (r : Result (List Registered) Fault). r >>= λ imported. indexed (free_index ds) >>= λ index. Ok (definition_over m d imported index)) (ap (imported_among ds) (sym same) ∙ e)
 
   pub new-full : (imported : List Registered) → imported_among ds uses ≡ Ok imported → free_index ds ≡ None → new_definition ds m d ≡ Err too_many_modules
-  new-full imported e none = behind-imports imported e ∙ ap (λ (o : Option ℕ). indexed o >>= λ index. Ok (definition_over m d imported index)) none
+  new-full imported e none = following-imports imported e ∙ ap (λ (o : Option ℕ). indexed o >>= λ index. Ok (definition_over m d imported index)) none
 
   pub new-made : (imported : List Registered) (index : ℕ) → imported_among ds uses ≡ Ok imported → free_index ds ≡ Some index → new_definition ds m d ≡ Ok (definition_over m d imported index)
-  new-made imported index e some = behind-imports imported e ∙ ap (λ (o : Option ℕ). indexed o >>= λ index. Ok (definition_over m d imported index)) some
+  new-made imported index e some = following-imports imported e ∙ ap (λ (o : Option ℕ). indexed o >>= λ index. Ok (definition_over m d imported index)) some
 
 -- a definition with these parts
 abbrev pub filled : ModuleSource → Described → ℕ → (path : List ℕ) → Defs → (names : List (List ℕ)) → List Use → List Import → Registered

@@ -5,25 +5,25 @@ use Rattle.std.proofs.lemmas.Bool.Decides.{Decides-eqb}
 use Rattle.std.specs.List.{starts_with, ends_with, onto_first}
 use Rattle.std.specs.Str.Pattern.{FindsText, LacksTextAt, MatchBeginsAt, SplitsAroundMatch}
 use Rattle.std.proofs.lemmas.Slice.Eq.{starts_is}
-use Rattle.naga_oil_registry.specs.Sanitized.{earlier, first_of, line_feeds, end_last_line, parts_behind, parts_around, numbered, binding, within}
+use Rattle.naga_oil_registry.specs.Sanitized.{earlier, first_of, line_feeds, end_last_line, parts_after, parts_around, numbered, binding, within}
 
 -- a byte that is no carriage return stays
 not_return : (a : ℕ) (more : List ℕ) → a ≢ 13 → line_feeds (a ∷ more) ≡ a ∷ line_feeds more
 not_return a [] h = rw (ne_eqb a 13 h) refl
 not_return a (b ∷ more) h = rw (ne_eqb a 13 h, ne_eqb a 13 h) refl
 
-behind_pair : (more : List ℕ) → line_feeds (13 ∷ 10 ∷ more) ≡ 10 ∷ line_feeds more
-behind_pair [] = refl
-behind_pair (b ∷ more) = refl
+after_pair : (more : List ℕ) → line_feeds (13 ∷ 10 ∷ more) ≡ 10 ∷ line_feeds more
+after_pair [] = refl
+after_pair (b ∷ more) = refl
 
-behind_return : (text : List ℕ) → ((rest : List ℕ) → text ≢ 10 ∷ rest) → line_feeds (13 ∷ text) ≡ 10 ∷ line_feeds text
-behind_return [] h = refl
-behind_return (b ∷ more) h = rw (ne_eqb b 10 (λ e. h more (ap (λ x. x ∷ more) e))) refl
+after_return : (text : List ℕ) → ((rest : List ℕ) → text ≢ 10 ∷ rest) → line_feeds (13 ∷ text) ≡ 10 ∷ line_feeds text
+after_return [] h = refl
+after_return (b ∷ more) h = rw (ne_eqb b 10 (λ e. h more (ap (λ x. x ∷ more) e))) refl
 
 -- after a carriage return, with or without the line feed that belongs to it
 pub past_feed : (text : List ℕ) (r : Option (Bor (List ℕ))) (whole : Bor (List ℕ)) → whole.now ≡ text → MatchOption r ((rest : List ℕ) → text ≢ 10 ∷ rest) (λ x. text ≡ 10 ∷ x.now) → line_feeds (13 ∷ text) ≡ 10 ∷ line_feeds (unwrap_or r whole).now
-past_feed text None whole e h = behind_return text h ∙ ap (λ t. 10 ∷ line_feeds t) (sym e)
-past_feed text (Some x) whole e h = ap (λ t. line_feeds (13 ∷ t)) h ∙ behind_pair x.now
+past_feed text None whole e h = after_return text h ∙ ap (λ t. 10 ∷ line_feeds t) (sym e)
+past_feed text (Some x) whole e h = ap (λ t. line_feeds (13 ∷ t)) h ∙ after_pair x.now
 
 -- what precedes the first carriage return stays
 pub plain_front : (front more : List ℕ) → ((i : ℕ) → i < length front → get_or front i 0 ≢ 13) → line_feeds (front ++ more) ≡ front ++ line_feeds more
@@ -112,14 +112,14 @@ parts_none : (mark text : List ℕ) → ((i : ℕ) → i ≤ length text → Lac
 parts_none mark [] none = refl
 parts_none mark (c ∷ more) none = rw (begins_not mark (c ∷ more) (none 0 (omega arith))) (ap (onto_first c) (parts_none mark more (λ i le. none (suc i) (omega (arith, le)))))
 
-past_mark : (mark skipped text : List ℕ) → parts_behind (length skipped) mark (skipped ++ text) ≡ parts_around mark text
+past_mark : (mark skipped text : List ℕ) → parts_after (length skipped) mark (skipped ++ text) ≡ parts_around mark text
 past_mark mark [] text = refl
 past_mark mark (c ∷ skipped) text = past_mark mark skipped text
 
 parts_here : (m : ℕ) (ms back : List ℕ) → parts_around (m ∷ ms) (m ∷ ms ++ back) ≡ [] ∷ parts_around (m ∷ ms) back
 parts_here m ms back =
     let left : length (m ∷ ms) - 1 ≡ length ms = omega arith in
-    rw (begins (m ∷ ms) back) (ap (λ n. [] ∷ parts_behind n (m ∷ ms) (ms ++ back)) left ∙ ap (λ ps. [] ∷ ps) (past_mark (m ∷ ms) ms back))
+    rw (begins (m ∷ ms) back) (ap (λ n. [] ∷ parts_after n (m ∷ ms) (ms ++ back)) left ∙ ap (λ ps. [] ∷ ps) (past_mark (m ∷ ms) ms back))
 
 parts_at : (m : ℕ) (ms text : List ℕ) (i : ℕ) (back : List ℕ) → ((k : ℕ) → k < i → LacksTextAt (m ∷ ms) text k) → drop i text ≡ m ∷ ms ++ back → parts_around (m ∷ ms) text ≡ take i text ∷ parts_around (m ∷ ms) back
 parts_at m ms text zero back none at = ap (parts_around (m ∷ ms)) at ∙ parts_here m ms back
@@ -135,13 +135,13 @@ cut_around (m ∷ ms) text (Some x) some h =
     let f = h.2 in
     (parts_at m ms text h.0 x.1.now f.0 (f.1.split ∙ ap (λ l. m ∷ ms ++ l) (sym h.4)) ∙ ap (λ l. l ∷ parts_around (m ∷ ms) x.1.now) (sym h.3), omega (arith, f.1.ends, h.5, h.7))
 
-parts_some : (left : ℕ) (mark text : List ℕ) → (p : List ℕ) × (ps : List (List ℕ)) × (parts_behind left mark text ≡ p ∷ ps)
+parts_some : (left : ℕ) (mark text : List ℕ) → (p : List ℕ) × (ps : List (List ℕ)) × (parts_after left mark text ≡ p ∷ ps)
 parts_some left mark [] = ([], [], refl)
 parts_some (suc left) mark (c ∷ more) = parts_some left mark more
 parts_some zero mark (c ∷ more) = by (starts_with eqb (c ∷ more) mark) (parts_some zero mark more)
   where
-    by : (b : Bool) → ((p : List ℕ) × (ps : List (List ℕ)) × (parts_around mark more ≡ p ∷ ps)) → (p : List ℕ) × (ps : List (List ℕ)) × (cond b ([] ∷ parts_behind (length mark - 1) mark more) (onto_first c (parts_around mark more)) ≡ p ∷ ps)
-    by true h = ([], parts_behind (length mark - 1) mark more, refl)
+    by : (b : Bool) → ((p : List ℕ) × (ps : List (List ℕ)) × (parts_around mark more ≡ p ∷ ps)) → (p : List ℕ) × (ps : List (List ℕ)) × (cond b ([] ∷ parts_after (length mark - 1) mark more) (onto_first c (parts_around mark more)) ≡ p ∷ ps)
+    by true h = ([], parts_after (length mark - 1) mark more, refl)
     by false h = (c ∷ h.0, h.1, ap (onto_first c) h.2)
 
 pub some_parts : (mark text : List ℕ) → 0 < length (parts_around mark text)

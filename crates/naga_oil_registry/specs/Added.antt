@@ -21,13 +21,13 @@ read_as None None = Err bindings_exhausted
 unfoldable pub read_source : (counter : ℕ) → (source : List ℕ) → Result (List ℕ × ℕ) Fault
 read_source counter source = read_as (first_decoration source) (sanitized counter source)
 
-abbrev pub counter_behind : ℕ → Result (List ℕ × ℕ) Fault → ℕ
-counter_behind counter (Ok read) = read.1
-counter_behind counter (Err f) = counter
+abbrev pub next_counter : ℕ → Result (List ℕ × ℕ) Fault → ℕ
+next_counter counter (Ok read) = read.1
+next_counter counter (Err f) = counter
 
 -- the counter after a source; a source that is refused leaves the counter as it was
 abbrev pub counter_after : (counter : ℕ) → (source : List ℕ) → ℕ
-counter_after counter source = counter_behind counter (read_source counter source)
+counter_after counter source = next_counter counter (read_source counter source)
 
 -- the given name, or else the import path
 abbrev pub name_among : (given path : Option (List ℕ)) → Result (List ℕ) Fault

@@ -44,8 +44,8 @@ pub record MarkedFunction : Type 0 where
   pub place : ℕ
 
 -- the name of the function after a keyword, and the number of bytes from the name on and after the `(`
-abbrev pub name_behind : List ℕ → Option (List ℕ × ℕ × ℕ)
-name_behind text = option_map (λ m. (encode_utf8_all m.0, length (encode_utf8_all m.1), length (encode_utf8_all m.2))) (marked_name (chars text))
+abbrev pub name_after : List ℕ → Option (List ℕ × ℕ × ℕ)
+name_after text = option_map (λ m. (encode_utf8_all m.0, length (encode_utf8_all m.1), length (encode_utf8_all m.2))) (marked_name (chars text))
 
 -- the function after a keyword at the place, in a text of this size from there on, and what is found after the `(`; without a
 -- function, what is found after the keyword
@@ -54,16 +54,16 @@ marked_at keyword at size None on = on (length keyword)
 marked_at keyword at size (Some found) on = record { keyword = at; name = found.0; place = at + (size - found.1) } ∷ on (size - found.2)
 
 -- the functions after a keyword in a text that begins at the place, from left to right; the first few bytes were read before
-unfoldable pub marked_behind : (skip : ℕ) → (keyword : List ℕ) → (at : ℕ) → (text : List ℕ) → List MarkedFunction
-marked_behind skip keyword at [] = []
-marked_behind (suc skip) keyword at (b ∷ more) = marked_behind skip keyword (at + 1) more
-marked_behind zero keyword at (b ∷ more) =
-    if starts_with nat_eq (b ∷ more) keyword then marked_at keyword at (length (b ∷ more)) (name_behind (drop (length keyword) (b ∷ more))) (λ passed. marked_behind (passed - 1) keyword (at + 1) more)
-    else marked_behind zero keyword (at + 1) more
+unfoldable pub marked_after : (skip : ℕ) → (keyword : List ℕ) → (at : ℕ) → (text : List ℕ) → List MarkedFunction
+marked_after skip keyword at [] = []
+marked_after (suc skip) keyword at (b ∷ more) = marked_after skip keyword (at + 1) more
+marked_after zero keyword at (b ∷ more) =
+    if starts_with nat_eq (b ∷ more) keyword then marked_at keyword at (length (b ∷ more)) (name_after (drop (length keyword) (b ∷ more))) (λ passed. marked_after (passed - 1) keyword (at + 1) more)
+    else marked_after zero keyword (at + 1) more
 
 -- the functions after a keyword in a text
 abbrev pub marked_in : (keyword text : List ℕ) → List MarkedFunction
-marked_in keyword text = marked_behind 0 keyword 0 text
+marked_in keyword text = marked_after 0 keyword 0 text
 
 -- edits with other characters from a place on
 abbrev pub put : (edits : ℕ → Option ℕ) → (place : ℕ) → (other : List ℕ) → ℕ → Option ℕ

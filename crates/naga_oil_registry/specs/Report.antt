@@ -50,18 +50,18 @@ message (Some fault.wrong_form) = codes "front end gave a module of wrong form"
 message None = codes "out of memory"
 
 -- ---- its places
-pub data Places : Type 0 where
+pub data ErrorPlaces : Type 0 where
   -- in the text as a whole
-  no_place : Places
-  byte : ℕ → Places
+  no_place : ErrorPlaces
+  byte : ℕ → ErrorPlaces
   -- the start of the line with this index
-  line : ℕ → Places
+  line : ℕ → ErrorPlaces
   -- an item, labelled with the message
-  item : Span → Places
+  item : Span → ErrorPlaces
   -- spans, each with its label
-  spans : List (Span × List ℕ) → Places
+  spans : List (Span × List ℕ) → ErrorPlaces
 
-abbrev pub fault_places : Option Fault → Places
+abbrev pub fault_places : Option Fault → ErrorPlaces
 fault_places (Some (fault.invalid_import text at)) = byte at
 fault_places (Some (fault.import_not_found name at)) = byte at
 fault_places (Some (fault.wgsl_parse f)) = spans f.spans
@@ -117,11 +117,11 @@ line_column text place = (count_by (λ b. b == 10) (take place text) + 1, suffix
 abbrev pub span_place : ℕ → Span → ℕ
 span_place offset s = s.start % span_stride - offset
 
-abbrev pub said_behind : List ℕ → List ℕ
-said_behind said = end_line (if length said == 0 then [] else codes ": " ++ said)
+abbrev pub said_after : List ℕ → List ℕ
+said_after said = end_line (if length said == 0 then [] else codes ": " ++ said)
 
 abbrev pub place_line : (path : List ℕ) → ℕ × ℕ → (said : List ℕ) → List ℕ
-place_line path place said = codes "  at " ++ path ++ codes ":" ++ decimal place.0 ++ codes ":" ++ decimal place.1 ++ said_behind said
+place_line path place said = codes "  at " ++ path ++ codes ":" ++ decimal place.0 ++ codes ":" ++ decimal place.1 ++ said_after said
 
 abbrev pub no_place_line : (path : List ℕ) → List ℕ
 no_place_line path = end_line (codes "  in " ++ path)
@@ -130,7 +130,7 @@ abbrev pub span_lines : (path text : List ℕ) → ℕ → List (Span × List �
 span_lines path text offset [] = no_place_line path
 span_lines path text offset (s ∷ more) = flat_map (λ s. place_line path (line_column text (span_place offset s.0)) s.1) (s ∷ more)
 
-abbrev pub place_lines : (path text : List ℕ) → ℕ → (message : List ℕ) → Places → List ℕ
+abbrev pub place_lines : (path text : List ℕ) → ℕ → (message : List ℕ) → ErrorPlaces → List ℕ
 place_lines path text offset message no_place = no_place_line path
 place_lines path text offset message (byte place) = place_line path (line_column text place) []
 place_lines path text offset message (line index) = place_line path (index + 1, 1) []

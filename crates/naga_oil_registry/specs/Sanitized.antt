@@ -2,6 +2,7 @@
 use Rattle.std.specs.Prelude.{ℕ, zero, suc, ◌+◌, ◌-◌, ◌==◌, ◌&&◌, ◌||◌, nat_eq, nat_lt, if◌then◌else◌, Option, Some, None, option_map, min, List, [], ◌∷◌, ◌++◌, length, map, codes}
 use Rattle.std.specs.List.{onto_first, starts_with, ends_with}
 use Rattle.std.specs.Fmt.{decimal}
+use Rattle.naga_oil_ir.specs.Spans.{u32_max}
 use Rattle.naga_oil_words.specs.Marks.{module_mark, override_mark}
 
 -- the earlier of two places, if they are there
@@ -38,13 +39,13 @@ abbrev pub end_last_line : List ℕ → List ℕ
 end_last_line text = if ends_with nat_eq text (10 ∷ []) then text else text ++ 10 ∷ []
 
 -- the parts of a text between the places of a mark, from left to right; the first bytes may belong to an earlier mark
-abbrev pub parts_behind : (left : ℕ) → (mark text : List ℕ) → List (List ℕ)
-parts_behind left mark [] = [] ∷ []
-parts_behind (suc left) mark (c ∷ more) = parts_behind left mark more
-parts_behind zero mark (c ∷ more) = if starts_with nat_eq (c ∷ more) mark then [] ∷ parts_behind (length mark - 1) mark more else onto_first c (parts_behind zero mark more)
+abbrev pub parts_after : (left : ℕ) → (mark text : List ℕ) → List (List ℕ)
+parts_after left mark [] = [] ∷ []
+parts_after (suc left) mark (c ∷ more) = parts_after left mark more
+parts_after zero mark (c ∷ more) = if starts_with nat_eq (c ∷ more) mark then [] ∷ parts_after (length mark - 1) mark more else onto_first c (parts_after zero mark more)
 
 abbrev pub parts_around : (mark text : List ℕ) → List (List ℕ)
-parts_around mark text = parts_behind 0 mark text
+parts_around mark text = parts_after 0 mark text
 
 -- an automatic binding, and a binding with its number
 abbrev pub auto_binding : List ℕ
@@ -61,7 +62,7 @@ numbered number (part ∷ next ∷ more) = part ++ (binding number ++ numbered (
 
 -- the text of these parts and the counter after it, unless the counter exceeds the greatest number
 abbrev pub within : (counter : ℕ) → List (List ℕ) → Option (List ℕ × ℕ)
-within counter parts = if nat_lt 4294967295 (counter + (length parts - 1)) then None else Some (numbered counter parts, counter + (length parts - 1))
+within counter parts = if nat_lt u32_max (counter + (length parts - 1)) then None else Some (numbered counter parts, counter + (length parts - 1))
 
 -- a prepared source and the counter after it; nothing if no number is left
 unfoldable pub sanitized : (counter : ℕ) → (source : List ℕ) → Option (List ℕ × ℕ)

@@ -41,7 +41,7 @@ pub fn describe(alloc: Global, given: Option<&String>, text: &str) -> InnerResul
 fn imported_modules<'a>(
     alloc: Global,
     registry: &'a Registry,
-    gone: &Names,
+    gone: &NameSet,
     imports: &[Use],
 ) -> InnerResult<Vec<&'a Registered>>
     ensures { let left = standing (contains_text gone.now) registry.now in
@@ -64,7 +64,7 @@ fn imported_modules<'a>(
 fn new_definition(
     alloc: Global,
     registry: &Registry,
-    gone: &Names,
+    gone: &NameSet,
     free: Option<usize>,
     desc: ComposableModuleDescriptor<'_>,
     described: Described,
@@ -104,7 +104,7 @@ pub fn register(
     registry: &mut Registry,
     desc: ComposableModuleDescriptor<'_>,
     described: Described,
-) -> InnerResult<(usize, Names)>
+) -> InnerResult<(usize, NameSet)>
     requires registry { IsRegistry registry.old }
     requires recorded { KnowsRecorded described }
     ensures reply { let of = described_of described in

@@ -8,9 +8,6 @@ use super::*;
 /// A result that fails with an error of the composer.
 pub type InnerResult<T = ()> = Result<T, Inner>;
 
-/// A set of names.
-pub type Names = BTreeSet<String>;
-
 /// Definitions of names.
 pub type Defs = BTreeMap<String, ShaderDefValue>;
 
@@ -36,7 +33,7 @@ pub struct ComposableModuleDefinition {
     pub shader_defs: Defs,
     /// The names on which the module's build may depend: those that its text records, and those of
     /// all modules that it imports.
-    pub effective_defs: Names,
+    pub effective_defs: NameSet,
     /// What the module may import: what its text uses under some definitions, then the additional
     /// imports.
     pub all_imports: Vec<ImportDefWithOffset>,

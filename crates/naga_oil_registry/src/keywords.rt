@@ -79,9 +79,9 @@ pub fn marked_in<'a>(alloc: Global, text: &'a str, keyword: &str) -> AllocResult
 {
     let mut found = Vec::new(alloc);
     let mut rest = text;
-    while let Some((before, behind)) = rest.split_once(keyword) {
-        let Some((name, onwards, arguments)) = marked_name(behind) else {
-            rest = behind;
+    while let Some((before, following)) = rest.split_once(keyword) {
+        let Some((name, onwards, arguments)) = marked_name(following) else {
+            rest = following;
             continue;
         };
         found.push(Marked {

@@ -20,9 +20,7 @@ pub mod registry;
 pub mod report;
 pub mod sanitize;
 
-pub use definition::{
-    ComposableModuleDefinition, Defs, Import, InnerResult, Names, Registered, Use,
-};
+pub use definition::{ComposableModuleDefinition, Defs, Import, InnerResult, Registered, Use};
 pub use descriptor::{
     ComposableModuleDescriptor, NagaModuleDescriptor, OwnedShaderDefs, ShaderType,
 };
@@ -34,6 +32,6 @@ use naga_oil_lines::wgsl_directives::WgslDirectives;
 use naga_oil_pre::{
     ComposerErrorInner as Inner, Preprocessor, PreprocessorMetaData, ShaderDefValue,
 };
-use naga_oil_words::{AllocResult, DECORATION_OVERRIDE_PRE, DECORATION_PRE};
+use naga_oil_words::{AllocResult, DECORATION_OVERRIDE_PRE, DECORATION_PRE, NameSet};
 use std::alloc::{AllocError, Global};
 use std::collections::{BTreeMap, BTreeSet};

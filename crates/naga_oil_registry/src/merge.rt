@@ -19,7 +19,7 @@ pub fn overwrite(defs: &mut Defs, others: &Defs) -> AllocResult
 }
 
 // Adds the names of a set.
-fn add_names(names: &mut Names, others: &Names) -> AllocResult
+fn add_names(names: &mut NameSet, others: &NameSet) -> AllocResult
     ensures { let more = texts others.now.keys in
         OnOk result (texts names.new.keys ≡ fold with_name (texts names.old.keys) more) }
 {
@@ -31,7 +31,11 @@ fn add_names(names: &mut Names, others: &Names) -> AllocResult
 
 /// Overwrites definitions with those of each imported module, one after the other, and adds the
 /// effective names of each.
-pub(crate) fn take_over(defs: &mut Defs, names: &mut Names, imported: &[&Registered]) -> AllocResult
+pub(crate) fn take_over(
+    defs: &mut Defs,
+    names: &mut NameSet,
+    imported: &[&Registered],
+) -> AllocResult
     ensures defs { let others = map (λ d. definition_of d.now) imported.now in
         OnOk result (defs_of defs.new ≡ merged (defs_of defs.old) others) }
     ensures names { let more = flat_map (λ d. (definition_of d.now).effective) imported.now in

@@ -42,7 +42,7 @@ impl Model for Registry {
 }
 
 // Whether a module is removed along with others: it has the name, or imports a removed module.
-fn goes(definition: &Registered, gone: &Names, name: &str) -> bool
+fn goes(definition: &Registered, gone: &NameSet, name: &str) -> bool
     ensures { let of = definition_of definition.now in
         let imports_one = list_any (λ u. contains_text gone.now u.import.import) of.imports in
         result ≡ (bytes_eq of.name name.now || imports_one) }
@@ -79,7 +79,7 @@ fn mark(taken: &mut Vec<bool>, of: &Registered)
 }
 
 // Removes the modules with some names.
-fn take_out(modules: &mut IndexMap<String, Registered>, gone: &Names)
+fn take_out(modules: &mut IndexMap<String, Registered>, gone: &NameSet)
     ensures entries { let stays = filter (λ e. not (contains_text gone.now (string_bytes e.0))) in
         modules.new.entries ≡ stays modules.old.entries }
     ensures room { KeepsRoom modules.old modules.new }
@@ -96,7 +96,7 @@ fn take_out(modules: &mut IndexMap<String, Registered>, gone: &Names)
 }
 
 // Removing modules invalidates the marks, so they are cleared.
-fn unmark(taken: &mut Vec<bool>, gone: &Names)
+fn unmark(taken: &mut Vec<bool>, gone: &NameSet)
     ensures { (ds : List Registered) → AreMarks taken.old.items ds →
         AreMarks taken.new.items (standing (contains_text gone.now) ds) }
 {
@@ -152,7 +152,7 @@ impl Registry {
     }
 
     /// The module with a name, and its place counted from the newest, if that is `from` or later.
-    pub fn behind(&self, name: &str, from: usize) -> Option<(usize, &Registered)>
+    pub fn following(&self, name: &str, from: usize) -> Option<(usize, &Registered)>
         ensures none { IfNone result (place_named name.now (drop from self.now) ≡ None) }
         ensures place { let ahead = place_named name.now (drop from self.now) in
             IfSome result (λ r. (from ≤ r.0) × (ahead ≡ Some (r.0 - from))) }
@@ -192,7 +192,7 @@ impl Registry {
 
     /// The names of the modules that are removed with a module: its own, and those of all modules
     /// that reach it by imports. If the module isn't registered, there are none.
-    pub(crate) fn gone_with(&self, name: &str) -> AllocResult<Names>
+    pub(crate) fn gone_with(&self, name: &str) -> AllocResult<NameSet>
         requires { IsRegistry self.now }
         ensures { IfOk result (λ gone. (other : List ℕ) →
             contains_text gone other ≡ reaches self.now other name.now) }
@@ -213,7 +213,7 @@ impl Registry {
     }
 
     /// The module with a name, unless it is among the removed ones.
-    pub(crate) fn standing(&self, gone: &Names, name: &str) -> Option<&Registered>
+    pub(crate) fn standing(&self, gone: &NameSet, name: &str) -> Option<&Registered>
         ensures { let left = standing (contains_text gone.now) self.now in
             option_map (λ d. definition_of d.now) result ≡ module_named name.now left }
     {
@@ -224,7 +224,7 @@ impl Registry {
     }
 
     // Marks of the indices below `end` that the modules which stay have; index 0 is marked too.
-    fn taken_indices(&self, gone: &Names, end: usize) -> AllocResult<Vec<bool>>
+    fn taken_indices(&self, gone: &NameSet, end: usize) -> AllocResult<Vec<bool>>
         requires { 0 < end }
         ensures len { IfOk result (λ marks. length marks.items ≡ end) }
         ensures marks { let taken = taken (standing (contains_text gone.now) self.now) in
@@ -245,7 +245,7 @@ impl Registry {
     }
 
     /// The smallest index from 1 to 2047 that is free once the modules in `gone` are removed.
-    pub(crate) fn free_index(&mut self, gone: &Names) -> AllocResult<Option<usize>>
+    pub(crate) fn free_index(&mut self, gone: &NameSet) -> AllocResult<Option<usize>>
         ensures index { let left = standing (contains_text gone.now) self.old in
             IfOk result (λ index. index ≡ free_index left) }
         ensures same { self.new ≡ self.old }
@@ -261,7 +261,7 @@ impl Registry {
     }
 
     /// Enters a module as the newest, in place of the modules in `gone`.
-    pub(crate) fn enter(&mut self, gone: &Names, of: Registered) -> AllocResult
+    pub(crate) fn enter(&mut self, gone: &NameSet, of: Registered) -> AllocResult
         requires { let left = standing (contains_text gone.now) self.old in
             registered (definition_of of).name left ≡ false }
         ensures ok { let left = standing (contains_text gone.now) self.old in
@@ -279,7 +279,7 @@ impl Registry {
 
     /// Removes a module and all modules that reach it by imports. Returns the names of the removed
     /// modules.
-    pub fn remove(&mut self, name: &str) -> AllocResult<Names>
+    pub fn remove(&mut self, name: &str) -> AllocResult<NameSet>
         requires { IsRegistry self.old }
         ensures ok { OnOk result (self.new ≡ removed name.now self.old) }
         ensures gone { IfOk result (λ gone. (other : List ℕ) →

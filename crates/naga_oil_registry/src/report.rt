@@ -4,7 +4,7 @@ ghost use Rattle.std.specs.List.{flat_map};
 ghost use Rattle.naga_oil_ir.specs.RedirectFault.{redirect_fault};
 ghost use Rattle.naga_oil_ir.specs.Backend.{labels};
 ghost use Rattle.naga_oil_conditions.specs.View.{fault_of, redirection_of};
-ghost use Rattle.naga_oil_registry.specs.Report.{message, fault_places, fault_notes, note_line, line_column, span_place, said_behind, place_line, span_lines, place_lines, report_text, report};
+ghost use Rattle.naga_oil_registry.specs.Report.{message, fault_places, fault_notes, note_line, line_column, span_place, said_after, place_line, span_lines, place_lines, report_text, report};
 ghost use Rattle.naga_oil_registry.specs.ReportView.{line_starts, report_places};
 
 use super::*;
@@ -12,7 +12,7 @@ pub use naga_oil_ir::SPAN_SHIFT;
 
 // The places of an error.
 #[derive(Clone, Copy)]
-enum Places<'a> {
+enum ErrorPlaces<'a> {
     Nowhere,
     Byte(usize),
     /// The start of a line, by its index from 0.
@@ -90,7 +90,7 @@ fn push_message(out: &mut String, inner: &Inner) -> AllocResult
 
 // The places of an error.
 #[rattlefmt::skip]
-fn fault_places(inner: &Inner) -> Places<'_>
+fn fault_places(inner: &Inner) -> ErrorPlaces<'_>
     ensures { report_places result ≡ fault_places (fault_of inner.now) }
 {
     match inner {
@@ -99,16 +99,16 @@ fn fault_places(inner: &Inner) -> Places<'_>
         | Inner::ElseWithoutCondition(place) | Inner::UnknownShaderDefOperator { pos: place, .. }
         | Inner::UnknownShaderDef { pos: place, .. } | Inner::InvalidShaderDefComparisonValue { pos: place, .. }
         | Inner::GlslInvalidVersion(place) | Inner::OverrideNotVirtual { pos: place, .. }
-        | Inner::InvalidShaderDefDefinitionValue { pos: place, .. } | Inner::DefineInModule(place) => Places::Byte(*place),
-        Inner::DecorationInSource(range) => Places::Byte(range.start),
-        Inner::RedirectError(_) => Places::Byte(0),
-        Inner::InvalidWgslDirective { position, .. } => Places::Line(*position),
-        Inner::InvalidIdentifier { at, .. } => Places::Item(*at),
-        Inner::WgslParseError(fault) | Inner::GlslParseError(fault) => Places::Spans(fault.spans.as_slice()),
-        Inner::HeaderValidationError(fault) | Inner::ShaderValidationError(fault) => Places::Spans(fault.spans.as_slice()),
+        | Inner::InvalidShaderDefDefinitionValue { pos: place, .. } | Inner::DefineInModule(place) => ErrorPlaces::Byte(*place),
+        Inner::DecorationInSource(range) => ErrorPlaces::Byte(range.start),
+        Inner::RedirectError(_) => ErrorPlaces::Byte(0),
+        Inner::InvalidWgslDirective { position, .. } => ErrorPlaces::Line(*position),
+        Inner::InvalidIdentifier { at, .. } => ErrorPlaces::Item(*at),
+        Inner::WgslParseError(fault) | Inner::GlslParseError(fault) => ErrorPlaces::Spans(fault.spans.as_slice()),
+        Inner::HeaderValidationError(fault) | Inner::ShaderValidationError(fault) => ErrorPlaces::Spans(fault.spans.as_slice()),
         Inner::WgslBackError(_) | Inner::GlslBackError(_) | Inner::InconsistentShaderDefValue { .. }
         | Inner::NoModuleName | Inner::Memory | Inner::TooManyModules
-        | Inner::BindingsExhausted | Inner::TextTooLarge | Inner::WrongForm => Places::Nowhere,
+        | Inner::BindingsExhausted | Inner::TextTooLarge | Inner::WrongForm => ErrorPlaces::Nowhere,
     }
 }
 
@@ -155,7 +155,7 @@ fn line_starts(alloc: Global, text: &str) -> AllocResult<Vec<usize>>
 
 // Writes the label of a place, if it isn't empty, and ends the line.
 fn push_said(out: &mut String, said: &str) -> AllocResult
-    ensures { OnOk result (string_bytes out.new ≡ string_bytes out.old ++ said_behind said.now) }
+    ensures { OnOk result (string_bytes out.new ≡ string_bytes out.old ++ said_after said.now) }
 {
     if !said.is_empty() {
         write!(out, ": {said}")?;
@@ -207,18 +207,18 @@ impl Source<'_> {
     }
 
     // Writes the places of an error.
-    fn push_places(self, out: &mut String, places: Places<'_>, message: &str) -> AllocResult
+    fn push_places(self, out: &mut String, places: ErrorPlaces<'_>, message: &str) -> AllocResult
         ensures { let of = self.entry in
             let at = report_places places.entry in
             let lines = place_lines of.path.now of.text.now of.offset message.now at in
             OnOk result (string_bytes out.new ≡ string_bytes out.old ++ lines) }
     {
         match places {
-            Places::Nowhere => write!(out, "  in {}\n", self.path),
-            Places::Byte(place) => self.push_place(out, place, ""),
-            Places::Line(index) => write!(out, "  at {}:{}:1\n", self.path, index as u128 + 1),
-            Places::Item(span) => self.push_place(out, self.span_place(span), message),
-            Places::Spans(spans) => self.push_spans(out, spans),
+            ErrorPlaces::Nowhere => write!(out, "  in {}\n", self.path),
+            ErrorPlaces::Byte(place) => self.push_place(out, place, ""),
+            ErrorPlaces::Line(index) => write!(out, "  at {}:{}:1\n", self.path, index as u128 + 1),
+            ErrorPlaces::Item(span) => self.push_place(out, self.span_place(span), message),
+            ErrorPlaces::Spans(spans) => self.push_spans(out, spans),
         }
     }
 

@@ -37,10 +37,10 @@ fn with_line_feeds(alloc: Global, source: &str) -> AllocResult<String>
 {
     let mut text = String::with_capacity(alloc, source.len() + 1)?;
     let mut rest = source;
-    while let Some((before, behind)) = rest.split_once('\r') {
+    while let Some((before, following)) = rest.split_once('\r') {
         text.push_str(before)?;
         text.push('\n')?;
-        rest = past_line_feed(behind);
+        rest = past_line_feed(following);
     }
     text.push_str(rest)?;
     if text.as_str().ends_with("\n") {
@@ -59,14 +59,14 @@ fn with_bindings(alloc: Global, text: &str, counter: u32) -> AllocResult<Option<
     let mut numbered = String::with_capacity(alloc, text.len())?;
     let mut next = counter;
     let mut rest = text;
-    while let Some((before, behind)) = rest.split_once(AUTO_BINDING) {
+    while let Some((before, following)) = rest.split_once(AUTO_BINDING) {
         if next == u32::MAX {
             return Ok(None);
         }
         numbered.push_str(before)?;
         write!(numbered, "@binding({next})")?;
         next += 1;
-        rest = behind;
+        rest = following;
     }
     numbered.push_str(rest)?;
     Ok(Some((numbered, next)))

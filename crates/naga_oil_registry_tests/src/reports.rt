@@ -86,6 +86,14 @@ fn shows_texts(
 }
 
 #[test]
+fn displays_what_is_wrong(rt: HostRuntime) -> Result<(), Fail> {
+    let error = in_m(rt.alloc(), Defs::new(rt.alloc()))?;
+    let shown = format!(in rt.alloc(); "{error}")?;
+    assert_eq!(rt; shown.as_str(), "Composer error: Unknown shader def: 'L'");
+    Ok(())
+}
+
+#[test]
 fn shows_the_text_of_a_module(rt: HostRuntime) -> Result<(), Fail> {
     let mut composer = Composer::new(rt.alloc(), Mini);
     shows_texts(&rt, &mut composer)?;

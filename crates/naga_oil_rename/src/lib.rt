@@ -14,4 +14,4 @@ pub use renamed_items::{
 };
 use renaming::rename_kind;
 pub use renaming::{Renaming, renamed_block, renamed_expression, renamed_list, renamed_option};
-use std::alloc::{AllocError, Global};
+use std::alloc::Global;

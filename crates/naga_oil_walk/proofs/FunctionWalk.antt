@@ -13,7 +13,7 @@ use Rattle.naga_oil_form.specs.Links.{lists, Links, started, has, added, AreMark
 use Rattle.naga_oil_form.specs.WellFormed.{initialisers_of, init_of}
 use Rattle.naga_oil_ir.specs.declared.expression.Expression.{Expression}
 use Rattle.naga_oil_ir.specs.declared.expression.Expression.TheVariants.{Literal, ZeroValue, Constant, Override, GlobalVariable, LocalVariable, FunctionArgument, CallResult, AtomicResult, WorkGroupUniformLoadResult, RayQueryProceedResult, SubgroupBallotResult, SubgroupOperationResult}
-use Rattle.naga_oil_form.specs.declared.form.Reading.{Reading}
+use Rattle.naga_oil_form.specs.declared.form.ExpressionParts.{ExpressionParts}
 use Rattle.naga_oil_ir.specs.declared.types.LocalVariable.{LocalVariable as Local}
 use Rattle.naga_oil_ir.specs.declared.span.Span.{Span}
 use Rattle.naga_oil_ir.specs.declared.tokens.Token.{Token}
@@ -137,26 +137,26 @@ walk_none ks ls is ts no_places no_tokens o n m es none count empty =
 -- ---- what was read of expressions
 
 -- the facts of expressions are those of what was read of them
-pub record ReadOf (es : List (Expression × Span)) (r : Reading) : Type 0 where
+pub record ReadOf (es : List (Expression × Span)) (r : ExpressionParts) : Type 0 where
   pub same_kinds : r.kinds.items ≡ kinds es
   pub same_links : lists r.links.items ≡ operand_links es
   pub long : length r.links.items ≡ length es
 
-pub read_of : (es xs : List (Expression × Span)) (r : Reading) → xs ≡ es → IsReading xs r → ReadOf es r
+pub read_of : (es xs : List (Expression × Span)) (r : ExpressionParts) → xs ≡ es → IsReading xs r → ReadOf es r
 read_of es xs r e i = record {
   same_kinds = i.kinds ∙ ap kinds e;
   same_links = i.links ∙ ap operand_links e;
   long = sym (length-map r.links.items (λ v. v.items)) ∙ ap length i.links ∙ length-map xs (λ (x : Expression × Span). flat_map option_to_list (parts x.0).operands) ∙ ap length e;
 }
 
-pub may_read : (es : List (Expression × Span)) (r : Reading) (is : List ℕ) (ts : Tokens) → ReadOf es r → MayStand (kinds es) (callees es) (operand_links es) is ts → MayStand r.kinds.items (callees es) (lists r.links.items) is ts
+pub may_read : (es : List (Expression × Span)) (r : ExpressionParts) (is : List ℕ) (ts : Tokens) → ReadOf es r → MayStand (kinds es) (callees es) (operand_links es) is ts → MayStand r.kinds.items (callees es) (lists r.links.items) is ts
 may_read es r is ts f m =
     subst (λ ls. MayStand r.kinds.items (callees es) ls is ts) (sym f.same_links) (subst (λ ks. MayStand ks (callees es) (operand_links es) is ts) (sym f.same_kinds) m)
 
-pub plain_read : (es : List (Expression × Span)) (r : Reading) → ReadOf es r → IsPlain r.kinds.items (lists r.links.items)
+pub plain_read : (es : List (Expression × Span)) (r : ExpressionParts) → ReadOf es r → IsPlain r.kinds.items (lists r.links.items)
 plain_read es r f =
     subst (λ ls. IsPlain r.kinds.items ls) (sym f.same_links) (subst (λ ks. IsPlain ks (operand_links es)) (sym f.same_kinds) (plain es))
 
-pub walk_read : (es : List (Expression × Span)) (r : Reading) (is : List ℕ) (ts : Tokens) (o : List ℕ) (n : ℕ) (ns : Notes) → ReadOf es r → IsWalkOf r.kinds.items (lists r.links.items) is ts o n ns → IsWalkOf (kinds es) (operand_links es) is ts o n ns
+pub walk_read : (es : List (Expression × Span)) (r : ExpressionParts) (is : List ℕ) (ts : Tokens) (o : List ℕ) (n : ℕ) (ns : Notes) → ReadOf es r → IsWalkOf r.kinds.items (lists r.links.items) is ts o n ns → IsWalkOf (kinds es) (operand_links es) is ts o n ns
 walk_read es r is ts o n ns f m =
     subst (λ ls. IsWalkOf (kinds es) ls is ts o n ns) f.same_links (subst (λ ks. IsWalkOf ks (lists r.links.items) is ts o n ns) f.same_kinds m)

@@ -9,7 +9,7 @@ use Rattle.naga_oil_ir.specs.Body.{Tokens, block_tokens}
 use Rattle.naga_oil_ir.specs.declared.expression.Expression.{Expression}
 use Rattle.naga_oil_ir.specs.declared.module.Function.{Function}
 use Rattle.naga_oil_ir.specs.declared.types.LocalVariable.{LocalVariable}
-use Rattle.naga_oil_form.specs.declared.form.Reading.{Reading}
+use Rattle.naga_oil_form.specs.declared.form.ExpressionParts.{ExpressionParts}
 use Rattle.naga_oil_ir.specs.declared.names.ItemPlace.{ItemPlace}
 use Rattle.naga_oil_ir.specs.declared.parts.Named.{Named}
 use Rattle.naga_oil_ir.specs.declared.span.Span.{Span}
@@ -31,7 +31,7 @@ ok_then (Err x) P Q f h = tt
 -- ---- the items that listed places name are requested
 
 -- more items are requested
-pub over_asked : (of : Reading) (v w : Walk) (xs : List Request) → IsOver of v → w.places.items ≡ v.places.items → length w.marks.items ≡ length v.marks.items → w.requests.items ≡ v.requests.items ++ xs → IsOver of w
+pub over_asked : (of : ExpressionParts) (v w : Walk) (xs : List Request) → IsOver of v → w.places.items ≡ v.places.items → length w.marks.items ≡ length v.marks.items → w.requests.items ≡ v.requests.items ++ xs → IsOver of w
 over_asked of v w xs o p m q = record {
   earlier = o.earlier;
   named = o.named;
@@ -40,7 +40,7 @@ over_asked of v w xs o p m q = record {
 }
 
 -- a place is listed whose item was requested
-pub over_list : (of : Reading) (v w : Walk) (k : ℕ) → IsOver of v → w.places.items ≡ added v.places.items (k ∷ []) → length w.marks.items ≡ length v.marks.items → w.requests.items ≡ v.requests.items → ((x : ItemPlace) → item_of (slice_get of.named.items k) ≡ Some x → IsAmong v.requests.items (Item x)) → IsOver of w
+pub over_list : (of : ExpressionParts) (v w : Walk) (k : ℕ) → IsOver of v → w.places.items ≡ added v.places.items (k ∷ []) → length w.marks.items ≡ length v.marks.items → w.requests.items ≡ v.requests.items → ((x : ItemPlace) → item_of (slice_get of.named.items k) ≡ Some x → IsAmong v.requests.items (Item x)) → IsOver of w
 over_list of v w k o p m q f = record {
   earlier = o.earlier;
   named = o.named;
@@ -49,7 +49,7 @@ over_list of v w k o p m q f = record {
 }
 
 -- a place's item is requested and the place is listed
-pub over_add : (of : Reading) (v w : Walk) (k : ℕ) → IsOver of v → w.places.items ≡ added v.places.items (k ∷ []) → length w.marks.items ≡ length v.marks.items → w.requests.items ≡ v.requests.items ++ requests_at of.named.items k → IsOver of w
+pub over_add : (of : ExpressionParts) (v w : Walk) (k : ℕ) → IsOver of v → w.places.items ≡ added v.places.items (k ∷ []) → length w.marks.items ≡ length v.marks.items → w.requests.items ≡ v.requests.items ++ requests_at of.named.items k → IsOver of w
 over_add of v w k o p m q = record {
   earlier = o.earlier;
   named = o.named;
@@ -104,7 +104,7 @@ adds_item f x s t u h e b = Adds-append s t u (x ∷ []) (flat_map f (h ∷ []))
 
 -- ---- the whole function
 
-pub walk_requests : (f : Function) (rd : Reading) (xs : List (Expression × Span)) (ls : List (LocalVariable × Span)) (ts : Tokens) → xs ≡ f.expressions → IsReading xs rd → ls ≡ f.local_variables → ts ≡ block_tokens f.body → (s t u w : List Request) → s ≡ [] → t ≡ s ++ signature_names f → Adds t (flat_map (local_names rd.named.items (lists rd.links.items)) ls) u → Adds u (flat_map (token_names rd.kinds.items rd.named.items (lists rd.links.items)) ts) w → Thins [] (function_names f) w
+pub walk_requests : (f : Function) (rd : ExpressionParts) (xs : List (Expression × Span)) (ls : List (LocalVariable × Span)) (ts : Tokens) → xs ≡ f.expressions → IsReading xs rd → ls ≡ f.local_variables → ts ≡ block_tokens f.body → (s t u w : List Request) → s ≡ [] → t ≡ s ++ signature_names f → Adds t (flat_map (local_names rd.named.items (lists rd.links.items)) ls) u → Adds u (flat_map (token_names rd.kinds.items rd.named.items (lists rd.links.items)) ts) w → Thins [] (function_names f) w
 walk_requests f rd xs ls ts ex i el et s t u w es et1 a b =
     let ks : rd.kinds.items ≡ kinds f.expressions = i.kinds ∙ ap kinds ex in
     let ns : rd.named.items ≡ named_of f.expressions = i.named ∙ ap named_of ex in

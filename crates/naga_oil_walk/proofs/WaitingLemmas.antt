@@ -6,7 +6,7 @@ use Rattle.std.proofs.lemmas.List.{drop_more, length-append, append-nil}
 use Rattle.std.proofs.lemmas.List.Elements.{All-weaker, All-nil, All-more}
 use Rattle.std.proofs.lemmas.List.Sums.{sum_by_push}
 use Rattle.naga_oil_form.specs.Links.{Links, linked, lists, AreEarlier, has, added, trail}
-use Rattle.naga_oil_form.specs.declared.form.Reading.{Reading}
+use Rattle.naga_oil_form.specs.declared.form.ExpressionParts.{ExpressionParts}
 use Rattle.naga_oil_ir.specs.declared.parts.Named.{Named}
 use Rattle.naga_oil_form.proofs.LinkLemmas.{All-has, itself, linked-at, trail-step}
 use Rattle.naga_oil_walk.specs.Walk.{IsReachOrder, Holds}
@@ -105,7 +105,7 @@ asks_new ns ls a w k s t us is none asked b =
 
 -- ---- each place waits for those after it
 
-pub waits_last : (of : Reading) (o : List ℕ) (rs : List Request) (ws : List Waiting) (w : Waiting) → AreWaiting of o rs (ws ++ w ∷ []) → Waits of o rs w []
+pub waits_last : (of : ExpressionParts) (o : List ℕ) (rs : List Request) (ws : List Waiting) (w : Waiting) → AreWaiting of o rs (ws ++ w ∷ []) → Waits of o rs w []
 waits_last of o rs [] w h = h.0
 waits_last of o rs (v ∷ ws) w h = waits_last of o rs ws w h.1
 
@@ -114,14 +114,14 @@ first_same [] w v vs e = ap Some e
 first_same (u ∷ ws) w v vs e = refl
 
 -- the last place is replaced by others, of which it is the first, and more is requested
-pub waits_more : (of : Reading) (o : List ℕ) (rs ts : List Request) (ws : List Waiting) (w v : Waiting) (vs : List Waiting) → w.place ≡ v.place → ((y : Request) → IsAmong rs y → IsAmong ts y) → AreWaiting of o ts (v ∷ vs) → AreWaiting of o rs (ws ++ w ∷ []) → AreWaiting of o ts (ws ++ v ∷ vs)
+pub waits_more : (of : ExpressionParts) (o : List ℕ) (rs ts : List Request) (ws : List Waiting) (w v : Waiting) (vs : List Waiting) → w.place ≡ v.place → ((y : Request) → IsAmong rs y → IsAmong ts y) → AreWaiting of o ts (v ∷ vs) → AreWaiting of o rs (ws ++ w ∷ []) → AreWaiting of o ts (ws ++ v ∷ vs)
 waits_more of o rs ts [] w v vs e f a h = a
 waits_more of o rs ts (x ∷ ws) w v vs e f a h =
     let i = h.0 in
     (record { there = i.there; asked = λ p q. f (Item p) (i.asked p q); done = subst (λ (n : Option ℕ). All (λ y. (has o y ≡ true) ⊎ (Some y ≡ n)) (take x.done (linked (lists of.links.items) x.place))) (first_same ws w v vs e) i.done }, waits_more of o rs ts ws w v vs e f a h.1)
 
 -- the last one is listed
-pub waits_listed : (of : Reading) (o p : List ℕ) (rs ts : List Request) (ws : List Waiting) (w : Waiting) → p ≡ added o (w.place ∷ []) → ts ≡ rs → AreWaiting of o rs (ws ++ w ∷ []) → AreWaiting of p ts ws
+pub waits_listed : (of : ExpressionParts) (o p : List ℕ) (rs ts : List Request) (ws : List Waiting) (w : Waiting) → p ≡ added o (w.place ∷ []) → ts ≡ rs → AreWaiting of o rs (ws ++ w ∷ []) → AreWaiting of p ts ws
 waits_listed of o p rs ts [] w e same h = tt
 waits_listed of o p rs ts (x ∷ ws) w e same h =
     let i = h.0 in
@@ -138,7 +138,7 @@ waits_listed of o p rs ts (x ∷ ws) w e same h =
     went_on (u ∷ us) y (inr k) = inr k
 
 -- one more operand is listed or waits next, and more is requested
-pub waits_next : (of : Reading) (o : List ℕ) (rs ts : List Request) (w : Waiting) (x : ℕ) (vs : List Waiting) → Waits of o rs w [] → ((y : Request) → IsAmong rs y → IsAmong ts y) → w.done < length (linked (lists of.links.items) w.place) → x ≡ get_or (linked (lists of.links.items) w.place) w.done x → (has o x ≡ true) ⊎ (Some x ≡ next_place vs) → Waits of o ts (next w) vs
+pub waits_next : (of : ExpressionParts) (o : List ℕ) (rs ts : List Request) (w : Waiting) (x : ℕ) (vs : List Waiting) → Waits of o rs w [] → ((y : Request) → IsAmong rs y → IsAmong ts y) → w.done < length (linked (lists of.links.items) w.place) → x ≡ get_or (linked (lists of.links.items) w.place) w.done x → (has o x ≡ true) ⊎ (Some x ≡ next_place vs) → Waits of o ts (next w) vs
 waits_next of o rs ts w x vs i f l e h =
     let xs = linked (lists of.links.items) w.place in
     let P = λ (y : ℕ). (has o y ≡ true) ⊎ (Some y ≡ next_place vs) in
@@ -146,13 +146,13 @@ waits_next of o rs ts w x vs i f l e h =
     record { there = i.there; asked = λ p q. f (Item p) (i.asked p q); done = All-more P xs w.done x l before (subst P e h) }
 
 -- all that a place names is listed once none is left
-pub all_listed : (of : Reading) (o : List ℕ) (rs : List Request) (w : Waiting) → Waits of o rs w [] → length (linked (lists of.links.items) w.place) ≤ w.done → Holds o (linked (lists of.links.items) w.place)
+pub all_listed : (of : ExpressionParts) (o : List ℕ) (rs : List Request) (w : Waiting) → Waits of o rs w [] → length (linked (lists of.links.items) w.place) ≤ w.done → Holds o (linked (lists of.links.items) w.place)
 all_listed of o rs w i l x h =
     let xs = linked (lists of.links.items) w.place in
     let all = subst (All (λ y. (has o y ≡ true) ⊎ (Some y ≡ None))) (take_all w.done xs l) i.done in
     ⊎_elim (λ k. k) (λ k. absurd (none-some x (sym k))) (All-has (λ y. (has o y ≡ true) ⊎ (Some y ≡ None)) xs x all h)
 
-pub waits_new : (of : Reading) (o : List ℕ) (rs ts : List Request) (v : Waiting) (x : ℕ) → x < length of.links.items → v.place ≡ x → v.done ≡ 0 → ts ≡ rs ++ requests_at of.named.items x → Waits of o ts v []
+pub waits_new : (of : ExpressionParts) (o : List ℕ) (rs ts : List Request) (v : Waiting) (x : ℕ) → x < length of.links.items → v.place ≡ x → v.done ≡ 0 → ts ≡ rs ++ requests_at of.named.items x → Waits of o ts v []
 waits_new of o rs ts v x there is none asked =
     let P = λ (y : ℕ). (has o y ≡ true) ⊎ (Some y ≡ None) in
     record {
@@ -161,12 +161,12 @@ waits_new of o rs ts v x there is none asked =
       done = subst (λ n. All P (take n (linked (lists of.links.items) v.place))) (sym none) (All-nil P);
     }
 
-pub gone_waits : (of : Reading) (o : List ℕ) (rs ts : List Request) (ws : List Waiting) (w : Waiting) (x : ℕ) → AreWaiting of o rs (ws ++ w ∷ []) → ts ≡ rs → w.done < length (linked (lists of.links.items) w.place) → x ≡ get_or (linked (lists of.links.items) w.place) w.done x → has o x ≡ true → AreWaiting of o ts (ws ++ next w ∷ [])
+pub gone_waits : (of : ExpressionParts) (o : List ℕ) (rs ts : List Request) (ws : List Waiting) (w : Waiting) (x : ℕ) → AreWaiting of o rs (ws ++ w ∷ []) → ts ≡ rs → w.done < length (linked (lists of.links.items) w.place) → x ≡ get_or (linked (lists of.links.items) w.place) w.done x → has o x ≡ true → AreWaiting of o ts (ws ++ next w ∷ [])
 gone_waits of o rs ts ws w x h same l e k =
     let f : (y : Request) → IsAmong rs y → IsAmong ts y = λ y a. subst (λ (q : List Request). IsAmong q y) (sym same) a in
     waits_more of o rs ts ws w (next w) [] refl f (waits_next of o rs ts w x [] (waits_last of o rs ws w h) f l e (inl k), tt) h
 
-pub more_waits : (of : Reading) (o : List ℕ) (rs ts : List Request) (ws : List Waiting) (w v : Waiting) (x : ℕ) → AreWaiting of o rs (ws ++ w ∷ []) → w.done < length (linked (lists of.links.items) w.place) → x ≡ get_or (linked (lists of.links.items) w.place) w.done x → x < length of.links.items → v.place ≡ x → v.done ≡ 0 → ts ≡ rs ++ requests_at of.named.items x → AreWaiting of o ts ((ws ++ next w ∷ []) ++ v ∷ [])
+pub more_waits : (of : ExpressionParts) (o : List ℕ) (rs ts : List Request) (ws : List Waiting) (w v : Waiting) (x : ℕ) → AreWaiting of o rs (ws ++ w ∷ []) → w.done < length (linked (lists of.links.items) w.place) → x ≡ get_or (linked (lists of.links.items) w.place) w.done x → x < length of.links.items → v.place ≡ x → v.done ≡ 0 → ts ≡ rs ++ requests_at of.named.items x → AreWaiting of o ts ((ws ++ next w ∷ []) ++ v ∷ [])
 more_waits of o rs ts ws w v x h l e there is none asked =
     let f : (y : Request) → IsAmong rs y → IsAmong ts y = λ y a. subst (λ (q : List Request). IsAmong q y) (sym asked) (among_left rs (requests_at of.named.items x) y a) in
     let own = waits_next of o rs ts w x (v ∷ []) (waits_last of o rs ws w h) f l e (inr (ap Some (sym is))) in
@@ -205,18 +205,18 @@ more_fewer ls a ws w v x e is none =
 abbrev pub IsOperand : Links → Waiting → ℕ → Type 0
 IsOperand ls w x = (w.done < length (linked ls w.place)) × (x ≡ get_or (linked ls w.place) w.done x)
 
-pub operand_there : (of : Reading) (w : Waiting) (x : ℕ) → AreEarlier (lists of.links.items) → w.place < length of.links.items → IsOperand (lists of.links.items) w x → x < length of.links.items
+pub operand_there : (of : ExpressionParts) (w : Waiting) (x : ℕ) → AreEarlier (lists of.links.items) → w.place < length of.links.items → IsOperand (lists of.links.items) w x → x < length of.links.items
 operand_there of w x a t f =
     let below : get_or (linked (lists of.links.items) w.place) w.done x < w.place = a w.place w.done x f.0 in
     let is = f.1 in
     omega (arith, below, is, t)
 
-pub operand_at : (of : Reading) (w : Waiting) (v : Vec ℕ Global) (xs : List ℕ) (x : ℕ) → w.place < length of.links.items → v ≡ get_or of.links.items w.place v → xs ≡ v.items → w.done < length xs → x ≡ get_or xs w.done x → IsOperand (lists of.links.items) w x
+pub operand_at : (of : ExpressionParts) (w : Waiting) (v : Vec ℕ Global) (xs : List ℕ) (x : ℕ) → w.place < length of.links.items → v ≡ get_or of.links.items w.place v → xs ≡ v.items → w.done < length xs → x ≡ get_or xs w.done x → IsOperand (lists of.links.items) w x
 operand_at of w v xs x t e is l f =
     let here : xs ≡ linked (lists of.links.items) w.place = is ∙ sym (linked-at of.links.items w.place v t e) in
     subst (λ (ys : List ℕ). (w.done < length ys) × (x ≡ get_or ys w.done x)) here (l, f)
 
-pub operands_past : (of : Reading) (w : Waiting) (v : Vec ℕ Global) (xs : List ℕ) → w.place < length of.links.items → v ≡ get_or of.links.items w.place v → xs ≡ v.items → length xs ≤ w.done → length (linked (lists of.links.items) w.place) ≤ w.done
+pub operands_past : (of : ExpressionParts) (w : Waiting) (v : Vec ℕ Global) (xs : List ℕ) → w.place < length of.links.items → v ≡ get_or of.links.items w.place v → xs ≡ v.items → length xs ≤ w.done → length (linked (lists of.links.items) w.place) ≤ w.done
 operands_past of w v xs t e is l =
     let here : xs ≡ linked (lists of.links.items) w.place = is ∙ sym (linked-at of.links.items w.place v t e) in
     subst (λ (ys : List ℕ). length ys ≤ w.done) here l

@@ -103,7 +103,7 @@ token_at ks ls p a n fs s d o es (Emitted r) l u w long f =
     let ll = added-longer ps mid in
     let le : length last ≡ length mid + length (others s ps) = ap length m ∙ length-append mid (others s ps) in
     let here : NotesAt s d last es (noted es r (length mid, length last)) = range_at s d o es r mid last (omega arith) lm ll w (λ h. emitted_fresh ks ls s d ps r.0 (run (suc r.0) (r.1 - suc r.0)) (first_place r h) f.2) in
-    let stand : StandsFrom last (length mid) (length last) (others s ps) = record { before = mid; behind = []; is = m ∙ sym (append-nil (mid ++ others s ps)); begins = refl; ends = le } in
+    let stand : StandsFrom last (length mid) (length last) (others s ps) = record { before = mid; following = []; is = m ∙ sym (append-nil (mid ++ others s ps)); begins = refl; ends = le } in
     record {
       at = subst (λ q. NotesAt s d q es (noted es r (length mid, length last))) e here;
       stands = λ h. (length mid, length last, noted_at es r (length mid, length last) h (omega arith), subst (λ q. StandsFrom q (length mid) (length last) (others s ps)) e stand);
@@ -114,7 +114,7 @@ token_at ks ls p a n fs s d o es t l u w long f = record { at = grown_at s d o (
 noted-later : (s d o xs : List ℕ) (es fs : Notes) (t : Token) → ((r : ℕ × ℕ) → t ≡ Emitted r → r.0 < r.1 → has d r.0 ≡ true) → Keeps d es fs → IsNoted s o es t → IsNoted s (added o xs) fs t
 noted-later s d o xs es fs (Emitted r) f k w =
     λ h. let v = w h in let g = added-grows xs o in let st = v.3 in
-    (v.0, v.1, k r.0 (v.0, v.1) (f r refl h) v.2, record { before = st.before; behind = st.behind ++ g.0; is = g.1 ∙ ap (λ q. q ++ g.0) st.is ∙ append_assoc (st.before ++ others s (places r)) st.behind g.0; begins = st.begins; ends = st.ends })
+    (v.0, v.1, k r.0 (v.0, v.1) (f r refl h) v.2, record { before = st.before; following = st.following ++ g.0; is = g.1 ∙ ap (λ q. q ++ g.0) st.is ∙ append_assoc (st.before ++ others s (places r)) st.following g.0; begins = st.begins; ends = st.ends })
 noted-later s d o xs es fs _ f k w = tt
 
 -- ---- the whole body

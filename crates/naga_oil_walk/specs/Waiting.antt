@@ -2,7 +2,7 @@
 use Rattle.std.specs.Prelude.{ℕ, ◌≡◌, ◌+◌, ◌*◌, ◌<◌, ◌⊎◌, true, List, [], ◌∷◌, ◌++◌, drop, take, length, slice_get, Option, Some, None, All}
 use Rattle.std.specs.List.{flat_map}
 use Rattle.naga_oil_form.specs.Links.{Links, linked, lists, has, added, trail}
-use Rattle.naga_oil_form.specs.declared.form.Reading.{Reading}
+use Rattle.naga_oil_form.specs.declared.form.ExpressionParts.{ExpressionParts}
 use Rattle.naga_oil_ir.specs.declared.names.ItemPlace.{ItemPlace}
 use Rattle.naga_oil_ir.specs.declared.parts.Named.{Named}
 use Rattle.naga_oil_walk.specs.Naming.{item_of, requests_at, names_from, IsAmong, Adds}
@@ -19,13 +19,13 @@ next_place (w ∷ ws) = Some w.place
 
 -- a place waits before ws, where o are listed and rs requested: its item is requested, and its operands so far are listed or
 -- wait next
-pub record Waits (of : Reading) (o : List ℕ) (rs : List Request) (w : Waiting) (ws : List Waiting) : Type 0 where
+pub record Waits (of : ExpressionParts) (o : List ℕ) (rs : List Request) (w : Waiting) (ws : List Waiting) : Type 0 where
   pub there : w.place < length of.links.items
   pub asked : (p : ItemPlace) → item_of (slice_get of.named.items w.place) ≡ Some p → IsAmong rs (Item p)
   pub done : All (λ x. (has o x ≡ true) ⊎ (Some x ≡ next_place ws)) (take w.done (linked (lists of.links.items) w.place))
 
 -- each place waits for those after it
-abbrev pub AreWaiting : Reading → List ℕ → List Request → List Waiting → Type 0
+abbrev pub AreWaiting : ExpressionParts → List ℕ → List Request → List Waiting → Type 0
 AreWaiting of o rs [] = Unit {0}
 AreWaiting of o rs (w ∷ ws) = Waits of o rs w ws × AreWaiting of o rs ws
 

@@ -81,8 +81,8 @@ notes_after ks ls o es (t ∷ ts) = notes_after ks ls (added o (brief ks ls t)) 
 -- xs is the part of o from b up to e
 pub record StandsFrom (o : List ℕ) (b e : ℕ) (xs : List ℕ) : Type 0 where
   pub before : List ℕ
-  pub behind : List ℕ
-  pub is : o ≡ (before ++ xs) ++ behind
+  pub following : List ℕ
+  pub is : o ≡ (before ++ xs) ++ following
   pub begins : length before ≡ b
   pub ends : e ≡ b + length xs
 

@@ -4,7 +4,7 @@ use Rattle.naga_oil_form.specs.Links.{Links, lists, AreEarlier, has, started}
 use Rattle.naga_oil_ir.specs.Body.{Tokens, block_tokens}
 use Rattle.naga_oil_form.specs.BodyForm.{kinds, operand_links}
 use Rattle.naga_oil_form.specs.WellFormed.{initialisers}
-use Rattle.naga_oil_form.specs.declared.form.Reading.{Reading}
+use Rattle.naga_oil_form.specs.declared.form.ExpressionParts.{ExpressionParts}
 use Rattle.naga_oil_ir.specs.declared.module.Function.{Function}
 use Rattle.naga_oil_walk.specs.Walk.{walked, Notes, notes_after, IsReachOrder, AreNoted, AreWithin}
 use Rattle.naga_oil_ir.specs.declared.names.ItemPlace.{ItemPlace}
@@ -13,7 +13,7 @@ use Rattle.naga_oil_walk.specs.Naming.{item_of, IsAmong, Thins, function_names}
 use Rattle.naga_oil_walk.specs.declared.walk.Walk.{Walk}
 
 -- the walk is over the expressions that were read, each of which names only earlier ones
-pub record IsOver (of : Reading) (w : Walk) : Type 0 where
+pub record IsOver (of : ExpressionParts) (w : Walk) : Type 0 where
   pub earlier : AreEarlier (lists of.links.items)
   pub named : length of.named.items ≡ length of.links.items
   pub marks : length w.marks.items ≡ length of.links.items

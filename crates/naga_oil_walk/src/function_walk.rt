@@ -31,7 +31,7 @@ fn ask(named: Named, requests: &mut Vec<Request>) -> AllocResult
 ///
 /// # Errors
 /// If out of memory.
-fn request(of: &Reading, place: usize, requests: &mut Vec<Request>) -> AllocResult
+fn request(of: &ExpressionParts, place: usize, requests: &mut Vec<Request>) -> AllocResult
     ensures { OnOk result
         (requests.new.items ≡ requests.old.items ++ requests_at of.now.named.items place) }
 {
@@ -53,7 +53,7 @@ pub struct Waiting {
 ///
 /// # Errors
 /// If out of memory.
-fn awaited(of: &Reading, place: usize, walk: &mut Walk) -> AllocResult<Option<Waiting>>
+fn awaited(of: &ExpressionParts, place: usize, walk: &mut Walk) -> AllocResult<Option<Waiting>>
     ensures places { walk.new.places ≡ walk.old.places }
     ensures marks { walk.new.marks ≡ walk.old.marks }
     ensures emitted { walk.new.emitted ≡ walk.old.emitted }
@@ -74,7 +74,7 @@ fn awaited(of: &Reading, place: usize, walk: &mut Walk) -> AllocResult<Option<Wa
 /// # Errors
 /// If out of memory.
 fn list_next(
-    of: &Reading,
+    of: &ExpressionParts,
     mut top: Waiting,
     waiting: &mut Vec<Waiting>,
     walk: &mut Walk,
@@ -102,11 +102,11 @@ fn list_next(
     let Some(operand) = of.links[top.place].get(top.done) else {
         return walk.list(top.place);
     };
-    let behind = awaited(of, *operand, walk)?;
+    let following = awaited(of, *operand, walk)?;
     top.done += 1;
     waiting.push(top)?;
-    if let Some(behind) = behind {
-        waiting.push(behind)?;
+    if let Some(following) = following {
+        waiting.push(following)?;
     }
     Ok(())
 }
@@ -115,7 +115,7 @@ fn list_next(
 ///
 /// # Errors
 /// If out of memory.
-fn list_waiting(of: &Reading, mut waiting: Vec<Waiting>, walk: &mut Walk) -> AllocResult
+fn list_waiting(of: &ExpressionParts, mut waiting: Vec<Waiting>, walk: &mut Walk) -> AllocResult
     requires over { IsOver of.now walk.old }
     requires ready { IsReachOrder (lists of.now.links.items) walk.old.places.items }
     requires waiting { let ws = waiting.items in
@@ -140,7 +140,7 @@ fn list_waiting(of: &Reading, mut waiting: Vec<Waiting>, walk: &mut Walk) -> All
 ///
 /// # Errors
 /// If out of memory.
-pub fn reach(of: &Reading, place: usize, walk: &mut Walk, alloc: Global) -> AllocResult
+pub fn reach(of: &ExpressionParts, place: usize, walk: &mut Walk, alloc: Global) -> AllocResult
     requires in_range { place < length of.now.links.items }
     requires over { IsOver of.now walk.old }
     requires ready { IsReachOrder (lists of.now.links.items) walk.old.places.items }
@@ -167,7 +167,7 @@ pub fn reach(of: &Reading, place: usize, walk: &mut Walk, alloc: Global) -> Allo
 ///
 /// # Errors
 /// If out of memory.
-fn add(of: &Reading, place: usize, walk: &mut Walk) -> AllocResult
+fn add(of: &ExpressionParts, place: usize, walk: &mut Walk) -> AllocResult
     requires in_range { place < length of.now.links.items }
     requires over { IsOver of.now walk.old }
     ensures order { OnOk result (walk.new.places.items ≡ added walk.old.places.items (place ∷ [])) }
@@ -189,7 +189,7 @@ fn add(of: &Reading, place: usize, walk: &mut Walk) -> AllocResult
 ///
 /// # Errors
 /// If out of memory.
-fn add_externals(of: &Reading, place: usize, walk: &mut Walk) -> AllocResult
+fn add_externals(of: &ExpressionParts, place: usize, walk: &mut Walk) -> AllocResult
     requires in_range { place < length of.now.links.items }
     requires over { IsOver of.now walk.old }
     ensures order { let ls = lists of.now.links.items in
@@ -216,7 +216,7 @@ fn add_externals(of: &Reading, place: usize, walk: &mut Walk) -> AllocResult
 ///
 /// # Errors
 /// If out of memory.
-fn add_all_externals(of: &Reading, range: Range<Expression>, walk: &mut Walk) -> AllocResult
+fn add_all_externals(of: &ExpressionParts, range: Range<Expression>, walk: &mut Walk) -> AllocResult
     requires in_range { (range.0 ≤ range.1) × (range.1 ≤ length of.now.links.items) }
     requires over { IsOver of.now walk.old }
     ensures order { let ls = lists of.now.links.items in
@@ -241,7 +241,7 @@ fn add_all_externals(of: &Reading, range: Range<Expression>, walk: &mut Walk) ->
 ///
 /// # Errors
 /// If out of memory.
-fn add_emitted(of: &Reading, range: Range<Expression>, walk: &mut Walk) -> AllocResult
+fn add_emitted(of: &ExpressionParts, range: Range<Expression>, walk: &mut Walk) -> AllocResult
     requires in_range { (range.0 ≤ range.1) × (range.1 ≤ length of.now.links.items) }
     requires over { IsOver of.now walk.old }
     ensures order { let ls = lists of.now.links.items in
@@ -273,7 +273,7 @@ fn add_emitted(of: &Reading, range: Range<Expression>, walk: &mut Walk) -> Alloc
 ///
 /// # Errors
 /// If out of memory.
-fn add_token(of: &Reading, token: Token, walk: &mut Walk) -> AllocResult
+fn add_token(of: &ExpressionParts, token: Token, walk: &mut Walk) -> AllocResult
     requires within { IsWithin (length of.now.links.items) token }
     requires over { IsOver of.now walk.old }
     ensures order { let ls = lists of.now.links.items in
@@ -303,7 +303,7 @@ fn add_token(of: &Reading, token: Token, walk: &mut Walk) -> AllocResult
 ///
 /// # Errors
 /// If out of memory.
-pub fn add_tokens(of: &Reading, tokens: &[Token], walk: &mut Walk) -> AllocResult
+pub fn add_tokens(of: &ExpressionParts, tokens: &[Token], walk: &mut Walk) -> AllocResult
     requires within { All (IsWithin (length of.now.links.items)) tokens.now }
     requires over { IsOver of.now walk.old }
     ensures order { let ls = lists of.now.links.items in
@@ -349,7 +349,7 @@ fn request_types(function: &Function, requests: &mut Vec<Request>) -> AllocResul
 /// # Errors
 /// If out of memory.
 fn reach_locals(
-    of: &Reading,
+    of: &ExpressionParts,
     locals: &[(LocalVariable, Span)],
     walk: &mut Walk,
     alloc: Global,

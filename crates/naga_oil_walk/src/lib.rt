@@ -8,11 +8,11 @@ pub mod function_walk;
 pub mod walk;
 
 pub use function_walk::{is_stub, walk_function};
-use naga_oil_form::form::{Reading, is_external, read};
+use naga_oil_form::form::{ExpressionParts, is_external, read};
 use naga_oil_form::links::{is_marked, no_marks};
 use naga_oil_ir::names::named_item;
 use naga_oil_ir::*;
 use naga_oil_words::AllocResult;
-use std::alloc::{AllocError, Global};
+use std::alloc::Global;
 use walk::note;
 pub use walk::{Bounds, Request, Walk};

@@ -1,8 +1,14 @@
 -- The names of bytes, and of the ASCII characters with these codes.
-use Rattle.std.specs.Prelude.{ℕ}
+use Rattle.std.specs.Prelude.{ℕ, Bool, ◌==◌}
+
+abbrev pub tab : ℕ
+tab = 9
 
 abbrev pub newline : ℕ
 newline = 10
+
+abbrev pub carriage_return : ℕ
+carriage_return = 13
 
 abbrev pub space : ℕ
 space = 32
@@ -16,8 +22,17 @@ double_quote = 34
 abbrev pub hash : ℕ
 hash = 35
 
+abbrev pub open_parenthesis : ℕ
+open_parenthesis = 40
+
+abbrev pub close_parenthesis : ℕ
+close_parenthesis = 41
+
 abbrev pub asterisk : ℕ
 asterisk = 42
+
+abbrev pub plus_sign : ℕ
+plus_sign = 43
 
 abbrev pub comma : ℕ
 comma = 44
@@ -58,6 +73,9 @@ capital_a = 65
 abbrev pub capital_x : ℕ
 capital_x = 88
 
+abbrev pub backslash : ℕ
+backslash = 92
+
 abbrev pub underscore : ℕ
 underscore = 95
 
@@ -77,3 +95,7 @@ ascii_count = 128
 -- the number of letters from A to Z
 abbrev pub letter_count : ℕ
 letter_count = 26
+
+-- whether a byte is `=`
+abbrev pub is_equals : ℕ → Bool
+is_equals b = b == equals_sign

@@ -12,9 +12,13 @@ ghost use Rattle.std.specs.Prelude.{◌≡◌, not, IfOk, OnOk, OnErr, string_by
 ghost use Rattle.naga_oil_words.specs.Marks.{has_module_mark, with_decoration};
 
 use std::alloc::AllocError;
+use std::collections::BTreeSet;
 
 /// A value, or out of memory.
 pub type AllocResult<T = ()> = Result<T, AllocError>;
+
+/// A set of names, in byte order.
+pub type NameSet = BTreeSet<String>;
 
 /// The mark between an item and the code of its module.
 pub const DECORATION_PRE: &str = "X_naga_oil_mod_X";

@@ -6,7 +6,7 @@ use Rattle.naga_oil_pre.specs.Metadata.{none_defined, with_definition}
 use Rattle.naga_oil_conditions.specs.declared.shader_def.ShaderDefValue.{ShaderDefValue}
 use Rattle.naga_oil_conditions.specs.declared.shader_def.ShaderDefValue.TheVariants as def
 use Rattle.yettuvam_c.specs.Kinds.{bool_kind, int_kind, uint_kind}
-use Rattle.yettuvam_c.specs.declared.page.Definition.{Definition}
+use Rattle.yettuvam_c.specs.declared.page.Define.{Define}
 use Rattle.yettuvam_c.specs.declared.page.Source.{Source}
 use Rattle.yettuvam_c.specs.declared.given.Refusal.{Refusal}
 use Rattle.yettuvam_c.specs.declared.given.Refusal.TheVariants.{Memory, NotUtf8, BadDefinition}
@@ -42,12 +42,12 @@ given_value kind value =
 
 -- the definitions, with these added one after the other, the first of which has the index; or the index of the first without a
 -- value
-abbrev pub defined_by : ℕ → Definitions → List Definition → Result Definitions ℕ
+abbrev pub defined_by : ℕ → Definitions → List Define → Result Definitions ℕ
 defined_by index defs [] = Ok defs
 defined_by index defs (d ∷ more) = elim (given_value d.kind d.value) [ None ↦ Err index | Some value ↦ defined_by (index + 1) (with_definition defs d.name.now value) more ]
 
 -- a name isn't UTF-8
-abbrev pub HasOther : List Definition → Type 0
+abbrev pub HasOther : List Define → Type 0
 HasOther [] = ⊥
 HasOther (d ∷ more) = (IsUtf8 d.name.now → ⊥) ⊎ HasOther more
 
@@ -62,19 +62,19 @@ RefusesSource source NotUtf8 = IsNotText source
 RefusesSource source (BadDefinition index) = ⊥
 
 -- the errors of the definition at an index
-abbrev pub RefusesOne : ℕ → Definition → Refusal → Type 0
+abbrev pub RefusesOne : ℕ → Define → Refusal → Type 0
 RefusesOne index d Memory = ⊥
 RefusesOne index d NotUtf8 = IsUtf8 d.name.now → ⊥
 RefusesOne index d (BadDefinition i) = (i ≡ index) × (given_value d.kind d.value ≡ None)
 
 -- the errors of definitions
-abbrev pub RefusesGiven : List Definition → Refusal → Type 0
+abbrev pub RefusesGiven : List Define → Refusal → Type 0
 RefusesGiven definitions Memory = ⊤
 RefusesGiven definitions NotUtf8 = HasOther definitions
 RefusesGiven definitions (BadDefinition index) = defined_by 0 none_defined definitions ≡ Err index
 
 -- the errors of a source with definitions
-abbrev pub Refuses : Source → List Definition → Refusal → Type 0
+abbrev pub Refuses : Source → List Define → Refusal → Type 0
 Refuses source given Memory = ⊤
 Refuses source given NotUtf8 = IsNotText source ⊎ HasOther given
 Refuses source given (BadDefinition index) = defined_by 0 none_defined given ≡ Err index

@@ -1,5 +1,5 @@
 pub mod Kinds
 pub mod Laid
 pub mod Given
-pub mod Told
+pub mod Parts
 pub mod Answer

@@ -3,10 +3,10 @@ ghost use Rattle.std.specs.Prelude.{◌≡◌, MatchOption, IfOk, IfErr};
 ghost use Rattle.std.specs.BTreeMap.{get_by_text};
 ghost use Rattle.naga_oil_conditions.specs.View.{fault_of};
 ghost use Rattle.yettuvam_c.specs.Given.{RefusesSource, Refuses};
-ghost use Rattle.yettuvam_c.specs.Answer.{told_of, fault_told, preprocess_told, IsMetadataTold, IsPreprocessed, IsMetadata, IsPut};
+ghost use Rattle.yettuvam_c.specs.Answer.{reply_of, fault_reply, preprocess_reply, IsMetadataReply, IsPreprocessed, IsMetadata, IsPut};
 
 use super::given::{Definitions, Refusal, given};
-use super::told::{push_fault, push_metadata, push_output};
+use super::parts::{push_fault, push_metadata, push_output};
 use super::*;
 
 pub const OK: u32 = 0;
@@ -38,8 +38,8 @@ fn texts<'a>(source: &Source<'a>) -> Result<(&'a str, &'a str), Refusal>
 
 // The field of an error, or `Err` where memory ran out.
 fn fault(alloc: Global, path: &str, text: &str, inner: Inner) -> Result<(u32, Sheet), AllocError>
-    ensures { let told = fault_told path.now text.now in
-        IfOk result (λ a. MatchOption (fault_of inner) ⊥ (λ f. told_of a ≡ told f)) }
+    ensures { let reply = fault_reply path.now text.now in
+        IfOk result (λ a. MatchOption (fault_of inner) ⊥ (λ f. reply_of a ≡ reply f)) }
 {
     if inner.is_memory() {
         return Err(AllocError);
@@ -50,15 +50,15 @@ fn fault(alloc: Global, path: &str, text: &str, inner: Inner) -> Result<(u32, Sh
 }
 
 // The fields of a text that is preprocessed under definitions.
-#[tactic(auto, using(crate::proofs::AnswerLemmas::fault_is_told))]
-fn text_told(
+#[tactic(auto, using(crate::proofs::AnswerLemmas::fault_is_reply))]
+fn preprocessed_reply(
     alloc: Global,
     path: &str,
     text: &str,
     definitions: &Definitions,
 ) -> Result<(u32, Sheet), AllocError>
-    ensures { let told = preprocess_told path.now text.now (get_by_text definitions.now) in
-        IfOk result (λ a. told_of a ≡ told) }
+    ensures { let reply = preprocess_reply path.now text.now (get_by_text definitions.now) in
+        IfOk result (λ a. reply_of a ≡ reply) }
 {
     let output = match Preprocessor.preprocess(alloc, text, definitions) {
         Ok(output) => output,
@@ -70,14 +70,14 @@ fn text_told(
 }
 
 // The fields of a text's metadata.
-#[tactic(auto, using(crate::proofs::AnswerLemmas::metadata_fault_is_told))]
-fn metadata_told(
+#[tactic(auto, using(crate::proofs::AnswerLemmas::metadata_fault_is_reply))]
+fn metadata_reply(
     alloc: Global,
     path: &str,
     text: &str,
     allow_defines: bool,
 ) -> Result<(u32, Sheet), AllocError>
-    ensures { IfOk result (λ a. IsMetadataTold path.now text.now allow_defines (told_of a)) }
+    ensures { IfOk result (λ a. IsMetadataReply path.now text.now allow_defines (reply_of a)) }
 {
     let found = match Preprocessor.get_preprocessor_metadata(alloc, text, allow_defines) {
         Ok(found) => found,
@@ -93,14 +93,14 @@ fn metadata_told(
 pub fn preprocessed(
     alloc: Global,
     source: &Source<'_>,
-    definitions: &[Definition<'_>],
+    definitions: &[Define<'_>],
 ) -> Result<(u32, Sheet), Refusal>
-    ensures ok { IfOk result (λ a. IsPreprocessed source.now definitions.now (told_of a)) }
+    ensures ok { IfOk result (λ a. IsPreprocessed source.now definitions.now (reply_of a)) }
     ensures err { IfErr result (Refuses source.now definitions.now) }
 {
     let (path, text) = texts(source)?;
     let defs = given(alloc, definitions)?;
-    Ok(text_told(alloc, path, text, &defs)?)
+    Ok(preprocessed_reply(alloc, path, text, &defs)?)
 }
 
 /// Reads the metadata of a source, and returns the status and the fields.
@@ -109,11 +109,11 @@ pub fn metadata(
     source: &Source<'_>,
     allow_defines: bool,
 ) -> Result<(u32, Sheet), Refusal>
-    ensures ok { IfOk result (λ a. IsMetadata source.now allow_defines (told_of a)) }
+    ensures ok { IfOk result (λ a. IsMetadata source.now allow_defines (reply_of a)) }
     ensures err { IfErr result (RefusesSource source.now) }
 {
     let (path, text) = texts(source)?;
-    Ok(metadata_told(alloc, path, text, allow_defines)?)
+    Ok(metadata_reply(alloc, path, text, allow_defines)?)
 }
 
 /// Writes a result on a page, and returns the status.

@@ -4,7 +4,7 @@ ghost use Rattle.std.specs.BTreeMap.{get_by_text};
 ghost use Rattle.naga_oil_pre.specs.Metadata.{none_defined};
 ghost use Rattle.yettuvam_c.specs.Given.{given_value, defined_by, RefusesOne, RefusesGiven};
 
-use super::told::{BOOL, INT, UINT};
+use super::parts::{BOOL, INT, UINT};
 use super::*;
 
 pub type Definitions = BTreeMap<String, ShaderDefValue>;
@@ -43,7 +43,7 @@ fn value_of(kind: u32, value: i64) -> Option<ShaderDefValue>
 }
 
 // The name and the value of a definition, or an error.
-fn read<'a>(index: usize, definition: &Definition<'a>) -> Result<(&'a str, ShaderDefValue), Refusal>
+fn read<'a>(index: usize, definition: &Define<'a>) -> Result<(&'a str, ShaderDefValue), Refusal>
     ensures name { IfOk result (λ r. r.0.now ≡ definition.now.name.now) }
     ensures value { let of = definition.now in
         IfOk result (λ r. given_value of.kind of.value ≡ Some r.1) }
@@ -59,9 +59,9 @@ fn read<'a>(index: usize, definition: &Definition<'a>) -> Result<(&'a str, Shade
 }
 
 /// Reads definitions. The last with a name counts.
-pub fn given(alloc: Global, definitions: &[Definition<'_>]) -> Result<Definitions, Refusal>
-    ensures ok { let told = defined_by 0 none_defined definitions.now in
-        IfOk result (λ defs. told ≡ Ok (get_by_text defs)) }
+pub fn given(alloc: Global, definitions: &[Define<'_>]) -> Result<Definitions, Refusal>
+    ensures ok { let reply = defined_by 0 none_defined definitions.now in
+        IfOk result (λ defs. reply ≡ Ok (get_by_text defs)) }
     ensures err { IfErr result (RefusesGiven definitions.now) }
 {
     let mut defs = BTreeMap::new(alloc);

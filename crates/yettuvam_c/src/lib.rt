@@ -4,22 +4,22 @@
 //! - `page`: the types that cross: texts, definitions, and the caller's page.
 //! - `given`: the definitions of a caller.
 //! - `sheet`: the fields of a result, one after the other, before they are written on a page.
-//! - `told`: the fields of a text, of its metadata or of an error.
+//! - `parts`: the fields of a text, of its metadata or of an error.
 //! - `answer`: the results of the calls.
 #![tactic(auto)]
 
 ghost use Rattle.std.specs.Prelude.{◌≡◌, ◌≢◌, ◌≤◌, ◌⊎◌, Err};
-ghost use Rattle.yettuvam_c.specs.Answer.{IsPreprocessed, IsMetadata, Tells, TellsRoom, IsUnwritten};
+ghost use Rattle.yettuvam_c.specs.Answer.{IsPreprocessed, IsMetadata, Replies, RepliesRoom, IsUnwritten};
 ghost use Rattle.yettuvam_c.specs.Given.{defined_by, IsNotText, HasOther};
 ghost use Rattle.naga_oil_pre.specs.Metadata.{none_defined};
 
 mod answer;
 mod given;
 mod page;
+mod parts;
 mod sheet;
 #[cfg(test)]
 mod tests;
-mod told;
 
 use answer::{metadata, preprocessed, put};
 use naga_oil_imports::ImportDefWithOffset;
@@ -28,7 +28,7 @@ use naga_oil_pre::{
     ShaderDefValue, set_definition,
 };
 use naga_oil_registry::report::report;
-use page::{Definition, Field, Page, Source};
+use page::{Define, Field, Page, Source};
 use sheet::{Part, Sheet};
 use std::alloc::{AllocError, Global};
 use std::collections::{BTreeMap, BTreeSet};
@@ -38,16 +38,16 @@ use std::collections::{BTreeMap, BTreeSet};
 pub extern "C" fn yettuvam_preprocess(
     alloc: Global,
     source: &Source<'_>,
-    definitions: &[Definition<'_>],
+    definitions: &[Define<'_>],
     page: &mut Page<'_>,
 ) -> u32
     ensures known { result ≤ 5 }
-    ensures told { let wanted = IsPreprocessed source.now definitions.now in
-        result ≤ 1 → Tells wanted result page.old page.new }
+    ensures reply { let wanted = IsPreprocessed source.now definitions.now in
+        result ≤ 1 → Replies wanted result page.old page.new }
     ensures not_utf8 { result ≡ 3 → IsNotText source.now ⊎ HasOther definitions.now }
     ensures bad { result ≡ 4 → defined_by 0 none_defined definitions.now ≡ Err page.new.count }
     ensures no_room { let wanted = IsPreprocessed source.now definitions.now in
-        result ≡ 5 → TellsRoom wanted page.old page.new }
+        result ≡ 5 → RepliesRoom wanted page.old page.new }
     ensures unwritten { 2 ≤ result → IsUnwritten page.old page.new }
 {
     put(preprocessed(alloc, source, definitions), page)
@@ -62,12 +62,12 @@ pub extern "C" fn yettuvam_metadata(
     page: &mut Page<'_>,
 ) -> u32
     ensures known { result ≤ 5 }
-    ensures told { let wanted = IsMetadata source.now allow_defines in
-        result ≤ 1 → Tells wanted result page.old page.new }
+    ensures reply { let wanted = IsMetadata source.now allow_defines in
+        result ≤ 1 → Replies wanted result page.old page.new }
     ensures not_utf8 { result ≡ 3 → IsNotText source.now }
     ensures good { result ≢ 4 }
     ensures no_room { let wanted = IsMetadata source.now allow_defines in
-        result ≡ 5 → TellsRoom wanted page.old page.new }
+        result ≡ 5 → RepliesRoom wanted page.old page.new }
     ensures unwritten { 2 ≤ result → IsUnwritten page.old page.new }
 {
     put(metadata(alloc, source, allow_defines), page)

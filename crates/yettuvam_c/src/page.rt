@@ -25,7 +25,7 @@ pub struct Source<'a> {
 /// A name with its value: a `BOOL` (false is 0), an `INT` or a `UINT`.
 #[repr(C)]
 #[derive(Drop)]
-pub struct Definition<'a> {
+pub struct Define<'a> {
     pub name: &'a [u8],
     pub kind: u32,
     pub value: i64,

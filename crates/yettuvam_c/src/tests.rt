@@ -1,6 +1,6 @@
 // The calls, on pages with room and without.
-use super::page::{Definition, Field, Page, Source};
-use super::told::{BOOL, INT, UINT};
+use super::page::{Define, Field, Page, Source};
+use super::parts::{BOOL, INT, UINT};
 use super::*;
 use std::test::Fail;
 
@@ -24,20 +24,20 @@ fn text_of(alloc: Global, out: &[u8], field: Field) -> Result<String, AllocError
 
 // A status and the fields of a page: a line for each field.
 fn shown(alloc: Global, status: u32, page: &Page<'_>) -> Result<String, AllocError> {
-    let mut told = format!(in alloc; "{status}: {} bytes, {} fields\n", page.bytes, page.count)?;
+    let mut reply = format!(in alloc; "{status}: {} bytes, {} fields\n", page.bytes, page.count)?;
     for field in page.fields.iter().filter(|field| field.kind != 0) {
         let text = text_of(alloc, page.out, *field)?;
         let (kind, place, value) = (field.kind, field.place, field.value);
-        told.push_str(format!(in alloc; "{kind} {place} {value} {text:?}\n")?.as_str())?;
+        reply.push_str(format!(in alloc; "{kind} {place} {value} {text:?}\n")?.as_str())?;
     }
-    Ok(told)
+    Ok(reply)
 }
 
 // The status and the fields of preprocessing a text, on a page with this room.
 fn preprocessed_on(
     alloc: Global,
     text: &[u8],
-    definitions: &[Definition<'_>],
+    definitions: &[Define<'_>],
     room: usize,
 ) -> Result<String, AllocError> {
     let mut out = Vec::from_elem(alloc, 0u8, room)?;
@@ -74,16 +74,16 @@ fn metadata_on(alloc: Global, text: &[u8], allow_defines: bool) -> Result<String
     shown(alloc, status, &page)
 }
 
-fn is(told: Result<String, AllocError>, want: &str) -> Result<(), Fail> {
-    match told {
-        Ok(told) if told.as_str() == want => Ok(()),
-        Ok(told) => Err(Fail::from(told.as_str())),
+fn is(reply: Result<String, AllocError>, want: &str) -> Result<(), Fail> {
+    match reply {
+        Ok(reply) if reply.as_str() == want => Ok(()),
+        Ok(reply) => Err(Fail::from(reply.as_str())),
         Err(_) => Err(Fail::from("no memory")),
     }
 }
 
-fn definition(name: &[u8], kind: u32, value: i64) -> Definition<'_> {
-    Definition { name, kind, value }
+fn definition(name: &[u8], kind: u32, value: i64) -> Define<'_> {
+    Define { name, kind, value }
 }
 
 #[test]

@@ -21,7 +21,7 @@ fn send_down(
     ensures { let sent = sent_down redirector.old (string_bytes base.now) (texts others.now) [] in
         Gives (λ done. redirector.new) result sent }
 {
-    let mut omit = Names::new(alloc);
+    let mut omit = NameSet::new(alloc);
     let mut original = base;
     for other in others {
         redirector.redirect_function(original.as_str(), other.as_str(), &omit)?;

@@ -17,10 +17,7 @@ use std::marker::Model;
 #[derive(Drop)]
 pub struct Composer<B: Backend> {
     alloc: Global,
-    front: B,
-    validate: bool,
-    capabilities: Capabilities,
-    override_any: bool,
+    settings: Settings<B>,
     // The registered modules.
     modules: Registry,
     // The number of the next automatic binding.
@@ -33,31 +30,28 @@ pub struct Composer<B: Backend> {
 impl<B: Backend> Model for Composer<B> {
     ghost use Rattle.naga_oil.specs.State.{State};
     ghost use Rattle.naga_oil_registry.specs.Registry.{IsRegistry};
-    ghost use Rattle.naga_oil_build.specs.Held.{settings};
+    ghost use Rattle.naga_oil_build.specs.BuildView.{settings_with};
     ghost use Rattle.naga_oil.specs.StoreLaw.{IsStore};
     ghost use Rattle.naga_oil.specs.StoreView.{kept_of};
 
     ghost Value = { State B };
 
     ghost view = { λ c. record {
-      front = c.front;
-      validate = c.validate;
-      capabilities = c.capabilities;
-      override_any = c.override_any;
+      settings = c.settings;
       registry = c.modules;
       counter = c.counter;
       kept = kept_of c.store;
       builds = c.count;
     } };
 
-    ghost invariant = { λ c. IsRegistry c.modules × IsStore
-        (settings (B.front c.front) c.capabilities c.validate c.override_any)
-        c.modules (kept_of c.store) };
+    ghost invariant = { λ c. IsRegistry c.modules ×
+        IsStore (settings_with B.front c.settings) c.modules (kept_of c.store) };
 }
 
 impl<B: Backend> Composer<B> {
     ghost use Rattle.naga_oil.specs.contracts.compose.composer.Composer.{the_row};
     ghost use Rattle.naga_oil_lines.specs.Decorate.{decorated_name};
+    ghost use Rattle.naga_oil_build.specs.BuildView.{bare_settings};
     ghost use Rattle.naga_oil.specs.Addition.{addition};
     ghost use Rattle.naga_oil_registry.specs.Descriptor.{module_source, shader_source};
     ghost use Rattle.naga_oil.specs.Makes.{Makes, settings_of};
@@ -68,21 +62,12 @@ impl<B: Backend> Composer<B> {
     ghost use Rattle.naga_oil.specs.State.{nothing_registered, Adds, Removes};
 
     // A composer with no modules, no kept builds and the counter at 0.
-    fn empty(
-        alloc: Global,
-        front: B,
-        validate: bool,
-        capabilities: Capabilities,
-        override_any: bool,
-    ) -> Self
-        ensures { result ≡ nothing_registered front validate capabilities override_any }
+    fn empty(alloc: Global, settings: Settings<B>) -> Self
+        ensures { result ≡ nothing_registered settings }
     {
         Composer {
             alloc,
-            front,
-            validate,
-            capabilities,
-            override_any,
+            settings,
             modules: Registry::new(alloc),
             counter: 0,
             store: Store::new(alloc),
@@ -93,37 +78,39 @@ impl<B: Backend> Composer<B> {
     /// Returns a composer with no modules, no capabilities and the binding counter at 0. It
     /// validates what it makes, and only virtual functions can be overridden.
     pub fn new(alloc: Global, front: B) -> Self
-        ensures { result ≡ nothing_registered front true (record { 0 = 0 }) false }
+        ensures { result ≡ nothing_registered (bare_settings front true) }
     {
-        Composer::empty(alloc, front, true, Capabilities(0), false)
+        Composer::empty(alloc, Settings::new(front, true))
     }
 
     /// Returns a composer as `new` does, but one that doesn't validate what it makes.
     pub fn non_validating(alloc: Global, front: B) -> Self
-        ensures { result ≡ nothing_registered front false (record { 0 = 0 }) false }
+        ensures { result ≡ nothing_registered (bare_settings front false) }
     {
-        Composer::empty(alloc, front, false, Capabilities(0), false)
+        Composer::empty(alloc, Settings::new(front, false))
     }
 
     /// Returns a composer with the same front end and settings but these capabilities, with no
     /// modules, no kept builds and the binding counter at 0.
     pub fn with_capabilities(self, capabilities: Capabilities) -> Self
-        ensures { let bare = nothing_registered self.front self.validate in
-            result ≡ bare capabilities self.override_any }
+        ensures { let settings = record self.settings { capabilities = capabilities } in
+            result ≡ nothing_registered settings }
     {
-        let (alloc, validate) = (self.alloc, self.validate);
-        Composer::empty(alloc, self.front, validate, capabilities, self.override_any)
+        let mut settings = self.settings;
+        settings.capabilities = capabilities;
+        Composer::empty(self.alloc, settings)
     }
 
     /// Returns a composer with the same front end and settings, in which any imported function can
     /// be overridden (`allow`), or only virtual ones; with no modules, no kept builds and the
     /// binding counter at 0.
     pub fn with_override_any(self, allow: bool) -> Self
-        ensures { let bare = nothing_registered self.front self.validate in
-            result ≡ bare self.capabilities allow }
+        ensures { let settings = record self.settings { override_any = allow } in
+            result ≡ nothing_registered settings }
     {
-        let (alloc, validate) = (self.alloc, self.validate);
-        Composer::empty(alloc, self.front, validate, self.capabilities, allow)
+        let mut settings = self.settings;
+        settings.override_any = allow;
+        Composer::empty(self.alloc, settings)
     }
 
     /// Returns the name that an item of a module has in a made shader; with no module, the item's
@@ -145,23 +132,23 @@ impl<B: Backend> Composer<B> {
 
     /// Whether made shaders are validated.
     pub fn validate(&self) -> bool
-        ensures { result ≡ self.now.validate }
+        ensures { result ≡ self.now.settings.validate }
     {
-        self.validate
+        self.settings.validate
     }
 
     /// The capabilities with which headers and made shaders are validated.
     pub fn capabilities(&self) -> Capabilities
-        ensures { result ≡ self.now.capabilities }
+        ensures { result ≡ self.now.settings.capabilities }
     {
-        self.capabilities
+        self.settings.capabilities
     }
 
     /// Whether any imported function can be overridden, and not only virtual ones.
     pub fn override_any(&self) -> bool
-        ensures { result ≡ self.now.override_any }
+        ensures { result ≡ self.now.settings.override_any }
     {
-        self.override_any
+        self.settings.override_any
     }
 
     /// The number that the next automatic binding gets.
@@ -312,10 +299,7 @@ impl<B: Backend> Composer<B> {
         self.counter = next;
         let builder = Builder {
             alloc,
-            front: &self.front,
-            validate: self.validate,
-            capabilities: self.capabilities,
-            override_any: self.override_any,
+            settings: &self.settings,
             builds: Builds::new(alloc),
         };
         let before = self.store.len();

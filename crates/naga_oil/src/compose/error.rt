@@ -81,7 +81,7 @@ impl ErrSource {
 
 /// An error of a composer: what is wrong, and in which text.
 #[derive(Debug, Drop, Error)]
-#[error("{inner}")]
+#[error("Composer error: {inner}")]
 pub struct ComposerError {
     pub inner: ComposerErrorInner,
     pub source: ErrSource,

@@ -15,7 +15,7 @@ ghost use Rattle.naga_oil_link.specs.BuiltModule.{built_of, builds_of};
 ghost use Rattle.naga_oil_link.specs.Linked.{link_whole};
 ghost use Rattle.naga_oil_build.specs.Build.{build};
 ghost use Rattle.naga_oil_build.specs.Built.{preprocessed_of};
-ghost use Rattle.naga_oil.specs.Answer.{of_shader, refusal, read_first, read_second, make, reach_uses};
+ghost use Rattle.naga_oil.specs.Answer.{of_shader, refusal, read_and_build_first, read_and_build_second, module_of_text, reach_uses};
 ghost use Rattle.naga_oil.specs.Chain.{chain, with_stages};
 ghost use Rattle.naga_oil.specs.Finish.{built_in_text, compose, finish};
 ghost use Rattle.naga_oil.specs.MakeDefs.{defs_merged, defs_of_text};
@@ -211,7 +211,7 @@ impl<B: Backend> Maker<'_, B> {
             return Ok(());
         }
         let modules = self.modules;
-        let Some((place, of)) = modules.behind(name, from) else {
+        let Some((place, of)) = modules.following(name, from) else {
             return Err(Unreached::missing(self.builder.alloc, name, 0));
         };
         let key = project(self.builder.alloc, of, &self.defs)?;
@@ -331,16 +331,16 @@ impl<B: Backend> Maker<'_, B> {
         )
     }
 
-    // Reads a shader a first time: adds the definitions of the modules that it imports, and reaches
+    // Reads a shader a first time: adds the definitions of the modules that it imports, and builds
     // these.
-    fn read_first(&mut self, shader: &Registered, text: &str) -> ComposerResult
+    fn read_and_build_first(&mut self, shader: &Registered, text: &str) -> ComposerResult
         requires registry { IsRegistry (modules_in self.old) }
         requires store { let s = settings_by B.front self.old in
             IsStore s (modules_in self.old) (kept_in self.old) }
         requires begins { builds_in self.old ≡ [] }
         ensures read { let s = settings_by B.front self.old in
             let d = definition_of shader.now in
-            let read = read_first s (modules_in self.old) text.now d (defs_in self.old) in
+            let read = read_and_build_first s (modules_in self.old) text.now d (defs_in self.old) in
             Replies (λ done. defs_in self.new) result self.new (read (builds_in self.old)) }
         ensures keeps { let own = defs_in self.old in
             let defs = defs_merged (modules_in self.old) (definition_of shader.now) own in
@@ -354,13 +354,17 @@ impl<B: Backend> Maker<'_, B> {
         self.reach_uses(Rule::Any, &output.imports, shader, text)
     }
 
-    // Reads a shader a second time, under the merged definitions, and reaches the modules that it
+    // Reads a shader a second time, under the merged definitions, and builds the modules that it
     // imports then.
-    fn read_second(&mut self, shader: &Registered, text: &str) -> ComposerResult<PreprocessOutput>
+    fn read_and_build_second(
+        &mut self,
+        shader: &Registered,
+        text: &str,
+    ) -> ComposerResult<PreprocessOutput>
         requires { IsReady B.front self.old 0 }
         ensures read { let s = settings_by B.front self.old in
             let d = definition_of shader.now in
-            let read = read_second s (modules_in self.old) text.now d (defs_in self.old) in
+            let read = read_and_build_second s (modules_in self.old) text.now d (defs_in self.old) in
             Replies output_of result self.new (read (builds_in self.old)) }
         ensures keeps { KeepsMore B.front refused_of result self.old self.new }
         ensures rest { BuildsMore self.old self.new }
@@ -405,15 +409,13 @@ impl<B: Backend> Maker<'_, B> {
             let told = validate s (builds_in self.now) (defs_in self.now) place in
             Answers module_value result (told (module_value made)) }
     {
-        let builder = &self.builder;
-        if !builder.validate {
+        let (alloc, settings) = (self.builder.alloc, self.builder.settings);
+        if !settings.validate {
             return Ok(made);
         }
-        let valid = builder
-            .front
-            .validate(builder.alloc, &made, builder.capabilities);
+        let valid = settings.front.validate(alloc, &made, settings.capabilities);
         let path = of.file_path.as_str();
-        match in_text(builder.alloc, path, text, offset, answered(valid))? {
+        match in_text(alloc, path, text, offset, answered(valid))? {
             Ok(()) => Ok(made),
             Err(fault) => Err(self.invalid(fault, of, text, offset)),
         }
@@ -501,7 +503,7 @@ impl<B: Backend> Maker<'_, B> {
             IsStore s (modules_in self.old) (kept_in self.old) }
         requires begins { builds_in self.old ≡ [] }
         ensures made { let s = settings_by B.front self.old in
-            let made = make s (modules_in self.old) (shader_source desc.entry) text.now in
+            let made = module_of_text s (modules_in self.old) (shader_source desc.entry) text.now in
             Replies module_value result self.new (made (builds_in self.old)) }
         ensures keeps { let ds = modules_in self.old in
             let defs = defs_of_text ds (shader_source desc.entry) text.now in
@@ -517,8 +519,8 @@ impl<B: Backend> Maker<'_, B> {
             read_shader(alloc, &desc, text),
         )?;
         self.defs = own_defs(alloc, desc.shader_defs, &shader)?;
-        self.read_first(&shader, text)?;
-        let output = self.read_second(&shader, text)?;
+        self.read_and_build_first(&shader, text)?;
+        let output = self.read_and_build_second(&shader, text)?;
         self.finish(&shader, &output, shader_type)
     }
 }

@@ -95,7 +95,7 @@ pub(crate) fn keep(store: &mut Store, key: Key, build: Arc<Build>) -> AllocResul
 }
 
 /// Forgets the builds of the modules with these names.
-pub(crate) fn forget(store: &mut Store, gone: &Names)
+pub(crate) fn forget(store: &mut Store, gone: &NameSet)
     ensures { kept_of store.new ≡ forget (contains_text gone.now) (kept_of store.old) }
 {
     store.retain(

@@ -8,9 +8,9 @@ use std::alloc::{AllocError, Global};
 use std::process::Abort;
 
 /// An expression of a test: the place of its kind in the list of the kinds, and the place of what it names.
-type Part = (u64, usize);
+type FormPart = (u64, usize);
 
-const LITERAL: Part = (0, 0);
+const LITERAL: FormPart = (0, 0);
 
 const ZERO: u64 = 1;
 
@@ -22,7 +22,7 @@ const ARGUMENT: u64 = 6;
 
 const CALL_RESULT: u64 = 7;
 
-const BALLOT: Part = (11, 0);
+const BALLOT: FormPart = (11, 0);
 
 const NEGATION: u64 = 22;
 
@@ -46,7 +46,7 @@ struct Shape {
     given: Option<usize>,
     local: Option<(usize, usize)>,
     named: Option<usize>,
-    parts: &'static [Part],
+    parts: &'static [FormPart],
     steps: &'static [Step],
 }
 
@@ -68,7 +68,7 @@ enum Added {
     Constant(usize, usize),
     Override,
     Global,
-    Expression(Part),
+    Expression(FormPart),
     Special(u64, usize),
     Shaped(Shape),
     Entered(Entry),
@@ -186,14 +186,14 @@ fn add_name(
     Ok(())
 }
 
-fn add_part(list: &mut Arena<Expression>, part: Part, alloc: Global) -> Result<(), AllocError> {
+fn add_part(list: &mut Arena<Expression>, part: FormPart, alloc: Global) -> Result<(), AllocError> {
     let expression = expression_of(part.0, part.1, alloc)?;
     put(list, expression, NONE)
 }
 
 fn add_parts(
     list: &mut Arena<Expression>,
-    parts: &[Part],
+    parts: &[FormPart],
     alloc: Global,
 ) -> Result<(), AllocError> {
     for part in parts {
@@ -204,7 +204,7 @@ fn add_parts(
 
 fn step_of(step: Step, alloc: Global) -> Result<Statement, AllocError> {
     match step {
-        Emit(start, end) => Ok(Statement::Emit(Places::new(start, end))),
+        Emit(start, end) => Ok(Statement::Emit(PlaceRange::new(start, end))),
         Store(to, from) => Ok(Statement::Store {
             pointer: Index::new(to),
             value: Index::new(from),
@@ -591,7 +591,7 @@ fn results_are_given_once(rt: HostRuntime) {
     tells(&rt, &GIVEN_ONCE);
 }
 
-const NEGATED: &[Part] = &[LITERAL, (NEGATION, 0), BALLOT];
+const NEGATED: &[FormPart] = &[LITERAL, (NEGATION, 0), BALLOT];
 
 #[rattlefmt::skip]
 static KNOWN_OPERANDS: [Case; 6] = [
@@ -608,7 +608,7 @@ fn operands_are_known(rt: HostRuntime) {
     tells(&rt, &KNOWN_OPERANDS);
 }
 
-const TWICE_NEGATED: &[Part] = &[LITERAL, (NEGATION, 0), (NEGATION, 1), BALLOT];
+const TWICE_NEGATED: &[FormPart] = &[LITERAL, (NEGATION, 0), (NEGATION, 1), BALLOT];
 
 #[rattlefmt::skip]
 static EMITTED: [Case; 7] = [

@@ -25,7 +25,7 @@ fn a_refused_error_is_no_other(rt: HostRuntime) -> Result<(), Fail> {
 
 #[test]
 fn a_refused_order_is_no_other(rt: HostRuntime) -> Result<(), Fail> {
-    holds_refused(&BEHIND, rt.alloc())
+    holds_refused(&AFTER, rt.alloc())
 }
 
 #[test]

@@ -4,7 +4,7 @@ ghost use Rattle.std.specs.BTreeMap.{get_by_text};
 ghost use Rattle.naga_oil_words.specs.Texts.{texts};
 ghost use Rattle.naga_oil_mini.specs.Defined.{given_value, definition_word, defined_by};
 ghost use Rattle.naga_oil_pre.specs.Metadata.{none_defined};
-ghost use Rattle.naga_oil_mini.specs.Told.{RefusesDefinitions};
+ghost use Rattle.naga_oil_mini.specs.Shown.{RefusesDefinitions};
 
 use super::refusal::Refusal;
 use super::words::is_definition;

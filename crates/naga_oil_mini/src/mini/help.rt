@@ -9,7 +9,7 @@ oil pre FILE [NAME=VALUE..]
 
 oil pre --metadata FILE
     prints FILE's import path, the items that it uses of modules, its defines,
-    and the names that its text may depend on. One a line, each field behind a
+    and the names that its text may depend on. One a line, each field following a
     tab: path NAME, import MODULE ITEM.., define NAME VALUE, name NAME. In a
     field \\t, \\n, \\r and \\\\ stand for a tab, line ends and a backslash.
 
@@ -23,7 +23,7 @@ oil --help, oil --version
     print this, and the version
 
 NAME=VALUE defines NAME as a number, as true or false, or as true if nothing
-stands behind the =. The file - is standard input, and ./- is a file named -.
+stands following the =. The file - is standard input, and ./- is a file named -.
 
 Status 0: all was printed. Status 1: a text has a fault, which is reported on
 standard error, or there is no memory, or a write failed. Status 2: the words

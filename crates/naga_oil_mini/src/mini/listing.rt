@@ -6,10 +6,10 @@ ghost use Rattle.naga_oil_pre.specs.MetadataView.{metadata_of};
 ghost use Rattle.naga_oil_conditions.specs.View.{Fails};
 ghost use Rattle.naga_oil_registry.specs.Registered.{defs_of};
 ghost use Rattle.naga_oil_words.specs.Texts.{texts};
-ghost use Rattle.naga_oil_mini_symbols.specs.Names.{texts_of};
+ghost use Rattle.naga_oil_mini_symbols.specs.NameTable.{texts_of};
 ghost use Rattle.std.specs.List.{flat_map};
 ghost use Rattle.naga_oil_mini.specs.Listing.{escaped_byte, field, line, path_lines, import_line, define_lines, name_lines, IsListing, IsListed};
-ghost use Rattle.naga_oil_mini.specs.Told.{Reports};
+ghost use Rattle.naga_oil_mini.specs.Shown.{Reports};
 
 use super::definitions::Definitions;
 use super::refusal::Refusal;

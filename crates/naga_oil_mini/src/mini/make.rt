@@ -1,7 +1,7 @@
 // Shaders that are built from files over Mini.
 ghost use Rattle.std.specs.Prelude.{◌≡◌, IfErr, IfOk, Some, string_bytes};
 ghost use Rattle.naga_oil_ir.specs.ModuleValue.{module_value};
-ghost use Rattle.naga_oil_mini.specs.Told.{IsOfMaking, IsWritten};
+ghost use Rattle.naga_oil_mini.specs.Shown.{IsOfMaking, IsWritten};
 ghost use Rattle.naga_oil_mini_writer.specs.Writer.{module_text};
 
 use super::definitions::Definitions;

@@ -4,7 +4,7 @@ ghost use Rattle.std.specs.BTreeMap.{get_by_text};
 ghost use Rattle.naga_oil_conditions.specs.View.{Gives};
 ghost use Rattle.naga_oil_pre.specs.Preprocessed.{preprocessed};
 ghost use Rattle.naga_oil_mini.specs.Printed.{overwritten, text_of, shown_text, printed};
-ghost use Rattle.naga_oil_mini.specs.Told.{Reports};
+ghost use Rattle.naga_oil_mini.specs.Shown.{Reports};
 
 use super::definitions::Definitions;
 use super::refusal::Refusal;

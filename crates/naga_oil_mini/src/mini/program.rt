@@ -4,7 +4,7 @@ ghost use Rattle.naga_oil_words.specs.Texts.{texts};
 ghost use Rattle.naga_oil_mini.specs.declared.mini.refusal.Refusal.{Refusal};
 ghost use Rattle.naga_oil_mini.specs.Extra.{extra, extra_of, extra_of_word, extra_of_file, metadata_of_file, WritesExtra, RefusesExtra, WritesAny, RefusesAny};
 ghost use Rattle.naga_oil_mini.specs.Listing.{IsListed};
-ghost use Rattle.naga_oil_mini.specs.Told.{LeavesOut, Tells, TellsFront, status_of};
+ghost use Rattle.naga_oil_mini.specs.Shown.{LeavesOut, Tells, TellsFront, status_of};
 ghost use Rattle.naga_oil_mini.specs.Words.{asked};
 
 use super::help::{HELP, VERSION};

@@ -23,7 +23,7 @@ pub enum Refusal<'a> {
 
 impl Refusal<'_> {
     ghost use Rattle.std.specs.Prelude.{◌≡◌, ◌++◌};
-    ghost use Rattle.naga_oil_mini.specs.Told.{message_of, status_of};
+    ghost use Rattle.naga_oil_mini.specs.Shown.{message_of, status_of};
 
     /// The message, in three parts.
     pub fn message(&self) -> (&str, &str, &str)
@@ -53,7 +53,7 @@ impl Refusal<'_> {
 
 impl fmt::Display for Refusal<'_> {
     ghost use Rattle.std.specs.Prelude.{Some};
-    ghost use Rattle.naga_oil_mini.specs.Told.{message_of};
+    ghost use Rattle.naga_oil_mini.specs.Shown.{message_of};
 
     ghost output = { λ e. Some (message_of e) };
 

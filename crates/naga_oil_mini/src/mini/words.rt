@@ -1,9 +1,9 @@
 // The request of a command line.
 ghost use Rattle.std.specs.Prelude.{◌≡◌, ◌<◌, IfOk, IfErr, Some, option_map, length, drop};
-ghost use Rattle.naga_oil_mini_symbols.specs.Names.{texts_of};
+ghost use Rattle.naga_oil_mini_symbols.specs.NameTable.{texts_of};
 ghost use Rattle.naga_oil_mini.specs.Words.{is_definition, import_of, is_file, task_of, with_option, files, imports, takes, asked, asked_of};
 ghost use Rattle.naga_oil_words.specs.Texts.{texts};
-ghost use Rattle.naga_oil_mini.specs.Told.{RefusesWords};
+ghost use Rattle.naga_oil_mini.specs.Shown.{RefusesWords};
 
 use super::refusal::Refusal;
 use std::alloc::{AllocError, Global};
@@ -130,12 +130,12 @@ pub fn asked(alloc: Global, words: &[String]) -> Result<Request<'_>, Refusal<'_>
 {
     let (command, words) = words.split_first().ok_or(Refusal::Usage)?;
     let task = task_of(command.as_str()).ok_or(Refusal::Usage)?;
-    let (override_any, behind) = with_option(task, words);
-    let (files, imports) = counts(behind);
+    let (override_any, following) = with_option(task, words);
+    let (files, imports) = counts(following);
     if !takes(task, files, imports) {
         return Err(Refusal::Usage);
     }
-    let (files, imports) = sorted(alloc, behind)?;
+    let (files, imports) = sorted(alloc, following)?;
     Ok(Request {
         task,
         override_any,

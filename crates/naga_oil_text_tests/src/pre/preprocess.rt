@@ -3,7 +3,7 @@ use std::alloc::{AllocError, Global};
 use std::collections::BTreeMap;
 use std::test::Fail;
 
-type Definition = (&'static str, ShaderDefValue);
+type Define = (&'static str, ShaderDefValue);
 
 // A text, and its expected text, with `~` for a space, or its expected error.
 type Row = (&'static str, &'static str);
@@ -11,34 +11,34 @@ type Row = (&'static str, &'static str);
 // A text, its expected text, and its expected uses.
 type UsesRow = (&'static str, &'static str, &'static str);
 
-static NONE: &[Definition] = &[];
+static NONE: &[Define] = &[];
 
-static A: &[Definition] = &[("A", ShaderDefValue::Bool(true))];
+static A: &[Define] = &[("A", ShaderDefValue::Bool(true))];
 
-static FALSE: &[Definition] = &[("T", ShaderDefValue::Bool(false))];
+static FALSE: &[Define] = &[("T", ShaderDefValue::Bool(false))];
 
-static TRUE: &[Definition] = &[("T", ShaderDefValue::Bool(true))];
+static TRUE: &[Define] = &[("T", ShaderDefValue::Bool(true))];
 
-static THREE: &[Definition] = &[("T", ShaderDefValue::Int(3))];
+static THREE: &[Define] = &[("T", ShaderDefValue::Int(3))];
 
-static SEVEN: &[Definition] = &[("T", ShaderDefValue::Int(7))];
+static SEVEN: &[Define] = &[("T", ShaderDefValue::Int(7))];
 
-static TWO: &[Definition] = &[("T", ShaderDefValue::Int(2))];
+static TWO: &[Define] = &[("T", ShaderDefValue::Int(2))];
 
-static Z: &[Definition] = &[("Z", ShaderDefValue::Bool(true))];
+static Z: &[Define] = &[("Z", ShaderDefValue::Bool(true))];
 
-static FIRST: &[Definition] = &[("TEXTURE", ShaderDefValue::Bool(true))];
+static FIRST: &[Define] = &[("TEXTURE", ShaderDefValue::Bool(true))];
 
-static THIRD: &[Definition] = &[("THIRD", ShaderDefValue::Bool(true))];
+static THIRD: &[Define] = &[("THIRD", ShaderDefValue::Bool(true))];
 
-static SECOND: &[Definition] = &[("SECOND", ShaderDefValue::Bool(true))];
+static SECOND: &[Define] = &[("SECOND", ShaderDefValue::Bool(true))];
 
-static SECOND_THIRD: &[Definition] = &[
+static SECOND_THIRD: &[Define] = &[
     ("SECOND", ShaderDefValue::Bool(true)),
     ("THIRD", ShaderDefValue::Bool(true)),
 ];
 
-static VALUES: &[Definition] = &[
+static VALUES: &[Define] = &[
     ("FIRST_VALUE", ShaderDefValue::Int(5)),
     ("SECOND_VALUE", ShaderDefValue::Int(3)),
     ("UINT", ShaderDefValue::UInt(4294967295)),
@@ -59,7 +59,7 @@ fn define(
 
 fn defined(
     alloc: Global,
-    definitions: &[Definition],
+    definitions: &[Define],
 ) -> Result<BTreeMap<String, ShaderDefValue>, AllocError> {
     let mut shader_defs = BTreeMap::new(alloc);
     for (name, value) in definitions {
@@ -71,14 +71,14 @@ fn defined(
 fn preprocessed(
     alloc: Global,
     source: &str,
-    definitions: &[Definition],
+    definitions: &[Define],
 ) -> Result<PreprocessOutput, ComposerErrorInner> {
     let shader_defs = defined(alloc, definitions)?;
     Preprocessor::default().preprocess(alloc, source, &shader_defs)
 }
 
 // The preprocessed text, which is empty or ends in a line end, or the error, which does not.
-fn shown(alloc: Global, source: &str, definitions: &[Definition]) -> Result<String, AllocError> {
+fn shown(alloc: Global, source: &str, definitions: &[Define]) -> Result<String, AllocError> {
     match preprocessed(alloc, source, definitions) {
         Ok(output) => output.preprocessed_source.replace(alloc, ' ', "~"),
         Err(fault) => format!(in alloc; "{fault:?}"),
@@ -93,7 +93,7 @@ fn is(told: Result<String, AllocError>, want: &str) -> bool {
 }
 
 // Under the definitions each text has its expected text or error.
-fn tells(alloc: Global, definitions: &[Definition], rows: &[Row]) -> Result<(), Fail> {
+fn tells(alloc: Global, definitions: &[Define], rows: &[Row]) -> Result<(), Fail> {
     for (source, want) in rows {
         if !is(shown(alloc, source, definitions), want) {
             return Err(Fail::from(*source));

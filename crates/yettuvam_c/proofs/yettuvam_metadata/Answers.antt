@@ -6,8 +6,8 @@ use Rattle.yettuvam_c.proofs.yettuvam_metadata.Goals as goal
 pub returns-clause-known : goal.returns-clause-known
 returns-clause-known c = lemma.known (IsMetadata c.args.source.now c.args.allow_defines) (RefusesSource c.args.source.now) (lemma.metadata_low c.args.source.now c.args.allow_defines) c.put.result c.args.page.now c.put.new.page c.metadata.result c.metadata.ensures.ok c.put.ensures
 
-pub returns-clause-told : goal.returns-clause-told
-returns-clause-told c = λ h. lemma.told (IsMetadata c.args.source.now c.args.allow_defines) (RefusesSource c.args.source.now) (lemma.metadata_low c.args.source.now c.args.allow_defines) c.put.result c.args.page.now c.put.new.page c.metadata.result c.metadata.ensures.ok c.put.ensures h
+pub returns-clause-reply : goal.returns-clause-reply
+returns-clause-reply c = λ h. lemma.reply (IsMetadata c.args.source.now c.args.allow_defines) (RefusesSource c.args.source.now) (lemma.metadata_low c.args.source.now c.args.allow_defines) c.put.result c.args.page.now c.put.new.page c.metadata.result c.metadata.ensures.ok c.put.ensures h
 
 pub returns-clause-not_utf8 : goal.returns-clause-not_utf8
 returns-clause-not_utf8 c = λ h. lemma.not_utf8 (IsMetadata c.args.source.now c.args.allow_defines) (RefusesSource c.args.source.now) (lemma.metadata_low c.args.source.now c.args.allow_defines) c.put.result c.args.page.now c.put.new.page c.metadata.result c.metadata.ensures.ok c.metadata.ensures.err c.put.ensures h

@@ -6,8 +6,8 @@ use Rattle.yettuvam_c.proofs.yettuvam_preprocess.Goals as goal
 pub returns-clause-known : goal.returns-clause-known
 returns-clause-known c = lemma.known (IsPreprocessed c.args.source.now c.args.definitions.now) (Refuses c.args.source.now c.args.definitions.now) (lemma.preprocess_low c.args.source.now c.args.definitions.now) c.put.result c.args.page.now c.put.new.page c.preprocessed.result c.preprocessed.ensures.ok c.put.ensures
 
-pub returns-clause-told : goal.returns-clause-told
-returns-clause-told c = λ h. lemma.told (IsPreprocessed c.args.source.now c.args.definitions.now) (Refuses c.args.source.now c.args.definitions.now) (lemma.preprocess_low c.args.source.now c.args.definitions.now) c.put.result c.args.page.now c.put.new.page c.preprocessed.result c.preprocessed.ensures.ok c.put.ensures h
+pub returns-clause-reply : goal.returns-clause-reply
+returns-clause-reply c = λ h. lemma.reply (IsPreprocessed c.args.source.now c.args.definitions.now) (Refuses c.args.source.now c.args.definitions.now) (lemma.preprocess_low c.args.source.now c.args.definitions.now) c.put.result c.args.page.now c.put.new.page c.preprocessed.result c.preprocessed.ensures.ok c.put.ensures h
 
 pub returns-clause-not_utf8 : goal.returns-clause-not_utf8
 returns-clause-not_utf8 c = λ h. lemma.not_utf8 (IsPreprocessed c.args.source.now c.args.definitions.now) (Refuses c.args.source.now c.args.definitions.now) (lemma.preprocess_low c.args.source.now c.args.definitions.now) c.put.result c.args.page.now c.put.new.page c.preprocessed.result c.preprocessed.ensures.ok c.preprocessed.ensures.err c.put.ensures h

@@ -5,7 +5,7 @@ use Rattle.naga_oil_conditions.proofs.line_kind.is_name.Goals as goal
 pub returns-then-not-is_empty : goal.returns-then-not-is_empty
 returns-then-not-is_empty c =
     let some : not (length c.args.text.now == 0) ≡ true = search rules in
-    c.is_empty-then-not-is_empty.ensures ∙ names_whole c.args.text.now _ c.behind_run.utf8 c.behind_run.ensures.chars some
+    c.is_empty-then-not-is_empty.ensures ∙ names_whole c.args.text.now _ c.past_run.utf8 c.past_run.ensures.chars some
 
 pub returns-else-not-is_empty : goal.returns-else-not-is_empty
 returns-else-not-is_empty c =

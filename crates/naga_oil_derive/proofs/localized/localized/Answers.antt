@@ -1,11 +1,11 @@
 use Rattle.std.proofs.Common.{arith, ◌≡◌, ◌≤◌, ◌-◌, List, length, map, ap, sym, ◌∙◌, subst}
-use Rattle.naga_oil_ir.specs.ModuleValue.{argument_value}
+use Rattle.naga_oil_ir.specs.ModuleValue.{argument_value, local_values}
 use Rattle.naga_oil_ir.specs.declared.module.FunctionArgument.{FunctionArgument}
 use Rattle.naga_oil_ir.specs.declared.types.LocalVariable.{LocalVariable}
 use Rattle.naga_oil_ir.specs.declared.span.Span.{Span}
 use Rattle.naga_oil_derive.specs.Went.{went}
 use Rattle.naga_oil_derive.specs.Copies.{Table, under_table, range_under, FitIn}
-use Rattle.naga_oil_derive.specs.Functions.{argument_under, local_under, local_values}
+use Rattle.naga_oil_derive.specs.Functions.{argument_under, local_under}
 use Rattle.naga_oil_derive.specs.CopiedFunction.{expression_state}
 use Rattle.naga_oil_derive.proofs.LocalSteps.{began_within, counted, local_fits}
 use Rattle.naga_oil_derive.proofs.FunctionCopies.{function_same}

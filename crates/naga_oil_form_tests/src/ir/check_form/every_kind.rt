@@ -1,5 +1,5 @@
 //! Each kind of expression and of statement, by its place in the list of the kinds.
-use super::{Added, Case, G, NONE, Part, Shape, Shaped, Step, tells};
+use super::{Added, Case, FormPart, G, NONE, Shape, Shaped, Step, tells};
 use naga_oil_ir::*;
 use std::alloc::{AllocError, Global};
 
@@ -205,7 +205,7 @@ fn nested_of(kind: u64, block: Block, alloc: Global) -> Result<Statement, AllocE
 /// Statements with a handle or none.
 fn plain_of(kind: u64) -> Statement {
     match kind {
-        0 => Statement::Emit(Places::new(13, 32)),
+        0 => Statement::Emit(PlaceRange::new(13, 32)),
         5 => Statement::Break,
         6 => Statement::Continue,
         7 => Statement::Kill,
@@ -300,7 +300,7 @@ pub fn statement_of(kind: u64, alloc: Global) -> Result<Statement, AllocError> {
 
 /// An expression of each kind in the order of the kinds, and one more result.
 #[rattlefmt::skip]
-const EVERY_PART: [Part; 33] = [
+const EVERY_PART: [FormPart; 33] = [
     (0, 0), (1, 0), (2, 0), (3, 0), (4, 0), (5, 0), (6, 0), (7, 0), (8, 0), (9, 0), (10, 0), 
     (11, 0), (12, 0), (13, 0), (14, 0), (15, 0), (16, 0), (17, 0), (18, 0), (19, 0), (20, 0), (21, 0), 
     (22, 0), (23, 0), (24, 0), (25, 0), (26, 0), (27, 0), (28, 0), (29, 0), (30, 0), (31, 0), (12, 0),

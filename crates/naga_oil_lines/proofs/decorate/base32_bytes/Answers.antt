@@ -3,7 +3,7 @@ use Rattle.std.proofs.Math.Seq.{drop-cons}
 use Rattle.std.proofs.lemmas.List.{drop_all}
 use Rattle.std.specs.List.{flat_map}
 use Rattle.naga_oil_lines.specs.Decorate.{bits, value_of, bytes_of}
-use Rattle.naga_oil_lines.proofs.Base32Lemmas.{letter_behind, no_byte}
+use Rattle.naga_oil_lines.proofs.Base32Lemmas.{letter_after, no_byte}
 use Rattle.naga_oil_lines.proofs.decorate.base32_bytes.Goals as goal
 
 -- the bits that are left, and those of the letter at a place, before those of the later letters
@@ -12,7 +12,7 @@ next_letter : (code : List ℕ) (i count pending letter v : ℕ) → count < 8 �
 next_letter code i count pending letter v few within is read =
     let rest = flat_map (λ c. bits 5 (value_of c)) (drop (i + 1) code) in
     let taken : drop i code ≡ letter ∷ drop (i + 1) code = drop-cons code i 0 within ∙ (λ k. sym is k ∷ drop (sym (add-one i) k) code) in
-    ap (λ l. l ++ rest) (letter_behind pending v count (omega arith)) ∙ append_assoc (bits count pending) (bits 5 v) rest
+    ap (λ l. l ++ rest) (letter_after pending v count (omega arith)) ∙ append_assoc (bits count pending) (bits 5 v) rest
     ∙ ap (λ w. bits count pending ++ (bits 5 w ++ rest)) read
     ∙ ap (λ l. bits count pending ++ flat_map (λ c. bits 5 (value_of c)) l) (sym taken)
 

@@ -4,7 +4,7 @@ use Rattle.std.proofs.lemmas.List.{drop_all}
 use Rattle.std.specs.String.{string_bytes}
 use Rattle.std.specs.List.{flat_map}
 use Rattle.naga_oil_lines.specs.Decorate.{bits, letters}
-use Rattle.naga_oil_lines.proofs.Base32Lemmas.{bits_behind, last_letter}
+use Rattle.naga_oil_lines.proofs.Base32Lemmas.{bits_after, last_letter}
 use Rattle.naga_oil_lines.proofs.decorate.push_base32.Goals as goal
 
 -- the bits that are left, and those of the byte at a place, before those of the later bytes
@@ -13,7 +13,7 @@ next_byte : (bytes : List ℕ) (i count pending byte : ℕ) → count < 5 → by
 next_byte bytes i count pending byte few fits within is =
     let rest = flat_map (bits 8) (drop (i + 1) bytes) in
     let taken : drop i bytes ≡ byte ∷ drop (i + 1) bytes = drop-cons bytes i 0 within ∙ (λ k. sym is k ∷ drop (sym (add-one i) k) bytes) in
-    ap (λ l. l ++ rest) (bits_behind count pending byte few fits) ∙ append_assoc (bits count pending) (bits 8 byte) rest
+    ap (λ l. l ++ rest) (bits_after count pending byte few fits) ∙ append_assoc (bits count pending) (bits 8 byte) rest
     ∙ ap (λ l. bits count pending ++ flat_map (bits 8) l) (sym taken)
 
 pub loop-byte-preserved : goal.loop-byte-preserved

@@ -28,9 +28,9 @@ pub returns-clause-value : goal.returns-clause-value
 returns-clause-value c =
     let out = string_bytes c.args.out.now in
     let name = string_bytes c.in-Some-2.module_name in
-    let behind = with_overrides 0 (chars c.in-Some.behind.now) in
+    let following = with_overrides 0 (chars c.in-Some.following.now) in
     let some : Some name ≡ decoded c.in-Some.code.now = search rules in
     let pieces : string_bytes c.write.new.self ≡ out ++ (codes "override fn " ++ (name ++ codes "::")) = c.in_ok-write.ensures.bytes in
     let written : string_bytes c.write.new.self ≡ out ++ (codes "override fn " ++ name ++ codes "::") = pieces ∙ ap (λ l. out ++ l) (sym (append_assoc (codes "override fn ") name (codes "::"))) in
-    ap (λ l. l ++ behind) written ∙ append_assoc out (codes "override fn " ++ name ++ codes "::") behind
+    ap (λ l. l ++ following) written ∙ append_assoc out (codes "override fn " ++ name ++ codes "::") following
     ∙ ap (λ l. out ++ l) (overridden (chars c.args.text.now) c.args.first (chars c.args.more.now) c.requires.spelled _ _ _ (c.in-Some.ensures.found ∙ ap (λ m. mark_code m (chars c.args.text.now)) spelled_override_mark) some)

@@ -27,10 +27,10 @@ returns-in-Some-2 c =
     let out = string_bytes c.args.out.now in
     let name = string_bytes c.in-Some-2.module_name in
     let before = c.in-Some.before.now in
-    let behind = c.in-Some.behind.now in
+    let following = c.in-Some.following.now in
     let some : Some name ≡ decoded c.in-Some.code.now = search rules in
     on_ok_weaker c.write.result
-    (λ (e : string_bytes c.write.new.self ≡ out ++ (name ++ (codes "::" ++ (before ++ behind)))). e
-    ∙ ap (λ l. out ++ l) (grouped name (codes "::") before behind ∙ ap (λ l. name ++ codes "::" ++ before ++ l) (sym (encodes-chars behind c.in-Some.ensures.utf8))
-    ∙ named (chars c.args.run.now) before c.in-Some.code.now (chars behind) name c.in-Some.ensures.parts some))
+    (λ (e : string_bytes c.write.new.self ≡ out ++ (name ++ (codes "::" ++ (before ++ following)))). e
+    ∙ ap (λ l. out ++ l) (grouped name (codes "::") before following ∙ ap (λ l. name ++ codes "::" ++ before ++ l) (sym (encodes-chars following c.in-Some.ensures.utf8))
+    ∙ named (chars c.args.run.now) before c.in-Some.code.now (chars following) name c.in-Some.ensures.parts some))
     c.write.ensures.bytes

@@ -13,21 +13,21 @@ pub loop-first-init : goal.loop-first-init
 loop-first-init c = record { text = c.utf8.text; told = ap (λ l. l ++ with_modules 0 (chars c.args.text.now)) c.in_ok-out.ensures.bytes }
 
 pub text_before-requires : goal.text_before-requires
-text_before-requires c = suffix_more c.loop-first.rest.now (encode_utf8 c.in-Some.first) c.in-Some.more.now c.after_run-behind.ensures.suffix.0 c.after_run-behind.result.now c.in-Some.ensures.bytes c.after_run-behind.ensures.suffix.1
+text_before-requires c = suffix_more c.loop-first.rest.now (encode_utf8 c.in-Some.first) c.in-Some.more.now c.after_run-following.ensures.suffix.0 c.after_run-following.result.now c.in-Some.ensures.bytes c.after_run-following.ensures.suffix.1
 
 pub loop-first-preserved-then-is_word_code : goal.loop-first-preserved-then-is_word_code
 loop-first-preserved-then-is_word_code c =
     let rest = c.loop-first.rest.now in
-    let behind = c.after_run-behind.result.now in
+    let following = c.after_run-following.result.now in
     let run = c.text_before.result.now in
     let out = string_bytes c.loop-first.out in
     let e = c.in-Some.ensures in
-    let r = run_before rest run behind c.in-Some.more.now c.in-Some.first e.spelled c.text_before.ensures c.text_before.utf8 c.after_run-behind.ensures.chars in
+    let r = run_before rest run following c.in-Some.more.now c.in-Some.first e.spelled c.text_before.ensures c.text_before.utf8 c.after_run-following.ensures.chars in
     record {
-      text = c.after_run-behind.utf8;
-      told = ap (λ l. l ++ with_modules 0 (chars behind)) c.in_ok-push_run.ensures
-          ∙ append_assoc out (run_shown (chars run)) (with_modules 0 (chars behind))
-          ∙ ap (λ l. out ++ l) (word_run (chars rest) c.in-Some.first (chars c.in-Some.more.now) e.spelled (chars run) (chars behind) (search rules) c.after_run-behind.ensures.chars r)
+      text = c.after_run-following.utf8;
+      told = ap (λ l. l ++ with_modules 0 (chars following)) c.in_ok-push_run.ensures
+          ∙ append_assoc out (run_shown (chars run)) (with_modules 0 (chars following))
+          ∙ ap (λ l. out ++ l) (word_run (chars rest) c.in-Some.first (chars c.in-Some.more.now) e.spelled (chars run) (chars following) (search rules) c.after_run-following.ensures.chars r)
           ∙ c.loop-first.invariant.told;
     }
 

@@ -36,4 +36,4 @@ loop-item-preserved c =
     ∙ sym (fold-append (insert_key nat_cmp) ks (by name) rest)
     ∙ ap (λ (is : List (String Global)). with_places ks (flat_map by (map decorate (texts is)))) (sym step)
     ∙ c.loop-item.invariant.places in
-    record { places = places; guess = c.in_ok-guess.ensures.behind }
+    record { places = places; guess = c.in_ok-guess.ensures.following }

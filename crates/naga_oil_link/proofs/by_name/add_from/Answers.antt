@@ -47,8 +47,8 @@ returns-then-not-is_eq-clause-added c =
     ap (with_places c.loop-at.places.keys) (sym (past_name names index q i i c.requires.index c.loop-at.invariant.reached (omega arith) below other))
     ∙ c.loop-at.invariant.places
 
-pub returns-then-not-is_eq-clause-behind : goal.returns-then-not-is_eq-clause-behind
-returns-then-not-is_eq-clause-behind c =
+pub returns-then-not-is_eq-clause-following : goal.returns-then-not-is_eq-clause-following
+returns-then-not-is_eq-clause-following c =
     let names = listed_names c.args.of in
     let xs = c.args.index.now.items in
     let q = c.args.name.now in

@@ -19,4 +19,4 @@ loop-name-preserved c =
     ∙ sym (fold-append (insert_key nat_cmp) ks (by name) rest)
     ∙ ap (λ (ns : List (String Global)). with_places ks (flat_map by (texts ns))) (sym step)
     ∙ c.loop-name.invariant.places in
-    record { places = places; guess = c.in_ok-guess.ensures.behind }
+    record { places = places; guess = c.in_ok-guess.ensures.following }

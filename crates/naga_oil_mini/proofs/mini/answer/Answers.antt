@@ -4,7 +4,7 @@ use Rattle.std.specs.Prelude.{IfSome, IfOk}
 use Rattle.naga_oil_conditions.specs.Fault.{Definitions}
 use Rattle.naga_oil_pre.specs.Metadata.{none_defined}
 use Rattle.naga_oil_mini.specs.Defined.{defined_by}
-use Rattle.naga_oil_mini.specs.Told.{Shows, IsShown}
+use Rattle.naga_oil_mini.specs.Shown.{Shows, IsShown}
 use Rattle.naga_oil_mini.specs.Words.{Asked, asked}
 use Rattle.naga_oil_words.specs.Texts.{texts}
 use Rattle.naga_oil_mini.proofs.mini.answer.Goals.{in-Preprocess+in_ok-source-in-Preprocess, in-Make+in_ok-source-in-Make}

@@ -7,7 +7,7 @@ use Rattle.std.proofs.lemmas.Grind.{common_steps}
 use Rattle.std.proofs.lemmas.List.Elements.{Contains-get_or}
 use Rattle.std.proofs.lemmas.List.{length-map}
 use Rattle.std.proofs.lemmas.Result.{err_from_is_err_and}
-use Rattle.naga_oil_mini_symbols.specs.Names.{texts_of}
+use Rattle.naga_oil_mini_symbols.specs.NameTable.{texts_of}
 use Rattle.naga_oil_mini.specs.declared.mini.refusal.Refusal.TheVariants.{CannotRead}
 use Rattle.naga_oil_mini.proofs.mini.read_files.Goals as goal
 

@@ -1,6 +1,6 @@
 use Rattle.std.proofs.Common.{◌≡◌, map, take}
 use denote.Param.Always.{always_mut}
-use Rattle.naga_oil_mini_symbols.specs.Names.{texts_of}
+use Rattle.naga_oil_mini_symbols.specs.NameTable.{texts_of}
 use Rattle.naga_oil_mini.proofs.mini.read_files.Given as goal
 
 abbrev pub invariant-loop-file : goal.invariant-loop-file

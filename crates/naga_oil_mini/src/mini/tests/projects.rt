@@ -137,7 +137,7 @@ entry main = fX_naga_oil_vrt_XMEXX_naga_oil_mod_XMIX(5)
 
 // After a file the option is the name of a file, as for `pre`.
 #[test]
-fn takes_the_option_right_behind_make(rt: HostRuntime) -> Result<(), Fail> {
+fn takes_the_option_right_after_make(rt: HostRuntime) -> Result<(), Fail> {
     let unread = "cannot read --override-any\n";
     for (line, err) in [
         ("make top.txt --override-any", unread),
@@ -162,12 +162,12 @@ fn reads_keywords_outside_comments(rt: HostRuntime) -> Result<(), Fail> {
   at b.txt:3:13
 ";
     answers(&rt, line, &files, (1, "", err))?;
-    let behind = "#define_import_path b\n#import a\n/* */ override fn a::f(x) = a::f(x) + 10";
-    let files = [("top.txt", CALLS), ("a.txt", BASE), ("b.txt", behind)];
+    let following = "#define_import_path b\n#import a\n/* */ override fn a::f(x) = a::f(x) + 10";
+    let files = [("top.txt", CALLS), ("a.txt", BASE), ("b.txt", following)];
     let err = "error: line not understood\n  at b.txt:3:1\n";
     answers(&rt, line, &files, (1, "", err))?;
     let plain = "#define_import_path a\nfn f(x) = x + 1";
-    let files = [("top.txt", CALLS), ("a.txt", plain), ("b.txt", behind)];
+    let files = [("top.txt", CALLS), ("a.txt", plain), ("b.txt", following)];
     let err =
         "error: override is invalid as `f` is not virtual (this error can be disabled with feature 'override_any')
   at b.txt:3:19

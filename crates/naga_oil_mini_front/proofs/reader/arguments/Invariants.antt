@@ -1,5 +1,5 @@
 use Rattle.std.proofs.Common.{◌≡◌, take}
-use Rattle.naga_oil_mini_symbols.specs.Names.{texts_of}
+use Rattle.naga_oil_mini_symbols.specs.NameTable.{texts_of}
 use Rattle.naga_oil_mini_front.specs.Reader.{arguments, arguments_of}
 use Rattle.naga_oil_mini_front.proofs.reader.arguments.Given as goal
 

@@ -1,5 +1,5 @@
 use Rattle.std.proofs.Common.{◌-◌, cond, Some, take, sym, ap, ◌∙◌, arith}
-use Rattle.naga_oil_mini_symbols.specs.Names.{last_place, texts_of}
+use Rattle.naga_oil_mini_symbols.specs.NameTable.{last_place, texts_of}
 use Rattle.naga_oil_mini_symbols.proofs.NameLemmas.{last_place-take}
 use Rattle.naga_oil_mini_symbols.proofs.names.last_of.Goals as goal
 

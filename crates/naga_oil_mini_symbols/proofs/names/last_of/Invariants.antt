@@ -1,5 +1,5 @@
 use Rattle.std.proofs.Common.{◌≡◌, ◌≤◌, length, take}
-use Rattle.naga_oil_mini_symbols.specs.Names.{last_place, texts_of}
+use Rattle.naga_oil_mini_symbols.specs.NameTable.{last_place, texts_of}
 use Rattle.naga_oil_mini_symbols.proofs.names.last_of.Given as goal
 
 abbrev pub invariant-loop-place : goal.invariant-loop-place

@@ -1,6 +1,6 @@
 use Rattle.std.proofs.Common.{◌≡◌, length, take, sym, ap, ◌∙◌, arith}
 use Rattle.std.proofs.lemmas.List.{length-take-le, take_more, take_all}
-use Rattle.naga_oil_mini_symbols.specs.Names.{last_place, texts_of}
+use Rattle.naga_oil_mini_symbols.specs.NameTable.{last_place, texts_of}
 use Rattle.naga_oil_mini_symbols.proofs.NameLemmas.{place_in-insert}
 use Rattle.naga_oil_mini_symbols.proofs.names.places_of.Goals as goal
 

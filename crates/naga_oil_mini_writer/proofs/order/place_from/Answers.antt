@@ -1,5 +1,5 @@
 use Rattle.std.proofs.Common.{◌+◌, cond, drop, sym, ap, ◌∙◌}
-use Rattle.naga_oil_mini_symbols.specs.Names.{texts_of}
+use Rattle.naga_oil_mini_symbols.specs.NameTable.{texts_of}
 use Rattle.naga_oil_mini_writer.specs.Order.{place_from}
 use Rattle.naga_oil_mini_writer.proofs.OrderLemmas.{place_step}
 use Rattle.naga_oil_mini_writer.proofs.order.place_from.Goals as goal

@@ -1,5 +1,5 @@
 use Rattle.std.proofs.Common.{◌≡◌, ◌++◌, drop, option_map}
-use Rattle.naga_oil_mini_writer.specs.Writer.{local_values}
+use Rattle.naga_oil_ir.specs.ModuleValue.{local_values}
 use Rattle.naga_oil_mini_writer.specs.BodyReader.{locals_of}
 use Rattle.naga_oil_mini_writer.specs.Writer.{local_words}
 use Rattle.naga_oil_mini_writer.proofs.writer.local_words.Given as goal

@@ -2,9 +2,9 @@ use Rattle.std.proofs.Common.{rules}
 use Rattle.naga_oil_pre.specs.DirectiveLines.{treated}
 use Rattle.naga_oil_pre.proofs.directives.treated.Goals as goal
 
-pub returns-in_err-behind : goal.returns-in_err-behind
+pub returns-in_err-following : goal.returns-in_err-following
 unfolding treated
-returns-in_err-behind c = search rules
+returns-in_err-following c = search rules
 
 pub returns-in_err-inside : goal.returns-in_err-inside
 unfolding treated

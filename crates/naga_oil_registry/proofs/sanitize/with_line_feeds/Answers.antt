@@ -8,10 +8,10 @@ use Rattle.naga_oil_registry.proofs.sanitize.with_line_feeds.Goals as goal
 
 pub loop-before-preserved : goal.loop-before-preserved
 loop-before-preserved c =
-    let parts = split_parts 13 c.loop-before.rest.now (Some (c.in-Some.before, c.in-Some.behind)) c.in-Some.ensures.cases (search rules) in
+    let parts = split_parts 13 c.loop-before.rest.now (Some (c.in-Some.before, c.in-Some.following)) c.in-Some.ensures.cases (search rules) in
     let pushed : string_bytes c.push.new.self ≡ (string_bytes c.loop-before.text ++ c.in-Some.before.now) ++ 10 ∷ [] = search rules in
     let read : line_feeds c.loop-before.rest.now ≡ c.in-Some.before.now ++ 10 ∷ line_feeds c.past_line_feed-rest.result.now =
-    ap line_feeds parts.0 ∙ plain_front c.in-Some.before.now (13 ∷ c.in-Some.behind.now) parts.1 ∙ ap (λ l. c.in-Some.before.now ++ l) c.past_line_feed-rest.ensures.value in
+    ap line_feeds parts.0 ∙ plain_front c.in-Some.before.now (13 ∷ c.in-Some.following.now) parts.1 ∙ ap (λ l. c.in-Some.before.now ++ l) c.past_line_feed-rest.ensures.value in
     record {
       text = c.past_line_feed-rest.utf8;
       same =

@@ -95,11 +95,11 @@ returns-in_ok-push-2-clause-order c =
     let top = c.args.top in
     let ws = c.args.waiting.now.items in
     let x = c.in-Some.operand.now in
-    let v = c.in-Some-behind.behind in
-    let vs = c.push-in-Some-behind.new.self.items in
+    let v = c.in-Some-following.following in
+    let vs = c.push-in-Some-following.new.self.items in
     let i = waits_last of o old.requests.items ws top c.requires.waiting in
     let f = operand_at of top c.index.result.now c.deref.result.now x i.there c.index.ensures c.deref.ensures.value c.in-Some.ensures.lookup.3.0 c.in-Some.ensures.lookup.1 in
-    let new = subst (Awaits of.named.items o old.requests.items c.awaited.new.walk.requests.items x) c.in-Some-behind.is c.in_ok-behind.ensures.waits in
+    let new = subst (Awaits of.named.items o old.requests.items c.awaited.new.walk.requests.items x) c.in-Some-following.is c.in_ok-following.ensures.waits in
     let items : vs ≡ (ws ++ next top ∷ []) ++ v ∷ [] = c.in_ok-push-2.ensures.items ∙ ap (λ (xs : List Waiting). xs ++ v ∷ []) c.in_ok-push.ensures.items in
     ap (λ (q : Vec ℕ Global). finish_all ls q.items vs) c.awaited.ensures.places ∙ ap (finish_all ls o) items ∙ listed_more ls c.requires.over.earlier o ws top v x (left_next ls top x f.0 f.1) new.0 new.1
 
@@ -114,11 +114,11 @@ returns-in_ok-push-2-clause-requests c =
     let top = c.args.top in
     let ws = c.args.waiting.now.items in
     let x = c.in-Some.operand.now in
-    let v = c.in-Some-behind.behind in
-    let vs = c.push-in-Some-behind.new.self.items in
+    let v = c.in-Some-following.following in
+    let vs = c.push-in-Some-following.new.self.items in
     let i = waits_last of old.places.items rs ws top c.requires.waiting in
     let f = operand_at of top c.index.result.now c.deref.result.now x i.there c.index.ensures c.deref.ensures.value c.in-Some.ensures.lookup.3.0 c.in-Some.ensures.lookup.1 in
-    let new = subst (Awaits ns old.places.items rs ts x) c.in-Some-behind.is c.in_ok-behind.ensures.waits in
+    let new = subst (Awaits ns old.places.items rs ts x) c.in-Some-following.is c.in_ok-following.ensures.waits in
     let items : vs ≡ (ws ++ next top ∷ []) ++ v ∷ [] = c.in_ok-push-2.ensures.items ∙ ap (λ (xs : List Waiting). xs ++ v ∷ []) c.in_ok-push.ensures.items in
     subst (λ (xs : List Waiting). AsksOn ns ls rs (ws ++ top ∷ []) ts xs) (sym items) (asks_more ns ls c.requires.over.earlier ws top v x rs ts (left_next ls top x f.0 f.1) new.0 new.1 new.2)
 
@@ -127,7 +127,7 @@ returns-in_ok-push-2-clause-over c =
     let of = c.args.of.now in
     let old = c.args.walk.now in
     let x = c.in-Some.operand.now in
-    let new = subst (Awaits of.named.items old.places.items old.requests.items c.awaited.new.walk.requests.items x) c.in-Some-behind.is c.in_ok-behind.ensures.waits in
+    let new = subst (Awaits of.named.items old.places.items old.requests.items c.awaited.new.walk.requests.items x) c.in-Some-following.is c.in_ok-following.ensures.waits in
     over_asked of old c.awaited.new.walk (requests_at of.named.items x) c.requires.over (ap (λ (q : Vec ℕ Global). q.items) c.awaited.ensures.places) (ap (λ (q : Vec Bool Global). length q.items) c.awaited.ensures.marks) new.2
 
 pub returns-in_ok-push-2-clause-waiting : goal.returns-in_ok-push-2-clause-waiting
@@ -141,11 +141,11 @@ returns-in_ok-push-2-clause-waiting c =
     let top = c.args.top in
     let ws = c.args.waiting.now.items in
     let x = c.in-Some.operand.now in
-    let v = c.in-Some-behind.behind in
-    let vs = c.push-in-Some-behind.new.self.items in
+    let v = c.in-Some-following.following in
+    let vs = c.push-in-Some-following.new.self.items in
     let i = waits_last of o rs ws top c.requires.waiting in
     let f = operand_at of top c.index.result.now c.deref.result.now x i.there c.index.ensures c.deref.ensures.value c.in-Some.ensures.lookup.3.0 c.in-Some.ensures.lookup.1 in
-    let new = subst (Awaits of.named.items o rs ts x) c.in-Some-behind.is c.in_ok-behind.ensures.waits in
+    let new = subst (Awaits of.named.items o rs ts x) c.in-Some-following.is c.in_ok-following.ensures.waits in
     let items : vs ≡ (ws ++ next top ∷ []) ++ v ∷ [] = c.in_ok-push-2.ensures.items ∙ ap (λ (xs : List Waiting). xs ++ v ∷ []) c.in_ok-push.ensures.items in
     let there = operand_there of top x c.requires.over.earlier i.there f in
     subst (λ (q : Vec ℕ Global). AreWaiting of q.items ts vs) (sym c.awaited.ensures.places) (subst (AreWaiting of o ts) (sym items) (more_waits of o rs ts ws top v x c.requires.waiting f.0 f.1 there new.0 new.1 new.2))
@@ -158,18 +158,18 @@ returns-in_ok-push-2-clause-fewer c =
     let top = c.args.top in
     let ws = c.args.waiting.now.items in
     let x = c.in-Some.operand.now in
-    let v = c.in-Some-behind.behind in
-    let vs = c.push-in-Some-behind.new.self.items in
+    let v = c.in-Some-following.following in
+    let vs = c.push-in-Some-following.new.self.items in
     let i = waits_last of old.places.items old.requests.items ws top c.requires.waiting in
     let f = operand_at of top c.index.result.now c.deref.result.now x i.there c.index.ensures c.deref.ensures.value c.in-Some.ensures.lookup.3.0 c.in-Some.ensures.lookup.1 in
-    let new = subst (Awaits of.named.items old.places.items old.requests.items c.awaited.new.walk.requests.items x) c.in-Some-behind.is c.in_ok-behind.ensures.waits in
+    let new = subst (Awaits of.named.items old.places.items old.requests.items c.awaited.new.walk.requests.items x) c.in-Some-following.is c.in_ok-following.ensures.waits in
     let items : vs ≡ (ws ++ next top ∷ []) ++ v ∷ [] = c.in_ok-push-2.ensures.items ∙ ap (λ (xs : List Waiting). xs ++ v ∷ []) c.in_ok-push.ensures.items in
     subst (λ (xs : List Waiting). sum_by (steps ls) xs < sum_by (steps ls) ws + steps ls top) (sym items) (more_fewer ls c.requires.over.earlier ws top v x (left_next ls top x f.0 f.1) new.0 new.1)
 
 -- ---- the operand is listed
 
-pub returns-in_default-behind-clause-order : goal.returns-in_default-behind-clause-order
-returns-in_default-behind-clause-order c =
+pub returns-in_default-following-clause-order : goal.returns-in_default-following-clause-order
+returns-in_default-following-clause-order c =
     let of = c.args.of.now in
     let ls = lists of.links.items in
     let old = c.args.walk.now in
@@ -179,11 +179,11 @@ returns-in_default-behind-clause-order c =
     let x = c.in-Some.operand.now in
     let i = waits_last of o old.requests.items ws top c.requires.waiting in
     let f = operand_at of top c.index.result.now c.deref.result.now x i.there c.index.ensures c.deref.ensures.value c.in-Some.ensures.lookup.3.0 c.in-Some.ensures.lookup.1 in
-    let known = subst (Awaits of.named.items o old.requests.items c.awaited.new.walk.requests.items x) c.in_default-behind.is c.in_ok-behind.ensures.waits in
+    let known = subst (Awaits of.named.items o old.requests.items c.awaited.new.walk.requests.items x) c.in_default-following.is c.in_ok-following.ensures.waits in
     ap (λ (q : Vec ℕ Global). finish_all ls q.items c.push.new.self.items) c.awaited.ensures.places ∙ ap (finish_all ls o) c.in_ok-push.ensures.items ∙ listed_gone ls o ws top x c.requires.ready (left_next ls top x f.0 f.1) known.0
 
-pub returns-in_default-behind-clause-requests : goal.returns-in_default-behind-clause-requests
-returns-in_default-behind-clause-requests c =
+pub returns-in_default-following-clause-requests : goal.returns-in_default-following-clause-requests
+returns-in_default-following-clause-requests c =
     let of = c.args.of.now in
     let ls = lists of.links.items in
     let ns = of.named.items in
@@ -196,11 +196,11 @@ returns-in_default-behind-clause-requests c =
     let x = c.in-Some.operand.now in
     let i = waits_last of o rs ws top c.requires.waiting in
     let f = operand_at of top c.index.result.now c.deref.result.now x i.there c.index.ensures c.deref.ensures.value c.in-Some.ensures.lookup.3.0 c.in-Some.ensures.lookup.1 in
-    let known = subst (Awaits ns o rs ts x) c.in_default-behind.is c.in_ok-behind.ensures.waits in
+    let known = subst (Awaits ns o rs ts x) c.in_default-following.is c.in_ok-following.ensures.waits in
     subst (λ (xs : List Waiting). AsksOn ns ls rs (ws ++ top ∷ []) ts xs) (sym c.in_ok-push.ensures.items) (asks_gone ns ls ws top x rs ts (left_next ls top x f.0 f.1) (known_names ns ls o rs c.requires.ready c.requires.over.covers x known.0) known.1)
 
-pub returns-in_default-behind-clause-waiting : goal.returns-in_default-behind-clause-waiting
-returns-in_default-behind-clause-waiting c =
+pub returns-in_default-following-clause-waiting : goal.returns-in_default-following-clause-waiting
+returns-in_default-following-clause-waiting c =
     let of = c.args.of.now in
     let old = c.args.walk.now in
     let o = old.places.items in
@@ -211,11 +211,11 @@ returns-in_default-behind-clause-waiting c =
     let x = c.in-Some.operand.now in
     let i = waits_last of o rs ws top c.requires.waiting in
     let f = operand_at of top c.index.result.now c.deref.result.now x i.there c.index.ensures c.deref.ensures.value c.in-Some.ensures.lookup.3.0 c.in-Some.ensures.lookup.1 in
-    let known = subst (Awaits of.named.items o rs ts x) c.in_default-behind.is c.in_ok-behind.ensures.waits in
+    let known = subst (Awaits of.named.items o rs ts x) c.in_default-following.is c.in_ok-following.ensures.waits in
     subst (λ (q : Vec ℕ Global). AreWaiting of q.items ts c.push.new.self.items) (sym c.awaited.ensures.places) (subst (AreWaiting of o ts) (sym c.in_ok-push.ensures.items) (gone_waits of o rs ts ws top x c.requires.waiting known.1 f.0 f.1 known.0))
 
-pub returns-in_default-behind-clause-fewer : goal.returns-in_default-behind-clause-fewer
-returns-in_default-behind-clause-fewer c =
+pub returns-in_default-following-clause-fewer : goal.returns-in_default-following-clause-fewer
+returns-in_default-following-clause-fewer c =
     let of = c.args.of.now in
     let ls = lists of.links.items in
     let old = c.args.walk.now in

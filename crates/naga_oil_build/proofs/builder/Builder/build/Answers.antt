@@ -3,14 +3,14 @@ use Rattle.naga_oil_pre.specs.KnownView.{output_of}
 use Rattle.naga_oil_registry.specs.Registered.{definition_of}
 use Rattle.naga_oil_link.specs.BuiltModule.{built_of, builds_of}
 use Rattle.naga_oil_build.specs.Build.{WholeText, from_offset, build}
-use Rattle.naga_oil_build.specs.BuildView.{TellsUnbuilt}
-use Rattle.naga_oil_build.specs.Held.{settings, hold}
+use Rattle.naga_oil_build.specs.BuildView.{settings_in, TellsUnbuilt}
+use Rattle.naga_oil_build.specs.Held.{hold}
 use Rattle.naga_oil_build.proofs.WholeLemmas.{given_from, built-refused, prepared, build_unprepared, build_is}
 use Rattle.naga_oil_build.proofs.builder.Builder.build.Goals as goal
 
 pub returns-in_err-built : goal.returns-in_err-built
 returns-in_err-built g c =
-    let s = settings (g.B.Backend.front c.args.self.now.front.now) c.args.self.now.capabilities c.args.self.now.validate c.args.self.now.override_any in
+    let s = settings_in g.B.Backend.front c.args.self.now in
     let d = definition_of c.args.of.now in
     let builds = builds_of c.args.self.now.builds in
     let out = output_of c.args.output.now in
@@ -20,7 +20,7 @@ returns-in_err-built g c =
 
 pub returns-in_err-from_offset : goal.returns-in_err-from_offset
 returns-in_err-from_offset g c =
-    let s = settings (g.B.Backend.front c.args.self.now.front.now) c.args.self.now.capabilities c.args.self.now.validate c.args.self.now.override_any in
+    let s = settings_in g.B.Backend.front c.args.self.now in
     let d = definition_of c.args.of.now in
     let builds = builds_of c.args.self.now.builds in
     let out = output_of c.args.output.now in
@@ -36,7 +36,7 @@ returns-in_err-from_offset g c =
 
 pub returns : goal.returns
 returns g c =
-    let s = settings (g.B.Backend.front c.args.self.now.front.now) c.args.self.now.capabilities c.args.self.now.validate c.args.self.now.override_any in
+    let s = settings_in g.B.Backend.front c.args.self.now in
     let d = definition_of c.args.of.now in
     let builds = builds_of c.args.self.now.builds in
     let out = output_of c.args.output.now in

@@ -3,6 +3,7 @@ use Rattle.std.specs.String.{string_bytes}
 use Rattle.std.proofs.lemmas.Result.{err_from_is_err_and}
 use Rattle.naga_oil_ir.specs.ModuleValue.{module_value}
 use Rattle.naga_oil_ir.specs.declared.language.ShaderLanguage.TheVariants.{Wgsl, Glsl}
+use Rattle.naga_oil_build.specs.BuildView.{settings_in}
 use Rattle.naga_oil_build.specs.Built.{header_text, parsed_text}
 use Rattle.naga_oil_link.specs.BuiltModule.{built_of}
 use Rattle.naga_oil_link.specs.OwnPlaces.{own_of}
@@ -11,8 +12,9 @@ use Rattle.naga_oil_build.proofs.builder.Builder.came_back.Goals as goal
 
 pub returns-in_err-check_back : goal.returns-in_err-check_back
 returns-in_err-check_back g c =
-    let front = g.B.Backend.front c.args.self.now.front.now in
-    let capabilities = c.args.self.now.capabilities in
+    let s = settings_in g.B.Backend.front c.args.self.now in
+    let front = s.front in
+    let capabilities = s.capabilities in
     let b = built_of c.args.built.now in
     let back = module_value c.in_ok-back.back in
     let text = string_bytes c.in_ok-text.text in
@@ -23,8 +25,9 @@ returns-in_err-check_back g c =
 
 pub returns-in_err-written : goal.returns-in_err-written
 returns-in_err-written g c =
-    let front = g.B.Backend.front c.args.self.now.front.now in
-    let capabilities = c.args.self.now.capabilities in
+    let s = settings_in g.B.Backend.front c.args.self.now in
+    let front = s.front in
+    let capabilities = s.capabilities in
     let b = built_of c.args.built.now in
     let back = module_value c.in_ok-back.back in
     let text = string_bytes c.in_ok-text.text in

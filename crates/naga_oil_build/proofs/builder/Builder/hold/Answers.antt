@@ -5,14 +5,15 @@ use Rattle.naga_oil_conditions.specs.View.{Fails, Gives}
 use Rattle.naga_oil_registry.proofs.NewDefinitionLemmas.{gives-refused}
 use Rattle.naga_oil_link.specs.BuiltModule.{BuiltModule, built_of}
 use Rattle.naga_oil_link.specs.OwnPlaces.{own_of}
-use Rattle.naga_oil_build.specs.Held.{settings, parse_whole, hold}
+use Rattle.naga_oil_build.specs.BuildView.{settings_in}
+use Rattle.naga_oil_build.specs.Held.{parse_whole, hold}
 use Rattle.naga_oil_build.proofs.HeldLemmas.{hold_unparsed, held_by}
 use Rattle.naga_oil_build.proofs.builder.Builder.hold.Goals as goal
 
 pub returns-in_err-source : goal.returns-in_err-source
 returns-in_err-source g c =
-    let front = g.B.Backend.front c.args.self.now.front.now in
-    let s = settings front c.args.self.now.capabilities c.args.self.now.validate c.args.self.now.override_any in
+    let s = settings_in g.B.Backend.front c.args.self.now in
+    let front = s.front in
     let b = built_of c.args.built.now in
     let text = c.args.text.now in
     let language = c.args.language in
@@ -29,8 +30,8 @@ copy_tested-requires g c =
 
 pub returns : goal.returns
 returns g c =
-    let front = g.B.Backend.front c.args.self.now.front.now in
-    let s = settings front c.args.self.now.capabilities c.args.self.now.validate c.args.self.now.override_any in
+    let s = settings_in g.B.Backend.front c.args.self.now in
+    let front = s.front in
     let b = built_of c.note_functions.new.build in
     let text = c.args.text.now in
     let language = c.args.language in

@@ -5,12 +5,12 @@ use Rattle.naga_oil_registry.specs.Registered.{definition_of}
 use Rattle.naga_oil_registry.proofs.NewDefinitionLemmas.{gives-refused}
 use Rattle.naga_oil_link.specs.BuiltModule.{BuiltModule, built_of, builds_of}
 use Rattle.naga_oil_build.specs.Build.{begin_build, write_whole}
-use Rattle.naga_oil_build.specs.Held.{settings}
+use Rattle.naga_oil_build.specs.BuildView.{settings_in}
 use Rattle.naga_oil_build.proofs.builder.Builder.prepare.Goals as goal
 
 pub returns-in_err-whole : goal.returns-in_err-whole
 returns-in_err-whole g c =
-    let s = settings (g.B.Backend.front c.args.self.now.front.now) c.args.self.now.capabilities c.args.self.now.validate c.args.self.now.override_any in
+    let s = settings_in g.B.Backend.front c.args.self.now in
     let d = definition_of c.args.of.now in
     let builds = builds_of c.args.self.now.builds in
     let out = output_of c.args.output.now in

@@ -46,8 +46,8 @@ awaited-requires c =
     let found = subst (λ (xs : List (Option ItemPlace)). (top.copied < length xs) × (o ≡ get_or xs top.copied o)) c.deref.ensures.value (item_found c.deref.result.now top.copied c.get.result c.copied.result o c.get.ensures.lookup c.copied.ensures c.in-Some.is) in
     there_if source top.item o (name_below source g top o c.requires.ranked (waits_last source g c.args.waiting.now.items top c.requires.waiting) found.0 found.1)
 
-pub returns-in_err-behind-clause-putting : goal.returns-in_err-behind-clause-putting
-returns-in_err-behind-clause-putting c = NothingPut
+pub returns-in_err-following-clause-putting : goal.returns-in_err-following-clause-putting
+returns-in_err-following-clause-putting c = NothingPut
 
 pub returns-in_err-push-clause-putting : goal.returns-in_err-push-clause-putting
 returns-in_err-push-clause-putting c = NothingPut
@@ -64,10 +64,10 @@ returns-in_ok-push-2-clause-waiting c =
     let top = c.args.top in
     let ws = c.args.waiting.now.items in
     let o = c.in-Some.name in
-    let v = c.in-Some-behind.behind in
+    let v = c.in-Some-following.following in
     let found = subst (λ (xs : List (Option ItemPlace)). (top.copied < length xs) × (o ≡ get_or xs top.copied o)) c.deref.ensures.value (item_found c.deref.result.now top.copied c.get.result c.copied.result o c.get.ensures.lookup c.copied.ensures c.in-Some.is) in
-    let new = subst (AwaitsItem source g o) c.in-Some-behind.is c.in_ok-behind.ensures in
-    let items : c.push-in-Some-behind.new.self.items ≡ (ws ++ next top ∷ []) ++ v ∷ [] = c.in_ok-push-2.ensures.items ∙ ap (λ (xs : List Waiting). xs ++ v ∷ []) c.in_ok-push.ensures.items in
+    let new = subst (AwaitsItem source g o) c.in-Some-following.is c.in_ok-following.ensures in
+    let items : c.push-in-Some-following.new.self.items ≡ (ws ++ next top ∷ []) ++ v ∷ [] = c.in_ok-push-2.ensures.items ∙ ap (λ (xs : List Waiting). xs ++ v ∷ []) c.in_ok-push.ensures.items in
     subst (AreItemsWaiting source g) (sym items) (more_waits source g ws top v o c.requires.ranked c.requires.waiting found.0 found.1 new.0 new.1)
 
 pub returns-in_ok-push-2-clause-copied : goal.returns-in_ok-push-2-clause-copied
@@ -79,11 +79,11 @@ returns-in_ok-push-2-clause-copied c =
     let top = c.args.top in
     let ws = c.args.waiting.now.items in
     let o = c.in-Some.name in
-    let v = c.in-Some-behind.behind in
+    let v = c.in-Some-following.following in
     let s = copy_state old.maps old.target in
     let found = subst (λ (xs : List (Option ItemPlace)). (top.copied < length xs) × (o ≡ get_or xs top.copied o)) c.deref.ensures.value (item_found c.deref.result.now top.copied c.get.result c.copied.result o c.get.ensures.lookup c.copied.ensures c.in-Some.is) in
-    let new = subst (AwaitsItem source g o) c.in-Some-behind.is c.in_ok-behind.ensures in
-    let items : c.push-in-Some-behind.new.self.items ≡ (ws ++ next top ∷ []) ++ v ∷ [] = c.in_ok-push-2.ensures.items ∙ ap (λ (xs : List Waiting). xs ++ v ∷ []) c.in_ok-push.ensures.items in
+    let new = subst (AwaitsItem source g o) c.in-Some-following.is c.in_ok-following.ensures in
+    let items : c.push-in-Some-following.new.self.items ≡ (ws ++ next top ∷ []) ++ v ∷ [] = c.in_ok-push-2.ensures.items ∙ ap (λ (xs : List Waiting). xs ++ v ∷ []) c.in_ok-push.ensures.items in
     ap (finish_items (value_of source) old.maps.offset s) items ∙ more_copied source old.maps.offset s ws top v o c.requires.ranked (left_next top o found.0 found.1) new.0 new.1 new.2
 
 pub returns-in_ok-push-2-clause-fewer : goal.returns-in_ok-push-2-clause-fewer
@@ -94,10 +94,10 @@ returns-in_ok-push-2-clause-fewer c =
     let top = c.args.top in
     let ws = c.args.waiting.now.items in
     let o = c.in-Some.name in
-    let v = c.in-Some-behind.behind in
+    let v = c.in-Some-following.following in
     let found = subst (λ (xs : List (Option ItemPlace)). (top.copied < length xs) × (o ≡ get_or xs top.copied o)) c.deref.ensures.value (item_found c.deref.result.now top.copied c.get.result c.copied.result o c.get.ensures.lookup c.copied.ensures c.in-Some.is) in
-    let new = subst (AwaitsItem source g o) c.in-Some-behind.is c.in_ok-behind.ensures in
-    let items : c.push-in-Some-behind.new.self.items ≡ (ws ++ next top ∷ []) ++ v ∷ [] = c.in_ok-push-2.ensures.items ∙ ap (λ (xs : List Waiting). xs ++ v ∷ []) c.in_ok-push.ensures.items in
+    let new = subst (AwaitsItem source g o) c.in-Some-following.is c.in_ok-following.ensures in
+    let items : c.push-in-Some-following.new.self.items ≡ (ws ++ next top ∷ []) ++ v ∷ [] = c.in_ok-push-2.ensures.items ∙ ap (λ (xs : List Waiting). xs ++ v ∷ []) c.in_ok-push.ensures.items in
     subst (λ (xs : List Waiting). sum_by (waiting_steps m) xs < sum_by (waiting_steps m) ws + waiting_steps m top) (sym items) (more_fewer source g ws top v o c.requires.ranked (left_next top o found.0 found.1) new.0 new.1 new.2)
 
 pub returns-in_ok-push-2-clause-putting : goal.returns-in_ok-push-2-clause-putting
@@ -105,20 +105,20 @@ returns-in_ok-push-2-clause-putting c = NothingPut
 
 -- ---- the named item is mapped
 
-pub returns-in_default-behind-clause-waiting : goal.returns-in_default-behind-clause-waiting
-returns-in_default-behind-clause-waiting c =
+pub returns-in_default-following-clause-waiting : goal.returns-in_default-following-clause-waiting
+returns-in_default-following-clause-waiting c =
     let source = c.args.source.now in
     let g = goes_under c.args.self.now.maps in
     let top = c.args.top in
     let ws = c.args.waiting.now.items in
     let o = c.in-Some.name in
     let found = subst (λ (xs : List (Option ItemPlace)). (top.copied < length xs) × (o ≡ get_or xs top.copied o)) c.deref.ensures.value (item_found c.deref.result.now top.copied c.get.result c.copied.result o c.get.ensures.lookup c.copied.ensures c.in-Some.is) in
-    let went = subst (AwaitsItem source g o) c.in_default-behind.is c.in_ok-behind.ensures in
+    let went = subst (AwaitsItem source g o) c.in_default-following.is c.in_ok-following.ensures in
     subst (AreItemsWaiting source g) (sym c.in_ok-push.ensures.items) (gone_waits source g ws top o c.requires.waiting found.0 found.1 went)
 
-pub returns-in_default-behind-clause-copied : goal.returns-in_default-behind-clause-copied
+pub returns-in_default-following-clause-copied : goal.returns-in_default-following-clause-copied
 unfolding goes_under
-returns-in_default-behind-clause-copied c =
+returns-in_default-following-clause-copied c =
     let source = c.args.source.now in
     let old = c.args.self.now in
     let m = value_of source in
@@ -128,11 +128,11 @@ returns-in_default-behind-clause-copied c =
     let o = c.in-Some.name in
     let s = copy_state old.maps old.target in
     let found = subst (λ (xs : List (Option ItemPlace)). (top.copied < length xs) × (o ≡ get_or xs top.copied o)) c.deref.ensures.value (item_found c.deref.result.now top.copied c.get.result c.copied.result o c.get.ensures.lookup c.copied.ensures c.in-Some.is) in
-    let went = subst (AwaitsItem source g o) c.in_default-behind.is c.in_ok-behind.ensures in
+    let went = subst (AwaitsItem source g o) c.in_default-following.is c.in_ok-following.ensures in
     ap (finish_items m old.maps.offset s) c.in_ok-push.ensures.items ∙ gone_copied m old.maps.offset s ws top o (left_next top o found.0 found.1) went
 
-pub returns-in_default-behind-clause-fewer : goal.returns-in_default-behind-clause-fewer
-returns-in_default-behind-clause-fewer c =
+pub returns-in_default-following-clause-fewer : goal.returns-in_default-following-clause-fewer
+returns-in_default-following-clause-fewer c =
     let m = value_of c.args.source.now in
     let top = c.args.top in
     let ws = c.args.waiting.now.items in
@@ -140,5 +140,5 @@ returns-in_default-behind-clause-fewer c =
     let found = subst (λ (xs : List (Option ItemPlace)). (top.copied < length xs) × (o ≡ get_or xs top.copied o)) c.deref.ensures.value (item_found c.deref.result.now top.copied c.get.result c.copied.result o c.get.ensures.lookup c.copied.ensures c.in-Some.is) in
     subst (λ (xs : List Waiting). sum_by (waiting_steps m) xs < sum_by (waiting_steps m) ws + waiting_steps m top) (sym c.in_ok-push.ensures.items) (gone_fewer m ws top o (left_next top o found.0 found.1))
 
-pub returns-in_default-behind-clause-putting : goal.returns-in_default-behind-clause-putting
-returns-in_default-behind-clause-putting c = NothingPut
+pub returns-in_default-following-clause-putting : goal.returns-in_default-following-clause-putting
+returns-in_default-following-clause-putting c = NothingPut

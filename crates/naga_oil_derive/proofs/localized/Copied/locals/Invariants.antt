@@ -1,5 +1,6 @@
 use Rattle.std.proofs.Common.{◌≡◌, map, take}
-use Rattle.naga_oil_derive.specs.Functions.{local_under, local_values}
+use Rattle.naga_oil_derive.specs.Functions.{local_under}
+use Rattle.naga_oil_ir.specs.ModuleValue.{local_values}
 use Rattle.naga_oil_derive.specs.Copies.{under_table, range_under}
 use Rattle.naga_oil_derive.specs.Went.{went}
 use Rattle.naga_oil_derive.proofs.localized.Copied.locals.Given as goal

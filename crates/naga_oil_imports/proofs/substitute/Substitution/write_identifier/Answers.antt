@@ -4,7 +4,7 @@ use Rattle.std.proofs.lemmas.Bool.Decides.{nat_tests}
 use Rattle.std.proofs.lemmas.List.{nil_from_length, length-map}
 use Rattle.naga_oil_imports.specs.declared.substitute.SubstituteFault.TheVariants.{Memory}
 use Rattle.naga_oil_imports.specs.Declarations.{declared_of, paths_of}
-use Rattle.naga_oil_imports.specs.Substituted.{first_part, behind_first, longer_paths, paths_for, path_text, mentions_at, with_mentions, Site, is_refused}
+use Rattle.naga_oil_imports.specs.Substituted.{first_part, past_first, longer_paths, paths_for, path_text, mentions_at, with_mentions, Site, is_refused}
 use Rattle.naga_oil_imports.specs.Uses.{uses_of}
 use Rattle.naga_oil_imports.proofs.SettledLemmas.{own_path, paths_for_own, paths_for_declared, one_path, refused_is, refused_one, refused_none, settled_one, memory_one, mentions_one, fault_answer}
 use Rattle.naga_oil_imports.proofs.substitute.Substitution.write_identifier.Goals as goal
@@ -60,15 +60,15 @@ returns-in_err-write_paths-clause-fault c =
     let name = c.args.identifier.now in
     let site : Site = record { name = name; place = c.args.place } in
     let some : 0 < length c.declared_paths-paths.result.now = grind (arith, nat_tests) in
-    let paths : paths_for declared name ≡ longer_paths (map string_bytes c.declared_paths-paths.result.now) (behind_first name) =
+    let paths : paths_for declared name ≡ longer_paths (map string_bytes c.declared_paths-paths.result.now) (past_first name) =
     paths_for_declared declared name (map string_bytes c.declared_paths-paths.result.now) (c.declared_paths-paths.ensures ∙ ap (paths_of declared) c.split_identifier.ensures.first)
     (omega (arith, some, length-map c.declared_paths-paths.result.now string_bytes)) in
     fault_answer c.from_residual-in_err-write_paths.result _ Memory c.from_residual-in_err-write_paths.ensures.1
     (memory_one declared c.args.self.now.allow_ambiguous site (flat_map (mentions_at c.args.place) (longer_paths (map string_bytes c.declared_paths-paths.result.now) c.split_identifier.result.1.now))
     (uses_of c.args.used_imports.now) (uses_of c.write_paths.new.used_imports)
-    (refused_is declared c.args.self.now.allow_ambiguous site c.declared_paths-paths.result.now (behind_first name) paths ∙ sym c.is_refused.ensures ∙ c.if-is_refused.false)
-    (mentions_one declared site (longer_paths (map string_bytes c.declared_paths-paths.result.now) (behind_first name)) paths
-    ∙ ap (λ b. flat_map (mentions_at c.args.place) (longer_paths (map string_bytes c.declared_paths-paths.result.now) b)) (sym c.split_identifier.ensures.behind))
+    (refused_is declared c.args.self.now.allow_ambiguous site c.declared_paths-paths.result.now (past_first name) paths ∙ sym c.is_refused.ensures ∙ c.if-is_refused.false)
+    (mentions_one declared site (longer_paths (map string_bytes c.declared_paths-paths.result.now) (past_first name)) paths
+    ∙ ap (λ b. flat_map (mentions_at c.args.place) (longer_paths (map string_bytes c.declared_paths-paths.result.now) b)) (sym c.split_identifier.ensures.following))
     c.in_err-write_paths.ensures.begun)
 
 pub returns-then-is_refused-clause-fault : goal.returns-then-is_refused-clause-fault
@@ -77,11 +77,11 @@ returns-then-is_refused-clause-fault c =
     let name = c.args.identifier.now in
     let site : Site = record { name = name; place = c.args.place } in
     let some : 0 < length c.declared_paths-paths.result.now = grind (arith, nat_tests) in
-    let paths : paths_for declared name ≡ longer_paths (map string_bytes c.declared_paths-paths.result.now) (behind_first name) =
+    let paths : paths_for declared name ≡ longer_paths (map string_bytes c.declared_paths-paths.result.now) (past_first name) =
     paths_for_declared declared name (map string_bytes c.declared_paths-paths.result.now) (c.declared_paths-paths.ensures ∙ ap (paths_of declared) c.split_identifier.ensures.first)
     (omega (arith, some, length-map c.declared_paths-paths.result.now string_bytes)) in
     let refused : is_refused declared c.args.self.now.allow_ambiguous site ≡ true =
-    refused_is declared c.args.self.now.allow_ambiguous site c.declared_paths-paths.result.now (behind_first name) paths ∙ sym c.is_refused.ensures ∙ c.if-is_refused.true in
+    refused_is declared c.args.self.now.allow_ambiguous site c.declared_paths-paths.result.now (past_first name) paths ∙ sym c.is_refused.ensures ∙ c.if-is_refused.true in
     (refused_one declared c.args.self.now.allow_ambiguous site refused, ap (with_mentions (uses_of c.args.used_imports.now)) (sym (refused_none declared c.args.self.now.allow_ambiguous site refused)))
 
 pub returns-clause-text : goal.returns-clause-text
@@ -89,11 +89,11 @@ returns-clause-text c =
     let declared = declared_of c.args.self.now.declared_imports.now in
     let name = c.args.identifier.now in
     let some : 0 < length c.declared_paths-paths.result.now = grind (arith, nat_tests) in
-    let paths : paths_for declared name ≡ longer_paths (map string_bytes c.declared_paths-paths.result.now) (behind_first name) =
+    let paths : paths_for declared name ≡ longer_paths (map string_bytes c.declared_paths-paths.result.now) (past_first name) =
     paths_for_declared declared name (map string_bytes c.declared_paths-paths.result.now) (c.declared_paths-paths.ensures ∙ ap (paths_of declared) c.split_identifier.ensures.first)
     (omega (arith, some, length-map c.declared_paths-paths.result.now string_bytes)) in
     λ w. c.in_ok-write_paths.ensures.text w
-    ∙ ap (λ l. string_bytes c.args.output.now ++ flat_map (path_text name) l) (ap (longer_paths (map string_bytes c.declared_paths-paths.result.now)) c.split_identifier.ensures.behind ∙ sym paths)
+    ∙ ap (λ l. string_bytes c.args.output.now ++ flat_map (path_text name) l) (ap (longer_paths (map string_bytes c.declared_paths-paths.result.now)) c.split_identifier.ensures.following ∙ sym paths)
 
 pub returns-clause-used : goal.returns-clause-used
 returns-clause-used c =
@@ -101,13 +101,13 @@ returns-clause-used c =
     let name = c.args.identifier.now in
     let site : Site = record { name = name; place = c.args.place } in
     let some : 0 < length c.declared_paths-paths.result.now = grind (arith, nat_tests) in
-    let paths : paths_for declared name ≡ longer_paths (map string_bytes c.declared_paths-paths.result.now) (behind_first name) =
+    let paths : paths_for declared name ≡ longer_paths (map string_bytes c.declared_paths-paths.result.now) (past_first name) =
     paths_for_declared declared name (map string_bytes c.declared_paths-paths.result.now) (c.declared_paths-paths.ensures ∙ ap (paths_of declared) c.split_identifier.ensures.first)
     (omega (arith, some, length-map c.declared_paths-paths.result.now string_bytes)) in
     c.in_ok-write_paths.ensures.used
     ∙ ap (with_mentions (uses_of c.args.used_imports.now))
-    (ap (λ b. flat_map (mentions_at c.args.place) (longer_paths (map string_bytes c.declared_paths-paths.result.now) b)) c.split_identifier.ensures.behind
-    ∙ sym (mentions_one declared site (longer_paths (map string_bytes c.declared_paths-paths.result.now) (behind_first name)) paths))
+    (ap (λ b. flat_map (mentions_at c.args.place) (longer_paths (map string_bytes c.declared_paths-paths.result.now) b)) c.split_identifier.ensures.following
+    ∙ sym (mentions_one declared site (longer_paths (map string_bytes c.declared_paths-paths.result.now) (past_first name)) paths))
 
 pub returns-clause-allowed : goal.returns-clause-allowed
 returns-clause-allowed c =
@@ -115,8 +115,8 @@ returns-clause-allowed c =
     let name = c.args.identifier.now in
     let site : Site = record { name = name; place = c.args.place } in
     let some : 0 < length c.declared_paths-paths.result.now = grind (arith, nat_tests) in
-    let paths : paths_for declared name ≡ longer_paths (map string_bytes c.declared_paths-paths.result.now) (behind_first name) =
+    let paths : paths_for declared name ≡ longer_paths (map string_bytes c.declared_paths-paths.result.now) (past_first name) =
     paths_for_declared declared name (map string_bytes c.declared_paths-paths.result.now) (c.declared_paths-paths.ensures ∙ ap (paths_of declared) c.split_identifier.ensures.first)
     (omega (arith, some, length-map c.declared_paths-paths.result.now string_bytes)) in
     settled_one declared c.args.self.now.allow_ambiguous site
-    (refused_is declared c.args.self.now.allow_ambiguous site c.declared_paths-paths.result.now (behind_first name) paths ∙ sym c.is_refused.ensures ∙ c.if-is_refused.false)
+    (refused_is declared c.args.self.now.allow_ambiguous site c.declared_paths-paths.result.now (past_first name) paths ∙ sym c.is_refused.ensures ∙ c.if-is_refused.false)

@@ -11,7 +11,7 @@ use Rattle.naga_oil_link.specs.Linked.{asked_of, link_items}
 use Rattle.naga_oil_link.specs.LinkView.{IsLinkFormed, LinksImports}
 use Rattle.naga_oil_link.specs.declared.link.Linker.{Linker}
 use Rattle.naga_oil_link.specs.declared.module.ComposableModule.{ComposableModule}
-use Rattle.naga_oil_link.proofs.LinkedLemmas.{named, missing_at, found_at, entry_at, entries_apart, none_before, import_unknown, import_left, import_linked, links_known, links_behind, LinksImport, same_numbers, not_true, not_false}
+use Rattle.naga_oil_link.proofs.LinkedLemmas.{named, missing_at, found_at, entry_at, entries_apart, none_before, import_unknown, import_left, import_linked, links_known, links_after, LinksImport, same_numbers, not_true, not_false}
 use Rattle.naga_oil_link.proofs.link.Linker.+link_imports.Goals as goal
 use Rattle.naga_oil_link.proofs.link.Linker.+link_imports.Goals.{then-branch+in_ok-link_imports, else-branch}
 
@@ -87,7 +87,7 @@ loop-import-preserved t c =
           record {
             builds = ap (λ (s : Linker). s.builds) rest3 ∙ ap (λ (s : Linker). s.builds) w.self-is ∙ w.link_imports.ensures.rest.0 ∙ inv.builds;
             of_headers = ap (λ (s : Linker). s.of_headers) rest3 ∙ of_headers;
-            linked = more (links_behind start.of_headers bs end apart i k e at is (omega arith) s0.derived n.derived s3.derived s0.descended.keys s3.descended.keys new imports linked);
+            linked = more (links_after start.of_headers bs end apart i k e at is (omega arith) s0.derived n.derived s3.derived s0.descended.keys s3.descended.keys new imports linked);
             formed = c.in_ok-link_asked.ensures.formed;
           }
       | else-branch w ↦

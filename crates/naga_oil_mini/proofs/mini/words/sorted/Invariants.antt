@@ -1,5 +1,5 @@
 use Rattle.std.proofs.Common.{◌≡◌, ◌++◌, drop}
-use Rattle.naga_oil_mini_symbols.specs.Names.{texts_of}
+use Rattle.naga_oil_mini_symbols.specs.NameTable.{texts_of}
 use Rattle.naga_oil_mini.specs.Words.{files, imports}
 use Rattle.naga_oil_words.specs.Texts.{texts}
 use Rattle.naga_oil_mini.proofs.mini.words.sorted.Given as goal

@@ -1,6 +1,6 @@
 use Rattle.std.proofs.Common.{◌≡◌, subst, ◌∙◌}
 use Rattle.std.specs.Option.{IfSome}
-use Rattle.naga_oil_mini_symbols.specs.Names.{texts_of}
+use Rattle.naga_oil_mini_symbols.specs.NameTable.{texts_of}
 use Rattle.naga_oil_mini_writer.proofs.OrderLemmas.{first_none}
 use Rattle.naga_oil_mini_writer.proofs.order.ItemNames.first_place.Goals as goal
 

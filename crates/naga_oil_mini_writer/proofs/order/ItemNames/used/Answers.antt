@@ -1,7 +1,7 @@
 use Rattle.std.proofs.Common.{◌≡◌, ◌≤◌, ℕ, List, None, Some, length, slice_get, sym, ap, ◌∙◌}
 use Rattle.std.proofs.lemmas.Bool.{ltb-false}
 use Rattle.std.proofs.lemmas.Option.{slice_get-get_or}
-use Rattle.naga_oil_mini_symbols.specs.Names.{texts_of}
+use Rattle.naga_oil_mini_symbols.specs.NameTable.{texts_of}
 use Rattle.naga_oil_mini_writer.proofs.OrderLemmas.{unused, text_there, text_past}
 use Rattle.naga_oil_mini_writer.proofs.order.ItemNames.used.Goals as goal
 

@@ -1,7 +1,7 @@
 use Rattle.std.proofs.Common.{◌≡◌, ◌<◌, ◌++◌, ◌∷◌, [], length, set, Some, None, sym, subst, ap, ◌∙◌, arith}
 use Rattle.std.proofs.lemmas.Grind.{common_steps}
 use Rattle.std.proofs.lemmas.List.{set-append_left}
-use Rattle.naga_oil_mini_symbols.specs.Names.{last_place}
+use Rattle.naga_oil_mini_symbols.specs.NameTable.{last_place}
 use Rattle.naga_oil_mini_writer.specs.Order.{greatest_count, next_places}
 use Rattle.naga_oil_mini_writer.proofs.OrderLemmas.{next_places-more, length-next_places, last_place-bound}
 use Rattle.naga_oil_mini_writer.proofs.order.NextNames.push.Goals as goal

@@ -4,7 +4,7 @@ use Rattle.std.specs.BTreeSet.{contains_text}
 use Rattle.std.specs.List.{list_any}
 use Rattle.naga_oil_registry.specs.Registered.{definition_of}
 use Rattle.naga_oil_registry.specs.Registry.{reaches}
-use Rattle.naga_oil_registry.proofs.KeptLemmas.{none_behind}
+use Rattle.naga_oil_registry.proofs.KeptLemmas.{none_after}
 use Rattle.naga_oil_registry.proofs.RegistryLemmas.{gone-more, gone-same}
 use Rattle.naga_oil_registry.proofs.RemovedLemmas.{none-gone, reaches-unregistered}
 use Rattle.naga_oil_registry.proofs.registry.Registry.gone_with.Goals as goal
@@ -20,7 +20,7 @@ loop-at-init c =
     record {
       in_range = omega (arith, h);
       gone = λ other. none-gone c.new-gone.result other c.new-gone.ensures.len
-          ∙ sym (reaches-unregistered c.args.name.now (drop (c.in-Some.first + 1) ds) other (none_behind (λ d. bytes_eq d.name c.args.name.now) ds c.in-Some.first (c.in-Some.first + 1) (omega arith) only));
+          ∙ sym (reaches-unregistered c.args.name.now (drop (c.in-Some.first + 1) ds) other (none_after (λ d. bytes_eq d.name c.args.name.now) ds c.in-Some.first (c.in-Some.first + 1) (omega arith) only));
     }
 
 pub at-definition-requires : goal.at-definition-requires

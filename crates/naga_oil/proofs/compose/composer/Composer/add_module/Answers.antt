@@ -6,7 +6,7 @@ use Rattle.naga_oil_registry.specs.Registered.{Registered}
 use Rattle.naga_oil_registry.specs.DescribedView.{described_of}
 use Rattle.naga_oil_registry.specs.Descriptor.{module_source, ModuleSource}
 use Rattle.naga_oil_registry.specs.Registry.{IsRegistry, reaches, removed}
-use Rattle.naga_oil_build.specs.Held.{settings}
+use Rattle.naga_oil_build.specs.BuildView.{settings_with}
 use Rattle.naga_oil.specs.Refused.{in_text}
 use Rattle.naga_oil.specs.State.{State, Adds, forget_with}
 use Rattle.naga_oil.specs.Store.{Kept, forget}
@@ -25,7 +25,7 @@ given_name (Some x) o e = ap (option_map string_bytes) e
 pub returns-in-Err : goal.returns-in-Err
 returns-in-Err g c =
     let inside = c.self.inside in
-    let old : State _ = record { front = inside.front; validate = inside.validate; capabilities = inside.capabilities; override_any = inside.override_any; registry = inside.modules; counter = inside.counter; kept = kept_of inside.store; builds = inside.count } in
+    let old : State _ = record { settings = inside.settings; registry = inside.modules; counter = inside.counter; kept = kept_of inside.store; builds = inside.count } in
     let m = module_source c.args.desc in
     subst (λ (v : State _). Adds (λ (i : ℕ). i) (λ (d : Registered). d.index) v m (Err c.refused.result) v) c.self.view_is
     (adds-unread (λ (i : ℕ). i) (λ (d : Registered). d.index) old m c.in-Err.inner c.refused.result c.refused.ensures c.in-Err.ensures)
@@ -33,7 +33,7 @@ returns-in-Err g c =
 pub returns-in-Err-describe : goal.returns-in-Err-describe
 returns-in-Err-describe g c =
     let inside = c.self.inside in
-    let old : State _ = record { front = inside.front; validate = inside.validate; capabilities = inside.capabilities; override_any = inside.override_any; registry = inside.modules; counter = inside.counter; kept = kept_of inside.store; builds = inside.count } in
+    let old : State _ = record { settings = inside.settings; registry = inside.modules; counter = inside.counter; kept = kept_of inside.store; builds = inside.count } in
     let m = module_source c.args.desc in
     let same : described (option_map (λ name. string_bytes name.now) c.as_ref.result) c.as_str.result.now ≡ described m.as_name (string_bytes c.in-Ok.read.0) =
     ap (λ n. described n c.as_str.result.now) (given_name c.as_ref.result c.args.desc.as_name c.as_ref.ensures.value) ∙ ap (described m.as_name) c.as_str.ensures.value in
@@ -51,7 +51,7 @@ invariant_of-self-in-Ok-register g c =
     let ds = inside.modules in
     let m = module_source c.args.desc in
     let d = described_of c.in-Ok-describe.described in
-    let s = settings (g.B.Backend.front inside.front) inside.capabilities inside.validate inside.override_any in
+    let s = settings_with g.B.Backend.front inside.settings in
     let added = c.in-Ok-register.ensures.registry in
     let left = left_by (contains_text c.in-Ok-register.gone) ds m d added.0 (kept_of inside.store) (kept_of c.forget.new.store) c.self.invariant.0 c.in-Ok-register.ensures.gone added.1 c.forget.ensures in
     let follows = is_registered ds c.register.new.registry m d added.0 added.1 added.2 c.self.invariant.0 in
@@ -61,7 +61,7 @@ invariant_of-self-in-Ok-register g c =
 pub returns-in-Ok-register : goal.returns-in-Ok-register
 returns-in-Ok-register g c =
     let inside = c.self.inside in
-    let old : State _ = record { front = inside.front; validate = inside.validate; capabilities = inside.capabilities; override_any = inside.override_any; registry = inside.modules; counter = inside.counter; kept = kept_of inside.store; builds = inside.count } in
+    let old : State _ = record { settings = inside.settings; registry = inside.modules; counter = inside.counter; kept = kept_of inside.store; builds = inside.count } in
     let m = module_source c.args.desc in
     let d = described_of c.in-Ok-describe.described in
     let same : described (option_map (λ name. string_bytes name.now) c.as_ref.result) c.as_str.result.now ≡ described m.as_name (string_bytes c.in-Ok.read.0) =
@@ -78,7 +78,7 @@ returns-in-Ok-register g c =
 pub returns : goal.returns
 returns g c =
     let inside = c.self.inside in
-    let old : State _ = record { front = inside.front; validate = inside.validate; capabilities = inside.capabilities; override_any = inside.override_any; registry = inside.modules; counter = inside.counter; kept = kept_of inside.store; builds = inside.count } in
+    let old : State _ = record { settings = inside.settings; registry = inside.modules; counter = inside.counter; kept = kept_of inside.store; builds = inside.count } in
     let m = module_source c.args.desc in
     let same : described (option_map (λ name. string_bytes name.now) c.as_ref.result) c.as_str.result.now ≡ described m.as_name (string_bytes c.in-Ok.read.0) =
     ap (λ n. described n c.as_str.result.now) (given_name c.as_ref.result c.args.desc.as_name c.as_ref.ensures.value) ∙ ap (described m.as_name) c.as_str.ensures.value in

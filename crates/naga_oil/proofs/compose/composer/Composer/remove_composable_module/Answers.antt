@@ -3,7 +3,7 @@ use Rattle.std.specs.BTreeSet.{contains_text}
 use Rattle.naga_oil_registry.specs.Registered.{Registered}
 use Rattle.naga_oil_registry.specs.Registry.{reaches}
 use Rattle.naga_oil_registry.proofs.RemovedLemmas.{after_removal, removed-unknown}
-use Rattle.naga_oil_build.specs.Held.{settings}
+use Rattle.naga_oil_build.specs.BuildView.{settings_with}
 use Rattle.naga_oil.specs.Store.{Kept, forget}
 use Rattle.naga_oil.specs.StoreLaw.{IsStore}
 use Rattle.naga_oil.specs.StoreView.{kept_of}
@@ -24,7 +24,7 @@ invariant_of-self-2 g c =
     let inside = c.self.inside in
     let name = c.args.module_name.now in
     let ds = inside.modules in
-    let s = settings (g.B.Backend.front inside.front) inside.capabilities inside.validate inside.override_any in
+    let s = settings_with g.B.Backend.front inside.settings in
     let stays : Kept = forget (λ other. reaches ds other name) (kept_of inside.store) in
     let left : kept_of c.forget.new.store ≡ stays = c.forget.ensures ∙ forget_same (contains_text c.in_ok-gone.gone) (λ other. reaches ds other name) c.in_ok-gone.ensures.gone (kept_of inside.store) in (
       after_removal c.remove.result name ds c.remove.new.self c.remove.ensures.ok c.remove.ensures.err c.self.invariant.0,

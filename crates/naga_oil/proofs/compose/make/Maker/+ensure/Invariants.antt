@@ -1,12 +1,10 @@
 use Rattle.std.proofs.Common.{◌≡◌, ◌+◌, ◌-◌, ◌*◌, length, map, drop}
 use Rattle.naga_oil_imports.specs.Uses.{import_of, use_of}
-use Rattle.naga_oil_registry.specs.Registered.{defs_of}
-use Rattle.naga_oil_link.specs.BuiltModule.{builds_of}
-use Rattle.naga_oil.specs.MakeView.{Keeps, rule_of, unreached_of, settings_by}
-use Rattle.naga_oil.specs.Reach.{reach, reach_each, unless_built}
+use Rattle.naga_oil.specs.MakeView.{defs_in, builds_in, modules_in, rule_of, unreached_of, BuildsMore, KeepsMore}
+use Rattle.naga_oil.specs.Reach.{reach_each}
 use Rattle.naga_oil.specs.StoreLaw.{reach_imports}
-use Rattle.naga_oil.specs.StoreView.{kept_of}
 use Rattle.naga_oil.specs.declared.compose.reach.Unreached.{Unreached as CodeUnreached}
+use Rattle.naga_oil.proofs.EnsureLemmas.{reaching_from}
 use Rattle.naga_oil.proofs.KeepsLemmas.{nothing_wrong}
 use Rattle.naga_oil.proofs.compose.make.Maker.+ensure.Given as goal
 
@@ -25,24 +23,20 @@ decreases-ensure_built g l = 3 * (length l.self.now.modules.now - (l.place + 1))
 abbrev pub invariant-ensure_each-loop-import : goal.invariant-ensure_each-loop-import
 invariant-ensure_each-loop-import g l =
     let m = l.fn.self in
-    let s = settings_by g.B.Backend.front m in
-    let ds = m.modules.now in
-    let rule = rule_of ds (defs_of m.defs) l.rule in
-    let reaching = unless_built (reach s (defs_of m.defs) (drop l.from ds)) in
+    let rule = rule_of (modules_in m) (defs_in m) l.rule in
+    let reaching = reaching_from g.B.Backend.front m l.from in
     record {
-      rest : l.self ≡ record m { builder = record m.builder { builds = l.self.builder.builds }; store = l.self.store };
-      reached : reach_each rule reaching (map use_of (drop l.import-index l.uses)) (builds_of l.self.builder.builds) ≡ reach_each rule reaching (map use_of l.uses) (builds_of m.builder.builds);
-      keeps : Keeps s ds (defs_of m.defs) unreached_of (nothing_wrong CodeUnreached) (builds_of m.builder.builds) (kept_of m.store) (builds_of l.self.builder.builds) (kept_of l.self.store);
+      rest : BuildsMore m l.self;
+      reached : reach_each rule reaching (map use_of (drop l.import-index l.uses)) (builds_in l.self) ≡ reach_each rule reaching (map use_of l.uses) (builds_in m);
+      keeps : KeepsMore g.B.Backend.front unreached_of (nothing_wrong CodeUnreached) m l.self;
     }
 
 abbrev pub invariant-ensure_kept-loop-import : goal.invariant-ensure_kept-loop-import
 invariant-ensure_kept-loop-import g l =
     let m = l.fn.self in
-    let s = settings_by g.B.Backend.front m in
-    let ds = m.modules.now in
-    let reaching = unless_built (reach s (defs_of m.defs) (drop (l.place + 1) ds)) in
+    let reaching = reaching_from g.B.Backend.front m (l.place + 1) in
     record {
-      rest : l.self ≡ record m { builder = record m.builder { builds = l.self.builder.builds }; store = l.self.store };
-      reached : reach_imports reaching (map import_of (drop l.import-index l.imports)) (builds_of l.self.builder.builds) ≡ reach_imports reaching (map import_of l.imports) (builds_of m.builder.builds);
-      keeps : Keeps s ds (defs_of m.defs) unreached_of (nothing_wrong CodeUnreached) (builds_of m.builder.builds) (kept_of m.store) (builds_of l.self.builder.builds) (kept_of l.self.store);
+      rest : BuildsMore m l.self;
+      reached : reach_imports reaching (map import_of (drop l.import-index l.imports)) (builds_in l.self) ≡ reach_imports reaching (map import_of l.imports) (builds_in m);
+      keeps : KeepsMore g.B.Backend.front unreached_of (nothing_wrong CodeUnreached) m l.self;
     }

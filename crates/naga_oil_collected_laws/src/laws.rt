@@ -1,0 +1,22 @@
+//! What a build holds and a linked module has, by a list of what is requested.
+ghost use Rattle.naga_oil_collected_laws.specs.CollectedLaw.{HeldFunctionsLaw, LinkedFunctionsLaw};
+ghost use Rattle.naga_oil_collected_laws.specs.ReachedBuilds.{ReachedBuildsLaw};
+ghost use Rattle.naga_oil_collected_laws.specs.RequestedItems.{LinkedItemsLaw};
+
+/// The functions of a linked module, and those of a build's module, copy one after another the
+/// functions of a list: what is requested, and before each function what it calls, each once.
+pub fn functions_in_order_of_first_reach()
+    ensures linked { LinkedFunctionsLaw }
+    ensures held { HeldFunctionsLaw }
+{}
+
+/// Builds that no import reaches change nothing in a linked module.
+pub fn only_reached_builds_give()
+    ensures { ReachedBuildsLaw }
+{}
+
+/// A linked module has a copy of each type, constant, override and global that imports request of
+/// builds, and of each that the shader's build owns.
+pub fn requested_items_are_there()
+    ensures { LinkedItemsLaw }
+{}
