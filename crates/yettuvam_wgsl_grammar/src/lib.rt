@@ -1,0 +1,14 @@
+//! The grammar of WGSL, and the nodes of a module.
+//!
+//! - `items`, `statements`, `expressions`: the grammar, a table.
+//! - `places`: where the rows of each rule begin.
+//! - `module_`: the nodes of a text or of tokens.
+#![tactic(auto)]
+
+pub mod expressions;
+pub mod items;
+mod module_;
+pub mod places;
+pub mod statements;
+
+pub use module_::{nodes_of, parse};

@@ -1,0 +1,9 @@
+pub mod Codes
+pub mod Context
+pub mod Functions
+pub mod Laws
+pub mod NameRows
+pub mod Names
+pub mod Spelled
+pub mod Table
+pub mod Words

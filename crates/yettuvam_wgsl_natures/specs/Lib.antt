@@ -1,0 +1,4 @@
+pub mod Called
+pub mod Natures
+pub mod Operands
+pub mod NaturesRows

@@ -1,0 +1,4 @@
+pub mod Circuits
+pub mod Members
+pub mod OperatorRows
+pub mod Operators

@@ -1,0 +1,5 @@
+pub mod Layout
+pub mod Numbers
+pub mod Pieces
+pub mod Signs
+pub mod SpellRows

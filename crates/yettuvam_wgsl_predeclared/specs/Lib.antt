@@ -1,0 +1,5 @@
+pub mod Functions
+pub mod Letters
+pub mod Textures
+pub mod WordRows
+pub mod Words

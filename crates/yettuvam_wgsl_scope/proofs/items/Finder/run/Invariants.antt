@@ -1,0 +1,10 @@
+use Rattle.std.proofs.Common.{◌≡◌, length}
+use Rattle.yettuvam_wgsl_machine.specs.Machine.{nodes_view}
+use Rattle.yettuvam_wgsl_scope.specs.Items.{run, state_of}
+use Rattle.yettuvam_wgsl_scope.proofs.items.Finder.run.Given as goal
+
+abbrev pub invariant-loop-rest : goal.invariant-loop-rest
+invariant-loop-rest l = run l.total (nodes_view l.nodes) (state_of l.fn.self) ≡ run l.total (nodes_view l.rest) (state_of l.self)
+
+abbrev pub decreases-loop-rest : goal.decreases-loop-rest
+decreases-loop-rest l = length l.rest

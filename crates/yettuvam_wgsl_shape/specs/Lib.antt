@@ -1,0 +1,4 @@
+pub mod LiteralRows
+pub mod Literals
+pub mod Numbers
+pub mod Operators

@@ -1,0 +1,4 @@
+pub mod Balanced
+pub mod Ending
+pub mod Moves
+pub mod Numbered

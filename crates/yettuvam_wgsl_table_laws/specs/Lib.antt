@@ -1,0 +1,5 @@
+pub mod Balance
+pub mod Turns
+pub mod Rows
+pub mod Run
+pub mod Numbers

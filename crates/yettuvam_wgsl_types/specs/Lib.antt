@@ -1,0 +1,3 @@
+pub mod SameRow
+pub mod Types
+pub mod TypeRows

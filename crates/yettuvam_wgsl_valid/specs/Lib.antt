@@ -1,0 +1,7 @@
+pub mod Bindings
+pub mod Calls
+pub mod Faults
+pub mod Flow
+pub mod Interfaces
+pub mod Valid
+pub mod ValidRows

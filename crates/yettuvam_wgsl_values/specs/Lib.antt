@@ -1,0 +1,4 @@
+pub mod Blocks
+pub mod Body
+pub mod BodyRows
+pub mod Value

@@ -1,0 +1,4 @@
+pub mod Class
+pub mod Number
+pub mod Cut
+pub mod Scan

@@ -1,0 +1,6 @@
+use Rattle.naga_oil_ir.specs.Rows.{override_row}
+use Rattle.yettuvam_wgsl_write_types.proofs.Getting.{got}
+use Rattle.yettuvam_wgsl_write_expressions.proofs.context.override_at.Goals as goal
+
+pub returns : goal.returns
+returns c = got override_row c.args.context.now.of.now.overrides c.args.place c.try_get.result c.try_get.ensures

@@ -1,0 +1,4 @@
+pub mod Results
+pub mod Texts
+pub mod Types
+pub mod TypesRows

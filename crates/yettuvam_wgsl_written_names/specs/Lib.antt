@@ -1,0 +1,4 @@
+pub mod Items
+pub mod Spelled
+pub mod Taken
+pub mod TakenRows
