@@ -1,47 +1,11 @@
 -- The requests that `oil` itself doesn't take.
-use Rattle.std.proofs.Common.{◌≡◌, ℕ, suc, zero, Bool, true, false, cond, List, [], ◌∷◌, length, refl, sym, ap, subst, Option, Some, None, arith}
-use Rattle.std.specs.Prelude.{◌&&◌, Contains, IsSome, codes, bytes_eq}
+use Rattle.std.proofs.Common.{◌≡◌, ℕ, Bool, true, false, cond, List, [], ◌∷◌, length, refl, sym, ap, subst, Option, Some, None}
+use Rattle.std.specs.Prelude.{◌&&◌, IsSome, codes, bytes_eq}
 use Rattle.std.proofs.lemmas.Bool.{false≢true}
 use Rattle.std.proofs.lemmas.Slice.Eq.{bytes_eq-Decides}
-use Rattle.naga_oil_pre.specs.Metadata.{metadata}
-use Rattle.naga_oil_mini.specs.Extra.{Extra, help, version, metadata_of_file, extra, extra_of_word, extra_of_file, RefusesExtra, WritesExtra, WritesBy, RefusesBy, WritesAny, RefusesAny}
-use Rattle.naga_oil_mini.specs.Shown.{Reports, RefusesFiles}
+use Rattle.naga_oil_mini.specs.Extra.{Extra, help, version, metadata_of_file, extra, extra_of_word, extra_of_file}
 use Rattle.naga_oil_mini.specs.Words.{asked, imports, is_file, takes}
 use Rattle.naga_oil_mini.specs.declared.mini.words.Task.TheVariants.{Preprocess}
-use Rattle.naga_oil_mini.specs.declared.mini.refusal.Refusal.{Refusal}
-use Rattle.naga_oil_mini.specs.declared.mini.refusal.Refusal.TheVariants.{Usage, BadDefinition, CannotRead, Fault, Memory, NotInMini, Write}
-
--- the refusal of a file's text
-pub refused_text : (file source : List ℕ) (e : Refusal) → Reports file source (metadata true source) e → RefusesExtra (metadata_of_file file) e
-refused_text file source (Fault report) h = (source, h)
-refused_text file source Memory h = h
-refused_text file source Usage h = absurd h
-refused_text file source (BadDefinition word) h = absurd h
-refused_text file source (CannotRead read) h = absurd h
-refused_text file source NotInMini h = absurd h
-refused_text file source Write h = absurd h
-
--- the one file among one file
-one_file : (file read : List ℕ) → Contains (file ∷ []) read → read ≡ file
-one_file file read (zero, below, is) = sym is
-one_file file read (suc n, below, is) = absurd (omega (arith, below))
-
--- the errors of reading the one file
-pub refused_file : (file : List ℕ) (e : Refusal) → RefusesFiles (file ∷ []) e → RefusesExtra (metadata_of_file file) e
-refused_file file (CannotRead read) h = one_file file read.now h
-refused_file file Memory h = h
-refused_file file Usage h = absurd h
-refused_file file (BadDefinition word) h = absurd h
-refused_file file (Fault report) h = absurd h
-refused_file file NotInMini h = absurd h
-refused_file file Write h = absurd h
-
--- the request decides the text that is written, and the errors
-pub writes_any : (words : List (List ℕ)) (o : Option Extra) (old new : Option (List ℕ)) → o ≡ extra words → WritesBy o words old new → WritesAny words old new
-writes_any words o old new e h = subst (λ o. WritesBy o words old new) e h
-
-pub refuses_any : (words : List (List ℕ)) (o : Option Extra) (r : Refusal) → o ≡ extra words → RefusesBy o words r → RefusesAny words r
-refuses_any words o r e h = subst (λ o. RefusesBy o words r) e h
 
 -- ---- `oil` doesn't take these requests
 

@@ -3,9 +3,9 @@ use Rattle.std.specs.Prelude.{ℕ, Bool, true, ◌==◌, if◌then◌else◌, na
 use Rattle.std.specs.List.{before_first, after_first, position_or_len}
 use Rattle.naga_oil_words.specs.Bytes.{plus_sign, is_equals}
 use Rattle.naga_oil_conditions.specs.DefineValue.{defined_value}
-use Rattle.naga_oil_conditions.specs.Fault.{Definitions}
 use Rattle.naga_oil_conditions.specs.LineKinds.{is_name}
-use Rattle.naga_oil_pre.specs.Metadata.{with_definition}
+use Rattle.naga_oil_registry.specs.Merged.{with_def}
+use Rattle.naga_oil_registry.specs.Registered.{Defs}
 use Rattle.naga_oil_conditions.specs.declared.shader_def.ShaderDefValue.{ShaderDefValue}
 use Rattle.naga_oil_conditions.specs.declared.shader_def.ShaderDefValue.TheVariants as def
 use Rattle.naga_oil_mini.specs.Words.{is_definition}
@@ -20,6 +20,10 @@ definition_word word =
     if nat_lt (position_or_len is_equals word) (length word) then (if is_name (before_first is_equals word) then option_map (λ value. (before_first is_equals word, value)) (given_value (after_first is_equals word)) else None) else None
 
 -- these definitions with those among the words, the last with a name; or the first word that isn't a valid definition
-abbrev pub defined_by : Definitions → List (List ℕ) → Result Definitions (List ℕ)
+abbrev pub defined_by : Defs → List (List ℕ) → Result Defs (List ℕ)
 defined_by defs [] = Ok defs
-defined_by defs (word ∷ more) = if is_definition word then (elim (definition_word word) [ None ↦ Err word | Some d ↦ defined_by (with_definition defs d.0 d.1) more ]) else defined_by defs more
+defined_by defs (word ∷ more) = if is_definition word then (elim (definition_word word) [ None ↦ Err word | Some d ↦ defined_by (with_def defs d) more ]) else defined_by defs more
+
+-- the definitions among words
+abbrev pub definitions_among : List (List ℕ) → Result Defs (List ℕ)
+definitions_among words = defined_by [] words

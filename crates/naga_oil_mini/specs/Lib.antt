@@ -2,6 +2,9 @@ pub mod Words
 pub mod Defined
 pub mod Shown
 pub mod Printed
+pub mod Made
+pub mod MadeView
+pub mod Files
 pub mod WordRows
 pub mod Help
 pub mod Listing

@@ -1,14 +1,14 @@
 -- The errors of `oil`, and their messages.
-use Rattle.std.specs.Prelude.{◌≡◌, ℕ, List, ◌++◌, ◌∷◌, [], codes, drop, Result, Ok, Err, Option, Some, None, IsSome, IfSome, IfOk, IsOk, Contains, ⊤, string_bytes}
+use Rattle.std.specs.Prelude.{◌≡◌, ℕ, List, ◌++◌, ◌∷◌, [], codes, drop, map, Result, Ok, Err, Option, Some, None, IsSome, IfSome, IsOk, Contains, ⊤, string_bytes}
 use Rattle.std.specs.Io.KnownBytes.{Appends}
 use Rattle.naga_oil_registry.specs.Report as written
-use Rattle.naga_oil_ir.specs.ModuleValue.{ModuleValue}
-use Rattle.naga_oil_conditions.specs.Fault.{Definitions, Fault as FaultOfText}
-use Rattle.naga_oil_pre.specs.Metadata.{none_defined}
-use Rattle.naga_oil_mini.specs.Defined.{defined_by}
+use Rattle.naga_oil_conditions.specs.Fault.{Fault as FaultOfText}
+use Rattle.naga_oil_registry.specs.Registered.{Defs}
+use Rattle.naga_oil.specs.Reach.{defined}
+use Rattle.naga_oil_mini.specs.Defined.{definitions_among}
+use Rattle.naga_oil_mini.specs.Made.{File, Failure, reported, not_in_mini, made_text}
 use Rattle.naga_oil_mini.specs.Printed.{printed}
-use Rattle.naga_oil_mini.specs.Words.{asked}
-use Rattle.naga_oil_mini_writer.specs.Writer.{module_text}
+use Rattle.naga_oil_mini.specs.Words.{Asked, asked}
 use Rattle.naga_oil_mini.specs.declared.mini.words.Task.{Task}
 use Rattle.naga_oil_mini.specs.declared.mini.words.Task.TheVariants.{Preprocess, Make}
 use Rattle.naga_oil_mini.specs.declared.mini.refusal.Refusal.{Refusal}
@@ -56,16 +56,17 @@ Reports path text value (Fault report) = (f : FaultOfText) × (value ≡ Err f) 
 Reports path text value Memory = ⊤
 Reports path text value e = ⊥
 
--- a shader isn't built: an error in its texts, a shader that Mini has no text for, or out of memory
-abbrev pub IsOfMaking : Refusal → Type 0
-IsOfMaking (Fault report) = ⊤
-IsOfMaking Memory = ⊤
-IsOfMaking NotInMini = ⊤
-IsOfMaking e = ⊥
+-- the refusal of a task that fails, or out of memory
+abbrev pub Fails : {Y : Type 0} → Refusal → Result Y Failure → Type 0
+Fails (Fault report) value = value ≡ Err (reported (string_bytes report))
+Fails NotInMini value = value ≡ Err not_in_mini
+Fails Memory value = ⊤
+Fails e value = ⊥
 
--- a text is the text of a module
-abbrev pub IsWritten : List ℕ → Type 0
-IsWritten text = (m : ModuleValue) × (module_text m ≡ Some text)
+-- a result, seen by view, is the value, or a refusal as above
+abbrev pub Gives : {X Y : Type 0} → (X → Y) → Result X Refusal → Result Y Failure → Type 0
+Gives view (Ok x) value = value ≡ Ok (view x)
+Gives view (Err e) value = Fails e value
 
 -- the errors of words: a wrong command line, or out of memory
 abbrev pub RefusesWords : List (List ℕ) → Refusal → Type 0
@@ -75,7 +76,7 @@ RefusesWords words e = ⊥
 
 -- the errors of the definitions among the words
 abbrev pub RefusesDefinitions : List (List ℕ) → Refusal → Type 0
-RefusesDefinitions words (BadDefinition word) = defined_by none_defined words ≡ Err word.now
+RefusesDefinitions words (BadDefinition word) = definitions_among words ≡ Err word.now
 RefusesDefinitions words Memory = ⊤
 RefusesDefinitions words e = ⊥
 
@@ -87,32 +88,58 @@ RefusesFiles files e = ⊥
 
 -- words have a request, and valid definitions
 abbrev pub IsAsked : List (List ℕ) → Type 0
-IsAsked words = IsSome (asked words) × IsOk (defined_by none_defined (drop 1 words))
+IsAsked words = IsSome (asked words) × IsOk (definitions_among (drop 1 words))
+
+-- ---- what a task shows
+
+-- the preprocessed text of a file, or the report of its error
+abbrev pub or_report_of : File → Result (List ℕ) FaultOfText → Result (List ℕ) Failure
+or_report_of f (Ok text) = Ok text
+or_report_of f (Err fault) = Err (reported (written.report f.path f.text 0 (Some fault)))
+
+-- the text that a task shows under definitions: the preprocessed text of the first file, or the text of the module that is made of all
+abbrev pub task_text : Task → Asked → Defs → (top : File) → (others : List File) → Result (List ℕ) Failure
+task_text Preprocess a defs top others = or_report_of top (printed (defined defs) top.text)
+task_text Make a defs top others = made_text a defs top others
+
+-- Words with a request and valid definitions, and the files of the request, in their order, as they are read.
+pub record Given (reads : List File → Type 0) (words : List (List ℕ)) : Type 0 where
+  pub request : Asked
+  pub defs : Defs
+  pub top : File
+  pub others : List File
+  pub is_request : asked words ≡ Some request
+  pub are_definitions : definitions_among (drop 1 words) ≡ Ok defs
+  pub are_named : map (λ f. f.path) (top ∷ others) ≡ request.files
+  pub are_read : reads (top ∷ others)
+
+-- the text that the words request of these files, or what is wrong
+abbrev pub shown_of : {reads : List File → Type 0} {words : List (List ℕ)} → Given reads words → Result (List ℕ) Failure
+shown_of g = task_text g.request.task g.request g.defs g.top g.others
+
+-- the words request a text of the files that are read
+abbrev pub IsShown : (reads : List File → Type 0) → List (List ℕ) → (shown : List ℕ) → Type 0
+IsShown reads words shown = (g : Given reads words) × (shown_of g ≡ Ok shown)
+
+-- the text that the words request of the files that are read is written
+abbrev pub Writes : (reads : List File → Type 0) → List (List ℕ) → (old new : Option (List ℕ)) → Type 0
+Writes reads words old new = (shown : List ℕ) × IsShown reads words shown × Appends old new shown
+
+-- the task fails at the files that are read
+abbrev pub IsFailed : (reads : List File → Type 0) → List (List ℕ) → Failure → Type 0
+IsFailed reads words f = (g : Given reads words) × (shown_of g ≡ Err f)
 
 -- the errors of the words: a wrong command line, or else a wrong definition, or else a file, or else the task fails
-abbrev pub Refuses : List (List ℕ) → Refusal → Type 0
-Refuses words Usage = asked words ≡ None
-Refuses words (BadDefinition word) = IsSome (asked words) × (defined_by none_defined (drop 1 words) ≡ Err word.now)
-Refuses words (CannotRead file) = IsAsked words × IfSome (asked words) (λ a. Contains a.files file.now)
-Refuses words (Fault report) = IsAsked words
-Refuses words Memory = IsSome (asked words)
-Refuses words NotInMini = IsAsked words
-Refuses words Write = IsAsked words
+abbrev pub Refuses : (reads : List File → Type 0) → List (List ℕ) → Refusal → Type 0
+Refuses reads words Usage = asked words ≡ None
+Refuses reads words (BadDefinition word) = IsSome (asked words) × (definitions_among (drop 1 words) ≡ Err word.now)
+Refuses reads words (CannotRead file) = IsAsked words × IfSome (asked words) (λ a. Contains a.files file.now)
+Refuses reads words (Fault report) = IsFailed reads words (reported (string_bytes report))
+Refuses reads words Memory = IsSome (asked words)
+Refuses reads words NotInMini = IsFailed reads words not_in_mini
+Refuses reads words Write = (shown : List ℕ) × IsShown reads words shown
 
 -- only a failed write may leave a part of the text
 abbrev pub LeavesOut : {A : Type 0} → Refusal → (old new : A) → Type 0
 LeavesOut Write old new = ⊤
 LeavesOut e old new = new ≡ old
-
--- the text that a task shows under definitions: the preprocessed text of a file, or the text of a module in Mini
-abbrev pub Shows : Task → Definitions → List ℕ → Type 0
-Shows Preprocess defs shown = (source : List ℕ) × (printed defs source ≡ Ok shown)
-Shows Make defs shown = IsWritten shown
-
--- a text that the words request
-abbrev pub IsShown : List (List ℕ) → List ℕ → Type 0
-IsShown words shown = IfSome (asked words) (λ a. IfOk (defined_by none_defined (drop 1 words)) (λ defs. Shows a.task defs shown))
-
--- a text that the words request is written
-abbrev pub Writes : List (List ℕ) → (old new : Option (List ℕ)) → Type 0
-Writes words old new = (shown : List ℕ) × IsShown words shown × Appends old new shown

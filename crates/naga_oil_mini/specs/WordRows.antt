@@ -5,10 +5,9 @@ use Rattle.std.specs.Str.{chars}
 use Rattle.ucd_perl.proofs.Computing.{ucd_perl}
 use Rattle.naga_oil_conditions.specs.DefineValue.{defined_value}
 use Rattle.naga_oil_conditions.specs.LineKinds.{is_name}
-use Rattle.naga_oil_pre.specs.Metadata.{none_defined, with_definition}
 use Rattle.naga_oil_conditions.specs.Values.{read_u32, read_i32, read_bool}
 use Rattle.naga_oil_conditions.specs.declared.shader_def.ShaderDefValue.TheVariants as def
-use Rattle.naga_oil_mini.specs.Defined.{definition_word, defined_by}
+use Rattle.naga_oil_mini.specs.Defined.{definition_word, definitions_among}
 use Rattle.naga_oil_mini.specs.Words.{added_import, asked}
 use Rattle.naga_oil_mini.specs.declared.mini.words.Task.TheVariants.{Preprocess, Make}
 
@@ -77,10 +76,15 @@ pub later_equals : definition_word (codes "A=1=2") ≡ None
 unfolding words_unfold
 later_equals = refl
 
-pub in_turn : defined_by none_defined (codes "K=2" ∷ codes "t.txt" ∷ codes "K=" ∷ []) ≡ Ok (with_definition (with_definition none_defined (codes "K") (def.UInt 2)) (codes "K") (def.Bool true))
+-- the last with a name counts
+pub one_after_the_other : definitions_among (codes "K=2" ∷ codes "t.txt" ∷ codes "K=" ∷ []) ≡ Ok ((codes "K", def.Bool true) ∷ [])
 unfolding words_unfold
-in_turn = refl
+one_after_the_other = refl
 
-pub first_bad : defined_by none_defined (codes "A=" ∷ codes "B=x1" ∷ codes "C=x2" ∷ []) ≡ Err (codes "B=x1")
+pub in_order_of_names : definitions_among (codes "B=2" ∷ codes "A=1" ∷ []) ≡ Ok ((codes "A", def.UInt 1) ∷ (codes "B", def.UInt 2) ∷ [])
+unfolding words_unfold
+in_order_of_names = refl
+
+pub first_bad : definitions_among (codes "A=" ∷ codes "B=x1" ∷ codes "C=x2" ∷ []) ≡ Err (codes "B=x1")
 unfolding words_unfold
 first_bad = refl

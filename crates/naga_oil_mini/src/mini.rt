@@ -1,11 +1,14 @@
 // `oil` by its command line, its files and its streams.
-ghost use Rattle.std.specs.Prelude.{◌≡◌, ◌≤◌, None, map, OnOk, IfOk, IfErr};
+ghost use Rattle.std.specs.Prelude.{◌≡◌, ◌≤◌, None, map, string_bytes, OnOk, IfOk, IfErr};
 ghost use Rattle.std.specs.Io.KnownBytes.{Appends};
 ghost use Rattle.naga_oil_mini.specs.declared.mini.refusal.Refusal.{Refusal};
 ghost use Rattle.naga_oil_mini_symbols.specs.NameTable.{texts_of};
-ghost use Rattle.naga_oil_mini.specs.Words.{asked};
+ghost use Rattle.naga_oil_mini.specs.Words.{asked, asked_of};
 ghost use Rattle.naga_oil_words.specs.Texts.{texts};
-ghost use Rattle.naga_oil_mini.specs.Shown.{AppendsFront, IsAsked, Refuses, RefusesFiles, LeavesOut, Tells, TellsFront, Writes, status_of};
+ghost use Rattle.naga_oil_mini.specs.Files.{Reads};
+ghost use Rattle.naga_oil_mini.specs.MadeView.{file_of};
+ghost use Rattle.naga_oil_mini.specs.Shown.{AppendsFront, Gives, IsAsked, Refuses, RefusesFiles, LeavesOut, Tells, TellsFront, Writes, status_of, task_text};
+ghost use Rattle.naga_oil_registry.specs.Registered.{defs_of};
 
 mod definitions;
 mod help;
@@ -18,11 +21,12 @@ mod refusal;
 mod tests;
 mod words;
 
+use definitions::Definitions;
 pub use program::program;
 pub use refusal::Refusal;
 use std::alloc::{AllocError, Global};
 use std::io::{self, ErrorKind, Write};
-use words::Task;
+use words::{Request, Task};
 
 // Writes the text that the words request.
 fn answer<'a, F: FnMut(&str) -> Result<Option<Vec<u8>>, AllocError> + Drop, O: Write>(
@@ -33,22 +37,36 @@ fn answer<'a, F: FnMut(&str) -> Result<Option<Vec<u8>>, AllocError> + Drop, O: W
 ) -> Result<(), Refusal<'a>>
     requires { F.IsAlwaysCallable read }
     ensures ok { OnOk result (IsAsked (texts words.now)) }
-    ensures written { let said = texts words.now in
-        OnOk result (Writes said (O.contents out.old) (O.contents out.new)) }
-    ensures err { IfErr result (Refuses (texts words.now)) }
+    ensures written { let is_written = Writes (Reads F.step read) (texts words.now) in
+        OnOk result (is_written (O.contents out.old) (O.contents out.new)) }
+    ensures err { IfErr result (Refuses (Reads F.step read) (texts words.now)) }
     ensures untouched { IfErr result (λ e. LeavesOut e out.old out.new) }
 {
     let asked = words::asked(alloc, words)?;
     let definitions = definitions::given(alloc, asked.words)?;
     let texts = read_files(alloc, &asked.files, read)?;
     let (top, modules) = texts.split_first().ok_or(Refusal::Usage)?;
-    let source = match asked.task {
-        Task::Preprocess => pre::shown_file(alloc, top.0, top.1.as_str(), definitions)?,
-        Task::Make => make::made(alloc, top, modules, &asked, definitions)?,
-    };
+    let source = task_text(alloc, top, modules, &asked, definitions)?;
     match show(out, source.as_bytes()) {
         Ok(()) => Ok(()),
         Err(_) => Err(Refusal::Write),
+    }
+}
+
+// The text that a task shows of files, the shader's and others.
+fn task_text<'a>(
+    alloc: Global,
+    top: &(&'a str, String),
+    others: &[(&'a str, String)],
+    asked: &Request<'_>,
+    definitions: Definitions,
+) -> Result<String, Refusal<'a>>
+    ensures { let shown = task_text asked.now.task (asked_of asked.now) (defs_of definitions) in
+        Gives string_bytes result (shown (file_of top.now) (map file_of others.now)) }
+{
+    match asked.task {
+        Task::Preprocess => pre::shown_file(alloc, top.0, top.1.as_str(), definitions),
+        Task::Make => make::made(alloc, top, others, asked, definitions),
     }
 }
 
@@ -59,7 +77,8 @@ fn read_files<'a, F: FnMut(&str) -> Result<Option<Vec<u8>>, AllocError> + Drop>(
     mut read: F,
 ) -> Result<Vec<(&'a str, String)>, Refusal<'a>>
     requires { F.IsAlwaysCallable read }
-    ensures ok { IfOk result (λ read. map (λ f. f.0.now) read.items ≡ texts_of files.now) }
+    ensures ok { IfOk result (λ all. map (λ f. f.0.now) all.items ≡ texts_of files.now) }
+    ensures read { IfOk result (λ all. Reads F.step read (map file_of all.items)) }
     ensures err { IfErr result (RefusesFiles (texts_of files.now)) }
 {
     let mut texts = Vec::with_capacity(alloc, files.len())?;
@@ -127,15 +146,15 @@ pub fn oil<F: FnMut(&str) -> Result<Option<Vec<u8>>, AllocError> + Drop, O: Writ
     requires { F.IsAlwaysCallable read }
     ensures statuses { result ≤ 2 }
     ensures asked { result ≡ 0 → IsAsked (texts words.now) }
-    ensures written { let said = texts words.now in
-        result ≡ 0 → Writes said (O.contents out.old) (O.contents out.new) × (err.new ≡ err.old) }
+    ensures written { let is_written = Writes (Reads F.step read) (texts words.now) in
+        result ≡ 0 → is_written (O.contents out.old) (O.contents out.new) × (err.new ≡ err.old) }
     // Only a failed write may have left a part of the text on `out`.
-    ensures refused { let said = texts words.now in
-        1 ≤ result → (e : Refusal) × Refuses said e × LeavesOut e out.old out.new
+    ensures refused { let refuses = Refuses (Reads F.step read) (texts words.now) in
+        1 ≤ result → (e : Refusal) × refuses e × LeavesOut e out.old out.new
         × TellsFront e (E.contents err.old) (E.contents err.new) }
     // A wrong command line and a file that can't be read are reported by a line.
-    ensures told { let said = texts words.now in
-        result ≡ 2 → (e : Refusal) × Refuses said e × (status_of e ≡ 2)
+    ensures told { let refuses = Refuses (Reads F.step read) (texts words.now) in
+        result ≡ 2 → (e : Refusal) × refuses e × (status_of e ≡ 2)
         × Tells e (E.contents err.old) (E.contents err.new) × LeavesOut e out.old out.new }
     ensures usage { asked (texts words.now) ≡ None → 1 ≤ result }
 {

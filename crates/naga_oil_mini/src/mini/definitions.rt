@@ -1,16 +1,16 @@
 // The definitions of a command line.
-ghost use Rattle.std.specs.Prelude.{◌≡◌, Ok, IfOk, IfErr, option_map};
-ghost use Rattle.std.specs.BTreeMap.{get_by_text};
+ghost use Rattle.std.specs.Prelude.{◌≡◌, Ok, OnOk, IfOk, IfErr, option_map};
 ghost use Rattle.naga_oil_words.specs.Texts.{texts};
-ghost use Rattle.naga_oil_mini.specs.Defined.{given_value, definition_word, defined_by};
-ghost use Rattle.naga_oil_pre.specs.Metadata.{none_defined};
+ghost use Rattle.naga_oil_mini.specs.Defined.{given_value, definition_word, definitions_among};
+ghost use Rattle.naga_oil_registry.specs.Merged.{with_def};
+ghost use Rattle.naga_oil_registry.specs.Registered.{defs_of};
 ghost use Rattle.naga_oil_mini.specs.Shown.{RefusesDefinitions};
 
 use super::refusal::Refusal;
 use super::words::is_definition;
 use naga_oil_pre::line_kind::is_name;
-use naga_oil_pre::{ShaderDefValue, defined_value, set_definition};
-use std::alloc::Global;
+use naga_oil_pre::{ShaderDefValue, defined_value};
+use std::alloc::{AllocError, Global};
 use std::collections::BTreeMap;
 
 pub type Definitions = BTreeMap<String, ShaderDefValue>;
@@ -34,10 +34,24 @@ fn definition_word(word: &str) -> Option<(&str, ShaderDefValue)>
     is_name(name).then_some((name, value_of(text)?))
 }
 
+// Defines a name, and replaces its value if there is one.
+fn define(
+    alloc: Global,
+    definitions: &mut Definitions,
+    name: &str,
+    value: ShaderDefValue,
+) -> Result<(), AllocError>
+    ensures { let defined = with_def (defs_of definitions.old) (name.now, value) in
+        OnOk result (defs_of definitions.new ≡ defined) }
+{
+    definitions.insert(String::from_str(alloc, name)?, value)?;
+    Ok(())
+}
+
 /// The definitions among the words. The last with a name counts.
 pub fn given(alloc: Global, words: &[String]) -> Result<Definitions, Refusal<'_>>
-    ensures ok { let told = defined_by none_defined (texts words.now) in
-        IfOk result (λ definitions. told ≡ Ok (get_by_text definitions)) }
+    ensures ok { let told = definitions_among (texts words.now) in
+        IfOk result (λ definitions. told ≡ Ok (defs_of definitions)) }
     ensures err { IfErr result (RefusesDefinitions (texts words.now)) }
 {
     let mut definitions = BTreeMap::new(alloc);
@@ -47,7 +61,7 @@ pub fn given(alloc: Global, words: &[String]) -> Result<Definitions, Refusal<'_>
             continue;
         }
         let (name, value) = definition_word(word).ok_or(Refusal::BadDefinition(word))?;
-        set_definition(&mut definitions, String::from_str(alloc, name)?, value)?;
+        define(alloc, &mut definitions, name, value)?;
     }
     Ok(definitions)
 }

@@ -1,9 +1,9 @@
 // The program by its command line.
-ghost use Rattle.std.specs.Prelude.{◌≡◌, ◌≤◌, ℕ, List, None, IsSome, OnOk, IfOk, IfErr, option_map};
+ghost use Rattle.std.specs.Prelude.{◌≡◌, ◌≤◌, None, IsSome, OnOk, IfOk, IfErr, option_map};
 ghost use Rattle.naga_oil_words.specs.Texts.{texts};
 ghost use Rattle.naga_oil_mini.specs.declared.mini.refusal.Refusal.{Refusal};
-ghost use Rattle.naga_oil_mini.specs.Extra.{extra, extra_of, extra_of_word, extra_of_file, metadata_of_file, WritesExtra, RefusesExtra, WritesAny, RefusesAny};
-ghost use Rattle.naga_oil_mini.specs.Listing.{IsListed};
+ghost use Rattle.naga_oil_mini.specs.Extra.{extra, extra_of, extra_of_word, extra_of_file, metadata_of_file, IsListedFile, WritesExtra, RefusesExtra, WritesAny, RefusesAny};
+ghost use Rattle.naga_oil_mini.specs.Files.{Reads};
 ghost use Rattle.naga_oil_mini.specs.Shown.{LeavesOut, Tells, TellsFront, status_of};
 ghost use Rattle.naga_oil_mini.specs.Words.{asked};
 
@@ -66,8 +66,8 @@ fn listed<'a, F: FnMut(&str) -> Result<Option<Vec<u8>>, AllocError> + Drop>(
     read: F,
 ) -> Result<Vec<u8>, Refusal<'a>>
     requires { F.IsAlwaysCallable read }
-    ensures ok { IfOk result (λ t. (source : List ℕ) × IsListed source t.items) }
-    ensures err { IfErr result (RefusesExtra (metadata_of_file file.now)) }
+    ensures ok { IfOk result (λ t. IsListedFile (Reads F.step read) file.now t.items) }
+    ensures err { IfErr result (RefusesExtra (Reads F.step read) (metadata_of_file file.now)) }
 {
     let texts = read_files(alloc, &[file], read)?;
     let (first, _) = texts.split_first().ok_or(Refusal::CannotRead(file))?;
@@ -82,9 +82,9 @@ fn answer_extra<'a, F: FnMut(&str) -> Result<Option<Vec<u8>>, AllocError> + Drop
     out: &mut O,
 ) -> Result<(), Refusal<'a>>
     requires { F.IsAlwaysCallable read }
-    ensures written { let is_written = WritesExtra (extra_of asked.entry) in
+    ensures written { let is_written = WritesExtra (Reads F.step read) (extra_of asked.entry) in
         OnOk result (is_written (O.contents out.old) (O.contents out.new)) }
-    ensures err { IfErr result (RefusesExtra (extra_of asked.entry)) }
+    ensures err { IfErr result (RefusesExtra (Reads F.step read) (extra_of asked.entry)) }
     ensures untouched { IfErr result (λ e. LeavesOut e out.old out.new) }
 {
     let shown = match asked {
@@ -111,12 +111,14 @@ pub fn program<F: FnMut(&str) -> Result<Option<Vec<u8>>, AllocError> + Drop, O: 
     requires { F.IsAlwaysCallable read }
     ensures apart { IsSome (extra (texts words.now)) → asked (texts words.now) ≡ None }
     ensures statuses { result ≤ 2 }
-    ensures written { let is_written = WritesAny (texts words.now) in
+    ensures written { let is_written = WritesAny (Reads F.step read) (texts words.now) in
         result ≡ 0 → is_written (O.contents out.old) (O.contents out.new) × (err.new ≡ err.old) }
-    ensures refused { 1 ≤ result → (e : Refusal) × RefusesAny (texts words.now) e
-        × LeavesOut e out.old out.new × TellsFront e (E.contents err.old) (E.contents err.new) }
+    ensures refused { let refuses = RefusesAny (Reads F.step read) (texts words.now) in
+        1 ≤ result → (e : Refusal) × refuses e × LeavesOut e out.old out.new
+        × TellsFront e (E.contents err.old) (E.contents err.new) }
     // A wrong command line and a file that can't be read are reported by a line.
-    ensures told { result ≡ 2 → (e : Refusal) × RefusesAny (texts words.now) e × (status_of e ≡ 2)
+    ensures told { let refuses = RefusesAny (Reads F.step read) (texts words.now) in
+        result ≡ 2 → (e : Refusal) × refuses e × (status_of e ≡ 2)
         × Tells e (E.contents err.old) (E.contents err.new) × LeavesOut e out.old out.new }
 {
     let Some(asked) = extra_asked(words) else {
