@@ -52,8 +52,8 @@ abbrev pub test_of : (op condition : ℕ) → Tokens → Tokens
 test_of op condition inner = if op == and_code then if_statement condition inner [] else if_statement condition [] inner
 
 -- the If tests what is stored, and runs the last block
-unfoldable pub test : (op place : ℕ) → Node → State → Done
-test op place node s =
+unfoldable pub if_stored : (op place : ℕ) → Node → State → Done
+if_stored op place node s =
     compute (parts (expression.Load place)) node.span s >>= (λ loaded t.
     state (test_of op loaded (block t)) node.span (without_block t))
 
@@ -65,7 +65,7 @@ give_read place node s = give (bare (Place place)) s >>= (λ _. left node)
 unfoldable pub guarded : (op : ℕ) → Node → State → Done
 guarded op node s =
     operand node s >>= (λ value t. operand node t >>= (λ condition u. put_local node u >>= (λ place v.
-    stores place value condition node v >>= (λ _ w. test op place node w >>= (λ _. give_read place node)))))
+    stores place value condition node v >>= (λ _ w. if_stored op place node w >>= (λ _. give_read place node)))))
 
 -- the right side has no effects: it is computed like any operand
 unfoldable pub unguarded : (op : ℕ) → Node → State → Done

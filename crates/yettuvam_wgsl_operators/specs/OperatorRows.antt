@@ -19,7 +19,7 @@ use Rattle.yettuvam_wgsl_types.specs.Types.{member, plain, intern}
 use Rattle.yettuvam_wgsl_types.specs.declared.shape.Shape.TheVariants as shape
 use Rattle.yettuvam_wgsl_values.specs.Body.{State, Done, begin, enter, span_of, number_value, give, take_value, settle, settled, operand, left, load, flush, state, compute, put, open_, close, unfold_}
 use Rattle.yettuvam_wgsl_values.specs.Value.{Value, Place, Pointer, Plain, Literal, shaped}
-use Rattle.yettuvam_wgsl_operators.specs.Circuits.{circuit, circuit_end, unguarded, guarded, unnamed_local, put_local, store, stores, test, give_read}
+use Rattle.yettuvam_wgsl_operators.specs.Circuits.{circuit, circuit_end, unguarded, guarded, unnamed_local, put_local, store, stores, if_stored, give_read}
 use Rattle.yettuvam_wgsl_operators.specs.Members as members
 use Rattle.yettuvam_wgsl_operators.specs.Members.{address_of, dereference, member_of, member_by, by_letters, component, numbered_part, whole, part, swizzle, swizzle_by, read_whole}
 use Rattle.yettuvam_wgsl_operators.specs.Operators.{number, binary, give_computed, with_effect}
@@ -110,5 +110,5 @@ no_effects_are_not_guarded = refl
 
 -- a && f(): an If of a, in whose block the value of f() is stored
 effects_are_guarded : body_after (give (value_at 8) function_start >>= (λ _ s. circuit node s >>= (λ _ t. give (value_at 9) (with_effect t) >>= (λ _. circuit_end 17 node)))) ≡ (At (span_of here) ∷ Head 11 ∷ Use 0 ∷ Use 8 ∷ At (span_of here) ∷ Head emit_head ∷ Emitted (1, 2) ∷ At (span_of here) ∷ Head 2 ∷ Use 1 ∷ []) ++ inside (At (span_of here) ∷ Head 11 ∷ Use 0 ∷ Use 9 ∷ []) ++ inside []
-unfolding give circuit left settled take_value settle open_ flush circuit_end guarded operand put_local unnamed_local plain intern put compute stores store state close test give_read load
+unfolding give circuit left settled take_value settle open_ flush circuit_end guarded operand put_local unnamed_local plain intern put compute stores store state close if_stored give_read load
 effects_are_guarded = refl

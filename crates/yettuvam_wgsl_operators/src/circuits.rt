@@ -98,9 +98,9 @@ fn test_of(alloc: Global, op: u64, condition: Operand, inner: Block) -> Statemen
 }
 
 /// The `If` tests what is stored, and runs the last block.
-#[tactic(auto, unfolding(crate::specs::Circuits::test))]
-fn test<'t>(b: &mut Body<'t>, op: u64, place: usize, node: Node<'t>) -> Result<(), Refusal>
-    ensures { Reads (spec.test op place (node_view node.entry) (state_of b.old))
+#[tactic(auto, unfolding(crate::specs::Circuits::if_stored))]
+fn if_stored<'t>(b: &mut Body<'t>, op: u64, place: usize, node: Node<'t>) -> Result<(), Refusal>
+    ensures { Reads (spec.if_stored op place (node_view node.entry) (state_of b.old))
         result (state_of b.new) }
 {
     let pointer = Index::new(place);
@@ -129,7 +129,7 @@ fn guarded<'t>(b: &mut Body<'t>, op: u64, node: Node<'t>) -> Result<(), Refusal>
     let condition = b.operand(node)?;
     let place = put_local(b, node)?;
     stores(b, place, value, condition, node)?;
-    test(b, op, place, node)?;
+    if_stored(b, op, place, node)?;
     give_read(b, place, node)
 }
 
