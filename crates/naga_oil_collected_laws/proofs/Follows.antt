@@ -46,7 +46,7 @@ abbrev of_name : List ℕ → Reached → Bool
 of_name n = λ r. is_named n r.function.0.name
 
 -- a name is known after another one is if it was before, or is that one
-named_one : (ns : Meanings) (rs : List Reached) (r : Reached) (h : ℕ) → ((n : Text) → is_some (meant ns n) ≡ has_name rs n) → (n : Text) → is_some (meant (meaning ns r.function.0.name h) n) ≡ has_name (rs ++ r ∷ []) n
+pub named_one : (ns : Meanings) (rs : List Reached) (r : Reached) (h : ℕ) → ((n : Text) → is_some (meant ns n) ≡ has_name rs n) → (n : Text) → is_some (meant (meaning ns r.function.0.name h) n) ≡ has_name (rs ++ r ∷ []) n
 named_one ns rs r h known None = refl
 named_one ns rs r h known (Some n) = one r.function.0.name refl
   where

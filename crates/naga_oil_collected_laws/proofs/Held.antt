@@ -53,11 +53,11 @@ places_imported : (m : ModuleValue) (all : Bool) (own : OwnPlaces) (decoration :
 places_imported m all own n rs [] c h = h
 places_imported m all own n rs (p ∷ ps) c h = places_imported m all own n rs ps (copy_at all m own n c p) (place_imported m all n rs c p h (is_own own p))
 
-none_known : (n : Text) → is_some (meant [] n) ≡ has_name [] n
+pub none_known : (n : Text) → is_some (meant [] n) ≡ has_name [] n
 none_known None = refl
 none_known (Some n) = refl
 
-begun : (m : ModuleValue) (own : OwnPlaces) (decoration : List ℕ) → HasFrom m 0 [] (copy_places true m own decoration).derived
+pub begun : (m : ModuleValue) (own : OwnPlaces) (decoration : List ℕ) → HasFrom m 0 [] (copy_places true m own decoration).derived
 unfolding copy_places
 begun m own n = places_imported m true own n [] (places_of m) (nothing_copied m) (source_set m 0 [] nothing (record { copies = tt; names = none_known }))
 
@@ -112,38 +112,47 @@ module _ (m : ModuleValue) (form : AreFunctionsFormed m 4294967295) where
 
   -- ---- one after another
 
-  fewer : (K L : Text → Type 0) (vs : List Function) → ((x : Text) → L x → K x) → MayComeInTurn m K vs → MayComeInTurn m L vs
+  pub fewer : (K L : Text → Type 0) (vs : List Function) → ((x : Text) → L x → K x) → MayComeInTurn m K vs → MayComeInTurn m L vs
   fewer K L [] f h = tt
   fewer K L (v ∷ vs) f h =
       (h.0, h.1, (λ x. h.2 (f v.0.name x)), fewer (λ x. K x ⊎ (IsNameBefore m h.0 x ⊎ (x ≡ v.0.name))) (λ x. L x ⊎ (IsNameBefore m h.0 x ⊎ (x ≡ v.0.name))) vs (λ x y. ⊎_elim (λ l. inl (f x l)) inr y) h.3)
 
-  abbrev Named : List Reached → Text → Type 0
+  abbrev pub Named : List Reached → Text → Type 0
   Named rs x = has_name rs x ≡ true
 
-  in_turn : (vs : List Function) (rs : List Reached) (d : Derived) → MayComeInTurn m (Named rs) vs → HasFrom m 0 rs d → HasFrom m 0 (fold reach rs (map (from m 0) vs)) (import_functions d vs)
-  in_turn [] rs d t h = h
-  in_turn (v ∷ vs) rs d t h =
-      let after = after_calls m 0 rs v in
-      let fresh : has_name rs v.0.name ≡ false = is_not (has_name rs v.0.name) t.2 in
-      let same : reach rs (from m 0 v) ≡ after = ap (λ (b : Bool). if b then rs else after) fresh in
-      let known : (x : Text) → Named after x → Named rs x ⊎ (IsNameBefore m t.0 x ⊎ (x ≡ v.0.name)) = λ x y.
-      ⊎_elim
-      (λ (old : has_name (follow_calls m 0 rs v.0.body) x ≡ true). ⊎_elim (λ (z : Named rs x). inl z) (λ (z : IsNameBefore m t.0 x). inr (inl z)) (each_before t.0 (follow (length m.functions) m 0) (follow_before (length m.functions) t.0) (callees_of v.0.body) rs x (callees_below t.0 4294967295 v.0.body t.1.form.statements) old))
-      (λ (is : v.0.name ≡ x). inr (inr (sym is)))
-      (name_after (follow_calls m 0 rs v.0.body) (from m 0 v) x y) in
-      subst (λ qs. HasFrom m 0 (fold reach qs (map (from m 0) vs)) (import_functions (import_function d v.0 v.1) vs)) (sym same)
-      (in_turn vs after (import_function d v.0 v.1) (fewer (λ x. Named rs x ⊎ (IsNameBefore m t.0 x ⊎ (x ≡ v.0.name))) (Named after) vs known t.3) (function_imported m 0 rs d v h))
+  -- the next function isn't reached yet
+  pub is_fresh : (v : Function) (vs : List Function) (rs : List Reached) → MayComeInTurn m (Named rs) (v ∷ vs) → has_name rs v.0.name ≡ false
+  is_fresh v vs rs t = is_not (has_name rs v.0.name) t.2
     where
       is_not : (b : Bool) → (b ≡ true → ⊥) → b ≡ false
       is_not true f = absurd (f refl)
       is_not false f = refl
 
+  -- and those after it may come after what it calls
+  pub turn_after : (v : Function) (vs : List Function) (rs : List Reached) → MayComeInTurn m (Named rs) (v ∷ vs) → MayComeInTurn m (Named (after_calls m 0 rs v)) vs
+  turn_after v vs rs t =
+      let after = after_calls m 0 rs v in
+      let known : (x : Text) → Named after x → Named rs x ⊎ (IsNameBefore m t.0 x ⊎ (x ≡ v.0.name)) = λ x y.
+      ⊎_elim
+      (λ (old : has_name (follow_calls m 0 rs v.0.body) x ≡ true). ⊎_elim (λ (z : Named rs x). inl z) (λ (z : IsNameBefore m t.0 x). inr (inl z)) (each_before t.0 (follow (length m.functions) m 0) (follow_before (length m.functions) t.0) (callees_of v.0.body) rs x (callees_below t.0 4294967295 v.0.body t.1.form.statements) old))
+      (λ (is : v.0.name ≡ x). inr (inr (sym is)))
+      (name_after (follow_calls m 0 rs v.0.body) (from m 0 v) x y) in
+      fewer (λ x. Named rs x ⊎ (IsNameBefore m t.0 x ⊎ (x ≡ v.0.name))) (Named after) vs known t.3
+
+  in_turn : (vs : List Function) (rs : List Reached) (d : Derived) → MayComeInTurn m (Named rs) vs → HasFrom m 0 rs d → HasFrom m 0 (fold reach rs (map (from m 0) vs)) (import_functions d vs)
+  in_turn [] rs d t h = h
+  in_turn (v ∷ vs) rs d t h =
+      let after = after_calls m 0 rs v in
+      let same : reach rs (from m 0 v) ≡ after = ap (λ (b : Bool). if b then rs else after) (is_fresh v vs rs t) in
+      subst (λ qs. HasFrom m 0 (fold reach qs (map (from m 0) vs)) (import_functions (import_function d v.0 v.1) vs)) (sym same)
+      (in_turn vs after (import_function d v.0 v.1) (turn_after v vs rs t) (function_imported m 0 rs d v h))
+
 -- ---- the functions with the names
 
-abbrev among : List (List ℕ) → Function → Bool
+abbrev pub among : List (List ℕ) → Function → Bool
 among names f = has_name_among names f.0.name
 
-bodies_imported : (names : List (List ℕ)) (fs : List Function) (d : Derived) → fold (copy_with_body names) d fs ≡ import_functions d (filter (among names) fs)
+pub bodies_imported : (names : List (List ℕ)) (fs : List Function) (d : Derived) → fold (copy_with_body names) d fs ≡ import_functions d (filter (among names) fs)
 bodies_imported names [] d = refl
 bodies_imported names (f ∷ fs) d = one (bodies_imported names fs) (among names f)
   where
@@ -151,7 +160,7 @@ bodies_imported names (f ∷ fs) d = one (bodies_imported names fs) (among names
     one rest true = rest (import_function d f.0 f.1)
     one rest false = rest d
 
-no_name_yet : (x : Text) → has_name [] x ≡ true → no_name x
+pub no_name_yet : (x : Text) → has_name [] x ≡ true → no_name x
 no_name_yet None h = absurd (false≢true h)
 no_name_yet (Some n) h = absurd (false≢true h)
 

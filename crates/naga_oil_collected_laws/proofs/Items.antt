@@ -52,9 +52,9 @@ use Rattle.naga_oil_collected_laws.proofs.Requests.{among_mapped}
 -- ---- copies stay
 
 -- what is linked so far is of good form, and its names mean functions that have them
-record IsGood (d : Derived) : Type 0 where
-  formed : IsLinkFormed d
-  are_true : AreTrueIn d.target d.function_names
+pub record IsGood (d : Derived) : Type 0 where
+  pub formed : IsLinkFormed d
+  pub are_true : AreTrueIn d.target d.function_names
 
 copy_stays : (d : Derived) → IsGood d → (u : ModuleValue) → HasMore d.target u → (r : ItemOf) → HasCopyOf d.target r → HasCopyOf u r
 copy_stays d g u more r c =
@@ -72,19 +72,19 @@ all_stay d g u more rs a = All-weaker (HasCopyOf d.target) (HasCopyOf u) (copy_s
 
 -- ---- one build
 
-optional : (m : ModuleValue) (ps : List ItemPlace) → All (HasAt m) ps → All (λ o. IfSome o (HasAt m)) (map (λ p. Some p) ps)
+pub optional : (m : ModuleValue) (ps : List ItemPlace) → All (HasAt m) ps → All (λ o. IfSome o (HasAt m)) (map (λ p. Some p) ps)
 optional m [] a = All-nil (λ o. IfSome o (HasAt m))
 optional m (p ∷ ps) a = All-cons (λ o. IfSome o (HasAt m)) (Some p) (map (λ p. Some p) ps) (All-head (HasAt m) p ps a) (optional m ps (All-tail (HasAt m) p ps a))
 
-one_by_one : (ps : List ItemPlace) (d : Derived) → import_items d (map (λ p. Some p) ps) ≡ fold import_item d ps
+pub one_by_one : (ps : List ItemPlace) (d : Derived) → import_items d (map (λ p. Some p) ps) ≡ fold import_item d ps
 one_by_one [] d = refl
 one_by_one (p ∷ ps) d = one_by_one ps (import_item d p)
 
 -- after a build's items at some places are linked
-record Brings (b : BuiltModule) (d e : Derived) (ps : List ItemPlace) : Type 0 where
-  good : IsGood e
-  more : HasMore d.target e.target
-  items : All (HasCopyOf e.target) (map (λ p. (b, p)) ps)
+pub record Brings (b : BuiltModule) (d e : Derived) (ps : List ItemPlace) : Type 0 where
+  pub good : IsGood e
+  pub more : HasMore d.target e.target
+  pub items : All (HasCopyOf e.target) (map (λ p. (b, p)) ps)
 
 module _ (b : BuiltModule) (form : IsModuleFormed b.value) (before : Derived) (g : IsGood before) where
   -- the same of a build whose items stand at some places
@@ -108,13 +108,13 @@ module _ (b : BuiltModule) (form : IsModuleFormed b.value) (before : Derived) (g
   abbrev w : World
   w = read_after before m
 
-  begins : Stage x w (set_source before m shift)
+  pub begins : Stage x w (set_source before m shift)
   begins = stage_begins nowhere before m shift can (derived_of before g.formed nowhere) g.are_true
 
   abbrev StandsIn : Function → Type 0
   StandsIn y = (k : ℕ) × (slice_get m.functions k ≡ Some y)
 
-  functions_linked : (fs : List Function) (d : Derived) (t : Stage x w d) → All StandsIn fs → Stages x w d (fold link_function d fs) t.source
+  pub functions_linked : (fs : List Function) (d : Derived) (t : Stage x w d) → All StandsIn fs → Stages x w d (fold link_function d fs) t.source
   functions_linked [] d t a = stage_same x can w d t
   functions_linked (y ∷ fs) d t a =
       let e = link_function d y in
@@ -138,7 +138,7 @@ module _ (b : BuiltModule) (form : IsModuleFormed b.value) (before : Derived) (g
   all_copied d t [] a = All-nil (HasCopyOf d.target)
   all_copied d t (p ∷ ps) a = All-cons (HasCopyOf d.target) (b, p) (map (λ p. (b, p)) ps) (copied d t p (All-head (λ o. IfSome o (IsWent t.source)) (Some p) (map (λ p. Some p) ps) a)) (all_copied d t ps (All-tail (λ o. IfSome o (IsWent t.source)) (Some p) (map (λ p. Some p) ps) a))
 
-  build_brings : (asked : Asked) → Brings b before (link_items false b asked before) (filter (links_place b.own_in_value m asked) (places_of m))
+  pub build_brings : (asked : Asked) → Brings b before (link_items false b asked before) (filter (links_place b.own_in_value m asked) (places_of m))
   unfolding link_items
   build_brings asked =
       let test = links_place b.own_in_value m asked in
@@ -211,18 +211,18 @@ or_split true b h = inl refl
 or_split false b h = inr h
 
 -- a test of names that is an import's
-asks_same : (i : Import) (b : BuiltModule) (t : Text) → is_wanted (asked_of i b) t ≡ names_item i b t
+pub asks_same : (i : Import) (b : BuiltModule) (t : Text) → is_wanted (asked_of i b) t ≡ names_item i b t
 asks_same i b None = refl
 asks_same i b (Some n) = among-in_order (map (λ item. item ++ b.decoration) i.items) n ∙ among_mapped b.decoration n i.items
 
-places_same : (p q : ItemPlace → Bool) → ((x : ItemPlace) → p x ≡ q x) → (xs : List ItemPlace) → filter p xs ≡ filter q xs
+pub places_same : (p q : ItemPlace → Bool) → ((x : ItemPlace) → p x ≡ q x) → (xs : List ItemPlace) → filter p xs ≡ filter q xs
 places_same p q h [] = refl
 places_same p q h (x ∷ xs) = ap (λ (c : Bool). if c then x ∷ filter p xs else filter p xs) (h x) ∙ ap (λ (ys : List ItemPlace). if q x then x ∷ ys else ys) (places_same p q h xs)
 
 -- what a build may be: of good form, under a name that none before has
-record MayLink (earlier : Builds) (e : Entry) : Type 0 where
-  form : IsModuleFormed e.1.value
-  apart : HasBuild earlier e.0 → ⊥
+pub record MayLink (earlier : Builds) (e : Entry) : Type 0 where
+  pub form : IsModuleFormed e.1.value
+  pub apart : HasBuild earlier e.0 → ⊥
 
 module _ (bs : Builds) (e : Entry) (may : MayLink bs e) (rest : ComesSo bs (link_import false bs) (imported_items bs)) where
   abbrev wants : List ItemOf
@@ -304,10 +304,10 @@ nothing_entered : (bs : Builds) → Closed bs nothing_linked
 nothing_entered [] = tt
 nothing_entered (e ∷ bs) = ((λ is. absurd (false≢true is)), nothing_entered bs)
 
-nothing_good : IsGood nothing
+pub nothing_good : IsGood nothing
 nothing_good = record { formed = nothing_formed_yet; are_true = λ n h e. absurd (no_meaning n h e) }
 
-all_may : (bs : Builds) → AreFormedBuilds bs → HaveOwnNames bs → AllAfter MayLink (reverse bs)
+pub all_may : (bs : Builds) → AreFormedBuilds bs → HaveOwnNames bs → AllAfter MayLink (reverse bs)
 all_may bs forms names = gathered MayLink bs [] (λ k e at a. record { form = forms k e at; apart = not_back (take k bs) e.0 (names k e at) }) tt
 
 pub linked_items : LinkedItemsLaw

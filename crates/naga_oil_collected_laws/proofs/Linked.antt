@@ -33,7 +33,7 @@ use Rattle.naga_oil_collected_laws.proofs.Imported.{Has, source_set, items_impor
 abbrev Stay : List Reached → List Reached → Type 0
 Stay rs qs = (n : Text) → has_name rs n ≡ true → has_name qs n ≡ true
 
-stay_before : (rs : List Reached) (r : Reached) → Stay rs (rs ++ r ∷ [])
+pub stay_before : (rs : List Reached) (r : Reached) → Stay rs (rs ++ r ∷ [])
 stay_before rs r None h = h
 stay_before rs r (Some n) h =
     let test = λ (y : Reached). is_named n y.function.0.name in
@@ -116,7 +116,7 @@ each_named b test (f ∷ fs) = one (each_named b test fs) (is_named_so test f.0.
     one rest true e = All-cons HasName (from b.value (b.index * span_stride) f) (map (from b.value (b.index * span_stride)) (filter (λ (f : Function). is_named_so test f.0.name) fs)) (passing_named test f.0.name e) rest
     one rest false e = rest
 
-requested_named : (requests : List ℕ → Bool) (b : BuiltModule) → All HasName (requested_of requests b)
+pub requested_named : (requests : List ℕ → Bool) (b : BuiltModule) → All HasName (requested_of requests b)
 requested_named requests b = each_named b (λ n. requests n && is_among b.functions n) b.value.functions
 
 flat_named : (f : Import → List Reached) → ((i : Import) → All HasName (f i)) → (is : List Import) → All HasName (flat_map f is)

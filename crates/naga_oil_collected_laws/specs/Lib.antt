@@ -2,5 +2,9 @@
 pub mod CollectedLaw
 pub mod FirstReach
 mod FirstReachRows
+pub mod HeldItems
+pub mod ItemOrder
 pub mod ReachedBuilds
 pub mod RequestedItems
+pub mod Trail
+mod TrailRows

@@ -1,5 +1,7 @@
 //! What a build holds and a linked module has, by a list of what is requested.
 ghost use Rattle.naga_oil_collected_laws.specs.CollectedLaw.{HeldFunctionsLaw, LinkedFunctionsLaw};
+ghost use Rattle.naga_oil_collected_laws.specs.HeldItems.{HeldItemsLaw};
+ghost use Rattle.naga_oil_collected_laws.specs.ItemOrder.{HeldOrderLaw, LinkedOrderLaw};
 ghost use Rattle.naga_oil_collected_laws.specs.ReachedBuilds.{ReachedBuildsLaw};
 ghost use Rattle.naga_oil_collected_laws.specs.RequestedItems.{LinkedItemsLaw};
 
@@ -19,4 +21,18 @@ pub fn only_reached_builds_give()
 /// builds, and of each that the shader's build owns.
 pub fn requested_items_are_there()
     ensures { LinkedItemsLaw }
+{}
+
+/// What a build holds of a module has a copy of each type of the module, and of each constant,
+/// override and global that the build owns.
+pub fn taken_items_are_held()
+    ensures { HeldItemsLaw }
+{}
+
+/// The types, constants, overrides, globals and global expressions of a linked module, and those of
+/// a build's module, copy the items of a trail, each once, in the order of first occurrence; on a
+/// trail an item stands after what it names.
+pub fn items_in_order_of_first_reach()
+    ensures linked { LinkedOrderLaw }
+    ensures held { HeldOrderLaw }
 {}
