@@ -1,0 +1,4 @@
+pub mod Fault
+pub mod FaultRows
+pub mod Notes
+pub mod Tables

@@ -1,0 +1,4 @@
+pub mod Naming
+pub mod StatementRows
+pub mod Statements
+pub mod Switches
