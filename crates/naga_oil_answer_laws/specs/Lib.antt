@@ -1,0 +1,4 @@
+-- Worked rows of what a composer answers, keeps, registers and forgets.
+mod CallsRows
+mod StateRows
+mod AlikeRows

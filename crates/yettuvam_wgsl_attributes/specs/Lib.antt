@@ -1,0 +1,4 @@
+pub mod AttributeRows
+pub mod Attributes
+pub mod Declarations
+pub mod Words

@@ -1,0 +1,5 @@
+pub mod Line
+pub mod Parts
+pub mod Reader
+pub mod Groups
+pub mod LinesRows

@@ -1,0 +1,3 @@
+pub mod TemplateRows
+pub mod Templates
+pub mod Types
