@@ -2,3 +2,8 @@
 mod CallsRows
 mod StateRows
 mod AlikeRows
+mod AdditionRows
+mod MakesRows
+mod KeptRows
+mod MissingRows
+mod RunRows
