@@ -22,9 +22,7 @@ pub fn resource_code(attributes: Attributes) -> Option<u64>
     ensures { result ≡ spec.resource_code attributes }
 {
     match (attributes.group, attributes.binding) {
-        (Some(group), Some(binding)) => {
-            Some(u64::from(group) * GROUP_UNIT + u64::from(binding))
-        }
+        (Some(group), Some(binding)) => { Some(u64::from(group) * GROUP_UNIT + u64::from(binding)) }
         _ => None,
     }
 }
