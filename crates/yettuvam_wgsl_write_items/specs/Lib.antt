@@ -1,0 +1,4 @@
+pub mod Items
+pub mod ItemsRows
+pub mod Signatures
+pub mod Text
