@@ -59,7 +59,7 @@ module _ (c : Capabilities) where
       by : (k : Key) (b : BuiltModule) (q : Bool) → same_key k key_of_m ≡ q → cond q (Some module_build) None ≡ Some b → IsKeptAfresh (small_settings c) registry one_kept k b
       by k b true e at =
           subst (λ (x : BuiltModule). IsKeptAfresh (small_settings c) registry one_kept k x) (same_Some module_build b at)
-            (subst (λ (x : Key). IsKeptAfresh (small_settings c) registry one_kept x module_build) (sym ((key-Decides k key_of_m).0 e)) is_kept_afresh)
+          (subst (λ (x : Key). IsKeptAfresh (small_settings c) registry one_kept x module_build) (sym ((key-Decides k key_of_m).0 e)) is_kept_afresh)
       by k b false e at = absurd cc
 
   -- another build isn't that of `m`
