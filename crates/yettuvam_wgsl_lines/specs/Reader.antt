@@ -1,13 +1,13 @@
 -- Reads a body.
-use Rattle.std.specs.Prelude.{ℕ, ◌-◌, ◌==◌, ◌&&◌, ◌||◌, nat_lt, nat_eq, not, min, if◌then◌else◌, Bool, true, false, List, [], ◌∷◌, ◌++◌, length, map, take, drop, slice_index_or, slice_set, Option, Some, None, is_some}
-use Rattle.std.specs.Map.{lookup}
+use Rattle.std.specs.Prelude.{ℕ, ◌-◌, ◌==◌, ◌&&◌, ◌||◌, nat_lt, not, min, if◌then◌else◌, Bool, true, false, List, [], ◌∷◌, ◌++◌, length, map, take, drop, slice_index_or, slice_set, Option, Some, None}
 use Rattle.naga_oil_ir.specs.Body.{Tokens}
-use Rattle.naga_oil_ir.specs.declared.expression.Expression.{Expression}
-use Rattle.naga_oil_ir.specs.declared.module.Function.{Function}
+use Rattle.naga_oil_ir.specs.ModuleValue.{FunctionValue}
+use Rattle.naga_oil_ir.specs.Parts.{Parts}
 use Rattle.naga_oil_ir.specs.declared.span.Span.{Span}
 use Rattle.naga_oil_ir.specs.declared.tokens.Token.{Token}
 use Rattle.naga_oil_ir.specs.declared.tokens.Token.TheVariants.{Head, Emitted, Open, Close}
 use Rattle.yettuvam_wgsl_natures.specs.Called.{called_function}
+use Rattle.yettuvam_wgsl_natures.specs.Natures.{is_named}
 use Rattle.yettuvam_wgsl_natures.specs.Operands.{text_operands}
 use Rattle.yettuvam_wgsl_natures.specs.declared.called.TheConstants.{NO_FUNCTION}
 use Rattle.yettuvam_wgsl_lines.specs.Line.{LineValue, Lines, line_value, lines_value}
@@ -55,15 +55,12 @@ content k f os m n = record { kind = k; function = f; operands = os; made = m; i
 abbrev pub content_value : Content → ContentValue
 content_value c = content c.kind c.function c.operands.items c.made c.is_named
 
-abbrev pub is_named : Function → ℕ → Bool
-is_named f h = is_some (lookup (nat_eq h) f.named_expressions.entries)
-
-abbrev pub named_result : Function → Option ℕ → Option ℕ × Bool
+abbrev pub named_result : FunctionValue → Option ℕ → Option ℕ × Bool
 named_result f None = (None, false)
 named_result f (Some h) = (Some h, is_named f h)
 
 -- the result of a statement, and whether it has a name
-abbrev pub result_by : Function → Tokens → Option ℕ × Bool
+abbrev pub result_by : FunctionValue → Tokens → Option ℕ × Bool
 result_by f ts = named_result f (made_by ts)
 
 -- ---- blocks
@@ -125,31 +122,31 @@ push at c s = record s {
 }
 
 -- what a statement names and makes
-unfoldable pub statement_content : Function → ℕ → Tokens → ContentValue
+unfoldable pub statement_content : FunctionValue → ℕ → Tokens → ContentValue
 statement_content f kind ts =
     let operands = operands_by kind ts in
     let r = result_by f ts in
     content kind (function_by kind operands ts) operands r.0 r.1
 
 -- a statement that begins with a head; the tokens after it follow. An emitted range has lines for its expressions only
-unfoldable pub statement : Function → ℕ → ℕ → Tokens → State → State
+unfoldable pub statement : FunctionValue → ℕ → ℕ → Tokens → State → State
 statement f at kind ts s =
     let after = record s { next = next_part kind } in
     if kind == EMIT then after else push at (statement_content f kind ts) after
 
-unfoldable pub emitted : Function → ℕ → ℕ → Expression → State → State
+unfoldable pub emitted : FunctionValue → ℕ → ℕ → Parts → State → State
 emitted f at place e s = push at (content EMIT (called_function e) (text_operands e) (Some place) (is_named f place)) s
 
 -- expressions before a place are emitted
-unfoldable pub emit_all : Function → ℕ → ℕ → List (Expression × Span) → State → State
+unfoldable pub emit_all : FunctionValue → ℕ → ℕ → List (Parts × Span) → State → State
 emit_all f at end [] s = s
 emit_all f at end (e ∷ es) s = emit_all f at end es (emitted f at (end - length (e ∷ es)) e.0 s)
 
 -- the expressions of a range
-abbrev pub ranged : List (Expression × Span) → ℕ → ℕ → List (Expression × Span)
+abbrev pub ranged : List (Parts × Span) → ℕ → ℕ → List (Parts × Span)
 ranged es start end = if nat_lt start end then take (end - start) (drop start es) else []
 
-unfoldable pub emit : Function → ℕ → ℕ × ℕ → State → State
+unfoldable pub emit : FunctionValue → ℕ → ℕ × ℕ → State → State
 emit f at r s =
     let end = min r.1 (length f.expressions) in
     emit_all f at end (ranged f.expressions r.0 end) s
@@ -168,7 +165,7 @@ finish at ts s = break_if_any at (condition_by ts) (close at s)
 -- ---- a body
 
 -- a token at a place; the tokens after it follow
-unfoldable pub step : Function → ℕ → Token → Tokens → State → State
+unfoldable pub step : FunctionValue → ℕ → Token → Tokens → State → State
 step f at (Head kind) ts s = statement f at kind ts s
 step f at (Emitted r) ts s = emit f at r s
 step f at Open ts s = begin s
@@ -176,7 +173,7 @@ step f at Close ts s = finish at ts s
 step f at _ ts s = s
 
 -- the last of n tokens
-unfoldable pub run : Function → ℕ → Tokens → State → State
+unfoldable pub run : FunctionValue → ℕ → Tokens → State → State
 run f n [] s = s
 run f n (t ∷ ts) s = run f n ts (step f (n - length (t ∷ ts)) t ts s)
 
@@ -212,7 +209,7 @@ pub record BodyValue : Type 0 where
 abbrev pub body_value : Body → BodyValue
 body_value b = record { lines = lines_value b.lines.items; ends = b.ends.items }
 
-abbrev pub lines_of : Function → Tokens → BodyValue
+abbrev pub lines_of : FunctionValue → Tokens → BodyValue
 lines_of f ts =
     let s = run f (length ts) ts started in
     record { lines = s.lines; ends = s.ends }

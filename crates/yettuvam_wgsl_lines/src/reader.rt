@@ -1,5 +1,7 @@
 // Reads a body.
 ghost use Rattle.std.specs.Prelude.{◌≡◌, ◌≤◌, OnOk, IfOk, length};
+ghost use Rattle.naga_oil_ir.specs.ModuleValue.{expression_values, function_value};
+ghost use Rattle.naga_oil_ir.specs.Parts.{parts};
 ghost use Rattle.yettuvam_wgsl_lines.specs.Line.{line_value};
 ghost use Rattle.yettuvam_wgsl_lines.specs.Reader as spec;
 ghost use Rattle.yettuvam_wgsl_lines.specs.Reader.{state_of};
@@ -8,7 +10,7 @@ use crate::line::{BREAK_IF, EMIT, LOOP, Line, START};
 use crate::parts::{condition_by, function_by, made_by, operands_by};
 use naga_oil_ir::{Expression, Function, Index, Operand, Range, Span, Token};
 use std::alloc::{AllocError, Global};
-use yettuvam_wgsl_natures::{NO_FUNCTION, called_function, text_operands};
+use yettuvam_wgsl_natures::{NO_FUNCTION, called_function, is_named, text_operands};
 
 /// What a block is to the blocks after it.
 #[derive(Clone, Copy, PartialEq, Eq, Debug)]
@@ -49,15 +51,9 @@ struct Reader {
     has_closed: bool,
 }
 
-fn is_named(of: &Function, place: Operand) -> bool
-    ensures { result ≡ spec.is_named of.now place }
-{
-    of.named_expressions.get(place).is_some()
-}
-
 // The result of a statement, and whether it has a name, from the tokens after the head.
 fn result_by(of: &Function, tokens: &[Token]) -> (Option<Operand>, bool)
-    ensures { result ≡ spec.result_by of.now tokens.now }
+    ensures { result ≡ spec.result_by (function_value of.now) tokens.now }
 {
     match made_by(tokens) {
         Some(made) => (Some(made), is_named(of, made)),
@@ -76,9 +72,11 @@ fn next_part(kind: u64) -> Part
 }
 
 // The expressions of a range, as far as they exist.
+#[tactic(auto, using(crate::proofs::Ranged::values_between))]
 fn ranged(of: &[(Expression, Span)], start: usize, end: usize) -> &[(Expression, Span)]
     requires { end ≤ length of.now }
-    ensures { result.now ≡ spec.ranged of.now start end }
+    ensures { expression_values result.now ≡
+        spec.ranged (expression_values of.now) start end }
 {
     if start < end { &of[start..end] } else { &[] }
 }
@@ -114,7 +112,7 @@ fn statement_content(
     tokens: &[Token],
 ) -> Result<Content, AllocError>
     ensures { IfOk result (λ c.
-        spec.content_value c ≡ spec.statement_content of.now kind tokens.now) }
+        spec.content_value c ≡ spec.statement_content (function_value of.now) kind tokens.now) }
 {
     let operands = operands_by(alloc, kind, tokens)?;
     let function = function_by(kind, &operands, tokens);
@@ -168,7 +166,7 @@ impl Reader {
         tokens: &[Token],
     ) -> Result<(), AllocError>
         ensures { OnOk result (state_of self.new ≡
-            spec.statement of.now at kind tokens.now (state_of self.old)) }
+            spec.statement (function_value of.now) at kind tokens.now (state_of self.old)) }
     {
         self.next = next_part(kind);
         if kind == EMIT {
@@ -187,7 +185,7 @@ impl Reader {
         expression: &Expression,
     ) -> Result<(), AllocError>
         ensures { OnOk result (state_of self.new ≡
-            spec.emitted of.now at place expression.now (state_of self.old)) }
+            spec.emitted (function_value of.now) at place (parts expression.now) (state_of self.old)) }
     {
         let operands = text_operands(self.alloc, expression)?;
         let made = Index::new(place);
@@ -213,7 +211,7 @@ impl Reader {
         expressions: &[(Expression, Span)],
     ) -> Result<(), AllocError>
         ensures { OnOk result (state_of self.new ≡
-            spec.emit_all of.now at end expressions.now (state_of self.old)) }
+            spec.emit_all (function_value of.now) at end (expression_values expressions.now) (state_of self.old)) }
     {
         let mut rest = expressions;
         while let [entry, more @ ..] = rest {
@@ -226,7 +224,7 @@ impl Reader {
     #[tactic(auto, unfolding(crate::specs::Reader::emit))]
     fn emit(&mut self, of: &Function, at: usize, range: Range<Expression>) -> Result<(), AllocError>
         ensures { OnOk result (state_of self.new ≡
-            spec.emit of.now at range (state_of self.old)) }
+            spec.emit (function_value of.now) at range (state_of self.old)) }
     {
         let expressions = of.expressions.as_slice();
         let end = range.end().min(expressions.len());
@@ -309,7 +307,7 @@ impl Reader {
         tokens: &[Token],
     ) -> Result<(), AllocError>
         ensures { OnOk result (state_of self.new ≡
-            spec.step of.now at token tokens.now (state_of self.old)) }
+            spec.step (function_value of.now) at token tokens.now (state_of self.old)) }
     {
         match token {
             Token::Head(kind) => self.statement(of, at, kind, tokens),
@@ -323,7 +321,7 @@ impl Reader {
     #[tactic(auto, unfolding(crate::specs::Reader::run))]
     fn run(&mut self, of: &Function, tokens: &[Token]) -> Result<(), AllocError>
         ensures { OnOk result (state_of self.new ≡
-            spec.run of.now (length tokens.now) tokens.now (state_of self.old)) }
+            spec.run (function_value of.now) (length tokens.now) tokens.now (state_of self.old)) }
     {
         let count = tokens.len();
         let mut rest = tokens;
@@ -374,7 +372,7 @@ fn started(alloc: Global) -> Result<Reader, AllocError>
 /// # Errors
 /// If out of memory.
 pub fn lines_of(alloc: Global, of: &Function, tokens: &[Token]) -> Result<Body, AllocError>
-    ensures { IfOk result (λ b. spec.body_value b ≡ spec.lines_of of.now tokens.now) }
+    ensures { IfOk result (λ b. spec.body_value b ≡ spec.lines_of (function_value of.now) tokens.now) }
 {
     let mut reader = started(alloc)?;
     reader.run(of, tokens)?;

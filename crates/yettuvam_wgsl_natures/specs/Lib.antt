@@ -1,4 +1,5 @@
 pub mod Called
+pub mod Kinds
 pub mod Natures
 pub mod Operands
 pub mod NaturesRows

@@ -1,5 +1,6 @@
 // The built-in functions that expressions call.
 ghost use Rattle.std.specs.Prelude.{◌≡◌};
+ghost use Rattle.naga_oil_ir.specs.Parts.{parts, query_code};
 ghost use Rattle.yettuvam_wgsl_natures.specs.Called as spec;
 
 use naga_oil_ir::{Expression, ImageQuery};
@@ -12,7 +13,7 @@ use yettuvam_wgsl_names::functions::{
 pub const NO_FUNCTION: u64 = 0;
 
 fn queried_function(query: ImageQuery) -> u64
-    ensures { result ≡ spec.queried_function query }
+    ensures { result ≡ spec.queried_function (query_code query) }
 {
     match query {
         ImageQuery::Size { .. } => TEXTURE_DIMENSIONS,
@@ -32,7 +33,7 @@ fn conversion_function(convert: u64) -> u64
 
 /// Returns the code of the built-in function that an expression calls, or `NO_FUNCTION`.
 pub fn called_function(of: &Expression) -> u64
-    ensures { result ≡ spec.called_function of.now }
+    ensures { result ≡ spec.called_function (parts of.now) }
 {
     match of {
         Expression::Math(math) => math.fun,

@@ -10,5 +10,5 @@ pub mod natures;
 pub mod operands;
 
 pub use called::{NO_FUNCTION, called_function};
-pub use natures::{Nature, natures_of};
+pub use natures::{Nature, is_named, natures_of};
 pub use operands::text_operands;

@@ -1,5 +1,8 @@
 // What expressions are to the choice of `let`s.
 ghost use Rattle.std.specs.Prelude.{◌≡◌, [], IfOk};
+ghost use Rattle.naga_oil_ir.specs.ModuleValue.{expression_values, function_value, module_value};
+ghost use Rattle.naga_oil_ir.specs.Parts.{parts};
+ghost use Rattle.naga_oil_ir.specs.Rows.{Text, inner_row};
 ghost use Rattle.std.specs.List.{list_all};
 ghost use Rattle.yettuvam_wgsl_natures.specs.Natures as spec;
 
@@ -64,7 +67,7 @@ fn place_if(is_place: bool) -> Nature
 }
 
 fn pointer_space(inner: &TypeInner) -> Option<u64>
-    ensures { result ≡ spec.pointer_space inner.now }
+    ensures { (name : Text) → result ≡ spec.pointer_space (inner_row name inner.now) }
 {
     match inner {
         TypeInner::Pointer { space, .. } => Some(*space),
@@ -74,7 +77,7 @@ fn pointer_space(inner: &TypeInner) -> Option<u64>
 
 // The address space of a pointer type.
 fn space_of(of: &Module, ty: Handle<Type>) -> Option<u64>
-    ensures { result ≡ spec.space_of of.now ty }
+    ensures { result ≡ spec.space_of (module_value of.now) ty }
 {
     match of.types.get_handle(ty) {
         Some(ty) => pointer_space(&ty.inner),
@@ -83,7 +86,7 @@ fn space_of(of: &Module, ty: Handle<Type>) -> Option<u64>
 }
 
 fn is_global_place(of: &Module, place: Handle<GlobalVariable>) -> bool
-    ensures { result ≡ spec.is_global_place of.now place }
+    ensures { result ≡ spec.is_global_place (module_value of.now) place }
 {
     match of.global_variables.try_get(place) {
         Some(global) => global.space != HANDLE_SPACE,
@@ -101,7 +104,8 @@ fn is_pointer_space(space: Option<u64>) -> bool
 }
 
 fn is_pointer_argument(of: &Module, function: &Function, place: u32) -> bool
-    ensures { result ≡ spec.is_pointer_argument of.now function.now place }
+    ensures { result ≡ spec.is_pointer_argument (module_value of.now) (function_value
+        function.now) place }
 {
     match function.arguments.get(place as usize) {
         Some(argument) => is_pointer_space(space_of(of, argument.ty)),
@@ -193,7 +197,8 @@ fn nature_by(
     expression: &Expression,
     of_operands: Nature,
 ) -> Nature
-    ensures { result ≡ spec.nature_by of.now function.now natures.now expression.now of_operands }
+    ensures { let m = module_value of.now in let f = function_value function.now in
+        result ≡ spec.nature_by m f natures.now (parts expression.now) of_operands }
 {
     match expression {
         Expression::GlobalVariable(place) => place_if(is_global_place(of, *place)),
@@ -235,7 +240,7 @@ fn is_typed_const(space: Option<u64>) -> bool
 
 // Whether an expression is declared by `const`.
 fn is_const_copy(of: &Module, expression: &Expression) -> bool
-    ensures { result ≡ spec.is_const_copy of.now expression.now }
+    ensures { result ≡ spec.is_const_copy (module_value of.now) (parts expression.now) }
 {
     match expression {
         Expression::As { convert, .. } => *convert == CONST_COPY,
@@ -244,10 +249,12 @@ fn is_const_copy(of: &Module, expression: &Expression) -> bool
     }
 }
 
-fn is_named(function: &Function, place: usize) -> bool
-    ensures { result ≡ spec.is_named function.now place }
+/// Returns whether an expression has a name.
+#[tactic(auto, using(crate::proofs::Named::has_name))]
+pub fn is_named(function: &Function, place: Operand) -> bool
+    ensures { result ≡ spec.is_named (function_value function.now) place }
 {
-    function.named_expressions.get(Index::new(place)).is_some()
+    function.named_expressions.get(place).is_some()
 }
 
 // What the expression after others is.
@@ -259,13 +266,13 @@ fn next_nature(
     natures: &[Nature],
     expression: &Expression,
 ) -> Result<Nature, AllocError>
-    ensures { IfOk result (λ n.
-        n ≡ spec.next_nature of.now function.now natures.now expression.now) }
+    ensures { let next = spec.next_nature (module_value of.now) (function_value function.now) in
+        IfOk result (λ n. n ≡ next natures.now (parts expression.now)) }
 {
     let parts = expression.parts(alloc)?;
     let of_operands = constant_if(are_constant(natures, &parts.operands));
     let nature = nature_by(of, function, natures, expression, of_operands);
-    let is_value = is_named(function, natures.len()) && !is_const_copy(of, expression);
+    let is_value = is_named(function, Index::new(natures.len())) && !is_const_copy(of, expression);
     Ok(Nature {
         is_constant: nature.is_constant && !is_value,
         ..nature
@@ -278,7 +285,8 @@ fn push_natures(
     function: &Function,
     expressions: &[(Expression, Span)],
 ) -> Result<Vec<Nature>, AllocError>
-    ensures { IfOk result (λ v. v.items ≡ spec.natures_from of.now function.now [] expressions.now) }
+    ensures { let from = spec.natures_from (module_value of.now) (function_value function.now) in
+        IfOk result (λ v. v.items ≡ from [] (expression_values expressions.now)) }
 {
     let mut natures = Vec::new(alloc);
     let mut rest = expressions;
@@ -299,7 +307,8 @@ pub fn natures_of(
     of: &Module,
     function: &Function,
 ) -> Result<Vec<Nature>, AllocError>
-    ensures { IfOk result (λ v. v.items ≡ spec.natures_of of.now function.now) }
+    ensures { IfOk result (λ v. v.items ≡
+        spec.natures_of (module_value of.now) (function_value function.now)) }
 {
     push_natures(alloc, of, function, function.expressions.as_slice())
 }

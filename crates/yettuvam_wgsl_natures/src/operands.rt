@@ -1,50 +1,55 @@
 // The operands of expressions in the order of the text.
 ghost use Rattle.std.specs.Prelude.{◌≡◌, IfOk};
-ghost use Rattle.std.specs.List.{filter_map};
+ghost use Rattle.naga_oil_ir.specs.Parts.{parts};
 ghost use Rattle.yettuvam_wgsl_natures.specs.Operands as spec;
 
-use naga_oil_ir::{Expression, ImageSample, Operand, SampleLevel};
+use naga_oil_ir::{Expression, Operand};
 use std::alloc::{AllocError, Global};
 
+// The kinds of expressions whose text has another order.
+
+const SAMPLE: u64 = 19;
+
+const SELECT: u64 = 24;
+
 fn present(alloc: Global, operands: &[Option<Operand>]) -> Result<Vec<Operand>, AllocError>
-    ensures { IfOk result (λ v. v.items ≡ filter_map (λ o. o) operands.now) }
+    ensures { IfOk result (λ v. v.items ≡ spec.present operands.now) }
 {
     operands.iter().filter_map(|o| *o).collect(alloc)
 }
 
-fn first_of_level(level: SampleLevel) -> Option<Operand>
-    ensures { result ≡ spec.first_of_level level }
+fn select_operands(alloc: Global, operands: &[Option<Operand>]) -> Result<Vec<Operand>, AllocError>
+    ensures { IfOk result (λ v. v.items ≡ spec.present (spec.select_order operands.now)) }
 {
-    match level {
-        SampleLevel::Auto | SampleLevel::Zero => None,
-        SampleLevel::Exact(e) | SampleLevel::Bias(e) => Some(e),
-        SampleLevel::Gradient { x, .. } => Some(x),
+    match operands {
+        [condition, accept, reject] => present(alloc, &[*reject, *accept, *condition]),
+        _ => present(alloc, operands),
     }
 }
 
-fn second_of_level(level: SampleLevel) -> Option<Operand>
-    ensures { result ≡ spec.second_of_level level }
+fn operand_at(operands: &[Option<Operand>], place: usize) -> Option<Operand>
+    ensures { result ≡ spec.operand_at operands.now place }
 {
-    match level {
-        SampleLevel::Gradient { y, .. } => Some(y),
-        _ => None,
+    match operands.get(place) {
+        Some(operand) => *operand,
+        None => None,
     }
 }
 
-fn sample_operands(alloc: Global, of: &ImageSample) -> Result<Vec<Operand>, AllocError>
-    ensures { IfOk result (λ v. v.items ≡ spec.sample_operands of.now) }
+fn sample_operands(alloc: Global, operands: &[Option<Operand>]) -> Result<Vec<Operand>, AllocError>
+    ensures { IfOk result (λ v. v.items ≡ spec.present (spec.sample_order operands.now)) }
 {
     present(
         alloc,
         &[
-            Some(of.image),
-            Some(of.sampler),
-            Some(of.coordinate),
-            of.array_index,
-            of.depth_ref,
-            first_of_level(of.level),
-            second_of_level(of.level),
-            of.offset,
+            operand_at(operands, 0),
+            operand_at(operands, 1),
+            operand_at(operands, 2),
+            operand_at(operands, 3),
+            operand_at(operands, 7),
+            operand_at(operands, 5),
+            operand_at(operands, 6),
+            operand_at(operands, 4),
         ],
     )
 }
@@ -54,18 +59,12 @@ fn sample_operands(alloc: Global, of: &ImageSample) -> Result<Vec<Operand>, Allo
 /// # Errors
 /// If out of memory.
 pub fn text_operands(alloc: Global, of: &Expression) -> Result<Vec<Operand>, AllocError>
-    ensures { IfOk result (λ v. v.items ≡ spec.text_operands of.now) }
+    ensures { IfOk result (λ v. v.items ≡ spec.text_operands (parts of.now)) }
 {
-    match of {
-        Expression::Select {
-            condition,
-            accept,
-            reject,
-        } => present(alloc, &[Some(*reject), Some(*accept), Some(*condition)]),
-        Expression::ImageSample(sample) => sample_operands(alloc, sample),
-        _ => {
-            let parts = of.parts(alloc)?;
-            present(alloc, &parts.operands)
-        }
+    let parts = of.parts(alloc)?;
+    match parts.kind {
+        SELECT => select_operands(alloc, &parts.operands),
+        SAMPLE => sample_operands(alloc, &parts.operands),
+        _ => present(alloc, &parts.operands),
     }
 }
