@@ -1,15 +1,15 @@
 -- Global expressions, the shapes of expressions, and the context of a module.
 use Rattle.std.specs.Prelude.{ℕ, List, [], ◌∷◌, ◌++◌, map, Option, Result, Ok}
+use Rattle.naga_oil_ir.specs.ModuleValue.{FunctionValue, ModuleValue}
 use Rattle.naga_oil_ir.specs.Parts.{Parts}
 use Rattle.naga_oil_ir.specs.declared.module.FunctionArgument.{FunctionArgument}
-use Rattle.naga_oil_ir.specs.declared.module.Module.{Module}
+use Rattle.naga_oil_ir.specs.declared.module.FunctionResult.{FunctionResult}
 use Rattle.naga_oil_ir.specs.declared.span.Span.{Span}
 use Rattle.yettuvam_wgsl_written.specs.Outcomes.{◌>>=◌}
 use Rattle.yettuvam_wgsl_written.specs.Written.{Written}
-use Rattle.yettuvam_wgsl_written_names.specs.Items.{names_of}
-use Rattle.yettuvam_wgsl_written_names.specs.declared.items.ItemNames.{ItemNames}
-use Rattle.yettuvam_wgsl_write_types.specs.Types.{Known, Texts, override_rows, type_rows, type_texts}
-use Rattle.yettuvam_wgsl_write_expressions.specs.Context.{Context, Scope, constant_rows, function_results, global_rows}
+use Rattle.yettuvam_wgsl_written_names.specs.Items.{ItemNames}
+use Rattle.yettuvam_wgsl_write_types.specs.Types.{Known, Texts, type_texts}
+use Rattle.yettuvam_wgsl_write_expressions.specs.Context.{Context, Scope}
 use Rattle.yettuvam_wgsl_write_expressions.specs.Expressions.{expression}
 use Rattle.yettuvam_wgsl_write_expressions.specs.Operands.{WrittenOutcome}
 use Rattle.yettuvam_wgsl_write_expressions.specs.Shapes.{shape_of}
@@ -59,21 +59,24 @@ global_values c es = each_value c (shapes c [] [] es) [] es
 
 -- ---- the context of a module
 
-abbrev pub known_types : Module → ItemNames → Option (List Written) → Known
-known_types m names values = record { names = names_of names; overrides = override_rows m.overrides; values = values }
+abbrev pub known_types : ModuleValue → ItemNames → Option (List Written) → Known
+known_types m names values = record { names = names; overrides = m.overrides; values = values }
 
-abbrev pub context_with : Module → ItemNames → Texts → Context
+abbrev pub results_of : List (FunctionValue × Span) → List (Option FunctionResult)
+results_of fs = map (λ f. f.0.result) fs
+
+abbrev pub context_with : ModuleValue → ItemNames → Texts → Context
 context_with m names texts = record {
-  types = type_rows m.types;
-  constants = constant_rows m.constants;
-  overrides = override_rows m.overrides;
-  globals = global_rows m.global_variables;
-  results = function_results m.functions;
-  names = names_of names;
+  types = m.types;
+  constants = m.constants;
+  overrides = m.overrides;
+  globals = m.global_variables;
+  results = results_of m.functions;
+  names = names;
   texts = texts;
 }
 
 -- the items of a module, their names, and how its types are written once its global expressions are, or before
-unfoldable pub module_context : Module → ItemNames → Option (List Written) → Result Context Span
+unfoldable pub module_context : ModuleValue → ItemNames → Option (List Written) → Result Context Span
 module_context m names values =
-    type_texts (known_types m names values) (type_rows m.types) >>= (λ t. Ok (context_with m names t))
+    type_texts (known_types m names values) m.types >>= (λ t. Ok (context_with m names t))

@@ -1,9 +1,11 @@
 // The context of a module.
 ghost use Rattle.std.specs.Prelude.{option_map};
+ghost use Rattle.naga_oil_ir.specs.ModuleValue.{module_value};
 ghost use Rattle.yettuvam_wgsl_write_expressions.specs.Context as context;
 ghost use Rattle.yettuvam_wgsl_write_globals.specs.Globals as spec;
 ghost use Rattle.yettuvam_wgsl_write_types.specs.Types.{values_of};
 ghost use Rattle.yettuvam_wgsl_written.specs.Outcomes.{Finds};
+ghost use Rattle.yettuvam_wgsl_written_names.specs.Items.{names_of};
 
 use naga_oil_ir::Module;
 use std::alloc::Global;
@@ -17,7 +19,7 @@ use yettuvam_wgsl_written_names::ItemNames;
 ///
 /// # Errors
 /// `NotInWgsl` if WGSL has no such type, `Memory` if out of memory.
-#[tactic(auto, unfolding(crate::specs::Globals::module_context))]
+#[tactic(auto, unfolding(crate::specs::Globals::module_context), using(crate::proofs::Results::same_results))]
 pub fn context_of<'m>(
     alloc: Global,
     of: &'m Module,
@@ -25,7 +27,8 @@ pub fn context_of<'m>(
     values: Option<&[Written<'m>]>,
 ) -> WriteResult<Context<'m>>
     ensures { let known = option_map (λ v. values_of v.now) values.entry in
-        Finds context.context_of result (spec.module_context of.now names.now known) }
+        let made = spec.module_context (module_value of.now) (names_of names.now) known in
+        Finds context.context_of result made }
 {
     let known = Known {
         alloc,
