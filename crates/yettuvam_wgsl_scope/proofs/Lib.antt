@@ -1,2 +1,4 @@
+pub mod Places
+pub mod Spans
 pub mod Takes
 pub mod Turns

@@ -1,5 +1,5 @@
 -- The items of a module.
-use Rattle.std.specs.Prelude.{ℕ, ◌-◌, Bool, true, false, if◌then◌else◌, nat_eq, List, [], ◌∷◌, ◌++◌, length, map, slice_get, Option, Some, None, Result, Ok, Err}
+use Rattle.std.specs.Prelude.{ℕ, ◌-◌, ◌==◌, Bool, true, false, if◌then◌else◌, nat_eq, List, [], ◌∷◌, ◌++◌, length, map, slice_get, Option, Some, None, Result, Ok, Err}
 use Rattle.std.specs.Cmp.Lexicographic.{pointwise}
 use Rattle.std.specs.Borrow.{Bor}
 use Rattle.std.specs.HashMap.{HashMap, get_by}
@@ -8,8 +8,9 @@ use Rattle.yettuvam_wgsl_words.specs.declared.token.Span.{Span}
 use Rattle.yettuvam_wgsl_machine.specs.Machine.{Node}
 use Rattle.yettuvam_wgsl_machine.specs.declared.symbol.Form.{Form}
 use Rattle.yettuvam_wgsl_machine.specs.declared.symbol.Form.TheVariants as form
-use Rattle.yettuvam_wgsl_scope.specs.Refused.{Outcome, ◌>>=◌, done}
+use Rattle.yettuvam_wgsl_scope.specs.Refused.{Outcome, ◌>>=◌, done, fault_after}
 use Rattle.yettuvam_wgsl_scope.specs.declared.refusal.Fault.{Fault}
+use Rattle.yettuvam_wgsl_scope.specs.declared.refusal.Reason.TheVariants as reason
 use Rattle.yettuvam_wgsl_scope.specs.declared.items.Name.{Name as NameOfCode}
 use Rattle.yettuvam_wgsl_scope.specs.declared.items.Item.{Item as ItemOfCode}
 use Rattle.yettuvam_wgsl_scope.specs.declared.items.ItemAct.{ItemAct}
@@ -135,3 +136,40 @@ same_text a b = pointwise nat_eq a b
 -- the value of a map at a name
 abbrev pub item_in : {S : Type 0} → HashMap (Bor (List ℕ)) ℕ S → Text → Option ℕ
 item_in m name = get_by (λ k. same_text name k.now) m
+
+-- the place of the item that has a name
+abbrev pub Places : Type 0
+Places = Text → Option ℕ
+
+abbrev pub no_places : Places
+no_places name = None
+
+-- the item at a place has a name
+abbrev pub with_place : Places → Text → ℕ → Places
+with_place places name place = λ other. if same_text name other then Some place else places other
+
+abbrev pub Placed : Type 0
+Placed = Outcome Places (Unit {0})
+
+abbrev pub declare_after : Option ℕ → List Item → Name → ℕ → Places → Placed
+declare_after None items name place places = done (with_place places name.text place)
+declare_after (Some earlier) items name place places = Err (fault_after reason.DeclaredTwice name.span (name_at items earlier).span)
+
+-- the item at a place declares a name, unless the name is empty
+unfoldable pub declare : List Item → Name → ℕ → Places → Placed
+declare items name place places =
+    if length name.text == 0 then done places else declare_after (places name.text) items name place places
+
+-- the rest of the items, one after the other
+unfoldable pub declare_all : List Item → (rest : List Item) → Places → Placed
+declare_all items [] places = done places
+declare_all items (i ∷ more) places =
+    declare items i.name (length items - length (i ∷ more)) places >>= (λ _. declare_all items more)
+
+abbrev pub places_in : Placed → Result Places Fault
+places_in (Ok p) = Ok p.1
+places_in (Err e) = Err e
+
+-- the names of the items of a module
+abbrev pub names_of : List Item → Result Places Fault
+names_of items = places_in (declare_all items items no_places)

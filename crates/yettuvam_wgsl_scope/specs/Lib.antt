@@ -4,3 +4,4 @@ pub mod Order
 pub mod Refused
 pub mod Scope
 pub mod ScopeRows
+pub mod Stages

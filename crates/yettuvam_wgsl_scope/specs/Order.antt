@@ -9,6 +9,7 @@ use Rattle.yettuvam_wgsl_scope.specs.declared.order.Mark.{Mark}
 use Rattle.yettuvam_wgsl_scope.specs.declared.order.Mark.TheVariants as mark
 use Rattle.yettuvam_wgsl_scope.specs.declared.order.Visit.{Visit as VisitOfCode}
 use Rattle.yettuvam_wgsl_scope.specs.declared.order.Sorter.{Sorter}
+use Rattle.yettuvam_wgsl_scope.specs.declared.order.Order.{Order as OrderOfCode}
 
 -- an item that is being sorted, and the items that it names of which none is sorted yet
 abbrev pub Visit : Type 0
@@ -116,6 +117,9 @@ start_of spans uses marks = record { spans = spans; uses = uses; marks = marks; 
 abbrev pub order_in : Done → Result (List ℕ × List ℕ) Fault
 order_in (Ok p) = Ok (p.1.order, map rank_of p.1.marks)
 order_in (Err e) = Err e
+
+abbrev pub order_view : OrderOfCode → List ℕ × List ℕ
+order_view o = (o.order.items, o.ranks.items)
 
 -- the items, one after the other, each after those that it names, and the place of each item in that order
 abbrev pub sorted : List Span → List (List ℕ) → ℕ → Result (List ℕ × List ℕ) Fault

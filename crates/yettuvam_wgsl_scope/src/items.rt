@@ -1,13 +1,13 @@
 //! The items of a module.
 
-ghost use Rattle.std.specs.Prelude.{◌≡◌, IfOk, length, map};
+ghost use Rattle.std.specs.Prelude.{◌≡◌, OnOk, length};
 ghost use Rattle.yettuvam_wgsl_machine.specs.Machine.{node_view, nodes_view};
 ghost use Rattle.yettuvam_wgsl_scope.specs.Items as spec;
 ghost use Rattle.yettuvam_wgsl_scope.specs.Items.{state_of, items_view, name_view};
 ghost use Rattle.yettuvam_wgsl_scope.specs.Refused.{Reads, Gives};
 
 use crate::refusal::{Reason, Refusal, refused_after};
-use std::alloc::Global;
+use std::alloc::{AllocError, Global};
 use std::collections::HashMap;
 use yettuvam_wgsl_machine::symbol::{Form, Node};
 use yettuvam_wgsl_words::token::Span;
@@ -203,8 +203,24 @@ pub fn item_named<'t>(names: &ItemNames<'t>, name: &'t [u8]) -> Option<usize>
     names.get(&name).copied()
 }
 
-fn declare<'t>(names: &mut ItemNames<'t>, items: &[Item<'t>], place: usize) -> Result<(), Refusal> {
-    let name = name_at(items, place);
+/// The item at a place has a name.
+fn set_place<'t>(names: &mut ItemNames<'t>, name: &'t [u8], place: usize) -> Result<(), AllocError>
+    ensures { OnOk result (spec.item_in names.new ≡ spec.with_place (spec.item_in names.old) name.now place) }
+{
+    names.insert(name, place)?;
+    Ok(())
+}
+
+/// The item at a place declares a name, unless the name is empty.
+#[tactic(auto, unfolding(crate::specs::Items::declare))]
+fn declare<'t>(
+    names: &mut ItemNames<'t>,
+    items: &[Item<'t>],
+    name: Name<'t>,
+    place: usize,
+) -> Result<(), Refusal>
+    ensures { Reads (spec.declare (items_view items.now) (name_view name.entry) place (spec.item_in names.old)) result (spec.item_in names.new) }
+{
     if name.text.is_empty() {
         return Ok(());
     }
@@ -215,20 +231,37 @@ fn declare<'t>(names: &mut ItemNames<'t>, items: &[Item<'t>], place: usize) -> R
             name_at(items, earlier).span,
         )),
         None => {
-            names.insert(name.text, place)?;
+            set_place(names, name.text, place)?;
             Ok(())
         }
     }
+}
+
+#[tactic(auto, unfolding(crate::specs::Items::declare_all))]
+fn declare_all<'t>(names: &mut ItemNames<'t>, items: &[Item<'t>]) -> Result<(), Refusal>
+    ensures { Reads (spec.declare_all (items_view items.now) (items_view items.now) (spec.item_in names.old)) result (spec.item_in names.new) }
+{
+    let mut rest = items;
+    while let [item, more @ ..] = rest {
+        declare(
+            names,
+            items,
+            item.name,
+            items.len().saturating_sub(rest.len()),
+        )?;
+        rest = more;
+    }
+    Ok(())
 }
 
 /// The names of the items of a module.
 ///
 /// # Errors
 /// `DeclaredTwice` if two items have one name.
-pub fn names_of<'t>(alloc: Global, items: &[Item<'t>]) -> Result<ItemNames<'t>, Refusal> {
+pub fn names_of<'t>(alloc: Global, items: &[Item<'t>]) -> Result<ItemNames<'t>, Refusal>
+    ensures { Gives (λ m. spec.item_in m) result (spec.names_of (items_view items.now)) }
+{
     let mut names = HashMap::new(alloc);
-    for place in 0..items.len() {
-        declare(&mut names, items, place)?;
-    }
+    declare_all(&mut names, items)?;
     Ok(names)
 }

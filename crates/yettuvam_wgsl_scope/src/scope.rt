@@ -3,9 +3,10 @@
 ghost use Rattle.std.specs.Prelude.{◌≡◌, IfOk, map, take, drop};
 ghost use Rattle.yettuvam_wgsl_machine.specs.Machine.{nodes_view};
 ghost use Rattle.yettuvam_wgsl_scope.specs.Items.{item_in, items_view, item_view};
-ghost use Rattle.yettuvam_wgsl_scope.specs.Refused.{Reads};
+ghost use Rattle.yettuvam_wgsl_scope.specs.Order.{order_view, uses_view};
+ghost use Rattle.yettuvam_wgsl_scope.specs.Refused.{Gives, Reads};
 ghost use Rattle.yettuvam_wgsl_scope.specs.Scope as spec;
-ghost use Rattle.yettuvam_wgsl_scope.specs.Scope.{state_of};
+ghost use Rattle.yettuvam_wgsl_scope.specs.Scope.{state_of, resolved_view, scopes_view};
 
 use crate::items::{Item, ItemNames, items_of, names_of};
 use crate::names::{Bound, Names, start};
@@ -103,21 +104,63 @@ fn spans_of(alloc: Global, items: &[Item<'_>]) -> Result<Vec<Span>, AllocError>
     items.iter().map(|item| item.name.span).collect(alloc)
 }
 
+/// The nodes of items with what names mean, and what the items name.
+#[derive(Drop)]
+pub struct Resolved<'t> {
+    nodes: Vec<Vec<Bound<'t>>>,
+    uses: Vec<Vec<usize>>,
+}
+
+#[tactic(auto, unfolding(crate::specs::Scope::resolved_of))]
+fn resolved_of<'t>(
+    alloc: Global,
+    items: &[Item<'t>],
+    nodes: &[Node<'t>],
+) -> Result<Resolved<'t>, Refusal>
+    ensures { Gives resolved_view result (spec.resolved_of (nodes_view nodes.now) (items_view items.now)) }
+{
+    let names = names_of(alloc, items)?;
+    let mut resolver = start_resolver(alloc, &names);
+    resolver.run(items, nodes)?;
+    let Resolver { nodes, uses, .. } = resolver;
+    Ok(Resolved { nodes, uses })
+}
+
+/// The most turns that sorting takes: one for each item and each use, and one.
+fn turns_of(nodes: usize, items: usize) -> usize
+    ensures { result ≡ spec.turns_of nodes items }
+{
+    nodes.saturating_add(items).saturating_add(1)
+}
+
+#[tactic(auto, using(crate::proofs::Spans::spans_seen))]
+fn order_of(
+    alloc: Global,
+    items: &[Item<'_>],
+    uses: &[Vec<usize>],
+    turns: usize,
+) -> Result<Order, Refusal>
+    ensures { Gives order_view result (spec.order_of (items_view items.now) (uses_view uses.now) turns) }
+{
+    let spans = spans_of(alloc, items)?;
+    sorted(alloc, spans.as_slice(), uses, turns)
+}
+
 /// Resolves the names of a module and sorts its items.
 ///
 /// # Errors
 /// `DeclaredTwice` if a scope declares a name twice, `Cycle` if an item reaches itself.
-pub fn scoped<'t>(alloc: Global, nodes: &[Node<'t>]) -> Result<Scopes<'t>, Refusal> {
+#[tactic(auto, unfolding(crate::specs::Scope::scoped))]
+pub fn scoped<'t>(alloc: Global, nodes: &[Node<'t>]) -> Result<Scopes<'t>, Refusal>
+    ensures { Gives scopes_view result (spec.scoped (nodes_view nodes.now)) }
+{
     let items = items_of(alloc, nodes)?;
-    let names = names_of(alloc, items.as_slice())?;
-    let mut resolver = start_resolver(alloc, &names);
-    resolver.run(items.as_slice(), nodes)?;
-    let spans = spans_of(alloc, items.as_slice())?;
-    let turns = nodes.len().saturating_add(items.len()).saturating_add(1);
-    let order = sorted(alloc, spans.as_slice(), resolver.uses.as_slice(), turns)?;
+    let resolved = resolved_of(alloc, items.as_slice(), nodes)?;
+    let turns = turns_of(nodes.len(), items.len());
+    let order = order_of(alloc, items.as_slice(), resolved.uses.as_slice(), turns)?;
     Ok(Scopes {
         items,
-        nodes: resolver.nodes,
+        nodes: resolved.nodes,
         order,
     })
 }

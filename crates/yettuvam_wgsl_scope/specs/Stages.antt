@@ -1,0 +1,7 @@
+-- Stages one after the other: the first fault ends them.
+use Rattle.std.specs.Prelude.{Result, Ok, Err}
+
+infixl 10 ◌>>=◌
+abbrev pub ◌>>=◌ : {A B F : Type 0} → Result A F → (A → Result B F) → Result B F
+(Ok a) >>= f = f a
+(Err e) >>= f = Err e
