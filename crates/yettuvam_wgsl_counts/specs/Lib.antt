@@ -1,0 +1,3 @@
+pub mod Times
+pub mod Locals
+pub mod CountsRows
