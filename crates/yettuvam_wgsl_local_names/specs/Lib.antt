@@ -1,0 +1,2 @@
+pub mod LocalNames
+pub mod LocalNamesRows
