@@ -1,9 +1,9 @@
 -- Names that stay as they are.
-use Rattle.std.proofs.Common.{◌≡◌, Bool, true, false, not, ◌&&◌, ◌||◌, if◌then◌else◌, List, [], ◌∷◌, ◌++◌, Option, Some, None, Result, Ok, Err, refl, sym, ap, ◌∙◌}
+use Rattle.std.proofs.Common.{◌≡◌, Bool, true, false, not, ◌&&◌, ◌||◌, if◌then◌else◌, [], ◌∷◌, ◌++◌, Some, Result, Ok, Err, refl, sym, ap, ◌∙◌}
 use Rattle.naga_oil_ir.specs.declared.span.Span.{Span}
 use Rattle.naga_oil_words.specs.Marks.{has_module_mark}
 use Rattle.yettuvam_wgsl_names.specs.Table.{Name}
-use Rattle.yettuvam_wgsl_written_names.specs.Items.{Naming, add_name, with_name, is_refused}
+use Rattle.yettuvam_wgsl_written_names.specs.Items.{Naming, add_name, with_name}
 use Rattle.yettuvam_wgsl_written_names.specs.Spelled.{is_name}
 use Rattle.yettuvam_wgsl_written_names.specs.Taken.{Taken, Made, has, taking, fresh, make_numbered}
 

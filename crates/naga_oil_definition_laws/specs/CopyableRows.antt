@@ -1,0 +1,135 @@
+-- Worked rows: a module that can be copied, and functions of it that can be called and imported; and others that can't.
+use Rattle.std.proofs.Common.{◌≡◌, ◌⊎◌, inl, inr, ℕ, zero, suc, ◌<◌, [], ◌∷◌, true, false, Some, None, IfSome, IsSome, refl, arith}
+use Rattle.std.specs.Prelude.{codes}
+use Rattle.naga_oil_words.specs.Marks.{has_module_mark}
+use Rattle.naga_oil_form.specs.BodyForm.{IsTokenFine}
+use Rattle.naga_oil_form.specs.Form.{is_formed}
+use Rattle.naga_oil_form.specs.Links as links
+use Rattle.naga_oil_ir.specs.ModuleValue.{ModuleValue, FunctionValue}
+use Rattle.naga_oil_ir.specs.Spans.{undefined}
+use Rattle.naga_oil_ir.specs.declared.span.Span.{Span}
+use Rattle.naga_oil_ir.specs.declared.tokens.Token.TheVariants.{Callee}
+use Rattle.naga_oil_walk.specs.Naming.{names_from}
+use Rattle.naga_oil_walk.specs.declared.walk.Request.TheVariants.{Call}
+use Rattle.naga_oil_derive.specs.Derived.{Derived, nothing}
+use Rattle.naga_oil_derive.specs.DerivedFunctions.{MayAsk, MayCall, MayCopy, CanCall, requests_of}
+use Rattle.naga_oil_derive.specs.World.{ItemMap}
+use Rattle.naga_oil_form_laws.specs.DerivedForm.{MayBeImported}
+use Rattle.naga_oil_form_laws.specs.EntryForm.{IsModuleFormed}
+use Rattle.naga_oil_form_laws.specs.Shape.{HasModuleShape}
+use Rattle.naga_oil_form_laws.specs.ShapeTest.{has_shape}
+use Rattle.naga_oil_form_laws.proofs.ImportLemmas.{each_comes}
+use Rattle.naga_oil_form_laws.proofs.RequestLemmas.{all_at}
+use Rattle.naga_oil_form_laws.proofs.ShapeTests.{shape_test}
+use Rattle.naga_oil_redirect.specs.PutInOrderRows.{calling, empty, module_of}
+use Rattle.naga_oil_copy_laws.specs.InTurn.{CanCopyModule}
+use Rattle.naga_oil_link_laws.proofs.FormedSources.{may_copy, can_copy}
+use Rattle.naga_oil_link_laws.proofs.ParsedShapes.{parsed_shape}
+
+-- f, and g, which calls it; the entry point calls g
+abbrev f : FunctionValue
+f = empty (codes "f")
+
+abbrev g : FunctionValue
+g = calling (codes "g") 0
+
+abbrev pub two : ModuleValue
+two = module_of (f ∷ g ∷ []) (calling (codes "main") 1)
+
+-- a function without a name, and one that calls a function that isn't there
+abbrev nameless : FunctionValue
+nameless = record f { name = None }
+
+abbrev astray : FunctionValue
+astray = calling (codes "f") 5
+
+abbrev with_nameless : ModuleValue
+with_nameless = module_of (nameless ∷ []) (empty (codes "main"))
+
+abbrev with_astray : ModuleValue
+with_astray = module_of (astray ∷ []) (empty (codes "main"))
+
+-- ---- modules
+
+has_the_shape : HasModuleShape two
+unfolding has_shape
+has_the_shape = (shape_test two).0 refl
+
+is_tested : is_formed two [] 9 ≡ true
+unfolding is_formed links.trail has_module_mark
+is_tested = refl
+
+formed : IsModuleFormed two
+unfolding has_module_mark
+formed = parsed_shape two 0 [] 9 has_the_shape (omega arith) is_tested
+
+copied : CanCopyModule two
+copied = can_copy two formed
+
+nameless_is_refused : CanCopyModule with_nameless → ⊥
+nameless_is_refused h = let e : false ≡ true = (h.functions 0 (nameless, undefined) refl).1 in absurd cc
+
+-- what a function calls must be there
+astray_call : MayCopy with_astray (MayCall with_astray [] 1) astray → ⊥
+unfolding names_from links.trail
+astray_call h = let l : 5 < 1 = (all_at (MayAsk with_astray (MayCall with_astray [] 1)) (requests_of astray) 0 (Call 5) h.requests refl).0 in absurd (omega (arith, l))
+
+astray_is_refused : CanCopyModule with_astray → ⊥
+astray_is_refused h = astray_call (h.functions 0 (astray, undefined) refl).0.reaches
+
+-- ---- functions that can be called
+
+-- f calls nothing, and g calls f
+may_call_f : (n : ℕ) → MayCall two [] (suc n) 0
+may_call_f n = inr (refl, may_copy two (MayCall two [] n) 0 f (omega arith) (λ k l. absurd (omega (arith, l))) (formed.functions.forms 0 (f, undefined) refl))
+
+may_call_g : MayCall two [] 2 1
+may_call_g = inr (refl, may_copy two (MayCall two [] 1) 1 g (omega arith) below (formed.functions.forms 1 (g, undefined) refl))
+  where
+    below : (k : ℕ) → k < 1 → MayCall two [] 1 k
+    below zero l = may_call_f 0
+    below (suc k) l = absurd (omega (arith, l))
+
+module _ (places : ItemMap) (target : ModuleValue) where
+  -- a derived module with a source, of which nothing is copied yet
+  abbrev over : ModuleValue → Derived
+  over m = record { source = Some (record { value = m; offset = 0; places = places }); target = target; function_names = [] }
+
+  first_is_called : CanCall (over two) 0
+  first_is_called = (refl, (omega arith, may_call_f 1))
+
+  second_is_called : CanCall (over two) 1
+  second_is_called = (refl, (omega arith, may_call_g))
+
+  third_is_refused : CanCall (over two) 2 → ⊥
+  third_is_refused h = let l : 2 < 2 = h.1.0 in absurd (omega (arith, l))
+
+  astray_caller_is_refused : CanCall (over with_astray) 0 → ⊥
+  unfolding names_from links.trail
+  astray_caller_is_refused h = neither h.1.1
+    where
+      neither : IsSome {T = ℕ} None ⊎ IfSome {T = FunctionValue × Span} (Some (astray, undefined)) (λ e. IsSome e.0.name × MayCopy with_astray (MayCall with_astray [] 0) e.0) → ⊥
+      neither (inl e) = absurd cc
+      neither (inr p) = let l : 5 < 1 = (all_at (MayAsk with_astray (MayCall with_astray [] 0)) (requests_of astray) 0 (Call 5) p.1.requests refl).0 in absurd (omega (arith, l))
+
+  -- ---- functions that may be imported
+
+  second_is_imported : MayBeImported (over two) 1 g undefined
+  second_is_imported = (refl, each_comes two 1 (g, undefined) formed.functions refl)
+
+  nameless_import_is_refused : (c : ℕ) → MayBeImported (over two) c nameless undefined → ⊥
+  nameless_import_is_refused c h = let e : false ≡ true = h.1.named in absurd cc
+
+  -- a function that stands before its place has its name
+  name_twice_is_refused : MayBeImported (over two) 1 f undefined → ⊥
+  name_twice_is_refused h = h.1.apart 0 (f, undefined) (omega arith) refl refl
+
+  -- it calls a function that stands at its place
+  later_call_is_refused : MayBeImported (over two) 1 (calling (codes "h") 1) undefined → ⊥
+  later_call_is_refused h = let l : 1 < 1 = all_at (IsTokenFine 1 4294967295) (calling (codes "h") 1).body 1 (Callee 1) h.1.form.statements refl in absurd (omega (arith, l))
+
+call_without_source_is_refused : (k : ℕ) → CanCall nothing k → ⊥
+call_without_source_is_refused k h = let e : false ≡ true = h.0 in absurd cc
+
+import_without_source_is_refused : (c : ℕ) → MayBeImported nothing c g undefined → ⊥
+import_without_source_is_refused c h = let e : false ≡ true = h.0 in absurd cc

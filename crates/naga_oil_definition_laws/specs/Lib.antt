@@ -1,0 +1,8 @@
+-- Worked rows of definitions that laws cite: what each accepts, and what each refuses.
+mod ChainsRows
+mod CopyableRows
+mod FrontsRows
+mod PremiseRows
+mod RecordedRows
+mod RegisteredRows
+mod SettingsRows
