@@ -89,7 +89,8 @@ fn loads(expressions: &Arena<Expression>, is_let: &[bool], place: Operand, point
     !is_set(is_let, place) && is_pointer(loaded_in(expressions, place), pointer)
 }
 
-fn compound(
+/// Returns the operator and the right operand of an assignment by an operator, of a value to the place of a pointer.
+pub fn compound(
     expressions: &Arena<Expression>,
     is_let: &[bool],
     pointer: Operand,
