@@ -1,10 +1,16 @@
-"""Which rows pin the definitions that public laws speak of.
+"""What pins the definitions that public laws speak of: what would fail if one of them were empty or everything.
 
     python3 tests/pinned.py [ROOT]
 
-A row is a theorem about small values, in a file of definitions or proofs whose name ends with `Rows`. A definition is pinned by the
-first rows that name it, or through a definition that rows name and that is made of it. Prints a line for each definition: its name,
-its file, and the rows or the definition in between. The status is 1 if no row has to do with one of them, else 0.
+A definition is pinned by the first of these that there is:
+- a row that names it: a theorem about small values, in a file of definitions or proofs whose name ends with `Rows`, or the rows of
+  wrong modules of `naga_oil_faithful_laws`;
+- a contract of a function that runs: the tests run it on values from outside;
+- a public law by which it holds exactly if something else does, for all values;
+- a public law about its values, if it is a function;
+- two public laws, one that concludes it and one that presumes it: the first fails if it is empty, the second if it is everything;
+- a definition that one of the others names and that is made of it.
+Prints a line for each definition: its name, its file, and what pins it. The status is 1 if nothing pins one of them, else 0.
 """
 import os
 import re
@@ -94,50 +100,135 @@ class Tree:
         return path if path in self.own else None
 
 
+def split(statement):
+    """The premises of a statement, and what it concludes, which stands after its last arrow."""
+    depth = last = 0
+    for at, each in enumerate(statement):
+        depth += (each in '([{') - (each in ')]}')
+        if each == '→' and not depth:
+            last = at
+    return statement[:last], statement[last:]
+
+
+def statements(body):
+    """The statements of a law: each field of a record, or what stands after the equals sign."""
+    first, _, rest = body.partition('\n')
+    if 'record' in first.split():
+        return re.split(r'\n\s+pub \w+ : ', '\n' + rest)[1:]
+    return [body.partition('\n')[2].partition(' =')[2] or body.partition(' =')[2]]
+
+
+def roots_and_contracts(parts):
+    """The definitions that stand in public laws, and those that stand in the contracts of functions that run, with their files."""
+    roots, contracts = set(), {}
+    for crate in sorted(os.listdir('crates')):
+        for path in files(f'crates/{crate}/src', '.rt'):
+            base = os.path.basename(path)
+            is_lawful = base == 'laws.rt' or crate.endswith('_laws') and base in LAWS
+            for home, name in imports(read(path))[0].values():
+                if (home, name) in parts:
+                    if is_lawful or crate == 'naga_oil' and base in ('composer.rt', 'command.rt'):
+                        roots.add((home, name))
+                    if not is_lawful and not crate.endswith('_laws'):
+                        contracts.setdefault((home, name), path)
+    return roots, contracts
+
+
+def closed(some, parts):
+    """These definitions and all that they are made of."""
+    all_of, left = set(some), list(some)
+    while left:
+        for each in parts.get(left.pop(), set()) - all_of:
+            all_of.add(each)
+            left.append(each)
+    return all_of
+
+
+def rows_of(tree):
+    """The definitions that rows name, with the file of the first row."""
+    pins = {}
+    for path, text in tree.texts.items():
+        if os.path.basename(path)[:-5].endswith('Rows') or path.startswith('crates/naga_oil_faithful_laws/'):
+            for each in tree.names(path, bare(re.sub(USED, '', text)), declarations(text)):
+                pins.setdefault(each, path)
+    return pins
+
+
+def equal_by_laws(tree, parts):
+    """The definitions that hold exactly if something else does, by a clause of a public law, with the law's file."""
+    found = {}
+    for crate in sorted(os.listdir('crates')):
+        for path in files(f'crates/{crate}/src', 'laws.rt'):
+            for clause in read(path).split('ensures')[1:]:
+                named = {it for it in tree.names(path, clause, {}) if it in parts}
+                if any('↔' in text for text in [clause, *(tree.own[tree.path(home)][name] for home, name in named)]):
+                    for each in named:
+                        found.setdefault(each, path)
+    return found
+
+
+def clauses(text):
+    """The statements of the clauses of a file: those that are required, and those that are ensured."""
+    found = {'requires': [], 'ensures': []}
+    for word, statement in re.findall(r'^ +(requires|ensures)\b[^{\n]*\{(.*?)\}\n(?= +(?:requires|ensures)\b|\{)', text, re.M | re.S):
+        found[word].append(statement)
+    return found
+
+
+def laws_of(tree, spoken):
+    """The laws that conclude each definition, and those that presume it: definitions whose names end with `Law`, and clauses of public laws."""
+    concluded, presumed = {}, {}
+
+    def look(law, path, before, after, own):
+        for found, text in ((presumed, before), (concluded, after)):
+            for it in tree.names(path, text, own):
+                found.setdefault(it, law)
+
+    for home, law in sorted(it for it in spoken if it[1].endswith('Law')):
+        path = tree.path(home)
+        for each in statements(tree.own[path][law]):
+            look(law, path, *split(each), tree.own[path])
+    for crate in sorted(os.listdir('crates')):
+        for path in files(f'crates/{crate}/src', 'laws.rt'):
+            found = clauses(read(path))
+            for each in found['requires']:
+                look(path.removeprefix('crates/'), path, each, '', {})
+            for each in found['ensures']:
+                look(path.removeprefix('crates/'), path, *split(each), {})
+    return concluded, presumed
+
+
 def main():
     if len(sys.argv) > 1:
         os.chdir(sys.argv[1])
     tree = Tree()
-    parts = {}
-    for path, own in tree.own.items():
-        for name, body in own.items():
-            parts[module_of(path), name] = tree.names(path, body, own) - {(module_of(path), name)}
-    roots = set()
-    for crate in sorted(os.listdir('crates')):
-        for path in files(f'crates/{crate}/src', '.rt'):
-            base = os.path.basename(path)
-            if base == 'laws.rt' or crate.endswith('_laws') and base in LAWS or crate == 'naga_oil' and base in ('composer.rt', 'command.rt'):
-                roots |= {(home, name) for home, name in imports(read(path))[0].values() if (home, name) in parts}
-    spoken, left = set(roots), list(roots)
-    while left:
-        for each in parts[left.pop()] - spoken:
-            spoken.add(each)
-            left.append(each)
-    pins, through = {}, {}
-    for path, text in tree.texts.items():
-        if os.path.basename(path)[:-5].endswith('Rows'):
-            for each in tree.names(path, bare(re.sub(USED, '', text)), declarations(text)):
-                pins.setdefault(each, path)
-    left = list(pins)
+    parts = {(module_of(path), name): tree.names(path, body, own) - {(module_of(path), name)} for path, own in tree.own.items() for name, body in own.items()}
+    roots, contracts = roots_and_contracts(parts)
+    spoken, pins = closed(roots, parts), rows_of(tree)
+    concluded, presumed = laws_of(tree, spoken)
+    short = lambda it: it.removeprefix('crates/').replace('/specs/', '/').removesuffix('.antt')
+    told = {each: short(path) for each, path in pins.items()}
+    for each, path in contracts.items():
+        told.setdefault(each, f'contract {path.removeprefix("crates/")}')
+    for each, path in equal_by_laws(tree, parts).items():
+        told.setdefault(each, f'equal by {path.removeprefix("crates/")}')
+    for each, law in concluded.items():
+        if each[1][0].islower():
+            told.setdefault(each, f'a function in {law}')
+        if each in presumed:
+            told.setdefault(each, f'concluded by {concluded[each]}, presumed by {presumed[each]}')
+    left = list(told)
     while left:
         each = left.pop(0)
         for part in sorted(parts.get(each, ())):
-            if part not in pins and part not in through:
-                through[part] = each
+            if part not in told:
+                told[part] = f'through {each[1]}'
                 left.append(part)
-    is_rows = lambda each: each[0][1].endswith('Rows')
     lacking = 0
-    for each in sorted(it for it in spoken if not is_rows(it)):
-        path = tree.path(each[0])
-        short = lambda it: it.removeprefix('crates/').replace('/specs/', '/').removesuffix('.antt')
-        if each in pins:
-            told = short(pins[each])
-        elif each in through:
-            told = f'through {through[each][1]}'
-        else:
-            told, lacking = 'NO ROW', lacking + 1
-        print(f'{each[1]} | {short(path)} | {told}')
-    print(f'{len(spoken)} definitions, of which {sum(it in pins for it in spoken)} are named by rows and {lacking} have to do with none')
+    for each in sorted(it for it in spoken if not it[0][1].endswith('Rows') and not it[1].endswith('Law')):
+        lacking += each not in told
+        print(f'{each[1]} | {short(tree.path(each[0]))} | {told.get(each, "NOTHING")}')
+    print(f'{len(spoken)} definitions; nothing pins {lacking} of them')
     return 1 if lacking else 0
 
 

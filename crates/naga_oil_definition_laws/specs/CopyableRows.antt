@@ -1,5 +1,6 @@
 -- Worked rows: a module that can be copied, and functions of it that can be called and imported; and others that can't.
 use Rattle.std.proofs.Common.{◌≡◌, ◌⊎◌, inl, inr, ℕ, zero, suc, ◌<◌, [], ◌∷◌, true, false, Some, None, IfSome, IsSome, refl, arith}
+use Rattle.std.specs.List.{All}
 use Rattle.std.specs.Prelude.{codes}
 use Rattle.naga_oil_words.specs.Marks.{has_module_mark}
 use Rattle.naga_oil_form.specs.BodyForm.{IsTokenFine}
@@ -11,8 +12,9 @@ use Rattle.naga_oil_ir.specs.declared.span.Span.{Span}
 use Rattle.naga_oil_ir.specs.declared.tokens.Token.TheVariants.{Callee}
 use Rattle.naga_oil_walk.specs.Naming.{names_from}
 use Rattle.naga_oil_walk.specs.declared.walk.Request.TheVariants.{Call}
+use Rattle.naga_oil_derive.specs.AnsweredLaw.{CanAnswer}
 use Rattle.naga_oil_derive.specs.Derived.{Derived, nothing}
-use Rattle.naga_oil_derive.specs.DerivedFunctions.{MayAsk, MayCall, MayCopy, CanCall, requests_of}
+use Rattle.naga_oil_derive.specs.DerivedFunctions.{MayAsk, MayCall, MayCopy, MayReach, CanCall, requests_of}
 use Rattle.naga_oil_derive.specs.World.{ItemMap}
 use Rattle.naga_oil_form_laws.specs.DerivedForm.{MayBeImported}
 use Rattle.naga_oil_form_laws.specs.EntryForm.{IsModuleFormed}
@@ -63,7 +65,7 @@ formed : IsModuleFormed two
 unfolding has_module_mark
 formed = parsed_shape two 0 [] 9 has_the_shape (omega arith) is_tested
 
-copied : CanCopyModule two
+pub copied : CanCopyModule two
 copied = can_copy two formed
 
 nameless_is_refused : CanCopyModule with_nameless → ⊥
@@ -100,6 +102,14 @@ module _ (places : ItemMap) (target : ModuleValue) where
 
   second_is_called : CanCall (over two) 1
   second_is_called = (refl, (omega arith, may_call_g))
+
+  both_are_answered : CanAnswer (over two) (Call 0 ∷ Call 1 ∷ [])
+  both_are_answered = (refl, each)
+    where
+      each : All (MayAsk two (MayReach [] (record { value = two; offset = 0; places = places }))) (Call 0 ∷ Call 1 ∷ [])
+      each zero d l = first_is_called.1
+      each (suc zero) d l = second_is_called.1
+      each (suc (suc k)) d l = absurd (omega (arith, l))
 
   third_is_refused : CanCall (over two) 2 → ⊥
   third_is_refused h = let l : 2 < 2 = h.1.0 in absurd (omega (arith, l))

@@ -3,3 +3,4 @@ pub mod Turns
 pub mod Rows
 pub mod Run
 pub mod Numbers
+mod BalanceRows
