@@ -140,10 +140,7 @@ fn push_text<'m>(s: &Setting<'_, 'm>, out: &mut Pieces<'m>, tokens: &[Token]) ->
 fn types_in(alloc: Global, locals: &[(LocalVariable, Span)]) -> Result<Vec<usize>, AllocError>
     ensures { IfOk result (λ v. v.items ≡ map (λ l. l.0.ty) locals.now) }
 {
-    locals
-        .iter()
-        .map(|local| local.0.ty.index())
-        .collect(alloc)
+    locals.iter().map(|local| local.0.ty.index()).collect(alloc)
 }
 
 #[tactic(auto, using(crate::proofs::Types::same_locals))]
