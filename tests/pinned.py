@@ -1,16 +1,17 @@
-"""What pins the definitions that public laws speak of: what would fail if one of them were empty or everything.
+"""Where the definitions that public laws speak of are named: what may fail if one of them is empty or everything.
 
     python3 tests/pinned.py [ROOT]
 
-A definition is pinned by the first of these that there is:
-- a row that names it: a theorem about small values, in a file of definitions or proofs whose name ends with `Rows`, or the rows of
-  wrong modules of `naga_oil_faithful_laws`;
+This reads names. It doesn't try a wrong definition, so a line is a place to look at and no proof that a wrong one fails.
+For each definition it prints the first of these that there is:
+- a row that names it: a theorem about small values, in a file of definitions or proofs whose name ends with `Rows`, or any file of
+  `naga_oil_faithful_laws`, whose wrong modules are refused there;
 - a contract of a function that runs: the tests run it on values from outside;
 - a public law by which it holds exactly if something else does, for all values;
 - a public law about its values, if it is a function;
 - two public laws, one that concludes it and one that presumes it: the first fails if it is empty, the second if it is everything;
-- a definition that one of the others names and that is made of it.
-Prints a line for each definition: its name, its file, and what pins it. The status is 1 if nothing pins one of them, else 0.
+- another definition, of which it is part (`through`): nothing names it by itself, which is the weakest.
+Prints a line for each definition: its name, its file, and that place. The status is 1 if one of them has none, else 0.
 """
 import os
 import re
@@ -228,7 +229,8 @@ def main():
     for each in sorted(it for it in spoken if not it[0][1].endswith('Rows') and not it[1].endswith('Law')):
         lacking += each not in told
         print(f'{each[1]} | {short(tree.path(each[0]))} | {told.get(each, "NOTHING")}')
-    print(f'{len(spoken)} definitions; nothing pins {lacking} of them')
+    through = sum(told.get(it, '').startswith('through') for it in spoken)
+    print(f'{len(spoken)} definitions and laws; {through} are named only through others, {lacking} nowhere')
     return 1 if lacking else 0
 
 
