@@ -57,9 +57,9 @@ pub none_known : (n : Text) → is_some (meant [] n) ≡ has_name [] n
 none_known None = refl
 none_known (Some n) = refl
 
-pub begun : (m : ModuleValue) (own : OwnPlaces) (decoration : List ℕ) → HasFrom m 0 [] (copy_places true m own decoration).derived
+pub begun : (m : ModuleValue) (all : Bool) (own : OwnPlaces) (decoration : List ℕ) → HasFrom m 0 [] (copy_places all m own decoration).derived
 unfolding copy_places
-begun m own n = places_imported m true own n [] (places_of m) (nothing_copied m) (source_set m 0 [] nothing (record { copies = tt; names = none_known }))
+begun m all own n = places_imported m all own n [] (places_of m) (nothing_copied m) (source_set m 0 [] nothing (record { copies = tt; names = none_known }))
 
 -- ---- what is reached stands before
 
@@ -170,6 +170,6 @@ held_functions m own decoration names form =
     let test = λ (f : Function). is_named_so (is_among names) f.0.name in
     let vs = filter test m.functions in
     let turn : MayComeInTurn m (λ x. has_name [] x ≡ true) vs = fewer m form.functions no_name (λ x. has_name [] x ≡ true) vs no_name_yet (passing_in_turn m test form) in
-    let all = in_turn m form.functions vs [] d turn (begun m own decoration) in
+    let all = in_turn m form.functions vs [] d turn (begun m true own decoration) in
     let same : fold (copy_with_body names) d m.functions ≡ import_functions d vs = bodies_imported names m.functions d ∙ ap (import_functions d) (filter_same (among names) test (names_taken names) m.functions) in
     made_functions m (fold reach [] (map (from m 0) vs)) (fold (copy_with_body names) d m.functions) (subst (HasFrom m 0 (fold reach [] (map (from m 0) vs))) (sym same) all)

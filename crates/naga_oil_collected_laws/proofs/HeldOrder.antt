@@ -157,7 +157,7 @@ held_order m own decoration names form =
     let t = fold (with_item m) (with_source m no_trail) (taken_items m own) in
     let v = fold with_function t (map (from m 0) vs) in
     let items : Follows m own decoration can t c.derived = places_follow m own decoration can (places_of m) (has_places m) (with_source m no_trail) (nothing_copied m) (begins m own decoration can) in
-    let functions : Follows m own decoration can v (import_functions c.derived vs) = functions_follow m own decoration can form.functions vs (All-filter test StandsIn m.functions standing) [] t c.derived turn (begun m own decoration) items in
+    let functions : Follows m own decoration can v (import_functions c.derived vs) = functions_follow m own decoration can form.functions vs (All-filter test StandsIn m.functions standing) [] t c.derived turn (begun m true own decoration) items in
     let same_d : d ≡ import_functions c.derived vs = bodies_imported names m.functions c.derived ∙ ap (import_functions c.derived) (filter_same (among names) test (names_taken names) m.functions) in
     let here : Follows m own decoration can v d = subst (Follows m own decoration can v) (sym same_d) functions in
     let ok = λ (i : ℕ) (y : EntryValue) (at : slice_get m.entry_points i ≡ Some y). (let e = can.entry_points i y at in let all : All (AsksThere m) (requests_of y.function) × All (λ o. IfSome o (HasAt m)) (entry_names y) = (all_asked m y.function e.0, e.1) in all) in

@@ -4,6 +4,10 @@ pub mod Calls
 pub mod Firsts
 pub mod Followed
 pub mod Follows
+pub mod HeaderFunctions
+pub mod HeaderLinks
+pub mod HeaderOrder
+pub mod HeaderTypes
 pub mod Held
 pub mod HeldOrder
 pub mod Imported

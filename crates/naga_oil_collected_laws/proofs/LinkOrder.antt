@@ -62,10 +62,10 @@ use Rattle.naga_oil_collected_laws.proofs.Traces.{zip_append, zip_more}
 use Rattle.naga_oil_collected_laws.proofs.Visits.{In, Done, IsFit, IsIdle, Later, done_later, idle_later, idle_visits, later_none, visit_later, visits_done, visits_later}
 
 -- what is made so far has the items of a trail
-record Has (t : Trail) (d : Derived) : Type 0 where
-  places : List ItemPlace
-  copies : AllZip (IsLinkedCopy d.target) t.items places
-  made : Made t places d
+pub record Has (t : Trail) (d : Derived) : Type 0 where
+  pub places : List ItemPlace
+  pub copies : AllZip (IsLinkedCopy d.target) t.items places
+  pub made : Made t places d
 
 copy_stays : (d : Derived) → IsGood d → (u : ModuleValue) → HasMore d.target u → (r : PlaceIn) (q : ItemPlace) → IsLinkedCopy d.target r q → IsLinkedCopy u r q
 copy_stays d g u more r q c =
@@ -231,7 +231,7 @@ import_fit (e ∷ bs) h i = one (import_fit bs h.1) (bytes_eq i.import e.0)
 -- ---- imports
 
 -- if the imports of a build were entered, what they request adds nothing
-abbrev Closed : Builds → LinkState → Trail → Type 0
+abbrev pub Closed : Builds → LinkState → Trail → Type 0
 Closed [] s t = Unit {0}
 Closed (e ∷ earlier) s t = (is_among s.entered e.0 ≡ true → All (Done t) (flat_map (import_visits earlier) e.1.imports)) × Closed earlier s t
 
@@ -243,16 +243,16 @@ closed_later (e ∷ bs) s u t v l entered c = (
 )
 
 -- after a link from some builds that goes on with a trail
-record Comes (bs : Builds) (s u : LinkState) (v : Trail) : Type 0 where
+pub record Comes (bs : Builds) (s u : LinkState) (v : Trail) : Type 0 where
   good : IsGood u.derived
-  has : Has v u.derived
+  pub has : Has v u.derived
   entered : (n : List ℕ) → is_among u.entered n ≡ true → (is_among s.entered n ≡ true) ⊎ HasBuild bs n
   closed : Closed bs u v
 
-abbrev ComesSo : Builds → (LinkState → Import → LinkState) → (Import → List Visit) → Type 0
+abbrev pub ComesSo : Builds → (LinkState → Import → LinkState) → (Import → List Visit) → Type 0
 ComesSo bs f asks = (s : LinkState) (t : Trail) (i : Import) → IsGood s.derived → Has t s.derived → Closed bs s t → Comes bs s (f s i) (fold with_visit t (asks i))
 
-each_comes : (bs : Builds) (f : LinkState → Import → LinkState) (asks : Import → List Visit) → ComesSo bs f asks → (is : List Import) (s : LinkState) (t : Trail) → IsGood s.derived → Has t s.derived → Closed bs s t → Comes bs s (fold f s is) (fold with_visit t (flat_map asks is))
+pub each_comes : (bs : Builds) (f : LinkState → Import → LinkState) (asks : Import → List Visit) → ComesSo bs f asks → (is : List Import) (s : LinkState) (t : Trail) → IsGood s.derived → Has t s.derived → Closed bs s t → Comes bs s (fold f s is) (fold with_visit t (flat_map asks is))
 each_comes bs f asks h [] s t g a c = record { good = g; has = a; entered = λ n is. inl is; closed = c }
 each_comes bs f asks h (i ∷ is) s t g a c =
     let one = h s t i g a c in
@@ -334,7 +334,7 @@ module _ (bs : Builds) (e : Entry) (may : MayLink bs e) (all_before : AllAfter M
         closed = ((λ is. ⊎_elim (λ (old : is_among s.entered e.0 ≡ true). done_later t v (visits_later (import_visits bs i) t) wants (c.0 old)) (λ (y : HasBuild bs e.0). absurd (may.apart y)) (k.entered e.0 is)), k.closed);
       }
 
-import_comes : (bs : Builds) → AllAfter MayLink bs → ComesSo bs (link_import false bs) (import_visits bs)
+pub import_comes : (bs : Builds) → AllAfter MayLink bs → ComesSo bs (link_import false bs) (import_visits bs)
 unfolding link_import import_visits
 import_comes [] h s t i g a c = record { good = g; has = a; entered = λ n is. inl is; closed = tt }
 import_comes (e ∷ bs) h s t i g a c = one (import_comes bs h.1) (bytes_eq i.import e.0)
@@ -345,11 +345,11 @@ import_comes (e ∷ bs) h s t i g a c = one (import_comes bs h.1) (bytes_eq i.im
 
 -- ---- the whole
 
-nothing_entered : (bs : Builds) → Closed bs nothing_linked no_trail
+pub nothing_entered : (bs : Builds) → Closed bs nothing_linked no_trail
 nothing_entered [] = tt
 nothing_entered (e ∷ bs) = ((λ is. absurd (false≢true is)), nothing_entered bs)
 
-nothing_has : Has no_trail nothing
+pub nothing_has : Has no_trail nothing
 nothing_has = record { places = []; copies = tt; made = none_made }
 
 -- entry points change no copies

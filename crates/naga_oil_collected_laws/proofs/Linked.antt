@@ -152,7 +152,7 @@ build_linked b asked requests takes rs d h =
 -- ---- imports
 
 -- if the imports of a build were entered, what they request is known
-abbrev Closed : Builds → LinkState → List Reached → Type 0
+abbrev pub Closed : Builds → LinkState → List Reached → Type 0
 Closed [] s rs = Unit {0}
 Closed (e ∷ earlier) s rs = (is_among s.entered e.0 ≡ true → All (Known rs) (flat_map (import_requests earlier) e.1.imports)) × Closed earlier s rs
 
@@ -164,15 +164,15 @@ closed_later (e ∷ bs) s u rs qs stay entered c = (
 )
 
 -- after a link from some builds that reaches more functions
-record Comes (bs : Builds) (s u : LinkState) (qs : List Reached) : Type 0 where
-  has : Has qs u.derived
+pub record Comes (bs : Builds) (s u : LinkState) (qs : List Reached) : Type 0 where
+  pub has : Has qs u.derived
   entered : (n : List ℕ) → is_among u.entered n ≡ true → (is_among s.entered n ≡ true) ⊎ HasBuild bs n
   closed : Closed bs u qs
 
-abbrev ComesSo : Builds → (LinkState → Import → LinkState) → (Import → List Reached) → Type 0
+abbrev pub ComesSo : Builds → (LinkState → Import → LinkState) → (Import → List Reached) → Type 0
 ComesSo bs f asks = (s : LinkState) (rs : List Reached) (i : Import) → Has rs s.derived → Closed bs s rs → Comes bs s (f s i) (fold reach rs (asks i))
 
-each_comes : (bs : Builds) (f : LinkState → Import → LinkState) (asks : Import → List Reached) → ComesSo bs f asks → (is : List Import) (s : LinkState) (rs : List Reached) → Has rs s.derived → Closed bs s rs → Comes bs s (fold f s is) (fold reach rs (flat_map asks is))
+pub each_comes : (bs : Builds) (f : LinkState → Import → LinkState) (asks : Import → List Reached) → ComesSo bs f asks → (is : List Import) (s : LinkState) (rs : List Reached) → Has rs s.derived → Closed bs s rs → Comes bs s (fold f s is) (fold reach rs (flat_map asks is))
 each_comes bs f asks h [] s rs a c = record { has = a; entered = λ n is. inl is; closed = c }
 each_comes bs f asks h (i ∷ is) s rs a c =
     let one = h s rs i a c in
@@ -244,10 +244,10 @@ module _ (bs : Builds) (e : Entry) (apart : HasBuild bs e.0 → ⊥) (rest : Com
         closed = ((λ is. ⊎_elim (λ (old : is_among s.entered e.0 ≡ true). known_later rs qs wants (all_stay (import_requests bs i) rs) (c.0 old)) (λ (y : HasBuild bs e.0). absurd (apart y)) (k.entered e.0 is)), k.closed);
       }
 
-abbrev Apart : Builds → Entry → Type 0
+abbrev pub Apart : Builds → Entry → Type 0
 Apart earlier e = HasBuild earlier e.0 → ⊥
 
-import_comes : (bs : Builds) → AllAfter Apart bs → ComesSo bs (link_import false bs) (import_requests bs)
+pub import_comes : (bs : Builds) → AllAfter Apart bs → ComesSo bs (link_import false bs) (import_requests bs)
 unfolding link_import import_requests
 import_comes [] h s rs i a c = record { has = a; entered = λ n is. inl is; closed = tt }
 import_comes (e ∷ bs) h s rs i a c = one (import_comes bs h.1) (bytes_eq i.import e.0)
@@ -258,7 +258,7 @@ import_comes (e ∷ bs) h s rs i a c = one (import_comes bs h.1) (bytes_eq i.imp
 
 -- ---- the whole
 
-none_entered : (bs : Builds) → Closed bs nothing_linked []
+pub none_entered : (bs : Builds) → Closed bs nothing_linked []
 none_entered [] = tt
 none_entered (e ∷ bs) = ((λ is. absurd (false≢true is)), none_entered bs)
 
@@ -266,10 +266,10 @@ none_known : (n : Text) → is_some (meant [] n) ≡ has_name [] n
 none_known None = refl
 none_known (Some n) = refl
 
-none_has : Has [] nothing
+pub none_has : Has [] nothing
 none_has = record { copies = tt; names = none_known }
 
-all_apart : (bs : Builds) → HaveOwnNames bs → AllAfter Apart (reverse bs)
+pub all_apart : (bs : Builds) → HaveOwnNames bs → AllAfter Apart (reverse bs)
 all_apart bs names = gathered Apart bs [] (λ k e at a. not_back (take k bs) e.0 (names k e at)) tt
 
 pub linked_functions : LinkedFunctionsLaw

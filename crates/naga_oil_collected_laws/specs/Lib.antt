@@ -2,6 +2,9 @@
 pub mod CollectedLaw
 pub mod FirstReach
 mod FirstReachRows
+pub mod HeaderItems
+pub mod HeaderRequests
+mod HeaderRows
 pub mod HeldItems
 pub mod ItemOrder
 pub mod ReachedBuilds

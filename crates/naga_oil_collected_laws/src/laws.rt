@@ -1,5 +1,7 @@
 //! What a build holds and a linked module has, by a list of what is requested.
 ghost use Rattle.naga_oil_collected_laws.specs.CollectedLaw.{HeldFunctionsLaw, LinkedFunctionsLaw};
+ghost use Rattle.naga_oil_collected_laws.specs.HeaderItems.{HeldHeaderLaw, LinkedHeaderLaw};
+ghost use Rattle.naga_oil_collected_laws.specs.HeaderRequests.{HeldStubsLaw, LinkedStubsLaw};
 ghost use Rattle.naga_oil_collected_laws.specs.HeldItems.{HeldItemsLaw};
 ghost use Rattle.naga_oil_collected_laws.specs.ItemOrder.{HeldOrderLaw, LinkedOrderLaw};
 ghost use Rattle.naga_oil_collected_laws.specs.ReachedBuilds.{ReachedBuildsLaw};
@@ -35,4 +37,20 @@ pub fn taken_items_are_held()
 pub fn items_in_order_of_first_reach()
     ensures linked { LinkedOrderLaw }
     ensures held { HeldOrderLaw }
+{}
+
+/// A header that a build holds has a stub of each function with the build's names, and a linked
+/// header a declaration of each function that imports request of headers, each name once; neither
+/// has another function.
+pub fn headers_have_stubs()
+    ensures held { HeldStubsLaw }
+    ensures linked { LinkedStubsLaw }
+{}
+
+/// The types, constants, overrides, globals and global expressions of a header that a build holds,
+/// and those of a linked header, copy the items of a trail, each once, in the order of first
+/// occurrence: the items that are requested, and those that signatures name.
+pub fn items_of_headers_in_order()
+    ensures held { HeldHeaderLaw }
+    ensures linked { LinkedHeaderLaw }
 {}
