@@ -1,5 +1,6 @@
 -- Worked rows: replacements of one name, refused redirections, and two chains in one module.
-use Rattle.std.proofs.Common.{◌≡◌, ℕ, zero, suc, List, [], ◌∷◌, map, Bool, true, false, ◌||◌, Option, Some, None, Result, Ok, Err, slice_get, refl, ap, sym, subst, ◌∙◌, arith}
+use Rattle.std.proofs.Common.{◌≡◌, ℕ, ◌<◌, zero, suc, List, [], ◌∷◌, map, Bool, true, false, ◌||◌, Option, Some, None, Result, Ok, Err, slice_get, refl, ap, sym, subst, ◌∙◌, arith}
+use Rattle.std.proofs.lemmas.List.Elements.{All-nil, All-cons, All-head}
 use Rattle.std.proofs.lemmas.Option.{none-some, same_Some}
 use Rattle.std.proofs.lemmas.Slice.Eq.{bytes_eq-Decides}
 use Rattle.std.specs.Prelude.{codes, bytes_eq}
@@ -9,6 +10,8 @@ use Rattle.naga_oil_form.specs.Links as links
 use Rattle.naga_oil_form.specs.NameForm.{Name}
 use Rattle.naga_oil_ir.specs.ModuleValue.{ModuleValue, FunctionValue, EntryValue}
 use Rattle.naga_oil_ir.specs.RedirectFault.{argument_mismatch, not_found}
+use Rattle.naga_oil_ir.specs.Spans.{undefined}
+use Rattle.naga_oil_ir.specs.declared.span.Span.{Span}
 use Rattle.naga_oil_derive.specs.Answered.{import_callee}
 use Rattle.naga_oil_derive.specs.CopiedFunction.{copy_function, expressions_upto}
 use Rattle.naga_oil_derive.specs.Equal.{parts_eq}
@@ -16,8 +19,8 @@ use Rattle.naga_oil_form_laws.specs.EntryForm.{IsModuleFormed}
 use Rattle.naga_oil_form_laws.specs.Shape.{HasModuleShape}
 use Rattle.naga_oil_form_laws.specs.ShapeTest.{has_shape}
 use Rattle.naga_oil_form_laws.proofs.ShapeTests.{shape_test}
-use Rattle.naga_oil_redirect.specs.Chain.{destination, last_of, SentInTurn, NoMore, OneMore, none_omitted, called, IsSentDown}
-use Rattle.naga_oil_redirect.specs.ChainLaw.{is_in_chain}
+use Rattle.naga_oil_redirect.specs.Chain.{destination, last_of, SentInTurn, NoMore, OneMore, none_omitted, called, AreSent, CallsWithin, HasFunction, IsSentDown, IsSentEntry, IsSentFunction}
+use Rattle.naga_oil_redirect.specs.ChainLaw.{PassesJust, is_in_chain}
 use Rattle.naga_oil_redirect.specs.Level.{level_below}
 use Rattle.naga_oil_redirect.specs.PutInOrder.{in_turn}
 use Rattle.naga_oil_redirect.specs.PutInOrderRows.{calling, empty, module_of}
@@ -28,6 +31,7 @@ use Rattle.naga_oil_build.specs.OverridingForm.{NeitherOverrides}
 use Rattle.naga_oil.specs.Chain.{chain, chain_all, all_sent_down, sent_down}
 use Rattle.naga_oil.specs.ChainsLaw.{NoneIsBoth, IsApart, StandsApart, GoDownChains}
 use Rattle.naga_oil.proofs.ChainsLaws.{chains_law}
+use Rattle.naga_oil_definition_laws.specs.BodiesRows.{each_of_one}
 
 abbrev a : Name
 a = codes "a"
@@ -151,9 +155,15 @@ differ_from_c_d n true q f g is = subst (λ (x : List ℕ). is_in_chain c (d ∷
 differ_from_c_d n false true f g is = subst (λ (x : List ℕ). is_in_chain c (d ∷ []) x ≡ false) (sym ((bytes_eq-Decides n b).0 g)) refl
 differ_from_c_d n false false f g is = absurd cc
 
+chains_are_apart : IsApart a_b c_d
+chains_are_apart n is = differ_from_a_b n (bytes_eq n c) (bytes_eq n d) refl refl is
+
+chain_from_b_is_refused : IsApart a_b (b, c ∷ []) → ⊥
+chain_from_b_is_refused h = let f : true ≡ false = h b refl in absurd cc
+
 a_b_apart : StandsApart two_chains 0 a_b
 a_b_apart zero x at other = absurd (other refl)
-a_b_apart (suc zero) x at other = subst (IsApart a_b) (same_Some c_d x at) (λ n is. differ_from_a_b n (bytes_eq n c) (bytes_eq n d) refl refl is)
+a_b_apart (suc zero) x at other = subst (IsApart a_b) (same_Some c_d x at) chains_are_apart
 a_b_apart (suc (suc j)) x at other = absurd (none-some x at)
 
 c_d_apart : StandsApart two_chains 1 c_d
@@ -197,7 +207,8 @@ a_b_sent = go_down 0 a_b refl a_b_apart
 c_d_sent : IsSentDown c (d ∷ []) whole made
 c_d_sent = go_down 1 c_d refl c_d_apart
 
--- the module with its calls as they were
+-- ---- single functions and entry points
+
 abbrev main : EntryValue
 main = record {
   name = codes "main";
@@ -210,6 +221,65 @@ main = record {
   task_payload = None;
 }
 
+b_is_sent : IsSentFunction a (b ∷ []) whole made (calling b 0)
+b_is_sent = a_b_sent.functions 2 (calling b 0, undefined) refl
+
+-- a function that calls a, as it did before
+abbrev caller : Name
+caller = codes "e"
+
+abbrev unsent : ModuleValue
+unsent = module_of (empty a ∷ calling caller 0 ∷ []) (empty (codes "main"))
+
+abbrev is_a : Option Name → Bool
+is_a None = false
+is_a (Some n) = bytes_eq n a
+
+is_no_a : ◌≡◌ {A = Option Name} (Some c) (Some a) → ⊥
+is_no_a e = let f : false ≡ true = ap is_a e in absurd cc
+
+calls_are_sent : AreSent a b (a ∷ c ∷ []) (b ∷ c ∷ [])
+calls_are_sent zero is = refl
+calls_are_sent (suc zero) is = absurd (is_no_a is)
+calls_are_sent (suc (suc i)) is = absurd (none-some a is)
+
+calls_are_within : CallsWithin unsent (calling caller 0)
+calls_are_within = each_of_one (λ (k : ℕ). k < 2) 0 (omega arith)
+
+call_of_none_is_refused : CallsWithin unsent (calling caller 2) → ⊥
+call_of_none_is_refused h = let l : 2 < 2 = All-head (λ (k : ℕ). k < 2) 2 [] h in absurd (omega (arith, l))
+
+call_of_a_is_refused : IsSentFunction a (b ∷ []) unsent unsent (calling caller 0) → ⊥
+call_of_a_is_refused h = at h.place h.source h.at h.name h.calls
+  where
+    at : (k : ℕ) (x : FunctionValue × Span) → slice_get unsent.functions k ≡ Some x → x.0.name ≡ Some caller → AreSent a b (called unsent.functions x.0) (a ∷ []) → ⊥
+    at zero x is name calls = let f : true ≡ false = ap is_a (ap (λ (y : FunctionValue × Span). y.0.name) (same_Some (empty a, undefined) x is) ∙ name) in absurd cc
+    at (suc zero) x is name calls =
+        let before = subst (λ (y : FunctionValue × Span). slice_get (called unsent.functions y.0) 0 ≡ Some a) (same_Some (calling caller 0, undefined) x is) refl in
+        let f : true ≡ false = ap is_a (calls 0 before) in
+        absurd cc
+    at (suc (suc k)) x is name calls = none-some x is
+
+entry_is_sent : IsSentEntry c (d ∷ []) whole made 0 (record main { function = calling (codes "main") 3 })
+entry_is_sent = c_d_sent.entry_points 0 (record main { function = calling (codes "main") 3 }) refl
+
+caller_is_there : HasFunction made (Some caller)
+caller_is_there = (4, (calling caller 2, undefined), refl, refl)
+
+missing_function_is_refused : HasFunction (module_of (empty a ∷ []) (empty (codes "main"))) (Some b) → ⊥
+missing_function_is_refused (zero, x, at, name) = let f : true ≡ false = ap is_a (ap (λ (y : FunctionValue × Span). y.0.name) (same_Some (empty a, undefined) x at) ∙ name) in absurd cc
+missing_function_is_refused (suc k, x, at, name) = none-some x at
+
+passes_b : PassesJust (b ∷ []) (λ n. bytes_eq n b)
+passes_b n = either (bytes_eq n b)
+  where
+    either : (q : Bool) → q ≡ (q || false)
+    either true = refl
+    either false = refl
+
+passing_another_is_refused : PassesJust (b ∷ []) (λ n. bytes_eq n b || bytes_eq n c) → ⊥
+passing_another_is_refused h = let f : true ≡ false = h c in absurd cc
+
 abbrev is_c : Option Name → Bool
 is_c None = false
 is_c (Some n) = bytes_eq n c
@@ -217,8 +287,14 @@ is_c (Some n) = bytes_eq n c
 c_differs : ◌≡◌ {A = Option Name} (Some c) (Some d) → ⊥
 c_differs h = let f : true ≡ false = ap is_c h in absurd cc
 
-unsent_is_refused : GoDownChains two_chains whole whole → ⊥
-unsent_is_refused h =
-    let y = (h 1 c_d refl c_d_apart).entry_points 0 main refl in
+-- the module with its calls as they were
+unsent_entry_is_refused : IsSentEntry c (d ∷ []) whole whole 0 main → ⊥
+unsent_entry_is_refused y =
     let before = subst (λ (x : EntryValue). slice_get (called whole.functions x.function) 0 ≡ Some c) (same_Some main y.source y.at) refl in
     c_differs (y.calls 0 before)
+
+unsent_module_is_refused : IsSentDown c (d ∷ []) whole whole → ⊥
+unsent_module_is_refused h = unsent_entry_is_refused (h.entry_points 0 main refl)
+
+unsent_is_refused : GoDownChains two_chains whole whole → ⊥
+unsent_is_refused h = unsent_module_is_refused (h 1 c_d refl c_d_apart)

@@ -1,11 +1,23 @@
 -- Worked rows of definitions that laws cite: what each accepts, and what each refuses.
+mod AfreshRows
+mod AnsweredRows
+mod BodiesRows
 mod ChainsRows
 mod CopyableRows
+mod CopyingRows
+mod DerivedRows
+mod DirectiveLinesRows
+mod ExpressionsRows
+mod FormedRows
 mod FramesRows
 mod FrontsRows
 mod HeldRows
+mod HoldsRows
+mod LineRows
+mod LinksRows
 mod PremiseRows
 mod RecordedRows
 mod RegisteredRows
 mod SettingsRows
 mod StepsRows
+mod TreeRows

@@ -16,7 +16,7 @@ use Rattle.naga_oil_conditions.specs.declared.shader_def.ShaderDefValue.TheVaria
 use Rattle.naga_oil_pre.specs.Recorded.{names_from, names_of}
 use Rattle.naga_oil_registry.specs.Added.{Enters, registry_with}
 use Rattle.naga_oil_registry.specs.Registered.{Registered, Defs, defs_of, definition_of}
-use Rattle.naga_oil_registry.specs.Registry.{module_indexed, reaches, IsRegistry, is_reached_name, AreReachedNames}
+use Rattle.naga_oil_registry.specs.Registry.{module_indexed, reaches, MayFollow, IsRegistry, is_reached_name, AreReachedNames}
 use Rattle.naga_oil_registry.specs.declared.definition.ComposableModuleDefinition.{ComposableModuleDefinition}
 use Rattle.naga_oil_registry.proofs.EffectiveLemmas.{are_reached}
 
@@ -65,12 +65,24 @@ index_of_none = refl
 
 -- ---- the names that modules reach
 
-registry : IsRegistry modules
+pub registry : IsRegistry modules
 unfolding recorded
 registry = (
   record { name = refl; index = refl; positive = omega arith; small = omega arith; imports = refl; effective = refl },
   (record { name = refl; index = refl; positive = omega arith; small = omega arith; imports = refl; effective = refl }, tt),
 )
+
+b_may_follow : MayFollow b (a ∷ [])
+b_may_follow = registry.0
+
+taken_index_is_refused : MayFollow (record b { index = 4 }) (a ∷ []) → ⊥
+taken_index_is_refused h = let e : true ≡ false = h.index in absurd cc
+
+registry_with_it_is_refused : IsRegistry (record b { index = 4 } ∷ a ∷ []) → ⊥
+registry_with_it_is_refused h = taken_index_is_refused h.0
+
+unregistered_import_is_refused : MayFollow b [] → ⊥
+unregistered_import_is_refused h = let e : false ≡ true = h.imports in absurd cc
 
 reached_names : AreReachedNames modules
 reached_names = are_reached modules registry
