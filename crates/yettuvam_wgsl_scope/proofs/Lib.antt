@@ -1,3 +1,4 @@
+pub mod LocalFacts
 pub mod Places
 pub mod Spans
 pub mod Takes

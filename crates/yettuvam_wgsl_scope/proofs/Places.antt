@@ -1,5 +1,5 @@
 -- The places of names, after another name.
-use Rattle.std.proofs.Common.{◌≡◌, ℕ, List, Option, Some, Bor}
+use Rattle.std.proofs.Common.{◌≡◌, ℕ, List, Some, Bor}
 use Rattle.std.specs.HashMap as hash
 use Rattle.std.specs.HashMap.{HashMap}
 use Rattle.std.specs.Str.{bytes_eq}

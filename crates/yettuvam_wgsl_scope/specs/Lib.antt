@@ -1,4 +1,6 @@
 pub mod Items
+pub mod LocalTable
+pub mod LocalTableRows
 pub mod Names
 pub mod Order
 pub mod Refused

@@ -11,7 +11,7 @@ use Rattle.yettuvam_wgsl_scope.specs.declared.refusal.Reason.TheVariants as reas
 use Rattle.yettuvam_wgsl_scope.specs.declared.names.Binding.{Binding}
 use Rattle.yettuvam_wgsl_scope.specs.declared.names.Binding.TheVariants as means
 use Rattle.yettuvam_wgsl_scope.specs.declared.names.Bound.{Bound as BoundOfCode}
-use Rattle.yettuvam_wgsl_scope.specs.declared.names.Local.{Local as LocalOfCode}
+use Rattle.yettuvam_wgsl_scope.specs.declared.locals.Local.{Local as LocalOfCode}
 use Rattle.yettuvam_wgsl_scope.specs.declared.names.NameAct.{NameAct}
 use Rattle.yettuvam_wgsl_scope.specs.declared.names.NameAct.TheVariants as does
 use Rattle.yettuvam_wgsl_scope.specs.declared.names.Names.{Names}
@@ -57,7 +57,7 @@ pub record State : Type 0 where
   pub uses : List ℕ
 
 abbrev pub state_of : Names → State
-state_of n = record { items = item_in n.items.now; locals = locals_view n.locals.items; marks = n.marks.items; count = n.count; declared = name_view n.declared; is_in_head = n.is_in_head; is_in_words = n.is_in_words; nodes = bounds_view n.nodes.items; uses = n.uses.items }
+state_of n = record { items = item_in n.items.now; locals = locals_view n.locals; marks = n.marks.items; count = n.count; declared = name_view n.declared; is_in_head = n.is_in_head; is_in_words = n.is_in_words; nodes = bounds_view n.nodes.items; uses = n.uses.items }
 
 abbrev pub Done : Type 0
 Done = Outcome State (Unit {0})
@@ -118,6 +118,9 @@ open_block s = if s.is_in_head then done (record s { is_in_head = false }) else 
 unfoldable pub close : State → State
 close s = record s { locals = take (last s.marks) s.locals; marks = front s.marks }
 
+abbrev pub closed : State → Done
+closed s = done (close s)
+
 unfoldable pub function : State → Done
 function s = mark (record s { is_in_head = true; count = 0 })
 
@@ -162,7 +165,7 @@ act does.Nothing node s = done s
 act does.Name node s = done s
 act does.Function node s = function s
 act does.Open node s = open_block s
-act does.Close node s = done (close s)
+act does.Close node s = closed s
 act does.Named node s = done (record s { declared = name_of node })
 act does.Declared node s = declare s
 act does.Attribute node s = done (record s { is_in_words = takes_words node.text })

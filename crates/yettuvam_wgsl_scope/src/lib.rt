@@ -1,6 +1,7 @@
 //! Which declaration each name of a module means, and an order of its items in which each stands after those that it names.
 //!
 //! - `items`: the items of a module, and their names.
+//! - `locals`: the declarations of a function in scope, by their names.
 //! - `names`: what names mean, with blocks and shadowing.
 //! - `order`: sorts items.
 //! - `scope`: all of it.
@@ -8,6 +9,7 @@
 #![tactic(auto)]
 
 pub mod items;
+pub mod locals;
 pub mod names;
 pub mod order;
 pub mod refusal;

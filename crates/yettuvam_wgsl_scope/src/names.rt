@@ -1,13 +1,14 @@
 //! What names mean.
 
-ghost use Rattle.std.specs.Prelude.{◌≡◌, drop, map, option_map};
+ghost use Rattle.std.specs.Prelude.{◌≡◌, option_map};
 ghost use Rattle.yettuvam_wgsl_machine.specs.Machine.{node_view, nodes_view};
 ghost use Rattle.yettuvam_wgsl_scope.specs.Names as spec;
-ghost use Rattle.yettuvam_wgsl_scope.specs.Names.{state_of, local_view, locals_view, bounds_view};
+ghost use Rattle.yettuvam_wgsl_scope.specs.Names.{state_of, local_view, bounds_view};
 ghost use Rattle.yettuvam_wgsl_scope.specs.Items.{item_in};
 ghost use Rattle.yettuvam_wgsl_scope.specs.Refused.{Reads};
 
 use crate::items::{ItemNames, Name, item_named, name_of, no_name};
+use crate::locals::{Local, Locals};
 use crate::refusal::{Reason, Refusal, refused_after};
 use std::alloc::Global;
 use std::mem;
@@ -31,13 +32,6 @@ pub enum Binding {
 pub struct Bound<'t> {
     pub node: Node<'t>,
     pub binding: Binding,
-}
-
-/// A declaration of a function whose name is in scope.
-#[derive(Clone, Copy)]
-pub struct Local<'t> {
-    name: Name<'t>,
-    number: usize,
 }
 
 /// What a node does to names.
@@ -86,32 +80,6 @@ fn takes_words(name: &[u8]) -> bool
     same_text(name, b"builtin") || same_text(name, b"interpolate") || same_text(name, b"diagnostic")
 }
 
-/// The last of the declarations that has a name.
-#[tactic(auto, unfolding(crate::specs::Names::find_from))]
-fn find<'t>(locals: &[Local<'t>], name: &[u8]) -> Option<Local<'t>>
-    ensures { option_map local_view result ≡ spec.find (locals_view locals.now) name.now }
-{
-    let mut found = None;
-    let mut rest = locals;
-    while let [first, more @ ..] = rest {
-        if same_text(first.name.text, name) {
-            found = Some(*first);
-        }
-        rest = more;
-    }
-    found
-}
-
-fn from_mark<'l, 't>(locals: &'l [Local<'t>], count: usize) -> &'l [Local<'t>]
-    ensures { result.now ≡ drop count locals.now }
-{
-    if count <= locals.len() {
-        &locals[count..]
-    } else {
-        &[]
-    }
-}
-
 fn pop_mark(marks: &mut Vec<usize>) -> usize
     ensures value { result ≡ spec.last marks.old.items }
     ensures rest { marks.new.items ≡ spec.front marks.old.items }
@@ -130,7 +98,7 @@ pub struct Names<'n, 't> {
     alloc: Global,
     items: &'n ItemNames<'t>,
     /// The declarations of the function in scope, the innermost last, and their number at each open block.
-    locals: Vec<Local<'t>>,
+    locals: Locals<'t>,
     marks: Vec<usize>,
     /// The number of declarations of the function so far.
     count: usize,
@@ -180,11 +148,12 @@ impl<'n, 't> Names<'n, 't> {
     }
 
     #[tactic(auto, unfolding(crate::specs::Names::close), using(crate::proofs::Takes::take_of_map))]
-    fn close(&mut self)
-        ensures { state_of self.new ≡ spec.close (state_of self.old) }
+    fn close(&mut self) -> Result<(), Refusal>
+        ensures { Reads (spec.closed (state_of self.old)) result (state_of self.new) }
     {
         let count = pop_mark(&mut self.marks);
-        self.locals.truncate(count);
+        self.locals.truncate(count)?;
+        Ok(())
     }
 
     #[tactic(auto, unfolding(crate::specs::Names::function))]
@@ -197,12 +166,12 @@ impl<'n, 't> Names<'n, 't> {
     }
 
     /// The declaration of the innermost block that has the name of what is declared.
-    #[tactic(auto, unfolding(crate::specs::Names::earlier), using(crate::proofs::Takes::drop_of_map))]
+    #[tactic(auto, unfolding(crate::specs::Names::earlier))]
     fn earlier(&self) -> Option<Local<'t>>
         ensures { option_map local_view result ≡ spec.earlier (state_of self.now) }
     {
-        let inside = from_mark(self.locals.as_slice(), last_mark(self.marks.as_slice()));
-        find(inside, self.declared.text)
+        self.locals
+            .find(last_mark(self.marks.as_slice()), self.declared.text)
     }
 
     #[tactic(auto, unfolding(crate::specs::Names::push))]
@@ -230,13 +199,13 @@ impl<'n, 't> Names<'n, 't> {
     }
 
     #[tactic(auto, unfolding(crate::specs::Names::local))]
-    fn local(&self, name: &[u8]) -> Option<Local<'t>>
+    fn local(&self, name: &'t [u8]) -> Option<Local<'t>>
         ensures { option_map local_view result ≡ spec.local name.now (state_of self.now) }
     {
         if self.is_in_head {
             None
         } else {
-            find(self.locals.as_slice(), name)
+            self.locals.find(0, name)
         }
     }
 
@@ -292,10 +261,7 @@ impl<'n, 't> Names<'n, 't> {
             NameAct::Nothing | NameAct::Name => Ok(()),
             NameAct::Function => self.function(),
             NameAct::Open => self.open_block(),
-            NameAct::Close => {
-                self.close();
-                Ok(())
-            }
+            NameAct::Close => self.close(),
             NameAct::Named => {
                 self.declared = name_of(node);
                 Ok(())
@@ -366,7 +332,7 @@ pub fn start<'n, 't>(alloc: Global, items: &'n ItemNames<'t>) -> Names<'n, 't>
     Names {
         alloc,
         items,
-        locals: Vec::new(alloc),
+        locals: Locals::new(alloc),
         marks: Vec::new(alloc),
         count: 0,
         declared: no_name(),
