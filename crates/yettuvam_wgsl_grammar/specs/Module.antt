@@ -7,7 +7,7 @@ use Rattle.yettuvam_wgsl_templates.specs.Finder.{with_templates}
 use Rattle.yettuvam_wgsl_machine.specs.declared.refusal.Fault.{Fault}
 use Rattle.yettuvam_wgsl_machine.specs.Machine.{Node, Row, Table, run, start, table}
 use Rattle.yettuvam_wgsl_machine.specs.Refused.{fault_of_words}
-use Rattle.yettuvam_wgsl_grammar.specs.declared.expressions.TheConstants.{EXPRESSIONS}
+use Rattle.yettuvam_wgsl_expression_rows.specs.declared.expressions.TheConstants.{EXPRESSIONS}
 use Rattle.yettuvam_wgsl_grammar.specs.declared.items.TheConstants.{ITEMS}
 use Rattle.yettuvam_wgsl_grammar.specs.declared.places.TheConstants.{PLACES}
 use Rattle.yettuvam_wgsl_grammar.specs.declared.statements.TheConstants.{STATEMENTS}

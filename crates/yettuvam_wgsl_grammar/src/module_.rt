@@ -5,11 +5,11 @@ ghost use Rattle.yettuvam_wgsl_words.specs.Scan.{Gives as GivesWords, view};
 ghost use Rattle.yettuvam_wgsl_machine.specs.Machine.{Gives, Row as RowOfTable, nodes_view};
 ghost use Rattle.yettuvam_wgsl_grammar.specs.Module as spec;
 
-use crate::expressions::EXPRESSIONS;
 use crate::items::ITEMS;
 use crate::places::PLACES;
 use crate::statements::STATEMENTS;
 use std::alloc::{AllocError, Global};
+use yettuvam_wgsl_expression_rows::expressions::EXPRESSIONS;
 use yettuvam_wgsl_machine::refusal::Refusal;
 use yettuvam_wgsl_machine::run;
 use yettuvam_wgsl_machine::symbol::{Node, Row, Rule, Symbol};
