@@ -11,6 +11,9 @@ use Rattle.naga_oil_ir.specs.Spans.{undefined}
 use Rattle.naga_oil_ir.specs.declared.names.ItemPlace.TheVariants.{TypeItem, ExpressionItem}
 use Rattle.naga_oil_ir.specs.declared.parts.Named.TheVariants.{Nothing}
 use Rattle.naga_oil_ir.specs.declared.span.Span.{Span}
+use Rattle.yettuvam_wgsl_attribute_rules.specs.Fault.{attribute_fault}
+use Rattle.yettuvam_wgsl_attribute_rules.specs.Marks as marks
+use Rattle.yettuvam_wgsl_attribute_rules.specs.Testing as testing
 use Rattle.yettuvam_wgsl_bodies.specs.Step as bodies
 use Rattle.yettuvam_wgsl_faults.specs.Fault.{meaning_fault, syntax_fault}
 use Rattle.yettuvam_wgsl_grammar.specs.Module as grammar
@@ -34,7 +37,7 @@ use Rattle.yettuvam_wgsl_values.specs.Body as values
 use Rattle.yettuvam_wgsl_words.specs.Class.{Text}
 use Rattle.yettuvam_wgsl_words.specs.Cut as cuts
 use Rattle.yettuvam_wgsl_words.specs.Scan as scanned
-use Rattle.yettuvam_wgsl_read.specs.Reading.{parsed, tokens_of, marked_tokens, nodes_of, module_of_nodes, lowered}
+use Rattle.yettuvam_wgsl_read.specs.Reading.{parsed, tokens_of, marked_tokens, nodes_of, attributes_tested, module_of_nodes, lowered}
 
 abbrev span : (start end : ℕ) → Span
 span start end = record { start = start; end = end }
@@ -44,7 +47,9 @@ abbrev fault_of : Text → Span → Text → FaultValue
 fault_of message at label = record { message = message; spans = (at, label) ∷ []; notes = [] }
 
 the_module_of_no_text : parsed [] ≡ Ok no_items
-unfolding parsed tokens_of marked_tokens nodes_of module_of_nodes lowered scanned.scan_from scanned.scan
+unfolding parsed tokens_of marked_tokens nodes_of module_of_nodes lowered
+    attributes_tested testing.attributes_ruled testing.run
+    scanned.scan_from scanned.scan
     scanned.tokens cuts.comment_from cuts.after_comment cuts.group cuts.sign cuts.cut finder.close
     finder.greater finder.greater_equal finder.shift_right finder.shift_right_equal finder.less
     finder.opening finder.closing finder.logic finder.ending finder.act finder.step finder.run
@@ -64,7 +69,9 @@ the_module_of_a_constant : parsed (codes "const A = 4;") ≡ Ok (record no_items
   constants = (row ConstantKind (Some (codes "A")) [] [] (Some (TypeItem 0) ∷ Some (ExpressionItem 0) ∷ []), span 6 7) ∷ [];
   global_expressions = (expr 0 (1 ∷ 4 ∷ []) Nothing [], span 11 12) ∷ [];
 })
-unfolding parsed tokens_of marked_tokens nodes_of module_of_nodes lowered scanned.scan_from scanned.scan
+unfolding parsed tokens_of marked_tokens nodes_of module_of_nodes lowered
+    attributes_tested testing.attributes_ruled testing.run testing.step
+    scanned.scan_from scanned.scan
     scanned.tokens cuts.comment_from cuts.after_comment cuts.group cuts.sign cuts.cut finder.close
     finder.greater finder.greater_equal finder.shift_right finder.shift_right_equal finder.less
     finder.opening finder.closing finder.logic finder.ending finder.act finder.step finder.run
@@ -88,7 +95,10 @@ the_module_of_a_constant = refl
 the_module_of_a_function : parsed (codes "fn f() {}") ≡ Ok (record no_items {
   functions = (record { name = Some (codes "f"); arguments = []; result = None; local_variables = []; expressions = []; named_expressions = []; body = []; diagnostic_filter_leaf = None }, span 3 4) ∷ [];
 })
-unfolding parsed tokens_of marked_tokens nodes_of module_of_nodes lowered scanned.scan_from
+unfolding parsed tokens_of marked_tokens nodes_of module_of_nodes lowered
+    attributes_tested testing.attributes_ruled testing.run testing.step testing.function testing.place
+    testing.no_result marks.ruled
+    scanned.scan_from
     scanned.scan scanned.tokens cuts.comment_from cuts.after_comment cuts.group cuts.sign cuts.cut
     finder.close finder.greater finder.greater_equal finder.shift_right finder.shift_right_equal
     finder.less finder.opening finder.closing finder.logic finder.ending finder.act finder.step
@@ -108,7 +118,9 @@ unfolding parsed tokens_of marked_tokens nodes_of module_of_nodes lowered scanne
 the_module_of_a_function = refl
 
 a_name_that_nothing_declares : parsed (codes "const A = b;") ≡ Err (fault_of (codes "unknown name") (span 10 11) (codes "`b`"))
-unfolding parsed tokens_of marked_tokens nodes_of module_of_nodes lowered scanned.scan_from scanned.scan
+unfolding parsed tokens_of marked_tokens nodes_of module_of_nodes lowered
+    attributes_tested testing.attributes_ruled testing.run testing.step
+    scanned.scan_from scanned.scan
     scanned.tokens cuts.comment_from cuts.after_comment cuts.group cuts.sign cuts.cut finder.close
     finder.greater finder.greater_equal finder.shift_right finder.shift_right_equal finder.less
     finder.opening finder.closing finder.logic finder.ending finder.act finder.step finder.run
@@ -128,6 +140,19 @@ unfolding parsed tokens_of marked_tokens nodes_of module_of_nodes lowered scanne
     globals.push_constant values.know_item types.shape_of types.row_at values.name meaning_fault utf8_lossy
     utf8_valid_len is_utf8 chars encode
 a_name_that_nothing_declares = refl
+
+an_attribute_of_an_override : parsed (codes "@id(1) fn f() {}") ≡ Err (fault_of (codes "misplaced attribute") (span 1 3) (codes "does not belong here"))
+unfolding parsed tokens_of marked_tokens nodes_of attributes_tested testing.attributes_ruled
+    testing.run testing.step testing.begin testing.attribute testing.function testing.place
+    marks.ruled attribute_fault scanned.scan_from scanned.scan scanned.tokens cuts.comment_from
+    cuts.after_comment cuts.group cuts.sign cuts.cut finder.close finder.greater
+    finder.greater_equal finder.shift_right finder.shift_right_equal finder.less finder.opening
+    finder.closing finder.logic finder.ending finder.act finder.step finder.run
+    finder.with_templates machine.token machine.node machine.enter machine.postpone machine.rule
+    machine.symbol machine.resumed machine.step machine.run grammar.item_rows
+    grammar.statement_rows grammar.expression_rows grammar.places grammar.turns grammar.parse
+    utf8_lossy utf8_valid_len is_utf8 chars encode
+an_attribute_of_an_override = refl
 
 a_value_is_missing : parsed (codes "const A = ;") ≡ Err (fault_of (codes "expected an expression") (span 10 11) (codes "`;`"))
 unfolding parsed tokens_of marked_tokens nodes_of module_of_nodes lowered scanned.scan_from scanned.scan

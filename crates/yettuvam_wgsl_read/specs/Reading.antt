@@ -2,6 +2,9 @@
 use Rattle.std.specs.Prelude.{List, [], Result, Ok, Err}
 use Rattle.naga_oil_ir.specs.Backend.{FaultValue}
 use Rattle.naga_oil_ir.specs.ModuleValue.{ModuleValue}
+use Rattle.yettuvam_wgsl_attribute_rules.specs.Fault.{attribute_fault}
+use Rattle.yettuvam_wgsl_attribute_rules.specs.Testing.{attributes_ruled}
+use Rattle.yettuvam_wgsl_attribute_rules.specs.declared.refusal.Fault.{Fault as AttributeFault}
 use Rattle.yettuvam_wgsl_faults.specs.Fault.{meaning_fault, syntax_fault}
 use Rattle.yettuvam_wgsl_grammar.specs.Module.{parse}
 use Rattle.yettuvam_wgsl_items.specs.Lowered.{module_of}
@@ -26,6 +29,11 @@ abbrev pub or_syntax_fault : {A : Type 0} → Text → List Token → Result A S
 or_syntax_fault text found (Ok a) = Ok a
 or_syntax_fault text found (Err fault) = Err (syntax_fault text found fault)
 
+-- a value, or the fault of an attribute, as a front end reports it
+abbrev pub or_attribute_fault : {A : Type 0} → Result A AttributeFault → Result A FaultValue
+or_attribute_fault (Ok a) = Ok a
+or_attribute_fault (Err fault) = Err (attribute_fault fault)
+
 -- a value, or the fault of a text without a meaning, as a front end reports it
 abbrev pub or_meaning_fault : {A : Type 0} → Text → Result A MeaningFault → Result A FaultValue
 or_meaning_fault text (Ok a) = Ok a
@@ -45,6 +53,10 @@ tokens_of text = or_syntax_fault text [] (marked_tokens text)
 unfoldable pub nodes_of : Text → (found : List Token) → Result (List Node) FaultValue
 nodes_of text found = or_syntax_fault text found (parse found)
 
+-- the attributes of a text by its nodes: nothing, or the first fault
+unfoldable pub attributes_tested : List Node → Result (Unit {0}) FaultValue
+attributes_tested nodes = or_attribute_fault (attributes_ruled nodes)
+
 -- the module of nodes: names are resolved, items are sorted, and each is lowered
 unfoldable pub lowered : List Node → Result ModuleValue MeaningFault
 lowered nodes = do
@@ -60,4 +72,5 @@ unfoldable pub parsed : Text → Result ModuleValue FaultValue
 parsed text = do
   found ← tokens_of text
   nodes ← nodes_of text found
+  _ ← attributes_tested nodes
   module_of_nodes text nodes

@@ -9,6 +9,9 @@ ghost use Rattle.yettuvam_wgsl_words.specs.Scan.{view};
 
 use naga_oil_ir::{BackendRefusal, Module, ParseFault};
 use std::alloc::Global;
+use yettuvam_wgsl_attribute_rules::{
+    Refusal as AttributeRefusal, attribute_fault, test_attributes,
+};
 use yettuvam_wgsl_faults::{meaning_fault, syntax_fault};
 use yettuvam_wgsl_grammar::parse as nodes;
 use yettuvam_wgsl_items::module_of;
@@ -65,6 +68,21 @@ fn nodes_of<'t>(
     }
 }
 
+/// Tests the attributes of a text by its nodes.
+#[tactic(auto, unfolding(crate::specs::Reading::attributes_tested))]
+fn test_nodes(alloc: Global, nodes: &[Node<'_>]) -> Result<(), BackendRefusal<ParseFault>>
+    ensures { Answers (λ u. u) parse_fault result
+        (spec.attributes_tested (nodes_view nodes.now)) }
+{
+    match test_attributes(alloc, nodes) {
+        Ok(()) => Ok(()),
+        Err(AttributeRefusal::Memory) => Err(BackendRefusal::Memory),
+        Err(AttributeRefusal::Fault(fault)) => {
+            Err(BackendRefusal::Fault(attribute_fault(alloc, fault)?))
+        }
+    }
+}
+
 /// The module of nodes: names are resolved, items are sorted, and each is lowered.
 #[tactic(auto, unfolding(crate::specs::Reading::lowered))]
 fn lowered(alloc: Global, nodes: &[Node<'_>]) -> Result<Module, MeaningRefusal>
@@ -97,12 +115,13 @@ fn module_of_nodes(
 ///
 /// # Errors
 /// `Fault` if the text has a fault: the first part that is no token, else the token that can't follow the ones before it,
-/// else the first node without a meaning. `Memory` if out of memory.
+/// else the first attribute that breaks a rule, else the first node without a meaning. `Memory` if out of memory.
 #[tactic(auto, unfolding(crate::specs::Reading::parsed))]
 pub fn parse(alloc: Global, text: &str) -> Result<Module, BackendRefusal<ParseFault>>
     ensures { Answers module_value parse_fault result (spec.parsed text.now) }
 {
     let found = tokens_of(alloc, text)?;
     let nodes = nodes_of(alloc, text, found.as_slice())?;
+    test_nodes(alloc, nodes.as_slice())?;
     module_of_nodes(alloc, text, nodes.as_slice())
 }

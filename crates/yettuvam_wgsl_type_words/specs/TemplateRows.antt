@@ -22,7 +22,7 @@ use Rattle.yettuvam_wgsl_types.specs.declared.types.PlainType.TheVariants.{Scala
 use Rattle.yettuvam_wgsl_values.specs.Body.{State, Done, begin, enter, in_types, number_value, give, take_value, arguments, settle}
 use Rattle.yettuvam_wgsl_values.specs.Value.{Value, Plain, Override, TypeAt, Word, Cast, NoSpace, Space, bare}
 use Rattle.yettuvam_wgsl_type_words.specs.Types.{type_of, type_argument, scalar_argument, size_of, unknown_size, pending_size, unnamed, unnamed_override, size_argument}
-use Rattle.yettuvam_wgsl_type_words.specs.Templates.{template, template_end, template_of, variable_space, give_type, plain, array, of_scalar, with_code, cast}
+use Rattle.yettuvam_wgsl_type_words.specs.Templates.{template, template_end, template_of, word_template, variable_space, give_type, plain, array, of_scalar, with_code, cast}
 
 abbrev node : Node
 node = record { form = form.Name; span = record { start = 3; end = 4 }; text = [] }
@@ -104,3 +104,13 @@ a_variable_in_a_space = refl
 a_type_takes_no_template : with_f32 >>= (λ _ s. template s >>= (λ _ t. give f32 t >>= (λ _. template_end node))) ≡ Err (fault reason.Template node.span)
 unfolding types.plain intern same_row give_type give template template_end arguments take_value template_of
 a_type_takes_no_template = refl
+
+-- vec2<f32, f32>
+too_many_types : word_template (generic.Vector 2) (f32 ∷ f32 ∷ []) node (begin []) ≡ Err (fault reason.Template node.span)
+unfolding word_template
+too_many_types = refl
+
+-- var<private, private, private>
+too_many_words : variable_space (bare (Word private) ∷ bare (Word private) ∷ bare (Word private) ∷ []) node (begin []) ≡ Err (fault reason.Template node.span)
+unfolding variable_space
+too_many_words = refl

@@ -1,5 +1,5 @@
 -- Lists of template arguments.
-use Rattle.std.specs.Prelude.{ℕ, ◌+◌, ◌-◌, ◌*◌, ◌%◌, ◌^◌, Bool, false, List, [], ◌∷◌, ◌++◌, length, slice_index_or, Option, Some, None, Err}
+use Rattle.std.specs.Prelude.{ℕ, ◌+◌, ◌-◌, ◌*◌, ◌%◌, ◌^◌, Bool, false, nat_lt, if◌then◌else◌, List, [], ◌∷◌, ◌++◌, length, slice_index_or, Option, Some, None, Err}
 use Rattle.yettuvam_wgsl_arguments.specs.Arguments.{made}
 use Rattle.yettuvam_wgsl_arguments.specs.Words.{access_argument, format_argument, space_arguments}
 use Rattle.yettuvam_wgsl_machine.specs.Machine.{Node}
@@ -101,8 +101,17 @@ template_by (generic.Matrix sizes) args node s = of_scalar (generic.Matrix sizes
 template_by (generic.Sampled texture) args node s = of_scalar (generic.Sampled texture) args node s
 template_by generic.Atomic args node s = of_scalar generic.Atomic args node s
 
+-- the most arguments of a list
+abbrev pub most_arguments : Generic → ℕ
+most_arguments generic.Pointer = 3
+most_arguments generic.Array = 2
+most_arguments generic.BindingArray = 2
+most_arguments (generic.Storage texture) = 2
+most_arguments _ = 1
+
 unfoldable pub word_template : Generic → List Value → Node → State → Done
-word_template word args node s = template_by word args node s
+word_template word args node s =
+    if nat_lt (most_arguments word) (length args) then Err (fault reason.Template node.span) else template_by word args node s
 
 abbrev pub template_if : Option Generic → Name → List Value → Node → State → Done
 template_if (Some word) name args node s = word_template word args node s
@@ -113,7 +122,9 @@ named_template name args node s = template_if (generic_word (word_of name.text))
 
 -- the address space of a variable, and maybe an access mode
 unfoldable pub variable_space : List Value → Node → State → Done
-variable_space args node s = made (space_arguments args 1 node) s >>= (λ space. give (bare (Space space)))
+variable_space args node s =
+    if nat_lt 2 (length args) then Err (fault reason.Template node.span)
+    else made (space_arguments args 1 node) s >>= (λ space. give (bare (Space space)))
 
 abbrev pub headed : What → List Value → Node → State → Done
 headed NoSpace args node s = variable_space args node s

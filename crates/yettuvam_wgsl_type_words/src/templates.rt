@@ -31,6 +31,9 @@ const POINTER_ACCESS: usize = 2;
 
 const VARIABLE_ACCESS: usize = 1;
 
+/// The most arguments of `var`.
+const VARIABLE_ARGUMENTS: usize = 2;
+
 /// The arguments of a template begin.
 #[tactic(auto, unfolding(crate::specs::Templates::template))]
 pub fn template<'t>(b: &mut Body<'t>) -> Result<(), Refusal>
@@ -169,14 +172,24 @@ fn of_scalar<'t>(
     plain(b, type_with(word, scalar))
 }
 
-#[tactic(auto, unfolding(crate::specs::Templates::word_template))]
-fn word_template<'t>(
+/// The most arguments of a list.
+fn most_arguments(word: Generic) -> usize
+    ensures { result ≡ spec.most_arguments word }
+{
+    match word {
+        Generic::Pointer => 3,
+        Generic::Array | Generic::BindingArray | Generic::Storage(_) => 2,
+        _ => 1,
+    }
+}
+
+fn template_by<'t>(
     b: &mut Body<'t>,
     word: Generic,
     args: &[Value<'t>],
     node: Node<'t>,
 ) -> Result<(), Refusal>
-    ensures { Reads (spec.word_template word (values_view args.now) (node_view node.entry)
+    ensures { Reads (spec.template_by word (values_view args.now) (node_view node.entry)
         (state_of b.old)) result (state_of b.new) }
 {
     match word {
@@ -189,6 +202,22 @@ fn word_template<'t>(
             of_scalar(b, word, args, node)
         }
     }
+}
+
+#[tactic(auto, unfolding(crate::specs::Templates::word_template))]
+fn word_template<'t>(
+    b: &mut Body<'t>,
+    word: Generic,
+    args: &[Value<'t>],
+    node: Node<'t>,
+) -> Result<(), Refusal>
+    ensures { Reads (spec.word_template word (values_view args.now) (node_view node.entry)
+        (state_of b.old)) result (state_of b.new) }
+{
+    if args.len() > most_arguments(word) {
+        return Err(refused(Reason::Template, node.span));
+    }
+    template_by(b, word, args, node)
 }
 
 #[tactic(auto, unfolding(crate::specs::Templates::named_template))]
@@ -213,6 +242,9 @@ fn variable_space<'t>(b: &mut Body<'t>, args: &[Value<'t>], node: Node<'t>) -> R
     ensures { Reads (spec.variable_space (values_view args.now) (node_view node.entry)
         (state_of b.old)) result (state_of b.new) }
 {
+    if args.len() > VARIABLE_ARGUMENTS {
+        return Err(refused(Reason::Template, node.span));
+    }
     let space = space_arguments(args, VARIABLE_ACCESS, node)?;
     b.give(bare(What::Space(space)))
 }
