@@ -13,13 +13,13 @@ use Rattle.naga_oil_ir.specs.declared.tokens.Token.{Token}
 use Rattle.naga_oil_ir.specs.declared.tokens.Token.TheVariants.{Callee}
 use Rattle.naga_oil_ir.specs.declared.types.GlobalVariable.{GlobalVariable}
 use Rattle.yettuvam_wgsl_names.specs.declared.form_codes.TheConstants.{HANDLE_SPACE, SPACE_ACCESS_UNIT, STORAGE_SPACE, UNIFORM_SPACE}
-use Rattle.yettuvam_wgsl_valid.specs.Faults.{Outcome, valid, fault, each_valid}
+use Rattle.yettuvam_wgsl_valid_items.specs.Faults.{Outcome, valid, fault, each_valid}
 use Rattle.yettuvam_wgsl_valid.specs.declared.bindings.Reach.{Reach}
 use Rattle.yettuvam_wgsl_valid.specs.declared.bindings.Uses.{Uses as UsesOfCode}
-use Rattle.yettuvam_wgsl_valid.specs.declared.faults.Fault.{Fault}
-use Rattle.yettuvam_wgsl_valid.specs.declared.faults.Invalid.{Invalid}
-use Rattle.yettuvam_wgsl_valid.specs.declared.faults.Invalid.TheVariants as invalid
-use Rattle.yettuvam_wgsl_valid.specs.declared.faults.Reason.TheVariants as reason
+use Rattle.yettuvam_wgsl_valid_items.specs.declared.faults.Fault.{Fault}
+use Rattle.yettuvam_wgsl_valid_items.specs.declared.faults.Invalid.{Invalid}
+use Rattle.yettuvam_wgsl_valid_items.specs.declared.faults.Invalid.TheVariants as invalid
+use Rattle.yettuvam_wgsl_valid_items.specs.declared.faults.Reason.TheVariants as reason
 
 -- variables by their rows
 abbrev pub global_rows : List (GlobalVariable × Span) → List (Row × Span)

@@ -9,8 +9,8 @@ use Rattle.naga_oil_ir.specs.declared.span.Span.{Span}
 use Rattle.naga_oil_ir.specs.declared.tokens.Token.{Token}
 use Rattle.naga_oil_ir.specs.declared.tokens.Token.TheVariants.{At, Callee, Use}
 use Rattle.yettuvam_wgsl_names.specs.Functions.{signature_with, functions}
-use Rattle.yettuvam_wgsl_valid.specs.Faults.{Outcome, valid, fault, each_valid}
-use Rattle.yettuvam_wgsl_valid.specs.declared.faults.Reason.TheVariants as reason
+use Rattle.yettuvam_wgsl_valid_items.specs.Faults.{Outcome, valid, fault, each_valid}
+use Rattle.yettuvam_wgsl_valid_items.specs.declared.faults.Reason.TheVariants as reason
 
 -- ---- calls of the module's functions
 

@@ -6,12 +6,12 @@ use Rattle.naga_oil_ir.specs.declared.span.Span.{Span}
 use Rattle.naga_oil_ir.specs.declared.tokens.Token.{Token}
 use Rattle.naga_oil_ir.specs.declared.tokens.Token.TheVariants.{At, Head, Plain, Flag, Use, Open, Close}
 use Rattle.yettuvam_wgsl_names.specs.declared.form_codes.TheConstants.{DEFAULT_SELECTOR}
-use Rattle.yettuvam_wgsl_valid.specs.Faults.{Outcome, valid, fault}
-use Rattle.yettuvam_wgsl_valid.specs.declared.faults.Fault.{Fault}
-use Rattle.yettuvam_wgsl_valid.specs.declared.faults.Invalid.{Invalid}
-use Rattle.yettuvam_wgsl_valid.specs.declared.faults.Invalid.TheVariants as invalid
-use Rattle.yettuvam_wgsl_valid.specs.declared.faults.Reason.{Reason}
-use Rattle.yettuvam_wgsl_valid.specs.declared.faults.Reason.TheVariants as reason
+use Rattle.yettuvam_wgsl_valid_items.specs.Faults.{Outcome, valid, fault}
+use Rattle.yettuvam_wgsl_valid_items.specs.declared.faults.Fault.{Fault}
+use Rattle.yettuvam_wgsl_valid_items.specs.declared.faults.Invalid.{Invalid}
+use Rattle.yettuvam_wgsl_valid_items.specs.declared.faults.Invalid.TheVariants as invalid
+use Rattle.yettuvam_wgsl_valid_items.specs.declared.faults.Reason.{Reason}
+use Rattle.yettuvam_wgsl_valid_items.specs.declared.faults.Reason.TheVariants as reason
 use Rattle.yettuvam_wgsl_valid.specs.declared.flow.Behavior.{Behavior}
 use Rattle.yettuvam_wgsl_valid.specs.declared.flow.Blocks.{Blocks}
 use Rattle.yettuvam_wgsl_valid.specs.declared.flow.Blocks.TheVariants as blocks

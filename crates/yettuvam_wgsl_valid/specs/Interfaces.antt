@@ -5,8 +5,8 @@ use Rattle.naga_oil_ir.specs.Rows.{Row, Member, Kind, TypeKind}
 use Rattle.naga_oil_ir.specs.declared.module.FunctionResult.{FunctionResult}
 use Rattle.naga_oil_ir.specs.declared.span.Span.{Span}
 use Rattle.yettuvam_wgsl_names.specs.declared.form_codes.TheConstants.{BUILT_IN, BUILT_IN_VALUE_UNIT, COMPUTE, INTERPOLATION_UNIT, NO_CLASS, VERTEX}
-use Rattle.yettuvam_wgsl_valid.specs.Faults.{Outcome, valid, fault, and_then}
-use Rattle.yettuvam_wgsl_valid.specs.declared.faults.Reason.TheVariants as reason
+use Rattle.yettuvam_wgsl_valid_items.specs.Faults.{Outcome, valid, fault, and_then}
+use Rattle.yettuvam_wgsl_valid_items.specs.declared.faults.Reason.TheVariants as reason
 use Rattle.yettuvam_wgsl_valid.specs.declared.interfaces.TheConstants.{POSITION}
 
 -- ---- bindings of values

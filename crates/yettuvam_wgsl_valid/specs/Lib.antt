@@ -1,6 +1,5 @@
 pub mod Bindings
 pub mod Calls
-pub mod Faults
 pub mod Flow
 pub mod Interfaces
 pub mod Valid

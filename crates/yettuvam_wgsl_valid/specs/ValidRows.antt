@@ -9,10 +9,10 @@ use Rattle.naga_oil_ir.specs.declared.span.Span.{Span}
 use Rattle.naga_oil_ir.specs.declared.tokens.Token.TheVariants.{At, Head, Plain, Flag, Absent, Use, Callee, Open, Close}
 use Rattle.yettuvam_wgsl_valid.specs.Bindings.{Uses, reached_globals, visit_all, distinct_valid, distinct_from, space_valid}
 use Rattle.yettuvam_wgsl_valid.specs.Calls.{wrong_call, given_count, math_valid, counts}
-use Rattle.yettuvam_wgsl_valid.specs.Faults.{valid, fault}
+use Rattle.yettuvam_wgsl_valid_items.specs.Faults.{valid, fault}
 use Rattle.yettuvam_wgsl_valid.specs.Flow.{flow_valid, run, step, head, jump, enter_block}
 use Rattle.yettuvam_wgsl_valid.specs.Interfaces.{is_bound, is_position, is_bound_value, gives_position, output_valid}
-use Rattle.yettuvam_wgsl_valid.specs.declared.faults.Reason.TheVariants as reason
+use Rattle.yettuvam_wgsl_valid_items.specs.declared.faults.Reason.TheVariants as reason
 
 -- `unfolding walk` lets `refl` compute the walk over a body
 unfoldable walk : Unit {0}

@@ -5,17 +5,17 @@ ghost use Rattle.naga_oil_ir.specs.Parts.{parts};
 ghost use Rattle.naga_oil_ir.specs.Rows.{global_row};
 ghost use Rattle.yettuvam_wgsl_valid.specs.Bindings as spec;
 ghost use Rattle.yettuvam_wgsl_valid.specs.Bindings.{uses_view, state_of};
-ghost use Rattle.yettuvam_wgsl_valid.specs.Faults.{Tests};
+ghost use Rattle.yettuvam_wgsl_valid_items.specs.Faults.{Tests};
 ghost use Rattle.yettuvam_wgsl_valid.specs.Flow.{Finds};
 
 use crate::calls::tokens_of;
-use crate::faults::{Invalid, Reason, TestResult, refuse};
 use indexmap::IndexMap;
 use naga_oil_ir::{Expression, Function, GlobalVariable, Module, Span, Token};
 use std::alloc::{AllocError, Global};
 use yettuvam_wgsl_names::form_codes::{
     HANDLE_SPACE, SPACE_ACCESS_UNIT, STORAGE_SPACE, UNIFORM_SPACE,
 };
+use yettuvam_wgsl_valid_items::faults::{Invalid, Reason, TestResult, refuse};
 
 // ---- address spaces
 

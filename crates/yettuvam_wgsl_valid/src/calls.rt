@@ -5,12 +5,12 @@ ghost use Rattle.naga_oil_ir.specs.Body.{block_tokens};
 ghost use Rattle.naga_oil_ir.specs.ModuleValue.{module_value, expression_values};
 ghost use Rattle.naga_oil_ir.specs.Parts.{parts, math_parts};
 ghost use Rattle.yettuvam_wgsl_valid.specs.Calls as spec;
-ghost use Rattle.yettuvam_wgsl_valid.specs.Faults.{Tests};
+ghost use Rattle.yettuvam_wgsl_valid_items.specs.Faults.{Tests};
 
-use crate::faults::{Reason, TestResult, refuse};
 use naga_oil_ir::{Block, Expression, Function, Handle, Math, Module, Span, Token, push_block};
 use std::alloc::{AllocError, Global};
 use yettuvam_wgsl_names::argument_counts;
+use yettuvam_wgsl_valid_items::faults::{Reason, TestResult, refuse};
 
 /// Returns the tokens of a body.
 ///

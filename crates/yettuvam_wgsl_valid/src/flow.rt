@@ -1,14 +1,14 @@
 //! How bodies end, as WGSL analyses the behavior of statements, and where jumps may stand. A walk over the tokens of a body
 //! keeps, for each open block, the behavior of its statements so far.
 ghost use Rattle.std.specs.Prelude.{◌≡◌};
-ghost use Rattle.yettuvam_wgsl_valid.specs.Faults.{Tests};
+ghost use Rattle.yettuvam_wgsl_valid_items.specs.Faults.{Tests};
 ghost use Rattle.yettuvam_wgsl_valid.specs.Flow as spec;
 ghost use Rattle.yettuvam_wgsl_valid.specs.Flow.{Steps, state_of};
 
-use crate::faults::{Invalid, Reason, TestResult, refuse};
 use naga_oil_ir::{Span, Token};
 use std::alloc::Global;
 use yettuvam_wgsl_names::form_codes::DEFAULT_SELECTOR;
+use yettuvam_wgsl_valid_items::faults::{Invalid, Reason, TestResult, refuse};
 
 // ---- kinds of statements
 

@@ -2,10 +2,9 @@
 ghost use Rattle.std.specs.Prelude.{◌≡◌, map, option_map};
 ghost use Rattle.naga_oil_ir.specs.ModuleValue.{module_value, argument_value, entry_value};
 ghost use Rattle.naga_oil_ir.specs.Rows.{type_row, member_label};
-ghost use Rattle.yettuvam_wgsl_valid.specs.Faults.{Tests};
+ghost use Rattle.yettuvam_wgsl_valid_items.specs.Faults.{Tests};
 ghost use Rattle.yettuvam_wgsl_valid.specs.Interfaces as spec;
 
-use crate::faults::{Reason, TestResult, refuse};
 use naga_oil_ir::{
     EntryPoint, FunctionArgument, FunctionResult, Handle, Module, Span, StructMember, Type,
     TypeInner,
@@ -13,6 +12,7 @@ use naga_oil_ir::{
 use yettuvam_wgsl_names::form_codes::{
     BUILT_IN, BUILT_IN_VALUE_UNIT, COMPUTE, INTERPOLATION_UNIT, NO_CLASS, VERTEX,
 };
+use yettuvam_wgsl_valid_items::faults::{Reason, TestResult, refuse};
 
 /// The code of the built-in value `position`.
 pub const POSITION: u64 = 4;

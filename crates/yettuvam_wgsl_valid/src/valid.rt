@@ -2,16 +2,17 @@
 ghost use Rattle.std.specs.Prelude.{◌≡◌, IfOk, map};
 ghost use Rattle.naga_oil_ir.specs.ModuleValue.{module_value, function_value, entry_value};
 ghost use Rattle.yettuvam_wgsl_valid.specs.Bindings.{uses_view};
-ghost use Rattle.yettuvam_wgsl_valid.specs.Faults.{Tests};
+ghost use Rattle.yettuvam_wgsl_valid_items.specs.Faults.{Tests};
 ghost use Rattle.yettuvam_wgsl_valid.specs.Valid as spec;
 
 use crate::bindings::{Uses, last_first, test_bindings, test_spaces, uses_of};
 use crate::calls::{test_calls, test_math, tokens_of};
-use crate::faults::TestResult;
 use crate::flow::test_flow;
 use crate::interfaces::test_interface;
 use naga_oil_ir::{EntryPoint, Function, Module, Span, Token};
 use std::alloc::{AllocError, Global};
+use yettuvam_wgsl_valid_items::faults::TestResult;
+use yettuvam_wgsl_valid_items::{test_constructors, test_items, test_stage, test_switches};
 
 // The span of the first statement.
 fn first_span(tokens: &[Token]) -> Span
@@ -30,17 +31,19 @@ fn test_body(
     tokens: &[Token],
     span: Span,
 ) -> TestResult
-    ensures { let functions = (module_value of.now).functions in
-        Tests (spec.body_valid functions (function_value function.now) tokens.now span) result }
+    ensures { let m = module_value of.now in
+        Tests (spec.body_valid m (function_value function.now) tokens.now span) result }
 {
     test_math(function)?;
+    test_constructors(of, function.expressions.as_slice())?;
     test_calls(of, tokens)?;
+    test_switches(alloc, tokens)?;
     test_flow(alloc, tokens, function.result.is_some(), span)
 }
 
 fn test_function(alloc: Global, of: &Module, function: &Function, span: Span) -> TestResult
-    ensures { let functions = (module_value of.now).functions in
-        Tests (spec.function_valid functions (function_value function.now, span)) result }
+    ensures { let m = module_value of.now in
+        Tests (spec.function_valid m (function_value function.now, span)) result }
 {
     let tokens = tokens_of(alloc, &function.body)?;
     test_body(alloc, of, function, &tokens, span)
@@ -90,6 +93,7 @@ fn test_entry_point(
     let span = first_span(&tokens);
     test_body(alloc, of, function, &tokens, span)?;
     test_interface(of, entry_point, span)?;
+    test_stage(alloc, of, entry_point, span)?;
     test_bindings(alloc, of, uses, &uses_of(alloc, function)?)
 }
 
@@ -103,7 +107,7 @@ fn test_entry_points(alloc: Global, of: &Module) -> TestResult
     Ok(())
 }
 
-/// Tests a module: variables, then functions, then entry points.
+/// Tests a module: the bindings of variables, then items, then functions, then entry points.
 ///
 /// A body without statements is that of a signature, which may have a result. The place of an entry point is that of its first
 /// statement.
@@ -115,6 +119,7 @@ pub fn validate(alloc: Global, of: &Module) -> TestResult
     ensures { Tests (spec.validated (module_value of.now)) result }
 {
     test_spaces(of)?;
+    test_items(of)?;
     test_functions(alloc, of)?;
     test_entry_points(alloc, of)
 }

@@ -1,6 +1,6 @@
 use Rattle.std.proofs.Common.{◌≡◌, drop, map}
 use Rattle.naga_oil_ir.specs.ModuleValue.{module_value, entry_value}
-use Rattle.yettuvam_wgsl_valid.specs.Faults.{each_valid}
+use Rattle.yettuvam_wgsl_valid_items.specs.Faults.{each_valid}
 use Rattle.yettuvam_wgsl_valid.specs.Valid.{entry_valid, uses_in, entry_points_valid}
 use Rattle.yettuvam_wgsl_valid.proofs.valid.test_entry_points.Given as goal
 

@@ -1,7 +1,7 @@
 //! What is wrong with a module, and where.
 ghost use Rattle.std.specs.Prelude.{◌≡◌, IfOk};
 ghost use Rattle.naga_oil_ir.specs.Backend.{valid_fault as value_of};
-ghost use Rattle.yettuvam_wgsl_valid.specs.Faults as spec;
+ghost use Rattle.yettuvam_wgsl_valid_items.specs.Faults as spec;
 
 use naga_oil_ir::{Span, ValidFault};
 use std::alloc::{AllocError, AllocFailed, Global};
@@ -28,6 +28,26 @@ pub enum Reason {
     NoLoop,
     /// `return` in a `continuing` block.
     ReturnInContinuing,
+    /// Two members of a struct have the same name.
+    MemberTwice,
+    /// A variable or an override has neither a type nor a value.
+    NoTypeOrValue,
+    /// A variable has an initial value, and its address space forbids one.
+    SpaceValue,
+    /// Two overrides have the same `@id`.
+    IdTwice,
+    /// A `switch` has no default.
+    NoDefault,
+    /// Two arms of a `switch` have the same value, or both are the default.
+    ArmTwice,
+    /// A constructor of a struct or an array has too few values, or too many.
+    ValueCount,
+    /// The stage of an entry point has no such input or output.
+    WrongStage,
+    /// Two inputs or two outputs of an entry point have the same location or the same built-in value.
+    SlotTwice,
+    /// A compute shader has a workgroup size of 0, or another shader has a workgroup size.
+    WorkgroupSize,
 }
 
 impl Reason {
@@ -46,6 +66,18 @@ impl Reason {
                 "only uniform, storage, texture and sampler variables have @group and @binding",
             Reason::NoLoop => "no loop or switch to leave, or no loop to continue",
             Reason::ReturnInContinuing => "a continuing block has no return",
+            Reason::MemberTwice => "two members of this struct have the same name",
+            Reason::NoTypeOrValue => "a variable or an override needs a type or a value",
+            Reason::SpaceValue => "only variables in the address space private have a value",
+            Reason::IdTwice => "another override has the same @id",
+            Reason::NoDefault => "a switch needs a default",
+            Reason::ArmTwice => "two cases of a switch have the same value",
+            Reason::ValueCount => "wrong number of values for a struct or an array",
+            Reason::WrongStage => "the stage of this entry point has no such input or output",
+            Reason::SlotTwice =>
+                "two inputs or two outputs of an entry point have the same location or built-in value",
+            Reason::WorkgroupSize =>
+                "a compute shader needs a workgroup size above 0, and other shaders have none",
         }
     }
 }
@@ -96,7 +128,7 @@ pub fn refuse(reason: Reason, span: Span) -> TestResult
 
 impl From<AllocError> for Invalid {
     ghost use Rattle.std.specs.Prelude.{◌≡◌};
-    ghost use Rattle.yettuvam_wgsl_valid.specs.declared.faults.Invalid.TheVariants.{Memory};
+    ghost use Rattle.yettuvam_wgsl_valid_items.specs.declared.faults.Invalid.TheVariants.{Memory};
 
     ghost from_gives = { λ _ e. e ≡ Memory };
 
@@ -107,7 +139,7 @@ impl From<AllocError> for Invalid {
 
 impl<T: Drop> From<AllocFailed<T>> for Invalid {
     ghost use Rattle.std.specs.Prelude.{◌≡◌};
-    ghost use Rattle.yettuvam_wgsl_valid.specs.declared.faults.Invalid.TheVariants.{Memory};
+    ghost use Rattle.yettuvam_wgsl_valid_items.specs.declared.faults.Invalid.TheVariants.{Memory};
 
     ghost from_gives = { λ _ e. e ≡ Memory };
 

@@ -2,11 +2,11 @@
 use Rattle.std.specs.Prelude.{◌≡◌, ℕ, List, [], ◌∷◌, Result, Ok, Err, codes}
 use Rattle.naga_oil_ir.specs.Backend.{FaultValue}
 use Rattle.naga_oil_ir.specs.declared.span.Span.{Span}
-use Rattle.yettuvam_wgsl_valid.specs.declared.faults.Fault.{Fault}
-use Rattle.yettuvam_wgsl_valid.specs.declared.faults.Invalid.{Invalid}
-use Rattle.yettuvam_wgsl_valid.specs.declared.faults.Invalid.TheVariants as invalid
-use Rattle.yettuvam_wgsl_valid.specs.declared.faults.Reason.{Reason}
-use Rattle.yettuvam_wgsl_valid.specs.declared.faults.Reason.TheVariants as reason
+use Rattle.yettuvam_wgsl_valid_items.specs.declared.faults.Fault.{Fault}
+use Rattle.yettuvam_wgsl_valid_items.specs.declared.faults.Invalid.{Invalid}
+use Rattle.yettuvam_wgsl_valid_items.specs.declared.faults.Invalid.TheVariants as invalid
+use Rattle.yettuvam_wgsl_valid_items.specs.declared.faults.Reason.{Reason}
+use Rattle.yettuvam_wgsl_valid_items.specs.declared.faults.Reason.TheVariants as reason
 
 -- the message of a fault
 abbrev pub message : Reason → List ℕ
@@ -19,6 +19,16 @@ message reason.ComputeResult = codes "a compute shader has no result"
 message reason.SpaceBinding = codes "only uniform, storage, texture and sampler variables have @group and @binding"
 message reason.NoLoop = codes "no loop or switch to leave, or no loop to continue"
 message reason.ReturnInContinuing = codes "a continuing block has no return"
+message reason.MemberTwice = codes "two members of this struct have the same name"
+message reason.NoTypeOrValue = codes "a variable or an override needs a type or a value"
+message reason.SpaceValue = codes "only variables in the address space private have a value"
+message reason.IdTwice = codes "another override has the same @id"
+message reason.NoDefault = codes "a switch needs a default"
+message reason.ArmTwice = codes "two cases of a switch have the same value"
+message reason.ValueCount = codes "wrong number of values for a struct or an array"
+message reason.WrongStage = codes "the stage of this entry point has no such input or output"
+message reason.SlotTwice = codes "two inputs or two outputs of an entry point have the same location or built-in value"
+message reason.WorkgroupSize = codes "a compute shader needs a workgroup size above 0, and other shaders have none"
 
 -- a fault as that of a front end
 abbrev pub fault_value : Fault → FaultValue

@@ -1,0 +1,11 @@
+pub mod BuiltIns
+pub mod Constructors
+pub mod Distinct
+pub mod Faults
+pub mod Items
+pub mod ItemsRows
+pub mod Members
+pub mod Stages
+pub mod Switches
+pub mod Types
+pub mod Variables
