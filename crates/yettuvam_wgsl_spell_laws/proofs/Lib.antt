@@ -1,0 +1,12 @@
+pub mod Decoded
+pub mod Stops
+pub mod Cuts
+pub mod Gaps
+pub mod Scanned
+pub mod Frames
+pub mod Moves
+pub mod Found
+pub mod Numerals
+pub mod Literals
+pub mod Names
+pub mod Neighbours
