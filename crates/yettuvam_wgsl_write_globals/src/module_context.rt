@@ -1,5 +1,5 @@
 // The context of a module.
-ghost use Rattle.std.specs.Prelude.{option_map};
+ghost use Rattle.std.specs.Prelude.{◌≡◌, IfOk, option_map};
 ghost use Rattle.naga_oil_ir.specs.ModuleValue.{module_value};
 ghost use Rattle.yettuvam_wgsl_write_expressions.specs.Context as context;
 ghost use Rattle.yettuvam_wgsl_write_globals.specs.Globals as spec;
@@ -26,9 +26,10 @@ pub fn context_of<'m>(
     names: &'m ItemNames,
     values: Option<&[Written<'m>]>,
 ) -> WriteResult<Context<'m>>
-    ensures { let known = option_map (λ v. values_of v.now) values.entry in
+    ensures value { let known = option_map (λ v. values_of v.now) values.entry in
         let made = spec.module_context (module_value of.now) (names_of names.now) known in
         Finds context.context_of result made }
+    ensures given { IfOk result (λ c. c.of.now ≡ of.now) }
 {
     let known = Known {
         alloc,

@@ -1,0 +1,13 @@
+use Rattle.std.proofs.Common.{◌≡◌, ◌++◌, length}
+use Rattle.naga_oil_ir.specs.ModuleValue.{module_value}
+use Rattle.yettuvam_wgsl_written_names.specs.Taken.{taken_of}
+use Rattle.yettuvam_wgsl_write.specs.Plans.{entries_value, entry_plans, plans_value}
+use Rattle.yettuvam_wgsl_write.proofs.plans.entry_plans.Given as goal
+
+abbrev pub invariant-loop-rest : goal.invariant-loop-rest
+invariant-loop-rest l =
+    entry_plans (module_value l.of) (taken_of l.taken) (entries_value l.entry_points)
+    ≡ plans_value l.plans.items ++ entry_plans (module_value l.of) (taken_of l.taken) (entries_value l.rest)
+
+abbrev pub decreases-loop-rest : goal.decreases-loop-rest
+decreases-loop-rest l = length l.rest
