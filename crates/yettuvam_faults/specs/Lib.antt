@@ -1,0 +1,14 @@
+pub mod Lines
+pub mod LinesRows
+pub mod LinesView
+pub mod Marks
+pub mod MarksView
+pub mod Message
+pub mod Notes
+pub mod Open
+pub mod OpenRows
+pub mod Phrase
+pub mod Place
+pub mod PlaceView
+pub mod ReportRows
+pub mod Reports

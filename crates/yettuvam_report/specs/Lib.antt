@@ -1,0 +1,4 @@
+pub mod Line
+pub mod LineRows
+pub mod Report
+pub mod ReportRows
