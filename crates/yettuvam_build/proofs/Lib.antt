@@ -1,0 +1,4 @@
+pub mod BuiltLemmas
+pub mod FileLemmas
+pub mod GivenLemmas
+pub mod WordLemmas

@@ -1,0 +1,12 @@
+pub mod Built
+pub mod BuiltRows
+pub mod BuiltView
+pub mod Defined
+pub mod Files
+pub mod Order
+pub mod OrderRows
+pub mod Refusals
+pub mod Reported
+pub mod Shown
+pub mod WordRows
+pub mod Words
