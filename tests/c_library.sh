@@ -60,6 +60,19 @@ preprocesses "$folder/pre"
 printf '#else\n' > "$folder/faulty.wgsl"
 (cd "$folder" && prints examples/c/faulty.txt ./pre faulty.wgsl; exit "$failed") || failed=1
 
+# A built shader is the one that stands beside its modules.
+builds() {
+    cd "$root/examples/scene" || exit 1
+    "$folder/build" scene.wgsl fog.wgsl frame.wgsl light.wgsl material.wgsl math.wgsl night.wgsl noise.wgsl terrain.wgsl \
+        LAYERS=10 PLACE=11 FOG=4 "$@"
+    cd "$root" || exit 1
+}
+compile build "$root/examples/c/build.c"
+builds | cmp - "$root/examples/scene/made_clear.wgsl" || fail 'build: the clear scene'
+builds +scene::fog | cmp - "$root/examples/scene/made.wgsl" || fail 'build: the scene with fog'
+printf 'fn f() { let x = y; }\n' > "$folder/unknown.wgsl"
+(cd "$folder" && ./build unknown.wgsl 2> told > made; [ $? -eq 1 ] && grep -q 'unknown.wgsl:1:18' told && [ ! -s made ]) || fail 'build: an unknown name'
+
 compile scarce "$root/tests/c_library/scarce.c" -Wl,--wrap=malloc,--wrap=realloc,--wrap=free
 prints tests/c_library/scarce.txt "$folder/scarce"
 
@@ -68,6 +81,9 @@ if command -v rustc > /dev/null; then
     prints examples/rust/told.txt "$folder/pre_rust"
     preprocesses "$folder/pre_rust"
     (cd "$folder" && prints examples/c/faulty.txt ./pre_rust faulty.wgsl; exit "$failed") || failed=1
+    rustc --edition 2024 -O -D warnings "$root/examples/rust/build.rs" -C "link-arg=$library" -C "link-arg=$heap" -o "$folder/build" || exit 1
+    builds | cmp - "$root/examples/scene/made_clear.wgsl" || fail 'build in Rust: the clear scene'
+    builds +scene::fog | cmp - "$root/examples/scene/made.wgsl" || fail 'build in Rust: the scene with fog'
 else
     echo 'c_library.sh: there is no rustc, so the program in Rust was left out'
 fi

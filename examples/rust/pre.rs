@@ -2,6 +2,7 @@
 //!     pre FILE [NAME=VALUE..]   prints what FILE becomes under the definitions, overwritten by its own
 //!     pre                       prints what a small shader tells of itself
 
+#[allow(dead_code)]
 mod yettuvam;
 
 use std::process::ExitCode;

@@ -19,6 +19,24 @@ struct RawDefinition {
 }
 
 #[repr(C)]
+struct Name {
+    text: *const c_char,
+    text_len: usize,
+}
+
+#[repr(C)]
+struct Task {
+    shader: Source,
+    modules: *const Source,
+    modules_len: usize,
+    definitions: *const RawDefinition,
+    definitions_len: usize,
+    imports: *const Name,
+    imports_len: usize,
+    override_any: bool,
+}
+
+#[repr(C)]
 #[derive(Clone, Copy)]
 struct Field {
     kind: u32,
@@ -46,6 +64,7 @@ unsafe extern "C" {
         page: *mut Page,
     ) -> c_uint;
     fn yettuvam_metadata(source: *const Source, allow_defines: bool, page: *mut Page) -> c_uint;
+    fn yettuvam_build(task: *const Task, page: *mut Page) -> c_uint;
 }
 
 /// What a name is defined as.
@@ -91,21 +110,78 @@ pub enum Refusal {
     NoMemory,
 }
 
+/// The path of a file, and its text.
+pub type File<'a> = (&'a str, &'a str);
+
+/// A shader to build.
+#[derive(Default)]
+pub struct Build<'a> {
+    pub shader: File<'a>,
+    /// The files of modules, in any order.
+    pub modules: &'a [File<'a>],
+    /// The last with a name counts.
+    pub definitions: &'a [(String, Value)],
+    /// The modules that the shader imports besides those of its text.
+    pub imports: &'a [&'a str],
+    /// Whether any imported function can be overridden, and not only virtual ones.
+    pub override_any: bool,
+}
+
+/// The shader in WGSL. The report of an error names its file, its line and its column.
+pub fn build(of: &Build) -> Result<String, Refusal> {
+    let modules: Vec<Source> = of.modules.iter().map(|file| source(*file)).collect();
+    let definitions = raw_definitions(of.definitions);
+    let imports: Vec<Name> = of
+        .imports
+        .iter()
+        .map(|name| Name {
+            text: name.as_ptr().cast(),
+            text_len: name.len(),
+        })
+        .collect();
+    let task = Task {
+        shader: source(of.shader),
+        modules: modules.as_ptr(),
+        modules_len: modules.len(),
+        definitions: definitions.as_ptr(),
+        definitions_len: definitions.len(),
+        imports: imports.as_ptr(),
+        imports_len: imports.len(),
+        override_any: of.override_any,
+    };
+    // SAFETY: the declarations fit the header, and all that the task names and the page live through the call.
+    Ok(told(|page| unsafe { yettuvam_build(&task, page) })?.text)
+}
+
+fn source((path, text): File) -> Source {
+    Source {
+        path: path.as_ptr().cast(),
+        path_len: path.len(),
+        text: text.as_ptr().cast(),
+        text_len: text.len(),
+    }
+}
+
+fn raw_definitions(definitions: &[(String, Value)]) -> Vec<RawDefinition> {
+    definitions
+        .iter()
+        .map(|(name, value)| raw(name, *value))
+        .collect()
+}
+
 /// What the text becomes under the definitions, of which the last of a name counts, and what it imports.
 pub fn preprocess(path: &str, text: &str, defs: &[(String, Value)]) -> Result<Told, Refusal> {
-    let defs: Vec<RawDefinition> = defs.iter().map(|(name, value)| raw(name, *value)).collect();
+    let defs = raw_definitions(defs);
     // SAFETY: the declarations fit the header, and the texts, the definitions and the page live through the call.
-    told(path, text, |source, page| unsafe {
-        yettuvam_preprocess(source, defs.as_ptr(), defs.len(), page)
+    told(|page| unsafe {
+        yettuvam_preprocess(&source((path, text)), defs.as_ptr(), defs.len(), page)
     })
 }
 
 /// What the text tells before any build, with or without definitions in it.
 pub fn metadata(path: &str, text: &str, allow_defines: bool) -> Result<Told, Refusal> {
     // SAFETY: as above.
-    told(path, text, |source, page| unsafe {
-        yettuvam_metadata(source, allow_defines, page)
-    })
+    told(|page| unsafe { yettuvam_metadata(&source((path, text)), allow_defines, page) })
 }
 
 fn raw(name: &str, value: Value) -> RawDefinition {
@@ -124,17 +200,7 @@ fn raw(name: &str, value: Value) -> RawDefinition {
 }
 
 // Calls with a page of some room, and once more where it has to be larger.
-fn told(
-    path: &str,
-    text: &str,
-    call: impl Fn(*const Source, *mut Page) -> c_uint,
-) -> Result<Told, Refusal> {
-    let source = Source {
-        path: path.as_ptr().cast(),
-        path_len: path.len(),
-        text: text.as_ptr().cast(),
-        text_len: text.len(),
-    };
+fn told(call: impl Fn(*mut Page) -> c_uint) -> Result<Told, Refusal> {
     let (mut bytes, mut count) = (1024, 16);
     loop {
         let mut out = vec![0u8; bytes];
@@ -156,7 +222,7 @@ fn told(
             bytes: 0,
             count: 0,
         };
-        let status = call(&source, &mut page);
+        let status = call(&mut page);
         (bytes, count) = (page.bytes, page.count);
         match status {
             0 => return Ok(read(&out, &fields[..count])),

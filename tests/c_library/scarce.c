@@ -1,4 +1,4 @@
-/* Does two calls while one allocation after another is refused, alone and with all behind it. Each answer has to be the one with
+/* Does each call while one allocation after another is refused, alone and with all behind it. Each answer has to be the one with
  * ample memory, or YETTUVAM_NO_MEMORY with an empty page, and behind each call everything is free again. Linked with
  * `-Wl,--wrap=malloc,--wrap=realloc,--wrap=free`. */
 #include "yettuvam.h"
@@ -44,6 +44,9 @@ static const char text[] =
     "enable f16;\n#define_import_path lake\n#import noise::{ripple, swell as wave}\n#define LAYERS 3\n"
     "#if LAYERS > 2\nripple(#SCALE) + wave(1) /* far */\n#endif\n";
 
+static const char shader[] = "#import lake::ripple\n@fragment\nfn main() -> @location(0) vec4f {\n    return vec4f(ripple(f32(#{SCALE})));\n}\n";
+static const char module[] = "#define_import_path lake\nconst BASE = 3.0;\nfn ripple(at: f32) -> f32 { return at + BASE; }\n";
+
 static char out[2000];
 static struct yettuvam_field fields[40];
 
@@ -57,14 +60,21 @@ static uint32_t call(int which, struct yettuvam_page *page) {
     switch (which) {
     case 0: return yettuvam_preprocess(&source, definitions, 2, page);
     case 1: return yettuvam_preprocess(&source, definitions + 1, 1, page);
-    default: return yettuvam_metadata(&source, true, page);
+    case 2: return yettuvam_metadata(&source, true, page);
+    default: break;
     }
+    /* Without the module there is a fault. */
+    struct yettuvam_source lake = {"lake.wgsl", 9, module, sizeof module - 1};
+    struct yettuvam_task task = {{"main.wgsl", 9, shader, sizeof shader - 1}, &lake, which == 3, definitions, 2, NULL, 0, false};
+    static const struct yettuvam_name none[1];
+    task.imports = none;
+    return yettuvam_build(&task, page);
 }
 
 int main(void) {
     static char ample[2000];
     long runs = 0;
-    for (int which = 0; which < 3; which++) {
+    for (int which = 0; which < 5; which++) {
         struct yettuvam_page page;
         refused = 0;
         uint32_t want = call(which, &page);

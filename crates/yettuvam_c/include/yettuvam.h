@@ -1,4 +1,5 @@
-/* The text layer of shader composition: preprocesses a shader's text under definitions, and reads its metadata.
+/* Shader composition: builds one WGSL shader of a file and modules, preprocesses a shader's text under definitions, and reads its
+ * metadata.
  *
  * All memory is the caller's. A call reads its arguments and writes its result on the caller's page, so there is nothing to free,
  * and nothing is kept between calls. Calls from several threads are independent.
@@ -22,11 +23,11 @@ extern "C" {
 enum yettuvam_status {
     /* The result is on the page. */
     YETTUVAM_OK = 0,
-    /* The text has an error: the page has one field, the error's report. */
+    /* A text has an error: the page has one field, the error's report. */
     YETTUVAM_FAULTY = 1,
     /* Out of memory. The call has freed what it allocated. */
     YETTUVAM_NO_MEMORY = 2,
-    /* The path, the text or the name of a definition isn't UTF-8. */
+    /* A path, a text, the name of a definition or of an import isn't UTF-8. */
     YETTUVAM_NOT_UTF8 = 3,
     /* A definition has an unknown kind, or a value that its kind can't hold: `count` is the index of the first such one. */
     YETTUVAM_BAD_DEFINITION = 4,
@@ -36,7 +37,7 @@ enum yettuvam_status {
 
 /* The kind of a field. A field without a place or a value has 0 there. */
 enum yettuvam_kind {
-    /* The text: preprocessed, or for metadata the text with an empty line in place of each directive. */
+    /* The text: built, preprocessed, or for metadata the text with an empty line in place of each directive. */
     YETTUVAM_TEXT = 1,
     /* The name of an imported module, with the place of its first use. The items that are used of the module follow. */
     YETTUVAM_IMPORT = 2,
@@ -75,6 +76,26 @@ struct yettuvam_definition {
     int64_t value;
 };
 
+/* The name of a module, its import path. */
+struct yettuvam_name {
+    const char *text;
+    size_t text_len;
+};
+
+/* A shader to build: its file; files of modules, in any order, of which those count that it reaches; definitions, of which the last
+ * with a name counts; modules that the shader imports besides those of its text; and whether any imported function can be
+ * overridden, and not only virtual ones. */
+struct yettuvam_task {
+    struct yettuvam_source shader;
+    const struct yettuvam_source *modules;
+    size_t modules_len;
+    const struct yettuvam_definition *definitions;
+    size_t definitions_len;
+    const struct yettuvam_name *imports;
+    size_t imports_len;
+    bool override_any;
+};
+
 /* A field of a result: the `len` bytes of the page's `out` from `at`, in UTF-8, without a 0 at the end. */
 struct yettuvam_field {
     uint32_t kind;
@@ -104,6 +125,10 @@ uint32_t yettuvam_preprocess(const struct yettuvam_source *source, const struct 
  * each import with its items, its definitions by `#define` (an error where these aren't allowed) and the names that it records,
  * both in byte order, and its directives. */
 uint32_t yettuvam_metadata(const struct yettuvam_source *source, bool allow_defines, struct yettuvam_page *page);
+
+/* Builds the shader of a task over its modules: the WGSL that `yettuvam build` prints for the same files. Fields: the text. The
+ * report of an error has no place of its own: it names the file, the line and the column. */
+uint32_t yettuvam_build(const struct yettuvam_task *task, struct yettuvam_page *page);
 
 #ifdef __cplusplus
 }

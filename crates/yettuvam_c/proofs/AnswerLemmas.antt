@@ -1,5 +1,5 @@
 -- The page for each status, and the result of an error.
-use Rattle.std.proofs.Common.{◌≡◌, ℕ, ◌≤◌, List, Bool, true, false, refl, sym, ap, ◌∙◌, arith, Option, Some, None, MatchOption, Result, Ok, Err}
+use Rattle.std.proofs.Common.{◌≡◌, ℕ, ◌≤◌, List, [], map, Bool, true, false, refl, sym, ap, ◌∙◌, arith, Option, Some, None, MatchOption, Result, Ok, Err}
 use mathlib.Core.Logic.{⊎_elim, inl, inr}
 use Rattle.std.specs.Prelude.{◌⊎◌, IfOk, IfErr, MatchResult}
 use Rattle.naga_oil_conditions.specs.Fault.{Fault}
@@ -7,13 +7,18 @@ use Rattle.naga_oil_pre.specs.Metadata.{Metadata, metadata}
 use Rattle.naga_oil_pre.specs.MetadataView.{metadata_of}
 use Rattle.naga_oil_pre.specs.Preprocessed.{Output, preprocessed}
 use Rattle.naga_oil_pre.specs.declared.metadata.PreprocessorMetaData.{PreprocessorMetaData}
+use Rattle.yettuvam_build.specs.Built.{built_text}
+use Rattle.yettuvam_wgsl.specs.Front.{wgsl}
 use Rattle.yettuvam_c.specs.Answer.{Reply, output_reply, value_reply, fault_reply, reply_of, IsPreprocessed, IsMetadata, IsReplyPut, IsPut, Replies, RepliesRoom, IsUnwritten}
+use Rattle.yettuvam_c.specs.Built.{IsBuilt, request_of, source_file, text_reply}
+use Rattle.yettuvam_c.specs.Given.{listed}
 use Rattle.yettuvam_c.specs.Parts.{metadata_parts}
 use Rattle.yettuvam_c.specs.declared.given.Refusal.{Refusal}
 use Rattle.yettuvam_c.specs.declared.given.Refusal.TheVariants.{Memory, NotUtf8, BadDefinition}
 use Rattle.yettuvam_c.specs.declared.page.Define.{Define}
 use Rattle.yettuvam_c.specs.declared.page.Page.{Page}
 use Rattle.yettuvam_c.specs.declared.page.Source.{Source}
+use Rattle.yettuvam_c.specs.declared.page.Task.{Task}
 use Rattle.yettuvam_c.specs.declared.sheet.Sheet.{Sheet}
 
 -- the result of a text with an error
@@ -46,6 +51,13 @@ found_low path text (Err f) reply is = rw is (omega arith)
 
 pub metadata_low : (source : Source) (allow_defines : Bool) (reply : Reply) → IsMetadata source allow_defines reply → reply.0 ≤ 1
 metadata_low source allow_defines reply is = found_low source.path.now source.text.now (metadata allow_defines source.text.now) reply is
+
+text_low : (value : Result (List ℕ) (List ℕ)) → (text_reply value).0 ≤ 1
+text_low (Ok text) = omega arith
+text_low (Err report) = omega arith
+
+pub built_low : (task : Task) (reply : Reply) → IsBuilt task reply → reply.0 ≤ 1
+built_low task reply is = rw is.1 (text_low (built_text wgsl (request_of task) (listed [] task.definitions.now) (source_file task.shader) (map source_file task.modules.now)))
 
 -- a result on a page, with the status 0 or 1, or a refusal
 module _ (IsAnswer : Reply → Type 0) (R : Refusal → Type 0) (low : (reply : Reply) → IsAnswer reply → reply.0 ≤ 1) (status : ℕ) (old new : Page) where

@@ -1,2 +1,3 @@
 pub mod GivenLemmas
 pub mod AnswerLemmas
+pub mod BuildLemmas

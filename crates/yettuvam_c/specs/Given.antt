@@ -3,6 +3,8 @@ use Rattle.std.specs.Prelude.{◌≡◌, ℕ, zero, suc, ◌+◌, ◌==◌, ◌�
 use Rattle.std.specs.Str.{IsUtf8}
 use Rattle.naga_oil_conditions.specs.Fault.{Definitions}
 use Rattle.naga_oil_pre.specs.Metadata.{none_defined, with_definition}
+use Rattle.naga_oil_registry.specs.Merged.{with_def}
+use Rattle.naga_oil_registry.specs.Registered.{Defs}
 use Rattle.naga_oil_conditions.specs.declared.shader_def.ShaderDefValue.{ShaderDefValue}
 use Rattle.naga_oil_conditions.specs.declared.shader_def.ShaderDefValue.TheVariants as def
 use Rattle.yettuvam_c.specs.Kinds.{bool_kind, int_kind, uint_kind}
@@ -45,6 +47,11 @@ given_value kind value =
 abbrev pub defined_by : ℕ → Definitions → List Define → Result Definitions ℕ
 defined_by index defs [] = Ok defs
 defined_by index defs (d ∷ more) = elim (given_value d.kind d.value) [ None ↦ Err index | Some value ↦ defined_by (index + 1) (with_definition defs d.name.now value) more ]
+
+-- definitions in byte order of their names, with these that have a value added one after the other
+abbrev pub listed : Defs → List Define → Defs
+listed defs [] = defs
+listed defs (d ∷ more) = elim (given_value d.kind d.value) [ None ↦ listed defs more | Some value ↦ listed (with_def defs (d.name.now, value)) more ]
 
 -- a name isn't UTF-8
 abbrev pub HasOther : List Define → Type 0

@@ -3,3 +3,4 @@ pub mod Laid
 pub mod Given
 pub mod Parts
 pub mod Answer
+pub mod Built

@@ -21,8 +21,8 @@ pub const BAD_DEFINITION: u32 = 4;
 
 pub const NO_ROOM: u32 = 5;
 
-// The path and the text of a source.
-fn texts<'a>(source: &Source<'a>) -> Result<(&'a str, &'a str), Refusal>
+/// The path and the text of a source.
+pub fn source_texts<'a>(source: &Source<'a>) -> Result<(&'a str, &'a str), Refusal>
     ensures ok { let of = source.now in
         IfOk result (λ t. (t.0.now ≡ of.path.now) × (t.1.now ≡ of.text.now)) }
     ensures err { IfErr result (RefusesSource source.now) }
@@ -98,7 +98,7 @@ pub fn preprocessed(
     ensures ok { IfOk result (λ a. IsPreprocessed source.now definitions.now (reply_of a)) }
     ensures err { IfErr result (Refuses source.now definitions.now) }
 {
-    let (path, text) = texts(source)?;
+    let (path, text) = source_texts(source)?;
     let defs = given(alloc, definitions)?;
     Ok(preprocessed_reply(alloc, path, text, &defs)?)
 }
@@ -112,7 +112,7 @@ pub fn metadata(
     ensures ok { IfOk result (λ a. IsMetadata source.now allow_defines (reply_of a)) }
     ensures err { IfErr result (RefusesSource source.now) }
 {
-    let (path, text) = texts(source)?;
+    let (path, text) = source_texts(source)?;
     Ok(metadata_reply(alloc, path, text, allow_defines)?)
 }
 

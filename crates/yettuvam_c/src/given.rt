@@ -1,8 +1,10 @@
 // The definitions of a caller.
-ghost use Rattle.std.specs.Prelude.{◌≡◌, Some, Ok, IfOk, IfErr};
+ghost use Rattle.std.specs.Prelude.{◌≡◌, [], Some, Ok, OnOk, IfOk, IfErr};
 ghost use Rattle.std.specs.BTreeMap.{get_by_text};
-ghost use Rattle.naga_oil_pre.specs.Metadata.{none_defined};
-ghost use Rattle.yettuvam_c.specs.Given.{given_value, defined_by, RefusesOne, RefusesGiven};
+ghost use Rattle.naga_oil_pre.specs.Metadata.{none_defined, with_definition};
+ghost use Rattle.naga_oil_registry.specs.Merged.{with_def};
+ghost use Rattle.naga_oil_registry.specs.Registered.{defs_of};
+ghost use Rattle.yettuvam_c.specs.Given.{given_value, defined_by, listed, RefusesOne, RefusesGiven};
 
 use super::parts::{BOOL, INT, UINT};
 use super::*;
@@ -58,16 +60,34 @@ fn read<'a>(index: usize, definition: &Define<'a>) -> Result<(&'a str, ShaderDef
     Ok((name, value))
 }
 
+// Defines a name, and replaces its value if there is one.
+fn define(
+    alloc: Global,
+    defs: &mut Definitions,
+    name: &str,
+    value: ShaderDefValue,
+) -> Result<(), AllocError>
+    ensures found { let defined = with_definition (get_by_text defs.old) name.now value in
+        OnOk result (get_by_text defs.new ≡ defined) }
+    ensures listed { let defined = with_def (defs_of defs.old) (name.now, value) in
+        OnOk result (defs_of defs.new ≡ defined) }
+{
+    defs.insert(String::from_str(alloc, name)?, value)?;
+    Ok(())
+}
+
 /// Reads definitions. The last with a name counts.
 pub fn given(alloc: Global, definitions: &[Define<'_>]) -> Result<Definitions, Refusal>
     ensures ok { let reply = defined_by 0 none_defined definitions.now in
         IfOk result (λ defs. reply ≡ Ok (get_by_text defs)) }
+    // In byte order of the names.
+    ensures listed { IfOk result (λ defs. defs_of defs ≡ listed [] definitions.now) }
     ensures err { IfErr result (RefusesGiven definitions.now) }
 {
     let mut defs = BTreeMap::new(alloc);
     for (index, definition) in definitions.iter().enumerate() {
         let (name, value) = read(index, definition)?;
-        set_definition(&mut defs, String::from_str(alloc, name)?, value)?;
+        define(alloc, &mut defs, name, value)?;
     }
     Ok(defs)
 }

@@ -31,6 +31,24 @@ pub struct Define<'a> {
     pub value: i64,
 }
 
+/// The name of a module.
+#[repr(C)]
+#[derive(Drop)]
+pub struct Name<'a> {
+    pub text: &'a [u8],
+}
+
+/// A shader to build: its file, the files of modules, definitions, and imports besides those of its text.
+#[repr(C)]
+#[derive(Drop)]
+pub struct Task<'a> {
+    pub shader: Source<'a>,
+    pub modules: &'a [Source<'a>],
+    pub definitions: &'a [Define<'a>],
+    pub imports: &'a [Name<'a>],
+    pub override_any: bool,
+}
+
 /// The memory that a caller lends for a result.
 #[repr(C)]
 #[derive(Drop)]
