@@ -18,7 +18,7 @@ def collected(root):
     """All texts of the repository that are worth changing."""
     texts = []
     for folder, _, names in os.walk(os.path.join(root, "examples")):
-        texts += [open(os.path.join(folder, name), encoding="utf-8").read() for name in sorted(names)]
+        texts += [open(os.path.join(folder, name), encoding="utf-8").read() for name in sorted(names) if name.endswith((".txt", ".wgsl"))]
     for folder, _, names in sorted(os.walk(os.path.join(root, "crates"))):
         for name in sorted(names):
             path = os.path.join(folder, name)

@@ -1,0 +1,9 @@
+#define_import_path lamp
+
+virtual fn power(at: u32) -> u32 {
+    return at + 1u;
+}
+
+fn seen(at: u32) -> u32 {
+    return power(at);
+}

@@ -1,0 +1,8 @@
+#import level::height
+
+@group(0) @binding(0) var<storage, read_write> out: array<u32, 64>;
+
+@compute @workgroup_size(1)
+fn main() {
+    out[0] = height();
+}

@@ -1,0 +1,5 @@
+#define_import_path paint
+
+fn shade() -> u32 {
+    return 1u;
+}

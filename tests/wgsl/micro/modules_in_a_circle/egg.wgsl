@@ -1,0 +1,6 @@
+#define_import_path egg
+#import hen::hen
+
+fn egg() -> u32 {
+    return hen();
+}

@@ -1,0 +1,6 @@
+#define_import_path hen
+#import egg::egg
+
+fn hen() -> u32 {
+    return egg();
+}

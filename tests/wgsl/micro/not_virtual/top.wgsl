@@ -1,0 +1,12 @@
+#import lamp
+
+override fn lamp::power() -> u32 {
+    return 2u;
+}
+
+@group(0) @binding(0) var<storage, read_write> out: array<u32, 64>;
+
+@compute @workgroup_size(1)
+fn main() {
+    out[0] = lamp::power();
+}

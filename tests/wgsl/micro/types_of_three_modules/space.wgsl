@@ -1,0 +1,5 @@
+#define_import_path space
+
+struct Place {
+    at: vec2u,
+}

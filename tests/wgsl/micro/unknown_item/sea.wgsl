@@ -1,0 +1,5 @@
+#define_import_path sea
+
+fn width() -> u32 {
+    return 1u;
+}

@@ -1,0 +1,3 @@
+#define_import_path group
+
+const ACROSS = 4;
