@@ -4,7 +4,8 @@ use Rattle.std.specs.Fmt.{digits}
 use Rattle.naga_oil_ir.specs.ModuleValue.{ArgumentValue}
 use Rattle.yettuvam_wgsl_names.specs.declared.functions.TheConstants.{ABS}
 use Rattle.yettuvam_wgsl_requests.specs.Calls.{Groups, predeclared}
-use Rattle.yettuvam_wgsl_written_names.specs.Taken.{Taken, none_taken, inside, take_function, free_from}
+use Rattle.yettuvam_wgsl_written_names.specs.Language.{is_in_language, is_built_in_function}
+use Rattle.yettuvam_wgsl_written_names.specs.Taken.{Taken, none_taken, inside, free_from}
 use Rattle.yettuvam_wgsl_local_names.specs.LocalNames.{Names, may_hide, fresh, with_local, with_value, add_argument, add_arguments}
 
 -- an argument without a name
@@ -12,7 +13,7 @@ abbrev nameless : ArgumentValue
 nameless = record { name = None; ty = 0; binding = None }
 
 arguments_row : (add_arguments [] (nameless ∷ nameless ∷ []) record { names = []; taken = none_taken }).names ≡ codes "argument" ∷ codes "argument_1" ∷ []
-unfolding free_from digits fresh add_argument add_arguments
+unfolding free_from digits fresh add_argument add_arguments is_in_language is_built_in_function
 arguments_row = refl
 
 -- `abs` is called in the group 3, and is a name of the language
@@ -20,7 +21,7 @@ abbrev calls : Groups
 calls = (ABS, 3) ∷ []
 
 abbrev taken : Taken
-taken = inside (take_function none_taken (codes "abs"))
+taken = inside none_taken
 
 hides_rows :
     (may_hide calls (Some (codes "abs")) 2 ≡ false)
@@ -36,7 +37,7 @@ fresh_rows :
     × ((fresh calls taken (Some (codes "abs")) (codes "local") 3).name ≡ codes "abs")
     × ((fresh calls taken (Some (codes "x")) (codes "local") 0).name ≡ codes "x")
     × ((fresh calls taken None (codes "local") 0).name ≡ codes "local")
-unfolding free_from digits fresh predeclared
+unfolding free_from digits fresh predeclared is_in_language is_built_in_function
 fresh_rows = (refl, refl, refl, refl)
 
 abbrev none_named : Names

@@ -177,7 +177,9 @@ pub fn push_image_query<'m>(
     image: Operand,
     query: &ImageQuery,
 ) -> WriteResult<()>
-    ensures { Puts (spec.query (values_of known.now) (query_code query.now) (Some image ∷ query_level query.now ∷ []) (scope_of scope.now).span) result (map piece_of out.old.items) (map piece_of out.new.items) }
+    ensures { let operands = Some image ∷ query_level query.now ∷ [] in
+        let written = spec.query (values_of known.now) (query_code query.now) operands (scope_of scope.now).span in
+        Puts written result (map piece_of out.old.items) (map piece_of out.new.items) }
 {
     let arguments = query_arguments(scope.context.alloc, image, query)?;
     let function = query_function(query);

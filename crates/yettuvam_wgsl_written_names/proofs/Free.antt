@@ -1,12 +1,15 @@
 -- A free number is found: no more numbers fail than names are taken.
-use Rattle.std.proofs.Common.{◌≡◌, ◌≢◌, ◌⊎◌, inl, inr, ℕ, zero, suc, ◌+◌, ◌<◌, ◌≤◌, ◌^◌, Bool, true, false, cond, ◌==◌, ◌||◌, not, nat_le, nat_lt, if◌then◌else◌, List, [], ◌∷◌, ◌++◌, length, Option, Some, None, is_some, codes, refl, sym, ap, ◌∙◌, arith, below_more, length-append}
+use Rattle.std.proofs.Common.{◌≡◌, ◌≢◌, ◌⊎◌, inl, inr, ℕ, zero, suc, ◌+◌, ◌<◌, ◌≤◌, ◌^◌, Bool, true, false, cond, ◌==◌, ◌||◌, not, nat_le, nat_lt, if◌then◌else◌, List, [], ◌∷◌, ◌++◌, map, length, Option, Some, None, is_some, codes, refl, sym, ap, ◌∙◌, arith, below_more, length-append}
 use Rattle.std.proofs.lemmas.Bool.{false_from_ne_true, false≢true}
 use Rattle.std.proofs.lemmas.Bool.Decides.{nat_tests}
 use Rattle.std.proofs.lemmas.Fmt.{decimal_injective}
 use Rattle.std.proofs.lemmas.List.{append_cancel_left}
 use Rattle.std.proofs.lemmas.Slice.Eq.{bytes_eq-Decides}
 use Rattle.std.specs.Str.{bytes_eq}
-use Rattle.yettuvam_wgsl_names.specs.Table.{Name}
+use Rattle.yettuvam_wgsl_names.specs.Names.{predeclared_rows}
+use Rattle.yettuvam_wgsl_names.specs.Table.{Name, meaning}
+use Rattle.yettuvam_wgsl_names.specs.Words.{word_rows}
+use Rattle.yettuvam_wgsl_written_names.specs.Language.{is_in_language, language_count}
 use Rattle.yettuvam_wgsl_written_names.specs.Taken.{Numbers, Taken, number_of, is_among, has, numbered, free_from, free_number, start_by, start_of, greatest_start, count_of, fresh, make_numbered}
 
 -- ---- places but one
@@ -90,6 +93,38 @@ joined (e ∷ es) ys n = by (bytes_eq n e.0) (joined es ys n)
     by true h = refl
     by false h = h
 
+-- ---- the words of the language as taken names
+
+listed : {V : Type 0} (es : List (Name × V)) (n : Name) → is_among (map (λ e. (e.0, 1)) es) n ≡ is_some (meaning es n)
+listed [] n = refl
+listed (e ∷ es) n = by (bytes_eq n e.0) (listed es n)
+  where
+    by : (b : Bool) → is_among (map (λ e. (e.0, 1)) es) n ≡ is_some (meaning es n) → is_some (cond b (Some 1) (number_of (map (λ e. (e.0, 1)) es) n)) ≡ is_some (cond b (Some e.1) (meaning es n))
+    by true h = refl
+    by false h = h
+
+unfoldable language_names : Numbers
+language_names = map (λ e. (e.0, 1)) word_rows ++ map (λ e. (e.0, 1)) predeclared_rows
+
+in_language : (n : Name) → is_among language_names n ≡ is_in_language n
+unfolding language_names is_in_language
+in_language n =
+    joined (map (λ e. (e.0, 1)) word_rows) (map (λ e. (e.0, 1)) predeclared_rows) n
+    ∙ ap (λ b. b || is_among (map (λ e. (e.0, 1)) predeclared_rows) n) (listed word_rows n)
+    ∙ ap (λ b. is_some (meaning word_rows n) || b) (listed predeclared_rows n)
+
+language_length : length language_names ≡ language_count
+unfolding language_names
+language_length = refl
+
+abbrev all_names : Taken → Numbers
+all_names t = t.outer ++ (t.own ++ language_names)
+
+has_all : (t : Taken) (n : Name) → is_among (all_names t) n ≡ has t n
+has_all t n =
+    joined t.outer (t.own ++ language_names) n
+    ∙ ap (λ b. is_among t.outer n || b) (joined t.own language_names n ∙ ap (λ b. is_among t.own n || b) (in_language n))
+
 start_small : (o : Option ℕ) → start_by o ≤ greatest_start
 start_small None = omega arith
 start_small (Some n) = grind (arith, nat_tests)
@@ -103,9 +138,9 @@ number_is_free t base small =
     let apart : IsApart (suc (count_of t)) (λ i. numbered base (start_of t base + i)) = λ i j hi hj same.
     let n : start_of t base + i ≡ start_of t base + j = decimal_injective (start_of t base + i) (start_of t base + j) (omega arith) (omega arith) (append_cancel_left (base ++ codes "_") _ _ same) in
     omega arith in
-    let among : AreAmong (t.outer ++ t.own) (suc (count_of t)) (λ i. numbered base (start_of t base + i)) = λ i lt. joined t.outer t.own (numbered base (start_of t base + i)) ∙ all i lt in
-    let most : suc (count_of t) ≤ length (t.outer ++ t.own) = fit (t.outer ++ t.own) (suc (count_of t)) (λ i. numbered base (start_of t base + i)) apart among in
-    absurd (omega (arith, length-append t.outer t.own)))
+    let among : AreAmong (all_names t) (suc (count_of t)) (λ i. numbered base (start_of t base + i)) = λ i lt. has_all t (numbered base (start_of t base + i)) ∙ all i lt in
+    let most : suc (count_of t) ≤ length (all_names t) = fit (all_names t) (suc (count_of t)) (λ i. numbered base (start_of t base + i)) apart among in
+    absurd (omega (arith, length-append t.outer (t.own ++ language_names), length-append t.own language_names, language_length)))
 
 -- a made name is free
 pub fresh_is_free : (t : Taken) (n : Name) → count_of t ≤ 2 ^ 62 → has t (fresh t n).name ≡ false

@@ -12,16 +12,11 @@ use Rattle.naga_oil_ir.specs.declared.types.GlobalVariable.{GlobalVariable}
 use Rattle.naga_oil_ir.specs.declared.types.Override.{Override}
 use Rattle.naga_oil_ir.specs.declared.types.Type.{«Type» as TypeOfShader}
 use Rattle.naga_oil_words.specs.Marks.{has_module_mark}
-use Rattle.yettuvam_wgsl_names.specs.Names.{predeclared_rows}
 use Rattle.yettuvam_wgsl_names.specs.Table.{Name}
-use Rattle.yettuvam_wgsl_names.specs.Words.{word_rows}
-use Rattle.yettuvam_wgsl_names.specs.declared.names.Predeclared.{Predeclared}
-use Rattle.yettuvam_wgsl_names.specs.declared.names.Predeclared.TheVariants as predeclared
-use Rattle.yettuvam_wgsl_names.specs.declared.words.Word.{Word}
 use Rattle.yettuvam_wgsl_written.specs.Outcomes.{◌>>=◌, Refuses}
 use Rattle.yettuvam_wgsl_written.specs.declared.refusal.Refusal.{Refusal}
 use Rattle.yettuvam_wgsl_written_names.specs.Spelled.{is_name}
-use Rattle.yettuvam_wgsl_written_names.specs.Taken.{Taken, taken_of, none_taken, has, take, take_function, fresh}
+use Rattle.yettuvam_wgsl_written_names.specs.Taken.{Taken, taken_of, none_taken, has, fresh}
 use Rattle.yettuvam_wgsl_written_names.specs.declared.items.ItemNames.{ItemNames as NamesByCode}
 use Rattle.yettuvam_wgsl_written_names.specs.declared.taken.Taken.{Taken as TakenByCode}
 use denote.Ref.{Bor}
@@ -30,9 +25,6 @@ use denote.Ref.{Bor}
 
 abbrev pub texts : List (Option (String Global)) → List (Option Name)
 texts ns = map (λ n. option_map string_bytes n) ns
-
-abbrev pub rows : {V : Type 0} → List (Bor Name × V) → List (Name × V)
-rows es = map (λ e. (e.0.now, e.1)) es
 
 -- the names of a list of items, if they have names, and all names that are taken
 pub record Naming : Type 0 where
@@ -56,25 +48,6 @@ name_by (Some n) = n
 -- the name of the item at a place, if it has one
 abbrev pub name_at : List (Option Name) → ℕ → Option Name
 name_at names place = name_by (slice_get names place)
-
--- ---- the words of the language
-
-unfoldable pub take_words : Taken → List (Name × Word) → Taken
-take_words t [] = t
-take_words t (e ∷ es) = take_words (take t e.0) es
-
--- functions may be hidden by locals
-abbrev pub take_predeclared : Taken → Name → Predeclared → Taken
-take_predeclared t n (predeclared.Function code) = take_function t n
-take_predeclared t n _ = take t n
-
-unfoldable pub take_all_predeclared : Taken → List (Name × Predeclared) → Taken
-take_all_predeclared t [] = t
-take_all_predeclared t (e ∷ es) = take_all_predeclared (take_predeclared t e.0 e.1) es
-
--- keywords, reserved words and predeclared names
-unfoldable pub words_of_language : Taken
-words_of_language = take_all_predeclared (take_words none_taken word_rows) predeclared_rows
 
 -- ---- items
 
@@ -176,7 +149,7 @@ all_of a b = (record { types = a.second; constants = b.first; overrides = b.seco
 -- the names of a module's items, in the order in which they are chosen, and all names that are taken
 unfoldable pub item_names : ModuleValue → Result (ItemNames × Taken) Span
 item_names m =
-    two_names words_of_language (labels_of_entries m.entry_points) (labels m.types)
+    two_names none_taken (labels_of_entries m.entry_points) (labels m.types)
     >>= (λ a. other_names a.taken m >>= (λ b. Ok (all_of a b)))
 
 -- the result is these names, or a refusal

@@ -7,6 +7,7 @@ use Rattle.std.specs.HashMap.{HashMap}
 use Rattle.std.specs.declared.alloc.Global.{Global}
 use Rattle.indexmap.specs.IndexMap.{insert_entry}
 use Rattle.yettuvam_wgsl_names.specs.Table.{Name}
+use Rattle.yettuvam_wgsl_written_names.specs.Language.{is_in_language, is_built_in_function, language_count}
 use Rattle.yettuvam_wgsl_written_names.specs.Spelled.{is_name}
 use Rattle.yettuvam_wgsl_written_names.specs.declared.taken.Taken.{Taken as TakenByCode}
 use denote.Ref.{Bor}
@@ -15,7 +16,8 @@ use denote.Ref.{Bor}
 abbrev pub Numbers : Type 0
 Numbers = List (Name × ℕ)
 
--- the names of a module, and those that are taken inside of a function; without a function, `outer` has none
+-- the names of a module, and those that are taken inside of a function; without a function, `outer` has none. The words of the
+-- language are always taken besides
 pub record Taken : Type 0 where
   pub outer : Numbers
   pub own : Numbers
@@ -48,13 +50,9 @@ with_number ns n number = insert_entry bytes_eq ns n number
 abbrev pub first_number : ℕ
 first_number = 1
 
--- the number of a built-in function, whose name a local may have where the function isn't called
-abbrev pub built_in_number : ℕ
-built_in_number = 0
-
 -- ---- taken names
 
--- no names are taken
+-- no names are taken but the words of the language
 abbrev pub none_taken : Taken
 none_taken = record { outer = []; own = [] }
 
@@ -63,25 +61,15 @@ abbrev pub inside : Taken → Taken
 inside t = record { outer = t.own; own = [] }
 
 abbrev pub has : Taken → Name → Bool
-has t n = is_among t.outer n || is_among t.own n
+has t n = is_among t.outer n || (is_among t.own n || is_in_language n)
 
--- a name is taken, with a number unless it has one
-abbrev pub take_with : Taken → Name → ℕ → Taken
-take_with t n number = if is_among t.own n then t else record { outer = t.outer; own = with_number t.own n number }
-
+-- a name is taken; one that is taken in the function keeps its number
 abbrev pub take : Taken → Name → Taken
-take t n = take_with t n first_number
+take t n = if is_among t.own n then t else record { outer = t.outer; own = with_number t.own n first_number }
 
-abbrev pub take_function : Taken → Name → Taken
-take_function t n = take_with t n built_in_number
-
-abbrev pub has_number : ℕ → Option ℕ → Bool
-has_number number None = false
-has_number number (Some k) = k == number
-
--- the name is that of a built-in function, which no item of the module and no local has
+-- the name is that of a built-in function, which no local has
 abbrev pub is_built_in : Taken → Name → Bool
-is_built_in t n = has_number built_in_number (number_of t.outer n) && not (is_among t.own n)
+is_built_in t n = is_built_in_function n && not (is_among t.own n)
 
 -- ---- made names
 
@@ -95,14 +83,15 @@ greatest_start = 4611686018427387904
 
 abbrev pub start_by : Option ℕ → ℕ
 start_by None = first_number
-start_by (Some number) = if (number == built_in_number) || not (nat_le number greatest_start) then first_number else number
+start_by (Some number) = if nat_le number greatest_start then number else first_number
 
 -- the number from which a free one is looked for
 abbrev pub start_of : Taken → Name → ℕ
 start_of t base = start_by (number_of t.own base)
 
+-- how many names are taken
 abbrev pub count_of : Taken → ℕ
-count_of t = length t.outer + length t.own
+count_of t = language_count + (length t.outer + length t.own)
 
 -- the first number from n on that makes a free name, among so many; after these, the next
 unfoldable pub free_from : (is_taken : Name → Bool) → (base : Name) → (tries n : ℕ) → ℕ

@@ -1,5 +1,5 @@
 // The names of a module's items.
-ghost use Rattle.std.specs.Prelude.{◌≡◌, OnOk, IfOk, option_map, option_copied, slice_get, string_bytes};
+ghost use Rattle.std.specs.Prelude.{◌≡◌, option_map, option_copied, slice_get, string_bytes};
 ghost use Rattle.naga_oil_ir.specs.ModuleValue.{module_value};
 ghost use Rattle.yettuvam_wgsl_written_names.specs.Items as spec;
 ghost use Rattle.yettuvam_wgsl_written_names.specs.Items.{Becomes, Gives, GivesTwo, GivesFour, naming_of};
@@ -12,9 +12,7 @@ use naga_oil_ir::{
     UniqueArena,
 };
 use naga_oil_words::has_module_mark;
-use std::alloc::{AllocError, Global};
-use yettuvam_wgsl_names::names::{PREDECLARED, Predeclared};
-use yettuvam_wgsl_names::words::{WORDS, Word};
+use std::alloc::Global;
 use yettuvam_wgsl_written::{Refusal, WriteResult};
 
 /// The names of the items of a module, by their places; `None` for an item that has no name.
@@ -36,57 +34,6 @@ pub fn name_at(names: &[Option<String>], place: usize) -> Option<&str>
         Some(Some(name)) => Some(name.as_str()),
         _ => None,
     }
-}
-
-#[tactic(auto, unfolding(crate::specs::Items::take_words))]
-fn take_words(taken: &mut Taken<'_>, words: &[(&'static str, Word)]) -> Result<(), AllocError>
-    ensures { OnOk result (taken_of taken.new ≡ spec.take_words (taken_of taken.old) (spec.rows words.now)) }
-{
-    let mut rest = words;
-    while let [(word, _), more @ ..] = rest {
-        taken.take(word)?;
-        rest = more;
-    }
-    Ok(())
-}
-
-fn take_predeclared(
-    taken: &mut Taken<'_>,
-    name: &'static str,
-    meaning: Predeclared,
-) -> Result<(), AllocError>
-    ensures { OnOk result (taken_of taken.new ≡ spec.take_predeclared (taken_of taken.old) name.now meaning) }
-{
-    match meaning {
-        Predeclared::Function(_) => taken.take_function(name),
-        _ => taken.take(name),
-    }
-}
-
-#[tactic(auto, unfolding(crate::specs::Items::take_all_predeclared))]
-fn take_all_predeclared(
-    taken: &mut Taken<'_>,
-    names: &[(&'static str, Predeclared)],
-) -> Result<(), AllocError>
-    ensures { OnOk result (taken_of taken.new ≡ spec.take_all_predeclared (taken_of taken.old) (spec.rows names.now)) }
-{
-    let mut rest = names;
-    while let [(name, meaning), more @ ..] = rest {
-        take_predeclared(taken, name, *meaning)?;
-        rest = more;
-    }
-    Ok(())
-}
-
-// Keywords, reserved words and predeclared names.
-#[tactic(auto, unfolding(crate::specs::Items::words_of_language))]
-fn words_of_language(alloc: Global) -> Result<Taken<'static>, AllocError>
-    ensures { IfOk result (λ t. taken_of t ≡ spec.words_of_language) }
-{
-    let mut taken = Taken::new(alloc);
-    take_words(&mut taken, &WORDS)?;
-    take_all_predeclared(&mut taken, &PREDECLARED)?;
-    Ok(taken)
 }
 
 fn text_of(name: &Option<String>) -> Option<&str>
@@ -290,7 +237,7 @@ fn other_names(
 pub fn item_names(alloc: Global, of: &Module) -> WriteResult<(ItemNames, Taken<'static>)>
     ensures { Gives (spec.item_names (module_value of.now)) result }
 {
-    let mut taken = words_of_language(alloc)?;
+    let mut taken = Taken::new(alloc);
     let (entry_points, types) = first_names(alloc, &mut taken, of)?;
     let ((constants, overrides), (globals, functions)) = other_names(alloc, &mut taken, of)?;
     let names = ItemNames {

@@ -1,14 +1,14 @@
 // The names that are taken, and free names.
 ghost use Rattle.std.specs.Prelude.{◌≡◌, ◌≤◌, ◌^◌, length, OnOk, IfOk, option_map, string_bytes, false};
+ghost use Rattle.yettuvam_wgsl_written_names.specs.Language as language;
 ghost use Rattle.yettuvam_wgsl_written_names.specs.Taken as spec;
 ghost use Rattle.yettuvam_wgsl_written_names.specs.Taken.{taken_of, outer_of, numbers_of};
 
 use crate::spelled::is_name;
 use indexmap::IndexMap;
 use std::alloc::{AllocError, Global};
-
-/// The number of a built-in function, whose name locals may have where the function isn't called.
-const BUILT_IN: u64 = 0;
+use yettuvam_wgsl_names::names::{Predeclared, read_predeclared};
+use yettuvam_wgsl_names::words::read_word;
 
 /// The first number that makes another name.
 const FIRST: u64 = 1;
@@ -16,11 +16,15 @@ const FIRST: u64 = 1;
 /// The greatest number from which a free one is looked for, so that none is too great for 64 bits.
 const GREATEST_START: u64 = 4_611_686_018_427_387_904;
 
-/// The most names of a module or of a function. A list of more is refused as one without memory.
-const MOST_NAMES: usize = 2_305_843_009_213_693_952;
+/// The number of keywords, reserved words and predeclared names.
+const WORDS_OF_LANGUAGE: usize = 437;
 
-/// The names that are taken, each with the first number that may make another name of it. Each call takes expected constant
-/// time for each name that is tried.
+/// The most names of a module or of a function. A list of more is refused as one without memory.
+const MOST_NAMES: usize = 1_152_921_504_606_846_976;
+
+/// The names that are taken: the words of the language, and others, each with the first number that may make another name of
+/// it. Each call takes expected constant time for each name that is tried, and time logarithmic in the number of the words of the
+/// language.
 #[derive(Drop)]
 pub struct Taken<'a> {
     alloc: Global,
@@ -67,13 +71,22 @@ fn numbered_name(alloc: Global, base: &str, number: u64) -> Result<String, Alloc
     Ok(name)
 }
 
-// Whether a number is that of a built-in function.
-fn is_built_in_number(number: Option<u64>) -> bool
-    ensures { result ≡ spec.has_number spec.built_in_number number }
+// Whether a name is a keyword, a reserved word or predeclared.
+#[tactic(auto, unfolding(crate::specs::Language::is_in_language))]
+fn is_in_language(name: &str) -> bool
+    ensures { result ≡ language.is_in_language name.now }
 {
-    match number {
-        Some(number) => number == BUILT_IN,
-        None => false,
+    read_word(name).is_some() || read_predeclared(name).is_some()
+}
+
+// Whether a name is that of a built-in function.
+#[tactic(auto, unfolding(crate::specs::Language::is_built_in_function))]
+fn is_built_in_function(name: &str) -> bool
+    ensures { result ≡ language.is_built_in_function name.now }
+{
+    match read_predeclared(name) {
+        Some(Predeclared::Function(_)) => true,
+        _ => false,
     }
 }
 
@@ -84,10 +97,10 @@ fn start_by(number: Option<u64>) -> u64
 {
     match number {
         Some(number) => {
-            if number == BUILT_IN || number > GREATEST_START {
-                FIRST
-            } else {
+            if number <= GREATEST_START {
                 number
+            } else {
+                FIRST
             }
         }
         None => FIRST,
@@ -97,7 +110,7 @@ fn start_by(number: Option<u64>) -> u64
 // The number of names.
 fn length_of(numbers: &IndexMap<String, u64>) -> Result<usize, AllocError>
     ensures value { IfOk result (λ n. n ≡ length (numbers_of numbers.now)) }
-    ensures small { IfOk result (λ n. n ≤ 2 ^ 61) }
+    ensures small { IfOk result (λ n. n ≤ 2 ^ 60) }
 {
     let count = numbers.len();
     if count > MOST_NAMES {
@@ -107,7 +120,7 @@ fn length_of(numbers: &IndexMap<String, u64>) -> Result<usize, AllocError>
 }
 
 impl<'a> Taken<'a> {
-    /// Returns the struct without names.
+    /// Returns the struct without names: nothing is taken but the words of the language.
     pub fn new(alloc: Global) -> Taken<'a>
         ensures { taken_of result ≡ spec.none_taken }
     {
@@ -143,17 +156,7 @@ impl<'a> Taken<'a> {
     pub fn has(&self, name: &str) -> bool
         ensures { result ≡ spec.has (taken_of self.now) name.now }
     {
-        self.outer_number(name).is_some() || is_among(&self.numbers, name)
-    }
-
-    // Takes a name, with a number unless it has one.
-    fn take_with(&mut self, name: &str, number: u64) -> Result<(), AllocError>
-        ensures { OnOk result (taken_of self.new ≡ spec.take_with (taken_of self.old) name.now number) }
-    {
-        if is_among(&self.numbers, name) {
-            return Ok(());
-        }
-        set_number(self.alloc, &mut self.numbers, name, number)
+        self.outer_number(name).is_some() || is_among(&self.numbers, name) || is_in_language(name)
     }
 
     /// Takes a name.
@@ -163,23 +166,16 @@ impl<'a> Taken<'a> {
     pub fn take(&mut self, name: &str) -> Result<(), AllocError>
         ensures { OnOk result (taken_of self.new ≡ spec.take (taken_of self.old) name.now) }
     {
-        self.take_with(name, FIRST)
-    }
-
-    /// Takes the name of a built-in function.
-    ///
-    /// # Errors
-    /// If out of memory.
-    pub fn take_function(&mut self, name: &str) -> Result<(), AllocError>
-        ensures { OnOk result (taken_of self.new ≡ spec.take_function (taken_of self.old) name.now) }
-    {
-        self.take_with(name, BUILT_IN)
+        if is_among(&self.numbers, name) {
+            return Ok(());
+        }
+        set_number(self.alloc, &mut self.numbers, name, FIRST)
     }
 
     fn is_built_in(&self, name: &str) -> bool
         ensures { result ≡ spec.is_built_in (taken_of self.now) name.now }
     {
-        is_built_in_number(self.outer_number(name)) && !is_among(&self.numbers, name)
+        is_built_in_function(name) && !is_among(&self.numbers, name)
     }
 
     // The number of taken names.
@@ -187,7 +183,7 @@ impl<'a> Taken<'a> {
         ensures value { IfOk result (λ n. n ≡ spec.count_of (taken_of self.now)) }
         ensures small { IfOk result (λ n. n ≤ 2 ^ 62) }
     {
-        let own = length_of(&self.numbers)?;
+        let own = WORDS_OF_LANGUAGE + length_of(&self.numbers)?;
         match self.outer {
             Some(outer) => Ok(length_of(outer)? + own),
             None => Ok(own),

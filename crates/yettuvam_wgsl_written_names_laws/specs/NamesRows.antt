@@ -15,11 +15,10 @@ use Rattle.yettuvam_wgsl_names.specs.Functions.{Signature, function_rows, signat
 use Rattle.yettuvam_wgsl_names.specs.Laws.{IsInverse}
 use Rattle.yettuvam_wgsl_names.specs.Table.{Name, rows, named, meaning, is_ordered, is_ordered_by}
 use Rattle.yettuvam_wgsl_names.specs.Words.{keyword_rows}
-use Rattle.yettuvam_wgsl_names.specs.declared.names.Predeclared.TheVariants as predeclared
-use Rattle.yettuvam_wgsl_names.specs.declared.words.Word.TheVariants.{Keyword, Reserved}
 use Rattle.yettuvam_wgsl_written.specs.declared.refusal.Refusal.TheVariants as refusal
-use Rattle.yettuvam_wgsl_written_names.specs.Items.{Naming, Becomes, Gives, ItemNames, add_name, item_names, name_at, names_of, take_all_predeclared, take_words, texts, two_names, four_names, each, words_of_language}
-use Rattle.yettuvam_wgsl_written_names.specs.Taken.{Taken, taken_of, number_of, none_taken, inside, has, take, take_function, is_built_in, count_of, fresh, fresh_for, free_from}
+use Rattle.yettuvam_wgsl_written_names.specs.Items.{Naming, Becomes, Gives, ItemNames, add_name, item_names, name_at, names_of, texts, two_names, four_names, each}
+use Rattle.yettuvam_wgsl_written_names.specs.Language.{is_in_language, is_built_in_function}
+use Rattle.yettuvam_wgsl_written_names.specs.Taken.{Taken, taken_of, number_of, none_taken, inside, has, take, is_built_in, count_of, fresh, fresh_for, free_from}
 use Rattle.yettuvam_wgsl_written_names.specs.declared.items.ItemNames.{ItemNames as NamesByCode}
 use Rattle.yettuvam_wgsl_written_names.specs.declared.taken.Taken.{Taken as TakenByCode}
 
@@ -120,9 +119,9 @@ code_twice_is_refused h = let e : Some (codes "-") ≡ Some (codes "!") = (h (co
 
 -- ---- taken names
 
--- the names of a module and of a built-in function, and a name of a function's own
+-- a name of a module, and a name of a function's own
 abbrev taken : Taken
-taken = record { outer = (codes "f", 1) ∷ (codes "abs", 0) ∷ []; own = (codes "a", 3) ∷ [] }
+taken = record { outer = (codes "f", 1) ∷ []; own = (codes "a", 3) ∷ [] }
 
 has_outer : has taken (codes "f") ≡ true
 has_outer = refl
@@ -130,19 +129,35 @@ has_outer = refl
 has_own : has taken (codes "a") ≡ true
 has_own = refl
 
+keyword_is_taken : has taken (codes "fn") ≡ true
+unfolding is_in_language
+keyword_is_taken = refl
+
+type_is_taken : has none_taken (codes "f32") ≡ true
+unfolding is_in_language
+type_is_taken = refl
+
 has_no_other : has taken (codes "b") ≡ false
+unfolding is_in_language
 has_no_other = refl
 
 nothing_taken : has none_taken (codes "a") ≡ false
+unfolding is_in_language
 nothing_taken = refl
 
-count : count_of taken ≡ 3
+count : count_of taken ≡ 439
 count = refl
 
 built_in : is_built_in taken (codes "abs") ≡ true
+unfolding is_built_in_function
 built_in = refl
 
+hidden_is_not_built_in : is_built_in (take taken (codes "abs")) (codes "abs") ≡ false
+unfolding is_built_in_function
+hidden_is_not_built_in = refl
+
 item_is_not_built_in : is_built_in taken (codes "f") ≡ false
+unfolding is_built_in_function
 item_is_not_built_in = refl
 
 number : number_of taken.own (codes "a") ≡ Some 3
@@ -157,49 +172,28 @@ takes = refl
 takes_once : take taken (codes "a") ≡ taken
 takes_once = refl
 
-takes_function : take_function none_taken (codes "abs") ≡ record { outer = []; own = (codes "abs", 0) ∷ [] }
-takes_function = refl
-
 goes_inside : inside (take none_taken (codes "a")) ≡ record { outer = (codes "a", 1) ∷ []; own = [] }
 goes_inside = refl
 
 -- a free name stays, and is taken
 stays : fresh taken (codes "b") ≡ record { name = codes "b"; taken = record taken { own = (codes "a", 3) ∷ (codes "b", 1) ∷ [] } }
-unfolding free_from digits
+unfolding free_from digits is_in_language
 stays = refl
 
 -- another gets its next number
 gets_number : fresh taken (codes "a") ≡ record { name = codes "a_3"; taken = record taken { own = (codes "a", 4) ∷ (codes "a_3", 1) ∷ [] } }
-unfolding free_from digits
+unfolding free_from digits is_in_language
 gets_number = refl
+
+-- a name of the language gets a number too
+keyword_gets_number : (fresh taken (codes "fn")).name ≡ codes "fn_1"
+unfolding free_from digits is_in_language
+keyword_gets_number = refl
 
 -- a local without a name gets the other one
 unnamed : (fresh_for taken None (codes "l") true).name ≡ codes "l"
-unfolding free_from digits
+unfolding free_from digits is_in_language
 unnamed = refl
-
--- ---- the words of the language
-
-words_taken : take_words none_taken ((codes "fn", Keyword 13) ∷ (codes "enum", Reserved) ∷ []) ≡ record { outer = []; own = (codes "fn", 1) ∷ (codes "enum", 1) ∷ [] }
-unfolding take_words
-words_taken = refl
-
-predeclared_taken :
-    take_all_predeclared none_taken ((codes "abs", predeclared.Function 256) ∷ (codes "f32", predeclared.Scalar 4) ∷ []) ≡ record { outer = []; own = (codes "abs", 0) ∷ (codes "f32", 1) ∷ [] }
-unfolding take_all_predeclared
-predeclared_taken = refl
-
-keyword_is_taken : has words_of_language (codes "fn") ≡ true
-unfolding words_of_language take_words take_all_predeclared
-keyword_is_taken = refl
-
-type_is_taken : has words_of_language (codes "f32") ≡ true
-unfolding words_of_language take_words take_all_predeclared
-type_is_taken = refl
-
-other_word_is_free : has words_of_language (codes "colour") ≡ false
-unfolding words_of_language take_words take_all_predeclared
-other_word_is_free = refl
 
 -- ---- items
 
@@ -228,12 +222,12 @@ x_named = record { names = Some (codes "x") ∷ []; taken = take none_taken (cod
 
 free_name_stays : add_name x_named (Some (codes "y"), span) ≡
     Ok (record { names = Some (codes "x") ∷ Some (codes "y") ∷ []; taken = take (take none_taken (codes "x")) (codes "y") })
-unfolding add_name free_from digits has_module_mark
+unfolding add_name free_from digits has_module_mark is_in_language
 free_name_stays = refl
 
 taken_name_gets_number : add_name x_named (Some (codes "x"), span) ≡
     Ok (record { names = Some (codes "x") ∷ Some (codes "x_1") ∷ []; taken = record { outer = []; own = (codes "x", 2) ∷ (codes "x_1", 1) ∷ [] } })
-unfolding add_name free_from digits has_module_mark
+unfolding add_name free_from digits has_module_mark is_in_language
 taken_name_gets_number = refl
 
 no_name_stays : add_name x_named (None, span) ≡ Ok (record x_named { names = Some (codes "x") ∷ None ∷ [] })
@@ -249,7 +243,7 @@ abbrev decorated : Name
 decorated = codes "fX_naga_oil_mod_XNUX"
 
 decorated_stays : add_name (record { names = []; taken = none_taken }) (Some decorated, span) ≡ Ok (record { names = Some decorated ∷ []; taken = take none_taken decorated })
-unfolding add_name free_from digits has_module_mark
+unfolding add_name free_from digits has_module_mark is_in_language
 decorated_stays = refl
 
 decorated_twice_is_refused : add_name (record { names = []; taken = take none_taken decorated }) (Some decorated, span) ≡ Err span
@@ -265,11 +259,11 @@ with_type name = record no_items { types = (row (TypeKind 0) name (Some 4 ∷ []
 abbrev pub no_names : ItemNames
 no_names = record { types = []; constants = []; overrides = []; globals = []; functions = []; entry_points = [] }
 
-nothing_named : item_names no_items ≡ Ok (no_names, words_of_language)
+nothing_named : item_names no_items ≡ Ok (no_names, none_taken)
 unfolding item_names two_names four_names each add_name
 nothing_named = refl
 
-type_without_name : item_names (with_type None) ≡ Ok (record no_names { types = None ∷ [] }, words_of_language)
+type_without_name : item_names (with_type None) ≡ Ok (record no_names { types = None ∷ [] }, none_taken)
 unfolding item_names two_names four_names each add_name
 type_without_name = refl
 
@@ -288,7 +282,7 @@ four_lists : four_names none_taken one one one one ≡ Ok (record {
   fourth = Some (codes "a_3") ∷ [];
   taken = record { outer = []; own = (codes "a", 4) ∷ (codes "a_1", 1) ∷ (codes "a_2", 1) ∷ (codes "a_3", 1) ∷ [] };
 })
-unfolding two_names four_names each add_name free_from digits has_module_mark
+unfolding two_names four_names each add_name free_from digits has_module_mark is_in_language
 four_lists = refl
 
 -- a function with a name
@@ -339,7 +333,7 @@ each_kind : names_in (item_names one_of_each) ≡ Some (record {
   functions = Some (codes "f") ∷ Some (codes "e_1") ∷ Some (codes "fn_1") ∷ [];
   entry_points = Some (codes "e") ∷ [];
 })
-unfolding item_names two_names four_names each add_name free_from digits has_module_mark words_of_language take_words take_all_predeclared
+unfolding item_names two_names four_names each add_name free_from digits has_module_mark is_in_language
 each_kind = refl
 
 -- ---- as the code returns them
