@@ -17,7 +17,9 @@ import os
 import re
 import sys
 
-DECLARED = re.compile(r'^(?:(?:abbrev|unfoldable|opaque)\s+)?(?:pub\s+)?(?:(?:abbrev|unfoldable|record|data|class)\s+)?(?:pub\s+)?([^\s:(){}]+)(?:\s[^:]*)?\s:\s')
+DECLARED = re.compile(r'^(?:(?:abbrev|unfoldable|opaque)\s+)?(?:pub\s+)?(?:(?:abbrev|unfoldable|record|data|class)\s+)?(?:pub\s+)?([^\s:(){}]+)(?:\s[^:]*)?\s:(?:\s|$)')
+BLOCK = re.compile(r'^(?:module _ .* where|(?:(?:abbrev|unfoldable) )?mutual)$')
+LONG_HEAD = re.compile(r'^(?:pub )?(?:record|data) ([^\s:(){}]+)$')
 USED = re.compile(r'^(?:ghost )?(?:pub )?use Rattle\.(\w+)\.(specs|proofs)\.([\w.]+?)(?:\.\{([^}]*)\})?(?: as (\w+))?;?$', re.M)
 WORD = re.compile(r"[^\s(){}\[\],;.:∷→×≡λ=|∸+*\\]+")
 LAWS = ('laws.rt', 'copies.rt', 'parsed.rt', 'items.rt', 'functions.rt', 'turns.rt', 'owned.rt', 'shape.rt')
@@ -62,11 +64,17 @@ def imports(text):
 
 
 def declarations(text):
-    """The declarations of a text with their bodies: a declaration ends where the next one begins."""
-    found, name, body = {}, None, []
+    """The declarations of a text with their bodies, those of its blocks among them: a declaration ends where the next one begins."""
+    found, name, body, is_within = {}, None, [], False
     for line in bare(text).split('\n'):
-        match = DECLARED.match(line) if line[:1] not in ('', ' ', '-', 'u') or line.startswith(('unfoldable', 'u ')) else None
-        if match and not line.startswith('use '):
+        if BLOCK.match(line):
+            name, is_within = None, True
+            continue
+        is_within = is_within and line[:1] in ('', ' ')
+        head = line[2:] if is_within else line
+        begins = head[:1] not in ('', ' ', '-', 'u') or head.startswith(('unfoldable', 'u '))
+        match = DECLARED.match(head) or LONG_HEAD.match(head) if begins else None
+        if match and not head.startswith('use '):
             name = match[1]
             body = found.setdefault(name, [])
         if name:

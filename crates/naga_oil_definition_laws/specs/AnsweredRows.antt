@@ -1,5 +1,5 @@
 -- Worked rows: functions of a source that are requested and copied; and answers and copies that are wrong in one thing.
-use Rattle.std.proofs.Common.{◌≡◌, ℕ, zero, suc, List, [], ◌∷◌, Bool, true, false, cond, Option, Some, None, Ok, All, IfSome, slice_get, refl, ap, sym, subst, ◌∙◌, arith}
+use Rattle.std.proofs.Common.{◌≡◌, ℕ, zero, suc, List, [], ◌∷◌, Bool, true, false, cond, Option, Some, None, Ok, All, IfSome, IsSome, slice_get, refl, ap, sym, subst, ◌∙◌, arith}
 use Rattle.std.proofs.lemmas.Option.{none-some, same_Some}
 use Rattle.std.proofs.lemmas.Slice.Eq.{bytes_eq-Decides}
 use Rattle.std.specs.Option.{option_eq}
@@ -23,7 +23,7 @@ use Rattle.naga_oil_derive.specs.Answered.{import_callee}
 use Rattle.naga_oil_derive.specs.AnsweredLaw.{AddsOnly, AnswersOnly, HasCopies, HasForm, HaveCopies, ImportsFunction}
 use Rattle.naga_oil_derive.specs.CopiedFunction.{copy_function, expressions_upto}
 use Rattle.naga_oil_derive.specs.Derived.{Source, Derived, IsLaterSource, nothing, as_read}
-use Rattle.naga_oil_derive.specs.DerivedFunctions.{Answers, AllAnswered, NameKnown, FunctionCopied, AreAnswered, CanImport, ComesLast, FunctionStands, IsFunctionImported, IsLocalized, KeepsMeanings, going, meant}
+use Rattle.naga_oil_derive.specs.DerivedFunctions.{Answers, AllAnswered, NameKnown, FunctionCopied, AreAnswered, CanCopy, CanImport, ComesLast, FunctionStands, IsFunctionImported, IsLocalized, KeepsFunctions, KeepsMeanings, MeansAt, going, meant}
 use Rattle.naga_oil_derive.specs.DerivedLaw.{IsDerivation}
 use Rattle.naga_oil_derive.specs.DerivedValue.{answer_requests, import_function}
 use Rattle.naga_oil_derive.specs.Equal.{parts_eq}
@@ -149,6 +149,38 @@ g_is_imported = g_stands
 
 import_to_another_place_is_refused : IsFunctionImported begun with_both g undefined 0 → ⊥
 import_to_another_place_is_refused h = another_meaning_is_refused h
+
+name_means_f : MeansAt with_f 0 0
+name_means_f = refl
+
+name_of_another_place_is_refused : MeansAt with_f 0 1 → ⊥
+name_of_another_place_is_refused h = let e : ◌≡◌ {A = Option ℕ} (Some 0) (Some 1) = h in absurd cc
+
+-- ---- functions that can be copied, and that are kept
+
+copy_of_g_is_possible : CanCopy begun g
+copy_of_g_is_possible = (refl, (copied.functions 1 (g, undefined) refl).0.reaches)
+
+copy_without_a_source_is_refused : CanCopy nothing g → ⊥
+copy_without_a_source_is_refused h = let e : false ≡ true = h.0 in absurd cc
+
+copy_of_a_caller_of_none_is_refused : CanCopy (record nothing { source = Some (record source { value = with_astray }) }) astray → ⊥
+copy_of_a_caller_of_none_is_refused h = astray_call h.1
+
+functions_are_kept : KeepsFunctions begun with_f
+functions_are_kept = record {
+  items = record { types = ([], refl); constants = ([], refl); overrides = ([], refl); global_variables = ([], refl); global_expressions = ([], refl); rest = refl };
+  functions = ((f, undefined) ∷ [], refl);
+  names = λ n known. absurd (unknown n known);
+  source = record { value = refl; offset = refl; went = λ p q e. e };
+}
+  where
+    unknown : (n : Text) → IsSome (meant [] n) → ⊥
+    unknown None known = let e : false ≡ true = known in absurd cc
+    unknown (Some n) known = let e : false ≡ true = known in absurd cc
+
+lost_function_name_is_refused : KeepsFunctions with_f begun → ⊥
+lost_function_name_is_refused h = let e : false ≡ true = h.names (Some (codes "f")) refl in absurd cc
 
 -- ---- names that keep their meanings
 

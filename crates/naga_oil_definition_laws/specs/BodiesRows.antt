@@ -1,5 +1,5 @@
 -- Worked rows: parts of a body that may stand; functions, names and spans that pass the test of form; and others that don't.
-use Rattle.std.proofs.Common.{◌≡◌, ℕ, zero, suc, ◌<◌, List, [], ◌∷◌, map, length, false, true, Option, Some, None, All, IfSome, IsSome, refl, sym, subst, arith}
+use Rattle.std.proofs.Common.{◌≡◌, ℕ, zero, suc, ◌<◌, List, [], ◌∷◌, map, length, false, true, Option, Some, None, All, IfSome, IsSome, is_none, refl, ap, sym, subst, arith}
 use Rattle.std.proofs.lemmas.List.Elements.{All-nil, All-cons, All-head}
 use Rattle.std.proofs.lemmas.Option.{same_Some}
 use Rattle.std.specs.Cmp.Lexicographic.{pointwise}
@@ -23,8 +23,9 @@ use Rattle.naga_oil_ir.specs.declared.parts.Named.TheVariants.{TypeOf}
 use Rattle.naga_oil_ir.specs.declared.span.Span.{Span}
 use Rattle.naga_oil_ir.specs.declared.tokens.Token.TheVariants.{Head, Absent, Use, Emitted, Callee}
 use Rattle.naga_oil_ir.specs.declared.types.LocalVariable.{LocalVariable}
+use Rattle.naga_oil_ir.specs.declared.types.Type.{«Type» as TypeOfShader}
 use Rattle.naga_oil_form.specs.BodyForm.{AreEmitted, AreFine, IsFine, IsSpanFine, IsTokenFine, MayBeGiven, MayStand, is_known, kinds, callees, named_of, operand_links}
-use Rattle.naga_oil_form.specs.ItemForm.{IsThere, NamesThere}
+use Rattle.naga_oil_form.specs.ItemForm.{IsThere, NamesThere, is_unnamed}
 use Rattle.naga_oil_form.specs.Links.{Links, linked}
 use Rattle.naga_oil_form.specs.NameForm.{AreNamed, AreNamesDistinct, NameForm, entry_name, function_name}
 use Rattle.naga_oil_form.specs.WellFormed.{AreArgumentsThere, AreLocalsThere, AreNamedExpressionsThere, AreNamedThere, AreSpansIn, FunctionForm, FunctionsForm, IsResultThere, NamedThere, StandsWith, initialisers_of}
@@ -286,3 +287,15 @@ module _ (f g : Function) (f_named : IsSome f.name) (f_is : function_name f ≡ 
 
     has_a_name_twice_is_refused : m.functions ≡ (f, undefined) ∷ (f, undefined) ∷ [] → NameForm m (codes "X") → ⊥
     has_a_name_twice_is_refused are h = name_twice_is_refused (subst (AreNamesDistinct (codes "X")) are h.functions)
+
+-- ---- types without a name
+
+no_type_is_unnamed : is_unnamed None ≡ false
+no_type_is_unnamed = refl
+
+module _ (t : TypeOfShader) where
+  type_without_name : t.name ≡ None → is_unnamed (Some t) ≡ true
+  type_without_name is = ap (λ (o : Option (String Global)). is_none o) is
+
+  type_with_name : (name : String Global) → t.name ≡ Some name → is_unnamed (Some t) ≡ false
+  type_with_name name is = ap (λ (o : Option (String Global)). is_none o) is

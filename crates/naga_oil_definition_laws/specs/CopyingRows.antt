@@ -8,15 +8,15 @@ use Rattle.naga_oil_ir.specs.Rows.{Row, Kind, TypeKind}
 use Rattle.naga_oil_ir.specs.declared.names.ItemPlace.{ItemPlace}
 use Rattle.naga_oil_ir.specs.declared.names.ItemPlace.TheVariants.{TypeItem, ConstantItem, OverrideItem, GlobalItem, ExpressionItem}
 use Rattle.naga_oil_ir.specs.declared.span.Span.{Span}
-use Rattle.naga_oil_derive.specs.Copied.{CopyState}
+use Rattle.naga_oil_derive.specs.Copied.{CopyState, put}
 use Rattle.naga_oil_derive.specs.CopiedLaw.{AddsWith, AreRoomy, HasCopyNow, IsBelowIn, IsCopyable, IsKinded, IsMidway, IsRankedBy, PutsOne}
-use Rattle.naga_oil_derive.specs.Collected.{Stands}
+use Rattle.naga_oil_derive.specs.Collected.{Collects, Comes, Done, Fresh, Known, Stands, reached}
 use Rattle.naga_oil_derive.specs.Copying.{AreCopied, AreWhole, Fetches, HasNoRepeats, IsCopyOf, IsSound, IsWhole, NameGoesTo, Puts, WentSomewhere}
-use Rattle.naga_oil_derive.specs.Derived.{as_read}
+use Rattle.naga_oil_derive.specs.Derived.{as_read, copied_spans, kept}
 use Rattle.naga_oil_derive.specs.DerivedLaw.{IsDerivation}
-use Rattle.naga_oil_derive.specs.Putting.{CanPut}
-use Rattle.naga_oil_derive.specs.Tree.{ReadsAs, Tree, Cut, Absent, Missing, Item, tree, reading}
-use Rattle.naga_oil_derive.specs.World.{Begins, Extends, ItemMap, LacksKey, goes, named_world, span_at, world}
+use Rattle.naga_oil_derive.specs.Putting.{CanPut, ItemPut, NothingPut, Putting}
+use Rattle.naga_oil_derive.specs.Tree.{Kept, ReadsAs, Tree, World, Cut, Absent, Missing, Item, tree, reading}
+use Rattle.naga_oil_derive.specs.World.{Begins, Extends, HaveDistinctKeys, ItemMap, LacksKey, goes, kept_of, named_world, span_at, world}
 use Rattle.naga_oil_derive.specs.declared.special.SpecialKey.TheVariants.{RayDesc, RayIntersection}
 use Rattle.naga_oil_faithful_laws.specs.SmallMake.{number, struct}
 use Rattle.naga_oil_definition_laws.specs.BodiesRows.{each_of_one}
@@ -324,3 +324,89 @@ lacks_key = ((λ e. absurd cc), tt)
 
 key_twice_is_refused : LacksKey RayDesc ((RayIntersection, 1) ∷ (RayDesc, 0) ∷ []) → ⊥
 key_twice_is_refused h = h.1.0 refl
+
+keys_are_distinct : HaveDistinctKeys ((RayDesc, 0) ∷ (RayIntersection, 1) ∷ [])
+keys_are_distinct = (((λ e. absurd cc), tt), (tt, tt))
+
+equal_keys_are_refused : HaveDistinctKeys ((RayDesc, 0) ∷ (RayDesc, 1) ∷ []) → ⊥
+equal_keys_are_refused h = h.0.0 refl
+
+-- ---- items that are put one after another
+
+vector_is_put_alone : Putting from 0 (state None) (put from 0 (state None) (TypeItem 0))
+vector_is_put_alone = ItemPut (TypeItem 0) vector_can_be_put NothingPut
+
+nothing_is_there : (p : ItemPlace) (r : Row) → world no_items p ≡ Some r → ⊥
+unfolding world
+nothing_is_there (TypeItem k) r e = none-some r e
+nothing_is_there (ConstantItem k) r e = none-some r e
+nothing_is_there (OverrideItem k) r e = none-some r e
+nothing_is_there (GlobalItem k) r e = none-some r e
+nothing_is_there (ExpressionItem k) r e = none-some r e
+
+-- of a module without items nothing is put
+nothing_is_put : {shift : ℕ} {s u : CopyState} → Putting no_items shift s u → u ≡ s
+nothing_is_put NothingPut = refl
+nothing_is_put (ItemPut p c more) = absurd (nothing_is_there p c.row c.there)
+
+vector_from_no_items_is_refused : Putting no_items 0 (state None) (state (Some 2)) → ⊥
+unfolding goes
+vector_from_no_items_is_refused h = let e : Some (TypeItem 2) ≡ None = ap (λ (s : CopyState). goes s.places (TypeItem 0)) (nothing_is_put h) in absurd cc
+
+-- ---- what is added for what items reach
+
+vector_reads : ReadsAs (world from) (world copied.target) (λ p. None) (TypeItem 0) (TypeItem 2)
+unfolding tree reading world
+vector_reads zero = refl
+vector_reads (suc n) = refl
+
+number_reads_before : ReadsAs (world from) (world begun.target) (λ p. None) (TypeItem 1) (TypeItem 0)
+unfolding tree reading world
+number_reads_before zero = refl
+number_reads_before (suc n) = refl
+
+no_vector_before : (q : ItemPlace) (r : Row) → world begun.target q ≡ Some r → ReadsAs (world from) (world begun.target) (λ p. None) (TypeItem 0) q → ⊥
+unfolding tree reading world
+no_vector_before (TypeItem zero) r e h = let k : Some (TypeKind 0) ≡ Some (TypeKind 1) = ap kind_of (h 1) in absurd cc
+no_vector_before (TypeItem (suc zero)) r e h = let k : Some (TypeKind 10) ≡ Some (TypeKind 1) = ap kind_of (h 1) in absurd cc
+no_vector_before q r e h = none-some r e
+
+vector_comes : Comes (world from) (λ p. None) (λ p. Some vector.1) begun.target copied.target (TypeItem 0)
+unfolding world span_at
+vector_comes = record {
+  at = TypeItem 2;
+  free = refl;
+  extends = target_extends;
+  others = others;
+  reads = vector_reads;
+  span = refl;
+  first = λ h. no_vector_before h.0 h.1.0 h.1.1 h.2;
+}
+  where
+    others : (x : ItemPlace) (r : Row) → world copied.target x ≡ Some r → (world begun.target x ≡ Some r) ⊎ (x ≡ TypeItem 2)
+    others (TypeItem zero) r e = inl e
+    others (TypeItem (suc zero)) r e = inl e
+    others (TypeItem (suc (suc zero))) r e = inr refl
+    others x r e = absurd (none-some r e)
+
+-- a number is there before
+number_that_comes_again_is_refused : Comes (world from) (λ p. None) (λ p. Some number.1) begun.target (record begun.target { types = number ∷ ray 0 ∷ number ∷ [] }) (TypeItem 1) → ⊥
+unfolding world
+number_that_comes_again_is_refused h = h.first (TypeItem 0, (number.0, refl), number_reads_before)
+
+vector_is_collected : Collects (as_read (source None) begun.target) (kept (source None) begun.target) (copied_spans (source None)) begun.target (TypeItem 0 ∷ []) copied.target
+unfolding goes reached world named_world kept_of
+vector_is_collected = imports.imported.1.collects
+
+number_is_collected : Collects (world from) (λ p. None) (λ p. Some number.1) copied.target (TypeItem 1 ∷ []) copied.target
+unfolding world
+number_is_collected = Known (TypeItem 0, (number.0, refl), number_reads) Done
+
+-- of no items nothing is added
+none_collected : {w : World} {k : Kept} {spans : ItemPlace → Option Span} {m n : ModuleValue} {ps : List ItemPlace} → Collects w k spans m ps n → ps ≡ [] → n ≡ m
+none_collected Done e = refl
+none_collected (Known s c) e = absurd cc
+none_collected (Fresh s c) e = absurd cc
+
+vector_of_nothing_is_refused : Collects (world from) (λ p. None) (λ p. Some vector.1) begun.target [] copied.target → ⊥
+vector_of_nothing_is_refused h = let e : 3 ≡ 2 = ap (λ (m : ModuleValue). length m.types) (none_collected h refl) in absurd (omega (arith, e))

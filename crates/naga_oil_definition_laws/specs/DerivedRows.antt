@@ -15,7 +15,7 @@ use Rattle.naga_oil_derive.specs.Collected.{reached}
 use Rattle.naga_oil_derive.specs.Copied.{copy_within, put, put_type}
 use Rattle.naga_oil_derive.specs.CopiedLaw.{kind_number, HasAt, IsBelowIn, IsCopyable, IsKinded, IsRankedBy, AreSpecial, PlacesAmong}
 use Rattle.naga_oil_derive.specs.Copying.{WentSomewhere}
-use Rattle.naga_oil_derive.specs.Derived.{Source, Derived, nothing, as_read, Imports, IsImported, IsKnown, IsLaterSource, IsRenamed, IsSet, KeepsSource, ReadsAsBefore, Sets}
+use Rattle.naga_oil_derive.specs.Derived.{Source, Derived, nothing, as_read, HasItem, Imports, IsImported, IsKnown, IsLaterSource, IsRenamed, IsSet, Keeps, KeepsItems, KeepsSource, ReadsAsBefore, Sets}
 use Rattle.naga_oil_derive.specs.DerivedLaw.{AreThere, BeginsOnly, ImportsOnly, IsDerivation, IsSourceOf, MovesOnly, ReadsIn, RenamesOnly, SetsOnly, Settles, SettlesAll, type_place}
 use Rattle.naga_oil_derive.specs.DerivedValue.{import_item, rename_type, set_source}
 use Rattle.naga_oil_derive.specs.Equal.{row_eq}
@@ -333,3 +333,24 @@ item_of_none_is_refused h = one (h (TypeItem 2) vector.0 refl)
     one : (None ≡ Some vector.0) ⊎ ((p : ItemPlace) × (goes (places None) p ≡ Some (TypeItem 2))) → ⊥
     one (inl e) = none-some vector.0 e
     one (inr p) = nowhere_else p.0 p.1
+
+-- ---- what is there, and what is kept
+
+vector_is_there : HasItem begun (TypeItem 0)
+unfolding world
+vector_is_there = (refl, (vector.0, refl))
+
+item_without_a_source_is_refused : (p : ItemPlace) → HasItem nothing p → ⊥
+item_without_a_source_is_refused p h = let e : false ≡ true = h.0 in absurd cc
+
+all_is_kept : Keeps begun copied
+all_is_kept = imports.keeps
+
+lost_vector_is_refused : Keeps copied begun → ⊥
+lost_vector_is_refused h = let e : number ∷ ray 0 ∷ [] ≡ number ∷ ray 0 ∷ vector ∷ h.items.types.0 = h.items.types.1 in absurd cc
+
+items_are_kept : KeepsItems begun copied
+items_are_kept = record { items = imports.keeps.items; special = λ k q e. e; names = refl }
+
+lost_item_is_refused : KeepsItems copied begun → ⊥
+lost_item_is_refused h = let e : number ∷ ray 0 ∷ [] ≡ number ∷ ray 0 ∷ vector ∷ h.items.types.0 = h.items.types.1 in absurd cc

@@ -35,6 +35,7 @@ use Rattle.naga_oil_form_laws.specs.EntryForm.{IsEntryFormed, IsModuleFormed}
 use Rattle.naga_oil_form_laws.specs.FunctionForm.{IsFunctionFormed}
 use Rattle.naga_oil_form_laws.specs.OwnedForm.{MayBeAppended}
 use Rattle.naga_oil_form_laws.proofs.RequestLemmas.{all_at}
+use Rattle.naga_oil_redirect.specs.Chain.{none_omitted}
 use Rattle.naga_oil_redirect.specs.PutInOrderRows.{empty, calling, function_of}
 use Rattle.naga_oil_copy_laws.specs.ByTree.{IsReached}
 use Rattle.naga_oil_copy_laws.specs.CopiedByTree.{IsCopyFrom, NamesByResults}
@@ -42,7 +43,8 @@ use Rattle.naga_oil_copy_laws.specs.Frame.{HasMore}
 use Rattle.naga_oil_copy_laws.specs.HeldCopies.{HaveSource}
 use Rattle.naga_oil_copy_laws.specs.ItemsByTree.{AsksThere, HaveItems, EachItemReads}
 use Rattle.naga_oil_copy_laws.specs.Scope.{scope_of, scope_from, ReadAlike}
-use Rattle.naga_oil_copy_laws.specs.SentByTree.{AreAsCopied, IsOnlyOfItsName}
+use Rattle.naga_oil_copy_laws.proofs.SentLaws.{redirected_law}
+use Rattle.naga_oil_copy_laws.specs.SentByTree.{AreAsCopied, IsOnlyOfItsName, IsSentFrom}
 use Rattle.naga_oil_copy_laws.specs.ByTreeLaw.{IsAsCopied}
 use Rattle.naga_oil_link_laws.specs.OrderedCopies.{MaySend}
 use Rattle.naga_oil_link.specs.BuiltModule.{BuiltModule, Builds, Overriding, nothing_built}
@@ -237,6 +239,18 @@ unreached_expression_is_refused h = let e : false ≡ true = h.nothing_else.expr
 
 function_that_isnt_as_copied_is_refused : AreAsCopied (record no_items { functions = (f, undefined) ∷ (unused, undefined) ∷ [] }) → ⊥
 function_that_isnt_as_copied_is_refused h = unreached_expression_is_refused (h 1 (unused, undefined) refl)
+
+-- calls of f are redirected to g; f itself calls nothing
+f_is_sent : IsSentFrom two 0 1 none_omitted 0 (f, undefined)
+f_is_sent = redirected_law two 0 1 none_omitted both_are_as_copied only_f 0 (f, undefined) refl
+
+function_at_another_place_is_refused : IsSentFrom two 0 1 none_omitted 0 (g, undefined) → ⊥
+function_at_another_place_is_refused h = g_is_not_f (h.copies.name ∙ ap (λ (x : FunctionValue × Span). x.0.name) (sym (same_Some (f, undefined) h.source h.at)))
+
+function_with_another_span_is_refused : IsSentFrom two 0 1 none_omitted 0 (f, record { start = 1; end = 2 }) → ⊥
+function_with_another_span_is_refused h =
+    let e : 1 ≡ 0 = ap (λ (s : Span). s.start) (h.span ∙ ap (λ (x : FunctionValue × Span). x.1) (sym (same_Some (f, undefined) h.source h.at))) in
+    absurd (omega (arith, e))
 
 calls_may_go_to_f : MaySend one_function 0 0
 calls_may_go_to_f = record {

@@ -1,5 +1,6 @@
--- Worked rows: the pieces of lines by grammar, rows of the table of kinds, and directives; and lines that have other pieces.
-use Rattle.std.proofs.Common.{◌≡◌, ◌⊎◌, inl, inr, ℕ, List, [], length, true, false, Some, None, refl, ap, arith}
+-- Worked rows: the pieces of lines by grammar, rows of the table of kinds, directives, and units of a reading; and lines that have other
+-- pieces, or are out of place.
+use Rattle.std.proofs.Common.{◌≡◌, ◌⊎◌, inl, inr, ℕ, List, [], ◌∷◌, length, true, false, Some, None, refl, ap, sym, ◌∙◌, arith}
 use lib.Utf8.{encode}
 use Rattle.std.proofs.lemmas.List.{length-append}
 use Rattle.std.proofs.lemmas.Option.{none-some}
@@ -9,10 +10,13 @@ use Rattle.ucd_perl.proofs.Computing.{ucd_perl}
 use Rattle.naga_oil_conditions.proofs.KindGrammarLemmas.{one_kind, one_unversioned_kind}
 use Rattle.naga_oil_conditions.proofs.LineGrammarLemmas.{hash-is, hash-reads, keyword-is, keyword-reads, directive-is, directive-reads, arm-is, arm-reads, ifdef-is, ifdef-reads, ifndef-is, ifndef-reads, version-is, operation-is, operation-reads, if-is, if-reads, if_no_else, begins-is, begins-reads, import-is, import-reads, import_path-is, import_path-reads, define-is, define-reads}
 use Rattle.naga_oil_conditions.specs.Computing.{line_kinds}
-use Rattle.naga_oil_conditions.specs.Kind.{LineKind, version, condition, endif, imports, import_path, define, other, defined, undefined, compares, otherwise}
+use Rattle.naga_oil_conditions.specs.Fault.{Definitions}
+use Rattle.naga_oil_conditions.specs.Kind.{LineKind, version, condition, endif, imports, import_path, define, other, defined, undefined, compares, otherwise, kind_of}
 use Rattle.naga_oil_conditions.specs.KindGrammar.{DefineRow, ElseRow, EndifRow, HashRow, IfRow, IfdefRow, IfndefRow, ImportPathRow, ImportRow, IsKindAfterHash, OtherRow, VersionRow}
+use Rattle.naga_oil_conditions.specs.Line.{Line}
 use Rattle.naga_oil_conditions.specs.LineGrammar.{IsAfterArm, IsAfterDirective, IsAfterElse, IsAfterGap, IsAfterHash, IsAfterKeyword, IsAfterWhite, IsCompared, IsCut, IsDefineValue, IsIf, IsNamedArm, IsOperation, IsRun, IsWord}
 use Rattle.naga_oil_conditions.specs.LineKinds.{is_name_char}
+use Rattle.naga_oil_pre.specs.Reading.{AreArms, IsBlock, Takes, begins_arm, ends_chain, is_nothing, is_plain, last_arm, line, nothing, unclosed}
 
 -- ---- runs and words
 
@@ -245,3 +249,44 @@ version_row = (codes "version 450", true, hash-is (codes "#version 450") (codes 
 unknown_version_is_refused : VersionRow (codes "#version 450") (version false) → ⊥
 unfolding line_kinds
 unknown_version_is_refused h = let e : version false ≡ version true = (one_kind (codes "#version 450") (version false)).0 (inl h) in absurd cc
+
+-- ---- units of a reading
+
+endif_ends_a_chain : ends_chain endif ≡ true
+endif_ends_a_chain = refl
+
+import_ends_no_chain : ends_chain imports ≡ false
+import_ends_no_chain = refl
+
+no_unit : is_nothing nothing ≡ true
+no_unit = refl
+
+one_unit : (l : Line) → is_nothing (line l nothing) ≡ false
+one_unit l = refl
+
+-- a brace that stays open takes the rest of the text, and nothing less
+taken_to_the_end : Takes 1 true []
+taken_to_the_end = refl
+
+taken_too_little_is_refused : Takes 1 false [] → ⊥
+taken_too_little_is_refused h = let e : false ≡ true = h in absurd cc
+
+taken_without_a_brace_is_refused : (l : Line) → Takes 0 true (l ∷ []) → ⊥
+taken_without_a_brace_is_refused l h = h
+
+module _ (defs : Definitions) (l : Line) where
+  plain_line : is_plain true false (kind_of l.covered) ≡ true → IsBlock defs true false true (line l nothing)
+  plain_line is = (is, tt)
+
+  line_of_another_kind_is_refused : is_plain true false (kind_of l.covered) ≡ false → IsBlock defs true false true (line l nothing) → ⊥
+  line_of_another_kind_is_refused is h = let e : false ≡ true = sym is ∙ h.0 in absurd cc
+
+  -- only the last chain of a text may have no end
+  chain_without_an_end_is_refused : IsBlock defs true false false (unclosed (last_arm l nothing)) → ⊥
+  chain_without_an_end_is_refused h = let e : false ≡ true = h.0 in absurd cc
+
+  first_arm : begins_arm false (kind_of l.covered) ≡ true → AreArms defs true false false true (last_arm l nothing)
+  first_arm is = (is, tt)
+
+  arm_of_another_kind_is_refused : begins_arm false (kind_of l.covered) ≡ false → AreArms defs true false false true (last_arm l nothing) → ⊥
+  arm_of_another_kind_is_refused is h = let e : false ≡ true = sym is ∙ h.0 in absurd cc

@@ -1,5 +1,5 @@
--- Worked rows: a make that answers, though its shader overrides a function that overrides another.
-use Rattle.std.proofs.Common.{◌≡◌, inr, ℕ, List, [], ◌∷◌, ◌++◌, false, true, Result, Ok, All, if◌then◌else◌, refl, ap, sym, subst, ◌∙◌}
+-- Worked rows: a make that answers, though its shader overrides a function that overrides another; and values that aren't its own.
+use Rattle.std.proofs.Common.{◌≡◌, inr, ℕ, List, [], ◌∷◌, ◌++◌, false, true, Result, Ok, Err, All, length, if◌then◌else◌, refl, ap, sym, subst, ◌∙◌}
 use Rattle.std.proofs.lemmas.List.Elements.{All-head}
 use Rattle.std.specs.Prelude.{codes, bytes_eq}
 use Rattle.std.specs.Str.{trim_start, trim_end}
@@ -9,10 +9,11 @@ use Rattle.naga_oil_form_laws.specs.ShapeTest.{has_shape}
 use Rattle.naga_oil_ir.specs.Kinds.{call_head}
 use Rattle.naga_oil_ir.specs.Backend.{FrontEnd}
 use Rattle.naga_oil_ir.specs.Body.{Tokens}
-use Rattle.naga_oil_ir.specs.ModuleValue.{ModuleValue, FunctionValue, no_items}
+use Rattle.naga_oil_ir.specs.ModuleValue.{ModuleValue, FunctionValue, module_value, no_items}
 use Rattle.naga_oil_ir.specs.Spans.{undefined}
 use Rattle.naga_oil_ir.specs.declared.backend.Capabilities.{Capabilities}
 use Rattle.naga_oil_ir.specs.declared.language.ShaderLanguage.TheVariants.{Wgsl}
+use Rattle.naga_oil_ir.specs.declared.module.Module.{Module}
 use Rattle.naga_oil_ir.specs.declared.tokens.Token.TheVariants.{At, Head, Absent, Callee}
 use Rattle.naga_oil_lines.specs.Decorate.{letters}
 use Rattle.naga_oil_lines.specs.Directives.{no_directives}
@@ -46,9 +47,14 @@ use Rattle.naga_oil.specs.ChainsLaw.{TextsOverrideOriginals}
 use Rattle.naga_oil.specs.Faithful.{IsBuiltShader}
 use Rattle.naga_oil.specs.Finish.{compose, finish}
 use Rattle.naga_oil.specs.MakeDefs.{make_defs}
+use Rattle.naga_oil.specs.Makes.{settings_of}
 use Rattle.naga_oil.specs.Reach.{defined, reach_each, reach_module, reach}
-use Rattle.naga_oil.specs.Refused.{Place}
+use Rattle.naga_oil.specs.Refused.{Place, Refused}
+use Rattle.naga_oil.specs.RunLaw.{IsOneValue}
 use Rattle.naga_oil.specs.Shader.{read_shader}
+use Rattle.naga_oil.specs.State.{State}
+use Rattle.naga_oil.specs.declared.compose.command.Command.{Command}
+use Rattle.naga_oil.specs.declared.compose.command.Reply.{Reply}
 use Rattle.naga_oil.proofs.FaithfulLemmas.{calls_go_down}
 use Rattle.naga_oil_faithful_laws.specs.PromiseLaw.{overriding_name, tricky_text}
 use Rattle.naga_oil_faithful_laws.specs.SmallMake.{function, kill, entry, module_definition, module_text}
@@ -246,3 +252,31 @@ module _ (c : Capabilities) where
   premise_is_broken h =
       let down = calls_go_down (any_settings c) registry 0 shader made (answers c) in
       no_originals (subst (λ (o : Output). OverridesOriginals o.text) (built_text down.parse down.shader down.is) (h down.shader down.parse (inr down.is)))
+
+-- ---- its one value
+
+abbrev as_it_is : FrontEnd → FrontEnd
+as_it_is f = f
+
+-- a composer over the front end with `B` registered
+abbrev begun : Capabilities → State FrontEnd
+begun c = record {
+  settings = record { front = front; capabilities = c; validate = false; override_any = true };
+  registry = registry;
+  counter = 0;
+  kept = [];
+  builds = 0;
+}
+
+-- the number of functions of a made module
+abbrev functions_in : Result ModuleValue Refused → ℕ
+functions_in (Ok m) = length m.functions
+functions_in (Err r) = 0
+
+-- the first command makes the module above, and not one without items
+another_value_is_refused : (c : Capabilities) (cs : List Command) (rs : List Reply) (m : Module) → module_value m ≡ no_items → IsOneValue as_it_is (begun c) cs rs 0 shader (Ok m) → ⊥
+another_value_is_refused c cs rs m is h =
+    let ran : h.before ≡ begun c = h.ran in
+    let v = subst (λ (s : State FrontEnd). (answer (settings_of as_it_is s) s.registry s.counter shader).result ≡ Ok (module_value m)) ran h.value in
+    let e : ◌≡◌ {A = ℕ} 2 0 = ap functions_in (sym (answers c) ∙ v ∙ ap (λ (x : ModuleValue). Ok x) is) in
+    absurd cc

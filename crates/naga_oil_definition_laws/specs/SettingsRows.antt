@@ -1,5 +1,5 @@
--- Worked rows: settings without capabilities, and where a fault of a made module lies.
-use Rattle.std.proofs.Common.{◌≡◌, ℕ, List, [], ◌∷◌, true, false, refl, ap}
+-- Worked rows: settings without capabilities, where a fault of a made module lies, and what an error reports.
+use Rattle.std.proofs.Common.{◌≡◌, ℕ, List, [], ◌∷◌, true, false, Option, Some, None, Result, Ok, Err, MatchOption, refl, ap, sym, subst, ◌∙◌}
 use Rattle.std.specs.Prelude.{codes}
 use Rattle.naga_oil_ir.specs.Backend.{FrontEnd}
 use Rattle.naga_oil_ir.specs.Spans.{undefined}
@@ -10,8 +10,9 @@ use Rattle.naga_oil_link.specs.BuiltModule.{BuiltModule, Builds, nothing_built}
 use Rattle.naga_oil_build.specs.BuildView.{bare_settings, settings_with}
 use Rattle.naga_oil_build.specs.Held.{settings}
 use Rattle.naga_oil_build.specs.declared.settings.Settings.{Settings as CodeSettings}
-use Rattle.naga_oil.specs.Refused.{Place, in_module, in_text}
+use Rattle.naga_oil.specs.Refused.{Answers, Place, Refused, Tells, in_module, in_text, nowhere, place_of, refused_of}
 use Rattle.naga_oil.specs.Validate.{fault_place}
+use Rattle.naga_oil.specs.declared.compose.error.ComposerError.{ComposerError}
 
 -- ---- settings
 
@@ -86,3 +87,45 @@ not_built = refl
 
 place_of_shader_is_refused : at (in_b ∷ []) ≡ shader → ⊥
 place_of_shader_is_refused h = absurd cc
+
+-- ---- what an error reports
+
+-- the place of what a value is refused for
+abbrev place_in : Place → Result ℕ Refused → Place
+place_in other (Ok n) = other
+place_in other (Err r) = r.place
+
+-- an error that reports what some value is refused for
+abbrev Reports : ComposerError → Result ℕ Refused → Option Refused → Type 0
+Reports e value o = MatchOption o (place_of e.source ≡ nowhere) (λ (x : Refused). value ≡ Err x)
+
+module _ (e : ComposerError) (r : Refused) (is : refused_of e ≡ Some r) where
+  refusal_is_reported : Tells {Y = ℕ} e (Err r)
+  refusal_is_reported = subst (Reports e (Err r)) (sym is) refl
+
+  value_is_refused : (n : ℕ) → Tells e (Ok n) → ⊥
+  value_is_refused n h = let same : ◌≡◌ {A = Result ℕ Refused} (Ok n) (Err r) = subst (Reports e (Ok n)) is h in absurd cc
+
+  another_place_is_refused : (place : Place) → (place ≡ r.place → ⊥) → Tells {Y = ℕ} e (Err (record r { place = place })) → ⊥
+  another_place_is_refused place other h =
+      let same : ◌≡◌ {A = Result ℕ Refused} (Err (record r { place = place })) (Err r) = subst (Reports e (Err (record r { place = place }))) is h in
+      other (ap (place_in place) same)
+
+module _ (e : ComposerError) (memory : refused_of e ≡ None) where
+  -- out of memory, which has no place, may come in place of any value
+  out_of_memory : place_of e.source ≡ nowhere → (value : Result ℕ Refused) → Tells e value
+  out_of_memory lies value = subst (Reports e value) (sym memory) lies
+
+  memory_with_a_place_is_refused : place_of e.source ≡ in_text (codes "p") [] 0 → (value : Result ℕ Refused) → Tells e value → ⊥
+  memory_with_a_place_is_refused lies value h =
+      let there : place_of e.source ≡ nowhere = subst (Reports e value) memory h in
+      let same : in_text (codes "p") [] 0 ≡ nowhere = sym lies ∙ there in
+      absurd cc
+
+-- ---- what a call answers
+
+number_is_answered : Answers {X = ℕ} {Y = ℕ} (λ n. n) (Ok 3) (Ok 3)
+number_is_answered = refl
+
+another_number_is_refused : Answers {X = ℕ} {Y = ℕ} (λ n. n) (Ok 3) (Ok 4) → ⊥
+another_number_is_refused h = let same : ◌≡◌ {A = Result ℕ Refused} (Ok 3) (Ok 4) = h in absurd cc

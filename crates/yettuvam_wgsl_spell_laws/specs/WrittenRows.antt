@@ -1,5 +1,6 @@
 -- Worked rows: names that the writer may use, and texts of one token.
-use Rattle.std.specs.Prelude.{◌≡◌, refl, List, Bool, true, false, [], ◌∷◌, map, codes}
+use Rattle.std.proofs.Common.{arith}
+use Rattle.std.specs.Prelude.{◌≡◌, refl, ℕ, List, Bool, true, false, [], ◌∷◌, map, codes}
 use Rattle.std.specs.Fmt.{digits}
 use Rattle.yettuvam_wgsl_pieces.specs.Numbers.{literal_text}
 use Rattle.yettuvam_wgsl_pieces.specs.Pieces.{Piece, Word, Number, Literal, Letters, Sign, text}
@@ -11,7 +12,7 @@ use Rattle.yettuvam_wgsl_words.specs.declared.cut.Piece.TheVariants.{Token, Bad,
 use Rattle.yettuvam_wgsl_words.specs.declared.refusal.Reason.TheVariants as reason
 use Rattle.yettuvam_wgsl_words.specs.declared.token.Kind.TheVariants as k
 use Rattle.yettuvam_wgsl_written_names.specs.Spelled.{is_name}
-use Rattle.yettuvam_wgsl_spell_laws.specs.Written.{is_word, may_be_neighbours}
+use Rattle.yettuvam_wgsl_spell_laws.specs.Written.{IsWritten, is_word, may_be_neighbours}
 use Rattle.yettuvam_wgsl_spell_laws.specs.Apart.{begins_some}
 
 -- whether a word has the form of a name, and whether it is a word of the language
@@ -48,3 +49,23 @@ neighbour_rows : neighbour_tests (
     ≡ false ∷ false ∷ false ∷ true ∷ true ∷ true ∷ true ∷ []
 unfolding begins_some
 neighbour_rows = refl
+
+-- ---- pieces that the writer makes
+
+name_is_written : IsWritten (Word (codes "height"))
+unfolding group
+name_is_written = (refl, refl)
+
+keyword_for_a_name_is_refused : IsWritten (Word (codes "let")) → ⊥
+unfolding group
+keyword_for_a_name_is_refused h = let e : true ≡ false = h.1 in absurd cc
+
+digit_before_a_name_is_refused : IsWritten (Word (codes "2d")) → ⊥
+unfolding group
+digit_before_a_name_is_refused h = let e : false ≡ true = h.0 in absurd cc
+
+letters_are_written : IsWritten (Letters 3 36)
+letters_are_written = omega arith
+
+no_letters_are_refused : (pattern : ℕ) → IsWritten (Letters 0 pattern) → ⊥
+no_letters_are_refused pattern l = absurd (omega (arith, l))
