@@ -32,7 +32,7 @@ enum yettuvam_status {
     /* A definition has an unknown kind, or a value that its kind can't hold: `count` is the index of the first such one. */
     YETTUVAM_BAD_DEFINITION = 4,
     /* The page lacks room: `bytes` and `count` are the room that the result needs. */
-    YETTUVAM_NO_ROOM = 5,
+    YETTUVAM_NO_ROOM = 5
 };
 
 /* The kind of a field. A field without a place or a value has 0 there. */
@@ -57,7 +57,7 @@ enum yettuvam_kind {
     /* The report of an error whose `place` is the index of a line, from 0. */
     YETTUVAM_FAULT_LINE = 11,
     /* The report of an error without a place. */
-    YETTUVAM_FAULT_WHOLE = 12,
+    YETTUVAM_FAULT_WHOLE = 12
 };
 
 /* A text in UTF-8, and the path by which reports name it. */
