@@ -1,16 +1,19 @@
 #!/bin/sh
-# Builds the programs in C and in Rust over the static library, and compares what they print with what stands beside them.
-# The library is built first, by
+# Builds the programs in C, in C++ and in Rust over the static library, and compares what they print with what stands beside them.
+# Then it installs the library, makes the tarball, and builds programs over both, as docs/LIBRARY.md shows them; and it makes CALLS
+# random calls (20,000) from SEED (1) under the address sanitizer. The library is built first, by
 #     (cd crates/yettuvam_c && rt lib)
-# It is crates/yettuvam_c/out/libyettuvam_c.a, or LIBRARY of the environment. Needs `cc`, and `rustc` for the second program; what
-# the library asks of the toolchain's C code stands in the folder that `rt doc` names.
+# It is crates/yettuvam_c/out/libyettuvam_c.a, or LIBRARY of the environment; the toolchain's liblibc_c.a is in the folder that
+# `rt doc` names, or HEAP. Needs `cc` and `make`. On Debian this has the rest, and what is missing is left out with a line that says so:
+#     apt-get install --no-install-recommends gcc g++ make cmake pkg-config rustc cargo
+# `examples/rust` needs Rust 1.85, and the crate in `rust` 1.63.
 root=$(CDPATH='' cd -- "$(dirname -- "$0")/.." && pwd) || exit 1
 library=${LIBRARY:-$root/crates/yettuvam_c/out/libyettuvam_c.a}
 if [ ! -f "$library" ]; then
     echo "c_library.sh: there is no $library. Build it: (cd crates/yettuvam_c && rt lib)" >&2
     exit 1
 fi
-heap=$(dirname "$(rt doc | head -n 1)")/c/liblibc_c.a
+heap=${HEAP:-$(dirname "$(rt doc | head -n 1)")/c/liblibc_c.a}
 if [ ! -f "$heap" ]; then
     echo "c_library.sh: the toolchain has no $heap" >&2
     exit 1
@@ -76,7 +79,12 @@ printf 'fn f() { let x = y; }\n' > "$folder/unknown.wgsl"
 compile scarce "$root/tests/c_library/scarce.c" -Wl,--wrap=malloc,--wrap=realloc,--wrap=free
 prints tests/c_library/scarce.txt "$folder/scarce"
 
-if command -v rustc > /dev/null; then
+# Whether the Rust compiler is of version 1.85 or later, which takes edition 2024.
+takes_edition_2024() {
+    command -v rustc > /dev/null && echo 'fn main() {}' | rustc --edition 2024 --emit metadata --crate-name empty -o "$folder/empty.rmeta" - 2> /dev/null
+}
+
+if takes_edition_2024; then
     rustc --edition 2024 -O -D warnings "$root/examples/rust/pre.rs" -C "link-arg=$library" -C "link-arg=$heap" -o "$folder/pre_rust" || exit 1
     prints examples/rust/told.txt "$folder/pre_rust"
     preprocesses "$folder/pre_rust"
@@ -85,8 +93,21 @@ if command -v rustc > /dev/null; then
     builds | cmp - "$root/examples/scene/made_clear.wgsl" || fail 'build in Rust: the clear scene'
     builds +scene::fog | cmp - "$root/examples/scene/made.wgsl" || fail 'build in Rust: the scene with fog'
 else
-    echo 'c_library.sh: there is no rustc, so the program in Rust was left out'
+    echo 'c_library.sh: there is no rustc of version 1.85 or later, so the programs of examples/rust were left out' >&2
 fi
+
+. "$root/tests/c_library/packages.sh"
+header_has_no_warnings
+numbers_are_the_header_s
+says_what_is_missing
+installs
+uninstalls
+c_by_pkg_config "$prefix"
+cpp_by_cmake "$prefix"
+crate_is_built
+hot_reloads
+tarball_works_elsewhere
+random_calls
 
 [ "$failed" -eq 0 ] || exit 1
 echo 'the programs over the library print what stands beside them'

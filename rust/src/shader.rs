@@ -84,6 +84,15 @@ impl<'a> Shader<'a> {
     }
 
     /// Whether any imported function can be overridden, and not only virtual ones. It is false in a new shader.
+    ///
+    /// ```
+    /// use yettuvam::{Shader, Source};
+    ///
+    /// let shader = Shader::new(Source::new("top.wgsl", "#import sea\noverride fn sea::depth() -> f32 { return 2.0; }"))
+    ///     .module(Source::new("sea.wgsl", "#define_import_path sea\nfn depth() -> f32 { return 1.0; }"));
+    /// assert!(shader.build().unwrap_err().to_string().contains("virtual"));
+    /// assert!(shader.override_any(true).build().is_ok());
+    /// ```
     pub fn override_any(mut self, allow: bool) -> Shader<'a> {
         self.override_any = allow;
         self
