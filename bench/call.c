@@ -1,11 +1,10 @@
-/* Measures what a call of the library takes besides the composer's own time: `call TIMES SHADER [MODULE..]` builds the shader of
- * the first file, with the definitions LAYERS=10, PLACE=11 and FOG=4 of examples/scene, and prints microseconds, the least of the
- * runs:
+/* Measures what a call of the library takes besides the composer's own time: `call TIMES SHADER [MODULE..] [NAME=NUMBER..]` builds
+ * the shader of the first file and prints microseconds of the processor, the least of the runs:
  * - of the whole call;
  * - of the same call with an import whose name isn't UTF-8. It reads, tests and copies all that the task names, and returns before
  *   it builds anything;
  * - of two copies of the result, which a call makes after the build, one of them to the page.
- * The last two together are what the call takes besides the composer. Built as bench/library.c is. Status 1: the call has no text. */
+ * The last two together are what the call takes besides the composer. Status 1: the shader has an error, or a file can't be read. */
 #include "yettuvam.h"
 
 #include <stdio.h>
@@ -13,7 +12,7 @@
 #include <string.h>
 #include <time.h>
 
-enum { MOST_FILES = 64, MOST_OUT = 1 << 20 };
+enum { MOST_WORDS = 64, MOST_OUT = 1 << 20 };
 
 static double microseconds(void) {
     struct timespec now;
@@ -69,15 +68,23 @@ static double least_copies(long times, size_t bytes) {
     return least;
 }
 
+static struct yettuvam_source files[MOST_WORDS];
+static struct yettuvam_definition definitions[MOST_WORDS];
+
 int main(int count, char **words) {
-    if (count < 3 || count - 2 > MOST_FILES) return 2;
-    static struct yettuvam_source files[MOST_FILES];
+    if (count < 3 || count > MOST_WORDS || strchr(words[2], '=') != NULL) return 2;
     long times = atol(words[1]);
-    size_t file_count = 0, bytes = 0, none = 0;
-    for (int i = 2; i < count; i++) files[file_count++] = read_source(words[i]);
-    struct yettuvam_definition definitions[] = {{"LAYERS", 6, YETTUVAM_INT, 10}, {"PLACE", 5, YETTUVAM_INT, 11}, {"FOG", 3, YETTUVAM_INT, 4}};
+    size_t file_count = 0, definition_count = 0, bytes = 0, none = 0;
+    for (int i = 2; i < count; i++) {
+        const char *value = strchr(words[i], '=');
+        struct yettuvam_definition definition = {words[i], value == NULL ? 0 : (size_t)(value - words[i]), YETTUVAM_INT, value == NULL ? 0 : atol(value + 1)};
+        if (value != NULL)
+            definitions[definition_count++] = definition;
+        else
+            files[file_count++] = read_source(words[i]);
+    }
     struct yettuvam_name bad_name = {"\xff", 1};
-    struct yettuvam_task task = {files[0], files + 1, file_count - 1, definitions, 3, &bad_name, 0, false};
+    struct yettuvam_task task = {files[0], files + 1, file_count - 1, definitions, definition_count, &bad_name, 0, false};
     double whole = least_time(times, &task, YETTUVAM_OK, &bytes);
     task.imports_len = 1;
     double arguments = least_time(times, &task, YETTUVAM_NOT_UTF8, &none);

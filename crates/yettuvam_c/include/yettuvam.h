@@ -6,8 +6,11 @@
  * A call never aborts, whatever its arguments are. Out of memory is a status.
  *
  * Requirements: each pointer points to as many items as the length beside it says (a pointer is not null even where the
- * length is 0); a `bool` is true or false; while a call runs nothing else writes what it reads, nor touches its page;
- * the program's `malloc`, `realloc` and `free` come from one allocator. */
+ * length is 0, as `data()` of an empty vector in C++ may be); a `bool` is true or false; while a call runs nothing else
+ * writes what it reads, nor touches its page; the program's `malloc`, `realloc` and `free` come from one allocator.
+ *
+ * A call returns a number of `yettuvam_status`, and a field's `kind` is a number of `yettuvam_kind`: both are of 32 bits,
+ * which an enum in C need not be. C99 and C++11, and later. */
 #ifndef YETTUVAM_H
 #define YETTUVAM_H
 
