@@ -29,7 +29,7 @@ done
 make -s -C "$root" install PREFIX="$tree" DESTDIR= OUT="$stage/made" "$@" || exit 1
 
 # The crate finds the archive in the folder lib beside it.
-mkdir "$tree/rust" && (cd "$root/rust" && cp -R Cargo.toml build.rs src examples "$tree/rust") || exit 1
+mkdir "$tree/rust" && (cd "$root/rust" && cp -R Cargo.toml build.rs src examples tests "$tree/rust") || exit 1
 mkdir "$tree/examples" && cp -R "$root/examples/hot_reload" "$root/examples/c" "$tree/examples" || exit 1
 
 # What is known of the proof.

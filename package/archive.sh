@@ -32,6 +32,9 @@ library=$(absolute "$library")
 heap=$(absolute "$heap")
 
 # The objects of each archive are in a folder of their own, as both may have an object of the same name.
+for given in "$library" "$heap"; do
+    [ -z "$(ar t "$given" | sort | uniq -d)" ] || { echo "$given has two objects of the same name" >&2; exit 1; }
+done
 mkdir "$folder/library" "$folder/heap" || exit 1
 (cd "$folder/library" && ar x "$library") || exit 1
 (cd "$folder/heap" && ar x "$heap") || exit 1

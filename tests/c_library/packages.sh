@@ -143,6 +143,8 @@ crate_is_built() {
     crate_version=$(sed -n 's/^version = "\(.*\)"$/\1/p' "$root/rust/Cargo.toml")
     grep -qx "Version: $crate_version" "$prefix/lib/pkgconfig/yettuvam.pc" || fail "$part: another version than the library's"
     cargo_in "$folder/crate" PKG_CONFIG_PATH="$prefix/lib/pkgconfig" RUSTFLAGS=-Dwarnings -- build -q --offline --all-targets || return
+    cargo_in "$folder/crate" PKG_CONFIG_PATH="$prefix/lib/pkgconfig" RUSTFLAGS=-Dwarnings -- test -q --offline --test calls || return
+    grep -q '^test result: ok. [1-9]' "$folder/said" || fail "$part: no test was run"
     cargo_in "$folder/crate" PKG_CONFIG_PATH="$prefix/lib/pkgconfig" RUSTFLAGS=-Dwarnings -- test -q --offline --doc || return
     grep -q '^test result: ok. [1-9]' "$folder/said" || fail "$part: no doctest was run"
     # A program that depends on the crate, as docs/LIBRARY.md shows it.
