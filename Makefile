@@ -45,7 +45,7 @@ install: archive
 	$(call fill,$(PKGCONFIGDIR)) package/yettuvam.pc > '$(DESTDIR)$(PKGCONFIGDIR)/yettuvam.pc'
 	$(call fill,$(CMAKEDIR)) package/YettuvamConfig.cmake > '$(DESTDIR)$(CMAKEDIR)/YettuvamConfig.cmake'
 	$(call fill,$(CMAKEDIR)) package/YettuvamConfigVersion.cmake > '$(DESTDIR)$(CMAKEDIR)/YettuvamConfigVersion.cmake'
-	install -m 644 $(LICENCES) docs/LIBRARY.md '$(DESTDIR)$(DOCDIR)'
+	install -m 644 $(LICENCES) docs/LIBRARY.md docs/LANGUAGE.md '$(DESTDIR)$(DOCDIR)'
 	if [ -f '$(UNICODE)' ]; then install -m 644 '$(UNICODE)' '$(DESTDIR)$(DOCDIR)'; fi
 	if [ -x '$(YETTUVAM)' ]; then install -D '$(YETTUVAM)' '$(DESTDIR)$(BINDIR)/yettuvam'; fi
 	if [ -x '$(OIL)' ]; then install -D '$(OIL)' '$(DESTDIR)$(BINDIR)/oil'; fi
