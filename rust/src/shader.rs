@@ -6,8 +6,12 @@ use crate::{raw, Definition, Error, Source, Value};
 
 /// A shader to build: its text, the texts of modules, definitions, and imports besides those of its text.
 ///
-/// The modules may be given in any order, and those that the shader doesn't reach have no effect. A build reads the texts and keeps
-/// nothing, so a text that was changed is built again by another call, and calls of several threads are independent.
+/// The modules may be given in any order. Whether or not the shader reaches it, a module defines an import path of its own, imports
+/// modules that are there, has no `#define` and no decorated name, and takes numbers of `@binding(auto)`. Other errors are reported
+/// in modules that the shader reaches, and the text has of a module what the shader reaches.
+///
+/// A build reads the texts and keeps nothing, so a text that was changed is built again by another call, and calls of several
+/// threads are independent.
 ///
 /// # Examples
 ///

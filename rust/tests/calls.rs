@@ -138,3 +138,44 @@ fn threads_build_the_same() {
         }
     });
 }
+
+/// A module that the shader doesn't reach is added all the same.
+#[test]
+fn a_module_that_is_not_reached_is_added() {
+    let top = "#import sea\n@group(0) @binding(auto) var<uniform> size: f32;\nfn f() -> f32 { return sea::depth() * size; }\n";
+    let sea = Source::new(
+        "sea.wgsl",
+        "#define_import_path sea\nfn depth() -> f32 { return 1.0; }\n",
+    );
+    let built = |other| {
+        Shader::new(Source::new("top.wgsl", top))
+            .module(Source::new("other.wgsl", other))
+            .module(sea)
+            .build()
+    };
+    let reports = |other, message: &str| matches!(built(other), Err(error) if error.to_string().contains(message));
+    assert!(built("#define_import_path other\nfn f( {\n#else\n")
+        .unwrap()
+        .contains("@binding(0)"));
+    let bound = "#define_import_path other\n@group(0) @binding(auto) var<uniform> other: f32;\n";
+    assert!(built(bound)
+        .unwrap()
+        .contains("@binding(1) var<uniform> size"));
+    assert!(reports(
+        "fn f() {}\n",
+        "a module has no `#define_import_path`"
+    ));
+    assert!(reports("#define_import_path sea\n", "same import path"));
+    assert!(reports(
+        "#define_import_path other\n#define X 1\n",
+        "`#define` in a module"
+    ));
+    assert!(reports(
+        "#define_import_path other\n#import none\nfn f() { none::g(); }\n",
+        "no module `none`"
+    ));
+    assert!(reports(
+        "#define_import_path other\nfn fX_naga_oil_mod_XMIX() {}\n",
+        "mark of a decorated name"
+    ));
+}

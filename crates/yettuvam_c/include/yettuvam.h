@@ -85,9 +85,10 @@ struct yettuvam_name {
     size_t text_len;
 };
 
-/* A shader to build: its file; files of modules, in any order, of which those count that it reaches; definitions, of which the last
- * with a name counts; modules that the shader imports besides those of its text; and whether any imported function can be
- * overridden, and not only virtual ones. */
+/* A shader to build: its file; files of modules, in any order; definitions, of which the last with a name counts; modules that the
+ * shader imports besides those of its text; and whether any imported function can be overridden, and not only virtual ones.
+ * Whether or not the shader reaches it, a module defines an import path of its own, imports modules that are there, has no
+ * `#define` and no decorated name, and takes numbers of `@binding(auto)`. Other errors are reported in modules that it reaches. */
 struct yettuvam_task {
     struct yettuvam_source shader;
     const struct yettuvam_source *modules;
