@@ -98,7 +98,7 @@ fi
 
 . "$root/tests/c_library/packages.sh"
 header_has_no_warnings
-numbers_are_the_header_s
+crate_has_the_header_numbers
 says_what_is_missing
 installs
 uninstalls

@@ -31,9 +31,9 @@ pub unsafe fn call(
         };
         let status = run(&mut page);
         match status {
-            raw::OK | raw::FAULTY => {
+            raw::OK | raw::FAULTY if page.bytes <= bytes && page.count <= count => {
                 // SAFETY: with these statuses the library has written the first `page.bytes` bytes of `out` and the first
-                // `page.count` fields, which are at most as many as there is room for.
+                // `page.count` fields, and there is room for so many.
                 unsafe {
                     out.set_len(page.bytes);
                     fields.set_len(page.count);

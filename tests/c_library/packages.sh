@@ -35,7 +35,7 @@ header_has_no_warnings() {
 }
 
 # The numbers of the Rust crate are those of the header, which has some more.
-numbers_are_the_header_s() {
+crate_has_the_header_numbers() {
     sed -n 's/^    YETTUVAM_\([A-Z0-9_]*\) = \([0-9]*\),\{0,1\}$/\1 \2/p' "$root/crates/yettuvam_c/include/yettuvam.h" | sort > "$folder/of_header"
     sed -n 's/^pub const \([A-Z0-9_]*\): u32 = \([0-9]*\);$/\1 \2/p' "$root/rust/src/raw.rs" | sort > "$folder/of_crate"
     [ -s "$folder/of_crate" ] && [ -z "$(comm -13 "$folder/of_header" "$folder/of_crate")" ] || fail 'rust/src/raw.rs has other numbers than the header'
