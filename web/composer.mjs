@@ -1,35 +1,39 @@
 // The library `yettuvam.wasm`: builds one shader of a file and modules.
 const OK = 0, FAULTY = 1, NO_ROOM = 5;
-const BOOL = 5, INT = 6, UINT = 7;
 const FIELD = 40; // the bytes of a field of a page
+const LEAST_ROOM = 1 << 16; // bytes for a result, at first
+const MOST_MEMORY = 1 << 28; // bytes of a library that is kept for the next call
 const STATUSES = ['', '', 'out of memory', 'a text isn\'t UTF-8', 'a definition has a wrong value', 'no room'];
 
 const encoder = new TextEncoder();
 const decoder = new TextDecoder();
 
-// A definition by its text, `NAME` or `NAME=VALUE`: its name, its kind and its value; or null.
-export function definition(text) {
-    const found = /^\s*([A-Za-z_0-9]+)\s*(?:=\s*(true|false|-?\d+u?)\s*)?$/.exec(text);
-    if (!found) return null;
-    const [, name, value = 'true'] = found;
-    if (value === 'true' || value === 'false') return { name, kind: BOOL, value: value === 'true' ? 1n : 0n };
-    if (value.endsWith('u')) return { name, kind: UINT, value: BigInt(value.slice(0, -1)) };
-    return { name, kind: INT, value: BigInt(value) };
+// The library of a response. Compiled while it arrives, the browser can keep it; that needs the right type of content.
+async function compiled(response) {
+    const typed = response.headers.get('content-type') === 'application/wasm';
+    return typed ? WebAssembly.compileStreaming(response) : WebAssembly.compile(await response.arrayBuffer());
 }
 
 export class Composer {
     static async load(from) {
-        const bytes = await (await fetch(from)).arrayBuffer();
-        return Composer.of(await WebAssembly.compile(bytes));
+        const response = await fetch(from);
+        if (!response.ok) throw new Error(`${from} isn't there`);
+        return new Composer(await compiled(response));
     }
 
     static async of(module) {
-        return new Composer(await WebAssembly.instantiate(module, {}));
+        return new Composer(module);
     }
 
-    constructor(instance) {
-        this.calls = instance.exports;
-        this.room = 1 << 16;
+    constructor(module) {
+        this.module = module;
+        this.renew();
+    }
+
+    // A new library, with memory of its own.
+    renew() {
+        this.calls = new WebAssembly.Instance(this.module).exports;
+        this.room = LEAST_ROOM;
     }
 
     // Memory of the library for a number of bytes, until the call ends.
@@ -75,22 +79,30 @@ export class Composer {
     }
 
     // Builds the shader of a file over modules, each with `path` and `text`, under definitions, with imports besides those of its text.
-    // Returns `{ text }`, or `{ report }` where one of the texts has an error.
-    build({ shader, modules = [], definitions = [], imports = [], overrideAny = false }) {
+    // Returns `{ text }`, or `{ report }` where one of the texts has an error. Where the library stops, the next call has a new one.
+    build(task) {
         this.taken = [];
         try {
-            const source = file => [...this.text(file.path), ...this.text(file.text)];
-            const task = this.words([
-                ...source(shader),
-                ...this.list(modules.map(source)),
-                ...this.list(definitions.map(({ name, kind, value }) => [...this.text(name), kind, value])),
-                ...this.list(imports.map(name => this.text(name))),
-                overrideAny ? 1 : 0,
-            ]);
-            return this.put(task);
-        } finally {
+            const result = this.put(this.task(task));
             for (const at of this.taken) this.calls.page_give(at);
+            if (this.calls.memory.buffer.byteLength > MOST_MEMORY) this.renew();
+            return result;
+        } catch (error) {
+            this.renew();
+            return { report: `error: the library stopped: ${error.message}\n` };
         }
+    }
+
+    // A task in memory.
+    task({ shader, modules = [], definitions = [], imports = [], overrideAny = false }) {
+        const source = file => [...this.text(file.path), ...this.text(file.text)];
+        return this.words([
+            ...source(shader),
+            ...this.list(modules.map(source)),
+            ...this.list(definitions.map(({ name, kind, value }) => [...this.text(name), kind, value])),
+            ...this.list(imports.map(name => this.text(name))),
+            overrideAny ? 1 : 0,
+        ]);
     }
 
     // The result of a task, on a page that is as large as it has to be.

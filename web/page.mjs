@@ -1,71 +1,69 @@
 // The page: files on the left, what is made of them on the right.
-import { Composer, definition } from './composer.mjs';
+import { Builder } from './builder.mjs';
+import { fileOf, placeOf } from './declared.mjs';
+import { Editor } from './editor.mjs';
+import { Tabs, freePath } from './files.mjs';
+import { latest } from './latest.mjs';
+import { bindingsOf, entriesOf, itemsOf } from './made.mjs';
+import { MadeView, hue } from './made_view.mjs';
 import { gallery, open, read, task, written } from './project.mjs';
+import { browserReport, faultsOf, faultsOfMessages, libraryReport, placed } from './report.mjs';
+import { tablesOf } from './tables.mjs';
 import { View } from './view.mjs';
 
-const WAIT = 120; // milliseconds from a change to the next make
+const ADDRESS_WAIT = 500; // milliseconds from the last change to the new address
+const LONGEST_ADDRESS = 1 << 20;
+const MOST_NAMES = 6; // in a list of what has changed
+const { dataset } = document.body;
 
 const at = id => document.getElementById(id);
-const text = at('text');
+const say = text => { at('told').textContent = text; };
 
-let composer, project;
-export let view;
-let shown = 0; // the index of the file that is shown
-let faults = []; // places of the last report: { path, line }
-let waiting;
-const started = performance.now();
+export let project, view;
+let shown = 0; // the number of the file that is shown
+let faults = []; // places of what is wrong: { path, line, message }
+let before = null; // what was built last, as { parts: Map of names to texts }
+let address = null; // the timer of the next address
+let outstanding = 0; // builds and pictures that aren't done
+let turn = 0; // counts the results that were shown
+const builder = new Builder();
+const editor = new Editor(at('editor'), file => change(file));
+const tabs = new Tabs(at('tabs'), i => show(i));
+const made = new MadeView(at('made'), place => go(place));
+const time = { plays: !matchMedia('(prefers-reduced-motion: reduce)').matches, seconds: 1, last: 0, stale: true };
 
 // ---- files
 
-function element(name, properties, ...children) {
-    const made = Object.assign(document.createElement(name), properties);
-    made.append(...children);
-    return made;
-}
-
-function showTabs() {
-    const tabs = project.files.map(({ path }, i) => element('button', {
-        role: 'tab',
-        ariaSelected: String(i === shown),
-        className: `${i === project.top ? 'top' : ''} ${faults.some(fault => fault.path === path) ? 'faulty' : ''}`,
-        title: i === project.top ? 'The shader. Double click: rename' : 'Double click: rename. Shift and click: make it the shader',
-        onclick: event => { if (event.shiftKey) project.top = i; show(i); change(); },
-        ondblclick: () => rename(i),
-    }, path));
-    const add = element('button', { title: 'Adds a file', onclick: () => addFile('module.wgsl', '') }, '+');
-    const remove = element('button', { title: 'Removes this file', onclick: removeFile, disabled: project.files.length < 2 }, '−');
-    at('tabs').replaceChildren(...tabs, add, remove);
-}
-
-function showNumbers() {
-    const lines = text.value.split('\n').length;
-    const marked = new Set(faults.filter(({ path }) => path === project.files[shown].path).map(({ line }) => line));
-    at('numbers').replaceChildren(...Array.from({ length: lines }, (_, i) => element(marked.has(i + 1) ? 'b' : 'span', {}, `${i + 1}\n`)));
-    at('numbers').scrollTop = text.scrollTop;
+function paintTabs() {
+    tabs.paint(project, shown, new Set(faults.map(({ path }) => path)));
+    editor.mark(faults.filter(({ path }) => path === project.files[shown].path));
 }
 
 function show(i) {
     shown = i;
-    text.value = project.files[i].text;
-    text.scrollTop = 0;
-    showTabs();
-    showNumbers();
+    editor.show(project.files[i]);
+    at('path').value = project.files[i].path;
+    at('remove').disabled = project.files.length < 2;
+    at('top').disabled = i === project.top;
+    paintTabs();
 }
 
-// A path that no file has.
-function free(path) {
-    const taken = new Set(project.files.map(file => file.path));
-    const [, stem, end] = /^(.*?)(\.[^.]*)?$/.exec(path);
-    for (let i = 2, made = path; ; i++) {
-        if (!taken.has(made)) return made;
-        made = `${stem}${i}${end ?? ''}`;
-    }
+// Shows the place of an item or of a report, if its file is there.
+function go({ path, lines }) {
+    const i = project.files.findIndex(file => file.path === path);
+    if (i === -1) return;
+    show(i);
+    if (lines.length) editor.go(lines[0]);
 }
 
-function addFile(path, content) {
-    project.files.push({ path: free(path), text: content });
+function addFile(path, text) {
+    project.files.push({ path: freePath(project.files, path), text });
     show(project.files.length - 1);
     change();
+}
+
+async function addFiles(files) {
+    for (const file of files) addFile(file.name, await file.text());
 }
 
 function removeFile() {
@@ -75,70 +73,119 @@ function removeFile() {
     change();
 }
 
-function rename(i) {
-    const path = prompt('Path of the file', project.files[i].path)?.trim();
-    if (!path || path === project.files[i].path) return;
-    project.files[i].path = free(path);
-    show(i);
+function rename(path) {
+    const others = project.files.filter((_, i) => i !== shown);
+    if (path) project.files[shown].path = freePath(others, path);
+    show(shown);
     change();
 }
 
-// ---- a make
+// ---- what is wrong
 
-const places = report => [...report.matchAll(/(?:-->|\bat) ([^\s:]+):(\d+)/g)].map(([, path, line]) => ({ path, line: Number(line) }));
-
-function showReport(report) {
-    at('report').hidden = !report;
-    at('report').textContent = report;
-    faults = places(report);
-    showTabs();
-    showNumbers();
+function report(parts, found) {
+    at('report').hidden = parts.length === 0;
+    at('report').replaceChildren(...parts);
+    faults = found;
+    paintTabs();
 }
 
-function showMade(made, errors) {
-    const marked = new Set(errors.map(({ line }) => line));
-    at('made').replaceChildren(...made.split('\n').map((line, i) => element('span', { className: marked.has(i + 1) ? 'faulty' : '' }, line)));
+// ---- a build
+
+// The parts of a project that a build depends on, by name.
+const partsOf = ({ files, top, definitions, imports, overrideAny }) => new Map([
+    ...files.map(({ path, text }) => [path, text]),
+    ['the choice of the shader', files[top].path], ['the definitions', definitions], ['the modules to add', imports], ['what may be overridden', overrideAny],
+]);
+
+// The names of the parts that differ from those of the last build.
+function changed(parts) {
+    if (!before) return [];
+    return [...new Set([...parts.keys(), ...before.keys()])].filter(name => parts.get(name) !== before.get(name));
 }
 
-// The entry points of a made text, and its bindings.
-function entriesOf(made) {
-    const entries = [...made.matchAll(/@(vertex|fragment|compute)[^]*?\bfn ([^\s(]+)/g)].map(([, stage, name]) => `${stage} ${name}`);
-    const bindings = [...made.matchAll(/@group\((\d+)\) @binding\((\d+)\) var[^:;]*:[^;]*/g)].map(([found]) => found);
-    return [...entries, ...bindings].join(' · ');
+const list = names => names.length > MOST_NAMES ? `${names.slice(0, MOST_NAMES).join(', ')} and ${names.length - MOST_NAMES} more` : names.join(', ');
+
+function tellBuilt(took, names, items, fresh) {
+    const count = items.filter(({ kind }) => kind).length;
+    const parts = [`Built in ${took.toFixed(1)} ms, ${count} items.`];
+    if (names.length) parts.push(`Changed: ${list(names)}.`);
+    if (names.length) parts.push(fresh.length ? `New in the text: ${list(fresh.map(({ kind, name }) => `${kind} ${name}`))}.` : 'The text is the same.');
+    at('built').textContent = parts.join(' ');
 }
 
-async function draw(made) {
-    if (!view) return [];
-    const errors = await view.take(made);
-    const lines = errors.map(({ line, message }) => line ? `made text, line ${line}: ${message}` : message);
-    showReport(lines.length ? `The browser refuses the made text:\n${lines.join('\n')}` : '');
-    return errors;
+// Shows a made text, and has it drawn.
+function showMade(text, took, parts) {
+    const items = itemsOf(text);
+    const names = changed(parts);
+    before = parts;
+    const places = new Map(items.map(item => [item, placeOf(project, item)]));
+    const colourOf = item => hue(project.files.indexOf(fileOf(project, item.module)));
+    const shows = faulty => made.show(items, { placeOf: item => places.get(item), colourOf, faulty });
+    tellBuilt(took, names, items, shows(new Set()));
+    at('tables').replaceChildren(...tablesOf(items));
+    at('browser').textContent = '';
+    report([], []);
+    dataset.made = text.length;
+    outstanding++;
+    draw({ text, items, places, shows, mine: ++turn });
 }
 
-async function make() {
-    const { wrong, task: given } = task(project, definition);
-    const before = performance.now();
-    const result = composer.build(given);
-    const took = performance.now() - before;
-    if (wrong.length) result.report ??= `error: not a definition: ${wrong.join(' ')}`;
-    if (result.text === undefined) {
-        showReport(result.report);
-        at('told').textContent = `refused in ${took.toFixed(1)} ms`;
-        return;
-    }
-    at('told').textContent = `made in ${took.toFixed(1)} ms, ${result.text.length} characters`;
-    at('entries').textContent = entriesOf(result.text);
-    showReport('');
-    showMade(result.text, await draw(result.text));
-    document.body.dataset.made = result.text.length;
+// Hands a made text to the browser, and says what it says.
+const draw = latest(async ({ text, items, places, shows, mine }) => {
+    const start = performance.now();
+    const answer = await view?.take(text, entriesOf(items), bindingsOf(items)).catch(error => ({ messages: [], refused: false, why: error.message }));
+    rest(-1);
+    if (!answer || mine !== turn) return;
+    at('browser').textContent = `Compiled by the browser in ${(performance.now() - start).toFixed(0)} ms.`;
+    const messages = answer.messages.map(message => placed(message, items, item => places.get(item)));
+    const faulty = messages.filter(({ type, item }) => type === 'error' && item);
+    if (faulty.length) shows(new Set(faulty.map(({ item }) => item)));
+    if (messages.length) report(browserReport(messages, answer.refused, go), faultsOfMessages(messages));
+    undrawn(answer.why ? `Nothing of this text is drawn: ${answer.why}.` : '');
+    time.stale = true;
+});
+
+function undrawn(text) {
+    at('undrawn').hidden = text === '';
+    at('undrawn').textContent = text;
+}
+
+// Counts what isn't done.
+function rest(step) {
+    outstanding += step;
+    dataset.rest = outstanding === 0;
+}
+
+async function build() {
+    const { wrong, task: given } = task(project);
+    const parts = partsOf(project);
+    rest(1);
+    const result = wrong.length ? { report: `error: no definition: ${wrong.join(' ')}\n` } : await builder.build(given);
+    if (result?.text !== undefined) showMade(result.text, result.took, parts);
+    else if (result) refused(result);
+    rest(-1);
+}
+
+function refused({ report: text, fault, took = 0 }) {
+    turn++;
+    report(libraryReport(text ?? `error: there is no library: ${fault}`, go), text ? faultsOf(text) : []);
+    at('built').textContent = `Refused in ${took.toFixed(1)} ms. The text below and the picture are of the last one that was made.`;
+    at('browser').textContent = '';
 }
 
 function change() {
-    clearTimeout(waiting);
-    waiting = setTimeout(async () => {
-        await make();
-        history.replaceState(null, '', `#${await written(project)}`);
-    }, WAIT);
+    build();
+    clearTimeout(address);
+    address = setTimeout(keep, ADDRESS_WAIT);
+}
+
+// Keeps the project in the address.
+async function keep() {
+    const text = await written(project);
+    const fits = text.length < LONGEST_ADDRESS;
+    history.replaceState(null, '', fits ? `#${text}` : location.pathname);
+    dataset.kept = fits;
+    return fits;
 }
 
 // ---- the page
@@ -146,36 +193,39 @@ function change() {
 function take(found) {
     project = found;
     faults = [];
+    before = null;
+    made.parts = new Map();
     at('definitions').value = project.definitions;
     at('imports').value = project.imports;
     at('override-any').checked = project.overrideAny;
     at('note').textContent = project.note;
     show(project.top);
+    return build();
 }
 
 async function openProject(name) {
-    take(await open(name));
-    await make();
+    await take(await open(name));
     history.replaceState(null, '', `?${name}`);
 }
 
+async function copyLink() {
+    if (!await keep()) return say('The project is too large for an address.');
+    await navigator.clipboard.writeText(location.href);
+    say('copied');
+}
+
 function listen() {
-    text.oninput = () => { project.files[shown].text = text.value; showNumbers(); change(); };
-    text.onscroll = () => { at('numbers').scrollTop = text.scrollTop; };
-    let leaves = false;
-    text.onkeydown = event => {
-        if (event.key === 'Tab' && !leaves) { event.preventDefault(); document.execCommand('insertText', false, '    '); }
-        leaves = event.key === 'Escape';
-    };
     at('definitions').oninput = event => { project.definitions = event.target.value; change(); };
     at('imports').oninput = event => { project.imports = event.target.value; change(); };
     at('override-any').onchange = event => { project.overrideAny = event.target.checked; change(); };
     at('project').onchange = event => openProject(event.target.value);
-    at('link').onclick = async () => {
-        history.replaceState(null, '', `#${await written(project)}`);
-        await navigator.clipboard.writeText(location.href);
-        at('told').textContent = 'copied';
-    };
+    at('link').onclick = () => copyLink().catch(error => say(error.message));
+    at('path').onchange = event => rename(event.target.value.trim());
+    at('add').onclick = () => addFile('module.wgsl', '');
+    at('open').onchange = event => addFiles(event.target.files);
+    at('remove').onclick = removeFile;
+    at('top').onclick = () => { project.top = shown; show(shown); change(); };
+    at('plays').onclick = () => { time.plays = !time.plays; tellPlays(); };
     addEventListener('keydown', event => {
         const step = { ArrowUp: -1, ArrowDown: 1 }[event.key];
         if (!event.altKey || !step) return;
@@ -183,33 +233,51 @@ function listen() {
         show((shown + step + project.files.length) % project.files.length);
     });
     addEventListener('dragover', event => event.preventDefault());
-    addEventListener('drop', async event => {
-        event.preventDefault();
-        for (const file of event.dataTransfer.files) addFile(file.name, await file.text());
-    });
+    addEventListener('drop', event => { event.preventDefault(); addFiles([...event.dataTransfer.files]); });
+    addEventListener('error', event => say(event.message));
+    addEventListener('unhandledrejection', event => say(event.reason?.message ?? String(event.reason)));
+}
+
+function tellPlays() {
+    at('plays').textContent = time.plays ? 'Pause' : 'Play';
+    at('plays').disabled = !view;
+}
+
+// Draws a picture where time goes on, or where there is something new.
+function frame(now) {
+    if (time.plays) time.seconds += (now - time.last) / 1000;
+    time.last = now;
+    if (time.plays || time.stale) view?.frame(time.seconds);
+    time.stale = false;
+    requestAnimationFrame(frame);
+}
+
+// Begins to draw. A device that is lost is asked for once more.
+async function beginView(again = true) {
+    try {
+        view = await View.on(at('view'));
+        view.device.lost.then(({ reason, message }) => {
+            view = null;
+            if (again && reason !== 'destroyed') return beginView(false).then(build);
+            undrawn(`Nothing is drawn any more: ${message}`);
+        });
+    } catch (error) {
+        view = null;
+        undrawn(`Nothing is drawn: ${error.message}. The text is made all the same.`);
+    }
+    tellPlays();
 }
 
 async function start() {
-    const [loaded, projects] = await Promise.all([Composer.load('yettuvam.wasm'), gallery()]);
-    composer = loaded;
-    at('project').replaceChildren(...projects.map(({ name, title }) => element('option', { value: name }, title)));
-    try {
-        view = await View.on(at('view'));
-    } catch (error) {
-        at('undrawn').hidden = false;
-        at('undrawn').textContent = `Nothing is drawn: ${error.message}. The text is made all the same.`;
-    }
     listen();
-    const linked = location.hash.length > 1 ? await read(location.hash.slice(1)) : null;
+    const [projects, linked] = await Promise.all([gallery(), location.hash.length > 1 ? read(location.hash.slice(1)) : null, beginView()]);
+    at('project').replaceChildren(...projects.map(({ name, title }) => new Option(title, name)));
     const named = projects.find(({ name }) => name === location.search.slice(1)) ?? projects[0];
     at('project').value = named.name;
-    if (linked) { take(linked); await make(); } else await openProject(named.name);
-    const frame = milliseconds => { view?.draw(milliseconds / 1000); requestAnimationFrame(frame); };
+    if (linked) await take(linked);
+    else await openProject(named.name);
     requestAnimationFrame(frame);
-    document.body.dataset.started = Math.round(performance.now() - started);
+    dataset.started = Math.round(performance.now());
 }
 
-start().catch(error => {
-    at('report').hidden = false;
-    at('report').textContent = `The page can't start: ${error.message}`;
-});
+start().catch(error => report([`The page can't start: ${error.message}`], []));

@@ -1,7 +1,16 @@
-// Draws a made text by WebGPU: its vertex and its fragment entry point, three corners without buffers. Its uniform at group 0 and
-// binding 0, if it has one, is 32 bytes: the size of the picture in pixels (vec2f), the time in seconds (f32), four bytes without
-// meaning, and the place of the pointer in pixels (vec2f).
+// Draws a made text by WebGPU: its first vertex and its first fragment entry point, three corners without buffers. Its uniform at
+// group 0 and binding 0, if it has one, is 32 bytes: the size of the picture in pixels (vec2f), the time in seconds (f32), four bytes
+// without meaning, and the place of the pointer in pixels (vec2f).
 const UNIFORM_BYTES = 32;
+
+// Why a text without one of the entry points isn't drawn, or null.
+const missing = entries => ['vertex', 'fragment'].filter(stage => !entries.some(entry => entry.stage === stage)).map(stage => `it has no @${stage} entry point`)[0] ?? null;
+
+// Why bindings can't be given by this page, or null.
+function notGiven(bindings) {
+    const other = bindings.find(({ group, binding }) => group !== 0 || binding !== 0);
+    return other ? `it has a binding at @group(${other.group}) @binding(${other.binding}), and this page gives only the uniform at 0, 0` : null;
+}
 
 export class View {
     // Says in an error why nothing can be drawn.
@@ -16,7 +25,7 @@ export class View {
         const format = navigator.gpu.getPreferredCanvasFormat();
         const context = canvas.getContext('webgpu');
         context.configure({ device, format });
-        Object.assign(this, { canvas, device, format, context, pointer: [0, 0], drawn: null });
+        Object.assign(this, { canvas, device, format, context, pointer: [0, 0], drawn: null, busy: false });
         this.uniform = device.createBuffer({ size: UNIFORM_BYTES, usage: GPUBufferUsage.UNIFORM | GPUBufferUsage.COPY_DST });
         canvas.addEventListener('pointermove', event => {
             const { width, height } = canvas.getBoundingClientRect();
@@ -24,25 +33,50 @@ export class View {
         });
     }
 
-    // Takes a text to draw from now on. Returns what the browser says against it, each with a line of the text (0: none).
-    async take(code) {
+    // Takes a text to draw from now on, with its entry points and bindings. Returns the browser's messages, each with a line of the text
+    // (0: none); whether it refuses the text; and why nothing of it is drawn, or null. What isn't drawn leaves what was drawn before.
+    async take(code, entries, bindings) {
+        const [module] = await this.tried(() => this.device.createShaderModule({ code }));
+        const info = await module.getCompilationInfo();
+        const messages = info.messages.map(({ type, lineNum, linePos, message }) => ({ type, line: lineNum, column: linePos, message }));
+        if (messages.some(({ type }) => type === 'error')) return { messages, refused: true, why: null };
+        const why = missing(entries);
+        if (why) return { messages, refused: false, why };
+        const fault = await this.prepare(module, entries);
+        if (fault && notGiven(bindings)) return { messages, refused: false, why: notGiven(bindings) };
+        if (fault) messages.push({ type: 'error', line: 0, column: 0, message: fault });
+        return { messages, refused: fault !== null, why: null };
+    }
+
+    // Makes what draws a module's entry points, and draws a pixel with it. Returns what the browser says against it, or null.
+    async prepare(module, entries) {
         const { device, format } = this;
-        const module = device.createShaderModule({ code });
-        const { messages } = await module.getCompilationInfo();
-        const errors = messages.filter(({ type }) => type === 'error').map(({ lineNum, message }) => ({ line: lineNum, message }));
-        if (errors.length) return errors;
-        device.pushErrorScope('validation');
+        const name = stage => entries.find(entry => entry.stage === stage).written;
         let pipeline;
         try {
-            pipeline = await device.createRenderPipelineAsync({ layout: 'auto', vertex: { module }, fragment: { module, targets: [{ format }] } });
+            pipeline = await device.createRenderPipelineAsync({
+                layout: 'auto',
+                vertex: { module, entryPoint: name('vertex') },
+                fragment: { module, entryPoint: name('fragment'), targets: [{ format }] },
+            });
         } catch (error) {
-            await device.popErrorScope();
-            return [{ line: 0, message: error.message }];
+            return error.message;
         }
-        const group = this.group(pipeline);
-        const fault = await device.popErrorScope();
-        this.drawn = { pipeline, group: fault ? null : group };
-        return [];
+        const [group, refusal] = await this.tried(() => this.group(pipeline));
+        const drawn = { pipeline, group: refusal ? null : group };
+        const pixel = device.createTexture({ size: [1, 1], format, usage: GPUTextureUsage.RENDER_ATTACHMENT });
+        const [, fault] = await this.tried(() => this.draw(0, pixel, drawn));
+        pixel.destroy();
+        if (fault) return refusal ?? fault;
+        this.drawn = drawn;
+        return null;
+    }
+
+    // The result of a step, and what the browser says against it, or null.
+    async tried(step) {
+        this.device.pushErrorScope('validation');
+        const result = step();
+        return [result, (await this.device.popErrorScope())?.message ?? null];
     }
 
     group(pipeline) {
@@ -50,10 +84,18 @@ export class View {
         return this.device.createBindGroup({ layout: pipeline.getBindGroupLayout(0), entries });
     }
 
-    // Draws the text that was taken last, into a texture of the canvas's size.
-    draw(seconds, texture = this.context.getCurrentTexture()) {
-        const { canvas, device, drawn } = this;
-        if (!drawn) return;
+    // Draws the text that was taken last into the canvas, if the picture before is done.
+    async frame(seconds) {
+        if (this.busy || !this.drawn) return;
+        this.busy = true;
+        this.draw(seconds, this.context.getCurrentTexture());
+        await this.device.queue.onSubmittedWorkDone().catch(() => {});
+        this.busy = false;
+    }
+
+    // Draws the text that was taken last into a texture of the canvas's size.
+    draw(seconds, texture, drawn = this.drawn) {
+        const { canvas, device } = this;
         device.queue.writeBuffer(this.uniform, 0, new Float32Array([canvas.width, canvas.height, seconds, 0, ...this.pointer, 0, 0]));
         const encoder = device.createCommandEncoder();
         const pass = encoder.beginRenderPass({
@@ -66,7 +108,7 @@ export class View {
         device.queue.submit([encoder.finish()]);
     }
 
-    // The bytes of a picture, four for each pixel in the order of the canvas's format.
+    // The bytes of a picture, red, green, blue and alpha of each pixel.
     async picture(seconds) {
         const { canvas: { width, height }, device, format } = this;
         const usage = GPUTextureUsage.RENDER_ATTACHMENT | GPUTextureUsage.COPY_SRC;
@@ -77,6 +119,10 @@ export class View {
         encoder.copyTextureToBuffer({ texture }, { buffer, bytesPerRow: 4 * width }, [width, height]);
         device.queue.submit([encoder.finish()]);
         await buffer.mapAsync(GPUMapMode.READ);
-        return new Uint8ClampedArray(buffer.getMappedRange());
+        const bytes = new Uint8ClampedArray(buffer.getMappedRange().slice(0));
+        if (format === 'bgra8unorm') for (let i = 0; i < bytes.length; i += 4) [bytes[i], bytes[i + 2]] = [bytes[i + 2], bytes[i]];
+        texture.destroy();
+        buffer.destroy();
+        return bytes;
     }
 }
