@@ -1,8 +1,9 @@
 // Hands tasks to the worker, one at a time. Of the tasks that come while one is built only the last is built, so typing never waits.
-const PATIENCE = 3000; // milliseconds that a call may take once a later task waits
+const PATIENCE = 3000; // milliseconds that a call may take once a later task waits, besides twice those of the call before
 
 export class Builder {
     constructor() {
+        this.took = 0;
         this.begin();
     }
 
@@ -22,7 +23,7 @@ export class Builder {
             this.waiting?.resolve(null);
             this.waiting = { task, resolve };
             if (!this.running) this.next();
-            else this.watch ??= setTimeout(() => this.stop(), PATIENCE);
+            else this.watch ??= setTimeout(() => this.stop(), PATIENCE + 2 * this.took);
         });
     }
 
@@ -35,6 +36,7 @@ export class Builder {
     end(result) {
         clearTimeout(this.watch);
         this.watch = null;
+        this.took = result?.took ?? 0;
         const ended = this.running;
         this.next();
         ended?.resolve(result);

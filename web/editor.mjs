@@ -50,6 +50,7 @@ export class Editor {
         made.onscroll = () => this.paint();
         made.onkeydown = event => this.key(event);
         this.areas.set(file, made);
+        this.stack.append(made);
         return made;
     }
 
@@ -65,11 +66,25 @@ export class Editor {
 
     show(file) {
         const had = this.shown && this.shown === document.activeElement;
+        if (this.shown) this.shown.hidden = true;
         this.shown = this.area(file);
+        this.shown.hidden = false;
         this.shown.ariaLabel = `Text of ${file.path}`;
-        this.stack.replaceChildren(this.bands, this.shown);
         if (had) this.shown.focus();
         this.count();
+    }
+
+    // Forgets the text of a file.
+    forget(file) {
+        this.areas.get(file)?.remove();
+        this.areas.delete(file);
+    }
+
+    // Forgets the texts of all files.
+    clear() {
+        this.areas = new WeakMap();
+        this.shown = null;
+        this.stack.replaceChildren(this.bands);
     }
 
     count() {

@@ -24,8 +24,9 @@ let shown = 0; // the number of the file that is shown
 let faults = []; // places of what is wrong: { path, line, message }
 let before = null; // what was built last, as { parts: Map of names to texts }
 let address = null; // the timer of the next address
-let outstanding = 0; // builds and pictures that aren't done
+let builds = 0; // that aren't done
 let turn = 0; // counts the results that were shown
+let wanted = 0, drawn = 0; // the results that were last handed to the browser, and last answered by it
 const builder = new Builder();
 const editor = new Editor(at('editor'), file => change(file));
 const tabs = new Tabs(at('tabs'), i => show(i));
@@ -67,6 +68,7 @@ async function addFiles(files) {
 }
 
 function removeFile() {
+    editor.forget(project.files[shown]);
     project.files.splice(shown, 1);
     if (project.top > shown || project.top === project.files.length) project.top--;
     show(Math.min(shown, project.files.length - 1));
@@ -126,15 +128,16 @@ function showMade(text, took, parts) {
     at('browser').textContent = '';
     report([], []);
     dataset.made = text.length;
-    outstanding++;
-    draw({ text, items, places, shows, mine: ++turn });
+    wanted = ++turn;
+    draw({ text, items, places, shows, mine: turn });
 }
 
 // Hands a made text to the browser, and says what it says.
 const draw = latest(async ({ text, items, places, shows, mine }) => {
     const start = performance.now();
     const answer = await view?.take(text, entriesOf(items), bindingsOf(items)).catch(error => ({ messages: [], refused: false, why: error.message }));
-    rest(-1);
+    drawn = mine;
+    rest();
     if (!answer || mine !== turn) return;
     at('browser').textContent = `Compiled by the browser in ${(performance.now() - start).toFixed(0)} ms.`;
     const messages = answer.messages.map(message => placed(message, items, item => places.get(item)));
@@ -150,20 +153,21 @@ function undrawn(text) {
     at('undrawn').textContent = text;
 }
 
-// Counts what isn't done.
-function rest(step) {
-    outstanding += step;
-    dataset.rest = outstanding === 0;
+// Says whether all is done.
+function rest() {
+    dataset.rest = builds === 0 && wanted === drawn;
 }
 
 async function build() {
     const { wrong, task: given } = task(project);
     const parts = partsOf(project);
-    rest(1);
+    builds++;
+    rest();
     const result = wrong.length ? { report: `error: no definition: ${wrong.join(' ')}\n` } : await builder.build(given);
     if (result?.text !== undefined) showMade(result.text, result.took, parts);
     else if (result) refused(result);
-    rest(-1);
+    builds--;
+    rest();
 }
 
 function refused({ report: text, fault, took = 0 }) {
@@ -195,6 +199,7 @@ function take(found) {
     faults = [];
     before = null;
     made.parts = new Map();
+    editor.clear();
     at('definitions').value = project.definitions;
     at('imports').value = project.imports;
     at('override-any').checked = project.overrideAny;

@@ -13,9 +13,17 @@ const FLAGS = [
     '--enable-features=Vulkan', '--use-vulkan=swiftshader', '--disable-vulkan-surface',
 ];
 
-// Serves the files of a folder, and returns the address and what ends it.
-export async function serve(folder) {
-    const answer = files(path.resolve(folder));
+// The numbers of keys.
+const CODES = { Tab: 9, Escape: 27, End: 35, Home: 36, ArrowUp: 38, ArrowRight: 39, ArrowDown: 40 };
+
+// Serves the files of a folder, and those of others under the paths that are given, and returns the address and what ends it.
+export async function serve(folder, others = {}) {
+    const own = files(path.resolve(folder));
+    const more = Object.entries(others).map(([start, other]) => [start, files(path.resolve(other))]);
+    const answer = name => {
+        const found = more.find(([start]) => name.startsWith(start));
+        return found ? found[1](name.slice(found[0].length)) : own(name);
+    };
     const server = http.createServer((request, response) => {
         const { pathname } = new URL(request.url, 'http://127.0.0.1');
         const found = answer(pathname === '/' ? '/index.html' : decodeURIComponent(pathname));
@@ -85,6 +93,23 @@ export class Browser {
             await new Promise(resolve => setTimeout(resolve, 50));
         }
         return false;
+    }
+
+    // Types a text where the cursor is.
+    type(text) {
+        return this.send('Input.insertText', { text });
+    }
+
+    // Presses a key, with the ones that are held, such as `Alt`. What a key does besides its event has to be named, as `undo`.
+    async press(key, held = [], commands = []) {
+        const modifiers = held.reduce((sum, name) => sum + { Alt: 1, Control: 2, Shift: 8 }[name], 0);
+        const what = { key, code: key.length === 1 ? `Key${key.toUpperCase()}` : key, windowsVirtualKeyCode: CODES[key] ?? key.toUpperCase().charCodeAt(0), modifiers };
+        await this.send('Input.dispatchKeyEvent', { type: 'rawKeyDown', commands, ...what });
+        await this.send('Input.dispatchKeyEvent', { type: 'keyUp', ...what });
+    }
+
+    undo() {
+        return this.press('z', ['Control'], ['undo']);
     }
 
     async picture(file) {

@@ -15,6 +15,12 @@ const SETTINGS = {
     'network.captive-portal-service.enabled': false, 'network.connectivity-service.enabled': false,
 };
 
+// The protocol's characters for keys.
+const KEYS = {
+    Tab: '\uE004', Escape: '\uE00C', End: '\uE010', Home: '\uE011', ArrowUp: '\uE013', ArrowRight: '\uE014', ArrowDown: '\uE015',
+    Alt: '\uE00A', Control: '\uE009', Shift: '\uE008',
+};
+
 export class Firefox {
     constructor(width, height) {
         this.profile = fs.mkdtempSync(path.join(os.tmpdir(), 'browser-'));
@@ -82,6 +88,27 @@ export class Firefox {
             await new Promise(resolve => setTimeout(resolve, 50));
         }
         return false;
+    }
+
+    async actions(actions) {
+        await this.send('input.performActions', { context: this.context, actions: [{ type: 'key', id: 'keys', actions }] });
+    }
+
+    // Types a text where the cursor is.
+    type(text) {
+        return this.actions([...text].flatMap(value => [{ type: 'keyDown', value }, { type: 'keyUp', value }]));
+    }
+
+    // Presses a key, with the ones that are held, such as `Alt`.
+    press(key, held = []) {
+        const down = held.map(name => ({ type: 'keyDown', value: KEYS[name] }));
+        const up = held.map(name => ({ type: 'keyUp', value: KEYS[name] }));
+        const value = KEYS[key] ?? key;
+        return this.actions([...down, { type: 'keyDown', value }, { type: 'keyUp', value }, ...up]);
+    }
+
+    undo() {
+        return this.press('z', ['Control']);
     }
 
     async picture(file) {
