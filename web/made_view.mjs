@@ -46,8 +46,17 @@ export class MadeView {
             part.classList.toggle('faulty', faulty.has(item));
             part.classList.toggle('fresh', before.size > 0 && !before.has(item.text));
         }
-        this.place.replaceChildren(...[...this.parts.values()].map(({ part }) => part));
+        this.order([...this.parts.values()].map(({ part }) => part));
         return before.size > 0 ? fresh : [];
+    }
+
+    // Puts the parts in their order. Those that are there already aren't touched, so that the browser doesn't lay them out again.
+    order(parts) {
+        const wanted = new Set(parts);
+        for (const old of [...this.place.children]) if (!wanted.has(old)) old.remove();
+        parts.forEach((part, i) => {
+            if (this.place.children[i] !== part) this.place.insertBefore(part, this.place.children[i] ?? null);
+        });
     }
 
     // The part of an item from before, if it says the same, or a new one.

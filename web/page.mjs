@@ -27,6 +27,7 @@ let address = null; // the timer of the next address
 let builds = 0; // that aren't done
 let turn = 0; // counts the results that were shown
 let wanted = 0, drawn = 0; // the results that were last handed to the browser, and last answered by it
+let taken = null; // the text that the browser took last, without a message
 const builder = new Builder();
 const editor = new Editor(at('editor'), file => change(file));
 const tabs = new Tabs(at('tabs'), i => show(i));
@@ -124,11 +125,12 @@ function showMade(text, took, parts) {
     const colourOf = item => hue(project.files.indexOf(fileOf(project, item.module)));
     const shows = faulty => made.show(items, { placeOf: item => places.get(item), colourOf, faulty });
     tellBuilt(took, names, items, shows(new Set()));
+    report([], []);
+    turn++;
+    if (text === taken && wanted === drawn) return;
     at('tables').replaceChildren(...tablesOf(items));
     at('browser').textContent = '';
-    report([], []);
-    dataset.made = text.length;
-    wanted = ++turn;
+    wanted = turn;
     draw({ text, items, places, shows, mine: turn });
 }
 
@@ -137,6 +139,7 @@ const draw = latest(async ({ text, items, places, shows, mine }) => {
     const start = performance.now();
     const answer = await view?.take(text, entriesOf(items), bindingsOf(items)).catch(error => ({ messages: [], refused: false, why: error.message }));
     drawn = mine;
+    taken = answer?.messages.length || answer?.why ? null : text;
     rest();
     if (!answer || mine !== turn) return;
     at('browser').textContent = `Compiled by the browser in ${(performance.now() - start).toFixed(0)} ms.`;
@@ -198,6 +201,7 @@ function take(found) {
     project = found;
     faults = [];
     before = null;
+    taken = null;
     made.parts = new Map();
     editor.clear();
     at('definitions').value = project.definitions;
@@ -252,8 +256,10 @@ function tellPlays() {
 function frame(now) {
     if (time.plays) time.seconds += (now - time.last) / 1000;
     time.last = now;
-    if (time.plays || time.stale) view?.frame(time.seconds);
-    time.stale = false;
+    if (view?.drawn && !view.busy && (time.plays || time.stale)) {
+        time.stale = false;
+        view.frame(time.seconds).then(() => { dataset.pictured ??= Math.round(performance.now()); });
+    }
     requestAnimationFrame(frame);
 }
 

@@ -84,9 +84,8 @@ export class View {
         return this.device.createBindGroup({ layout: pipeline.getBindGroupLayout(0), entries });
     }
 
-    // Draws the text that was taken last into the canvas, if the picture before is done.
+    // Draws the text that was taken last into the canvas. The view is busy until the picture is done.
     async frame(seconds) {
-        if (this.busy || !this.drawn) return;
         this.busy = true;
         this.draw(seconds, this.context.getCurrentTexture());
         await this.device.queue.onSubmittedWorkDone().catch(() => {});
