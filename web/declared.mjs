@@ -66,30 +66,55 @@ const known = new WeakMap();
 function facts(file) {
     const kept = known.get(file);
     if (kept?.text === file.text) return kept;
-    const made = { text: file.text, path: IMPORT_PATH.exec(plain(file.text))?.[1] ?? null, declared: null };
+    const made = { text: file.text, path: IMPORT_PATH.exec(plain(file.text))?.[1] ?? null, lines: null };
     known.set(file, made);
     return made;
 }
 
-function declaredIn(file) {
+// A name as a key, apart for functions that override another.
+const keyOf = (name, overrides) => overrides ? `override ${name}` : name;
+
+// The lines where a file declares a name.
+function linesIn(file, key) {
     const made = facts(file);
-    made.declared ??= declarations(file.text);
-    return made.declared;
+    if (!made.lines) {
+        made.lines = new Map();
+        for (const { name, overrides, line } of declarations(file.text)) {
+            const found = keyOf(name, overrides);
+            made.lines.set(found, [...made.lines.get(found) ?? [], line]);
+        }
+    }
+    return made.lines.get(key) ?? [];
 }
 
-// The file of a module, and the shader's for null; null if there is none, or more than one.
-export function fileOf(project, module) {
-    if (module === null) return project.files[project.top];
-    const found = project.files.filter(file => facts(file).path === module);
-    return found.length === 1 ? found[0] : null;
-}
+// The files of a project by their import paths.
+export class Sources {
+    constructor({ files, top }) {
+        this.shader = files[top];
+        this.numbers = new Map(files.map((file, i) => [file, i]));
+        this.modules = new Map();
+        for (const file of files) {
+            const { path } = facts(file);
+            if (path !== null) this.modules.set(path, this.modules.has(path) ? null : file);
+        }
+    }
 
-// Where an item of a made text is declared: its file, and the lines that may be meant; or null.
-export function placeOf(project, { name, module, overrides, kind }) {
-    const file = kind ? fileOf(project, module) : null;
-    if (!file) return null;
-    const lines = declaredIn(file).filter(found => found.name === name && found.overrides === (overrides !== null)).map(({ line }) => line);
-    return { path: file.path, lines };
+    // The file of an item's module; null if there is none, or more than one.
+    file({ module }) {
+        return module === null ? this.shader : this.modules.get(module) ?? null;
+    }
+
+    // The number of that file, or -1.
+    number(item) {
+        return this.numbers.get(this.file(item)) ?? -1;
+    }
+
+    // Where an item of a made text is declared: its file, and the lines that may be meant; or null.
+    place(item) {
+        const file = item.kind ? this.file(item) : null;
+        if (!file) return null;
+        return { path: file.path, lines: linesIn(file, keyOf(item.name, item.overrides !== null)) };
+    }
 }
 
 // A place in words: `light.wgsl:12`, or `light.wgsl` where the line isn't known.

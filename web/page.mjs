@@ -1,6 +1,6 @@
 // The page: files on the left, what is made of them on the right.
 import { Builder } from './builder.mjs';
-import { fileOf, placeOf } from './declared.mjs';
+import { Sources } from './declared.mjs';
 import { Editor } from './editor.mjs';
 import { Tabs, freePath } from './files.mjs';
 import { latest } from './latest.mjs';
@@ -108,11 +108,13 @@ function changed(parts) {
 
 const list = names => names.length > MOST_NAMES ? `${names.slice(0, MOST_NAMES).join(', ')} and ${names.length - MOST_NAMES} more` : names.join(', ');
 
-function tellBuilt(took, names, items, fresh) {
-    const count = items.filter(({ kind }) => kind).length;
-    const parts = [`Built in ${took.toFixed(1)} ms, ${count} items.`];
-    if (names.length) parts.push(`Changed: ${list(names)}.`);
-    if (names.length) parts.push(fresh.length ? `New in the text: ${list(fresh.map(({ kind, name }) => `${kind} ${name}`))}.` : 'The text is the same.');
+const named = (head, items) => items.length ? [`${head}: ${list(items.map(({ kind, name }) => `${kind} ${name}`))}.`] : [];
+
+// Says what took how long, and what has changed since the last build.
+function tellBuilt(took, names, items, { fresh, gone }) {
+    const parts = [`Built in ${took.toFixed(1)} ms, ${items.filter(({ kind }) => kind).length} items.`];
+    if (names.length) parts.push(`Changed: ${list(names)}.`, ...named('New in the text', fresh), ...named('No longer in it', gone));
+    if (names.length && !fresh.length && !gone.length) parts.push('The text has the same items.');
     at('built').textContent = parts.join(' ');
 }
 
@@ -121,21 +123,20 @@ function showMade(text, took, parts) {
     const items = itemsOf(text);
     const names = changed(parts);
     before = parts;
-    const places = new Map(items.map(item => [item, placeOf(project, item)]));
-    const colourOf = item => hue(project.files.indexOf(fileOf(project, item.module)));
-    const shows = faulty => made.show(items, { placeOf: item => places.get(item), colourOf, faulty });
-    tellBuilt(took, names, items, shows(new Set()));
+    const sources = new Sources(project);
+    const places = new Map(items.map(item => [item, sources.place(item)]));
+    tellBuilt(took, names, items, made.show(items, item => places.get(item), item => hue(sources.number(item))));
     report([], []);
     turn++;
     if (text === taken && wanted === drawn) return;
     at('tables').replaceChildren(...tablesOf(items));
     at('browser').textContent = '';
     wanted = turn;
-    draw({ text, items, places, shows, mine: turn });
+    draw({ text, items, places, mine: turn });
 }
 
 // Hands a made text to the browser, and says what it says.
-const draw = latest(async ({ text, items, places, shows, mine }) => {
+const draw = latest(async ({ text, items, places, mine }) => {
     const start = performance.now();
     const answer = await view?.take(text, entriesOf(items), bindingsOf(items)).catch(error => ({ messages: [], refused: false, why: error.message }));
     drawn = mine;
@@ -144,8 +145,7 @@ const draw = latest(async ({ text, items, places, shows, mine }) => {
     if (!answer || mine !== turn) return;
     at('browser').textContent = `Compiled by the browser in ${(performance.now() - start).toFixed(0)} ms.`;
     const messages = answer.messages.map(message => placed(message, items, item => places.get(item)));
-    const faulty = messages.filter(({ type, item }) => type === 'error' && item);
-    if (faulty.length) shows(new Set(faulty.map(({ item }) => item)));
+    made.mark(messages.filter(({ type, item }) => type === 'error' && item).map(({ item }) => item));
     if (messages.length) report(browserReport(messages, answer.refused, go), faultsOfMessages(messages));
     undrawn(answer.why ? `Nothing of this text is drawn: ${answer.why}.` : '');
     time.stale = true;
@@ -202,7 +202,7 @@ function take(found) {
     faults = [];
     before = null;
     taken = null;
-    made.parts = new Map();
+    made.clear();
     editor.clear();
     at('definitions').value = project.definitions;
     at('imports').value = project.imports;

@@ -1,8 +1,8 @@
 // speed.mjs [--firefox]     measures the page of web/dist in a headless browser
 // - from the request of the page to its start, and to the first picture;
 // - for the landscape, the fifty modules, and 512 modules: the milliseconds of a build in the library alone, from a typed change to the
-//   made text on the page, and of the parts around the call, the median of 50 (of 512 modules 5) after as many.
-// A loaded machine shows more. Status 0: measured; 2: nothing could be measured.
+//   made text on the page, and of the call alone, the median and the least of 50 (of fifty modules 20, of 512 modules 5) after as many.
+// A loaded machine shows more, above all in the medians. Status 0: measured; 2: nothing could be measured.
 import { Browser, serve } from './browser.mjs';
 import { Firefox } from './firefox.mjs';
 import path from 'node:path';
@@ -12,7 +12,8 @@ import { SECONDS, TEXT, open } from './steps.mjs';
 const root = path.join(path.dirname(fileURLToPath(import.meta.url)), '../..');
 const isFirefox = process.argv[2] === '--firefox';
 
-const MEDIAN = 'const median = list => list.sort((a, b) => a - b)[list.length >> 1];';
+// The median and the least of a list.
+const MEDIAN = 'const median = list => (list.sort((a, b) => a - b), [list[list.length >> 1], list[0]]);';
 
 // The library alone, with the times of what the page does around the call.
 const library = runs => `(async () => {
@@ -72,11 +73,12 @@ const MANY = `(async () => {
 
 const FIRST = 'Number(document.body.dataset.pictured ?? 0)';
 const shown = milliseconds => `${milliseconds.toFixed(1)} ms`;
+const both = ([median, least]) => `${shown(median)} (least ${shown(least)})`;
 
 async function measure(browser, name, runs) {
     const { first, whole, call } = await browser.value(library(runs));
-    console.log(`${name}: library first ${shown(first)}, then ${shown(whole)}, of which the call ${shown(call)}`);
-    console.log(`${name}: from a change to the made text on the page ${shown(await browser.value(typed(runs)))}`);
+    console.log(`${name}: library first ${shown(first)}, then ${both(whole)}, the call ${both(call)}`);
+    console.log(`${name}: from a change to the made text on the page ${both(await browser.value(typed(runs)))}`);
 }
 
 const server = await serve(path.join(root, 'web/dist'));
