@@ -69,6 +69,11 @@ export class MadeView {
         });
     }
 
+    // The text that is shown.
+    text() {
+        return `${[...this.parts.keys()].join('\n\n')}\n`;
+    }
+
     // Marks the items that the browser refuses.
     mark(items) {
         for (const { text } of items) this.parts.get(text)?.part?.classList.add('faulty');

@@ -64,16 +64,37 @@ function addFile(path, text) {
     change();
 }
 
+// Adds files from outside, if they are texts.
 async function addFiles(files) {
-    for (const file of files) addFile(file.name, await file.text());
+    for (const file of files) {
+        try {
+            addFile(file.name, new TextDecoder('utf-8', { fatal: true }).decode(await file.arrayBuffer()));
+        } catch {
+            say(`${file.name} isn't a text in UTF-8`);
+        }
+    }
 }
 
 function removeFile() {
     editor.forget(project.files[shown]);
-    project.files.splice(shown, 1);
+    const [file] = project.files.splice(shown, 1);
+    offerBack({ ...file, at: shown });
     if (project.top > shown || project.top === project.files.length) project.top--;
     show(Math.min(shown, project.files.length - 1));
     change();
+}
+
+// Offers to put a removed file back, or nothing.
+function offerBack(file) {
+    at('back').hidden = file === null;
+    at('back').textContent = `Put ${file?.path} back`;
+    at('back').onclick = () => {
+        offerBack(null);
+        project.files.splice(file.at, 0, { path: freePath(project.files, file.path), text: file.text });
+        if (project.top >= file.at) project.top++;
+        show(file.at);
+        change();
+    };
 }
 
 function rename(path) {
@@ -204,6 +225,7 @@ function take(found) {
     taken = null;
     made.clear();
     editor.clear();
+    offerBack(null);
     at('definitions').value = project.definitions;
     at('imports').value = project.imports;
     at('override-any').checked = project.overrideAny;
@@ -215,6 +237,13 @@ function take(found) {
 async function openProject(name) {
     await take(await open(name));
     history.replaceState(null, '', `?${name}`);
+}
+
+// Opens the project in the address, if there is one. Returns whether there was.
+async function openLink() {
+    const linked = location.hash.length > 1 ? await read(location.hash.slice(1)) : null;
+    if (linked) await take(linked);
+    return linked !== null;
 }
 
 async function copyLink() {
@@ -229,9 +258,10 @@ function listen() {
     at('override-any').onchange = event => { project.overrideAny = event.target.checked; change(); };
     at('project').onchange = event => openProject(event.target.value);
     at('link').onclick = () => copyLink().catch(error => say(error.message));
+    at('copy').onclick = () => navigator.clipboard.writeText(made.text()).then(() => say('copied'), error => say(error.message));
     at('path').onchange = event => rename(event.target.value.trim());
     at('add').onclick = () => addFile('module.wgsl', '');
-    at('open').onchange = event => addFiles(event.target.files);
+    at('open').onchange = event => addFiles([...event.target.files]).then(() => { at('open').value = ''; });
     at('remove').onclick = removeFile;
     at('top').onclick = () => { project.top = shown; show(shown); change(); };
     at('plays').onclick = () => { time.plays = !time.plays; tellPlays(); };
@@ -241,8 +271,14 @@ function listen() {
         event.preventDefault();
         show((shown + step + project.files.length) % project.files.length);
     });
-    addEventListener('dragover', event => event.preventDefault());
-    addEventListener('drop', event => { event.preventDefault(); addFiles([...event.dataTransfer.files]); });
+    const hasFiles = event => event.dataTransfer.types.includes('Files');
+    addEventListener('dragover', event => { if (hasFiles(event)) event.preventDefault(); });
+    addEventListener('drop', event => {
+        if (!hasFiles(event)) return;
+        event.preventDefault();
+        addFiles([...event.dataTransfer.files]);
+    });
+    addEventListener('hashchange', openLink);
     addEventListener('error', event => say(event.message));
     addEventListener('unhandledrejection', event => say(event.reason?.message ?? String(event.reason)));
 }
@@ -281,12 +317,11 @@ async function beginView(again = true) {
 
 async function start() {
     listen();
-    const [projects, linked] = await Promise.all([gallery(), location.hash.length > 1 ? read(location.hash.slice(1)) : null, beginView()]);
+    const [projects] = await Promise.all([gallery(), beginView()]);
     at('project').replaceChildren(...projects.map(({ name, title }) => new Option(title, name)));
     const named = projects.find(({ name }) => name === location.search.slice(1)) ?? projects[0];
     at('project').value = named.name;
-    if (linked) await take(linked);
-    else await openProject(named.name);
+    if (!await openLink()) await openProject(named.name);
     requestAnimationFrame(frame);
     dataset.started = Math.round(performance.now());
 }

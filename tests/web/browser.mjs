@@ -13,6 +13,14 @@ const FLAGS = [
     '--enable-features=Vulkan', '--use-vulkan=swiftshader', '--disable-vulkan-surface',
 ];
 
+for (const signal of ['SIGINT', 'SIGTERM']) process.once(signal, () => process.exit(2));
+
+// Ends a browser, with all its processes, and removes its profile.
+export function endBrowser(browser, profile) {
+    try { process.kill(-browser.pid, 'SIGKILL'); } catch { }
+    setTimeout(() => fs.rmSync(profile, { recursive: true, force: true, maxRetries: 5 }), 300);
+}
+
 // The numbers of keys.
 const CODES = { Tab: 9, Escape: 27, End: 35, Home: 36, ArrowUp: 38, ArrowRight: 39, ArrowDown: 40 };
 
@@ -40,6 +48,7 @@ export class Browser {
         this.profile = fs.mkdtempSync(path.join(os.tmpdir(), 'browser-'));
         const words = [...flags, `--window-size=${width},${height}`, `--user-data-dir=${this.profile}`, 'about:blank'];
         this.process = spawn(process.env.CHROMIUM || 'chromium', words, { stdio: ['ignore', 'ignore', 'ignore', 'pipe', 'pipe'], detached: true });
+        process.once('exit', () => this.end());
         this.asked = new Map();
         this.count = 0;
         let rest = '';
@@ -118,7 +127,6 @@ export class Browser {
     }
 
     end() {
-        try { process.kill(-this.process.pid, 'SIGKILL'); } catch { }
-        setTimeout(() => fs.rmSync(this.profile, { recursive: true, force: true, maxRetries: 5 }), 300);
+        endBrowser(this.process, this.profile);
     }
 }

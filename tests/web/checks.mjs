@@ -85,6 +85,9 @@ export async function keepsLinks({ browser, address, holds }) {
     const link = await browser.value('location.href');
     await open(browser, link);
     holds('the address opens the project again', await browser.value(TAB_COUNT) === 5 && await browser.value(MADE) === made);
+    await open(browser, `${address}/?chain`);
+    await browser.value(`(() => { location.hash = ${JSON.stringify(new URL(link).hash)}; })()`);
+    holds('another address in the same page opens its project', await browser.until(`${TAB_COUNT} === 5 && ${REST}`, SECONDS) && await browser.value(MADE) === made);
     for (const hash of ['#x', '#q1YqLlGyiq6OrQUA', `#${'A'.repeat(1000)}`]) {
         await open(browser, `${address}/?names${hash}`);
         holds(`the address ${hash.slice(0, 20)} opens the named project`, await browser.value(TAB_COUNT) === 5 && await browser.value(REPORT) === '');
@@ -119,6 +122,10 @@ export async function handlesFiles({ browser, address, holds }) {
     holds('a file is renamed, with a path of its own', await browser.value(PATH) === 'paint2.wgsl' && /paint2\.wgsl:3/.test(await browser.value(MADE)));
     await after(browser, click('#remove'));
     holds('a removed module is missed', await browser.value(TAB_COUNT) === 6 && /error/.test(await browser.value(REPORT)));
+    await after(browser, click('#back'));
+    holds('a removed file is put back', await browser.value(TAB_COUNT) === 7 && await browser.value(REPORT) === '');
+    await browser.value(drop('broken.wgsl', 'fn \\xff').replace('["fn', '[new Uint8Array([255]), "fn'));
+    holds('a file that is no text is refused', await browser.until(`/broken\\.wgsl isn't a text/.test(document.getElementById('told').textContent)`, 20));
     await after(browser, set('document.getElementById("definitions")', '"A=99999999999"'));
     holds('a wrong definition is named', /A=99999999999/.test(await browser.value(REPORT)));
 }

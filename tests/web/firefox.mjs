@@ -4,6 +4,7 @@ import { spawn } from 'node:child_process';
 import fs from 'node:fs';
 import os from 'node:os';
 import path from 'node:path';
+import { endBrowser } from './browser.mjs';
 import { Socket } from './socket.mjs';
 
 const SECONDS_TO_START = 120;
@@ -29,6 +30,7 @@ export class Firefox {
         const words = ['--headless', '--no-remote', '--profile', this.profile, '--remote-debugging-port', '0', `--width=${width}`, `--height=${height}`, 'about:blank'];
         const env = { ...process.env, HOME: this.profile, MOZ_HEADLESS: '1' };
         this.process = spawn(process.env.FIREFOX || 'firefox-esr', words, { env, stdio: ['ignore', 'ignore', 'pipe'], detached: true });
+        process.once('exit', () => this.end());
         this.asked = new Map();
         this.count = 0;
         this.port = new Promise((resolve, reject) => {
@@ -118,7 +120,6 @@ export class Firefox {
 
     end() {
         this.socket?.end();
-        try { process.kill(-this.process.pid, 'SIGKILL'); } catch { }
-        setTimeout(() => fs.rmSync(this.profile, { recursive: true, force: true, maxRetries: 5 }), 300);
+        endBrowser(this.process, this.profile);
     }
 }
