@@ -17,7 +17,8 @@ for (const signal of ['SIGINT', 'SIGTERM']) process.once(signal, () => process.e
 
 // Ends a browser, with all its processes, and removes its profile.
 export function endBrowser(browser, profile) {
-    try { process.kill(-browser.pid, 'SIGKILL'); } catch { }
+    const runs = browser.pid !== undefined && browser.exitCode === null && browser.signalCode === null;
+    if (runs) process.kill(-browser.pid, 'SIGKILL');
     setTimeout(() => fs.rmSync(profile, { recursive: true, force: true, maxRetries: 5 }), 300);
 }
 
