@@ -134,7 +134,13 @@ const named = (head, items) => items.length ? [`${head}: ${list(items.map(({ kin
 // Says what took how long, and what has changed since the last build.
 function tellBuilt(took, names, items, { fresh, gone }) {
     const parts = [`Built in ${took.toFixed(1)} ms, ${items.filter(({ kind }) => kind).length} items.`];
-    if (names.length) parts.push(`Changed: ${list(names)}.`, ...named('New in the text', fresh), ...named('No longer in it', gone));
+    const apart = (some, others) => some.filter(({ written }) => !others.has(written));
+    const [now, then] = [fresh, gone].map(some => new Set(some.map(({ written }) => written)));
+    const added = apart(fresh, then);
+    if (names.length) {
+        parts.push(`Edited: ${list(names)}.`, ...named('Changed in the text', fresh.filter(({ written }) => then.has(written))));
+        parts.push(...named('New', added), ...named('Gone', apart(gone, now)));
+    }
     if (names.length && !fresh.length && !gone.length) parts.push('The text has the same items.');
     at('built').textContent = parts.join(' ');
 }

@@ -41,7 +41,7 @@ export async function reportsErrors({ browser, address, holds }) {
     await browser.value(cursorAfter('0.1, 0.35, 0.'));
     await browser.type('7');
     await browser.until(`${TEXT}.value.includes('0.75')`, SECONDS);
-    holds('a change names its file and the new items', await browser.until(`/Changed: sea\\.wgsl\\. New in the text: const DEEP\\./.test(${BUILT})`, SECONDS));
+    holds('a change names its file and the new items', await browser.until(`/Edited: sea\\.wgsl\\. Changed in the text: const DEEP\\./.test(${BUILT})`, SECONDS));
     await after(browser, showTab('air.wgsl'));
     await after(browser, showTab('sea.wgsl'));
     await browser.value(`${TEXT}.focus()`);
