@@ -27,7 +27,7 @@ export const click = selector => `document.querySelector(${quoted(selector)}).cl
 
 export const showTab = path => `[...document.querySelectorAll("#tabs [role=tab]")].find(tab => tab.textContent === ${quoted(path)}).click()`;
 
-// Puts the cursor behind a part of the text.
+// Puts the cursor after a part of the text.
 export const cursorAfter = part => `(() => {
     const at = ${TEXT}.value.indexOf(${quoted(part)}) + ${part.length};
     ${TEXT}.focus();
