@@ -13,7 +13,9 @@ DESTDIR =
 BINDIR = $(PREFIX)/bin
 LIBDIR = $(PREFIX)/lib
 INCLUDEDIR = $(PREFIX)/include
-DOCDIR = $(PREFIX)/share/doc/yettuvam
+SHAREDIR = $(PREFIX)/share
+DOCDIR = $(SHAREDIR)/doc/yettuvam
+MANDIR = $(SHAREDIR)/man
 
 OUT = out
 LIBRARY = crates/yettuvam_c/out/libyettuvam_c.a
@@ -48,11 +50,17 @@ install: archive
 	install -m 644 $(LICENCES) docs/LIBRARY.md docs/LANGUAGE.md '$(DESTDIR)$(DOCDIR)'
 	if [ -f '$(UNICODE)' ]; then install -m 644 '$(UNICODE)' '$(DESTDIR)$(DOCDIR)'; fi
 	if [ -x '$(YETTUVAM)' ]; then install -D '$(YETTUVAM)' '$(DESTDIR)$(BINDIR)/yettuvam'; fi
+	install -D -m 644 share/yettuvam.1 '$(DESTDIR)$(MANDIR)/man1/yettuvam.1'
+	install -D -m 644 share/yettuvam.bash '$(DESTDIR)$(SHAREDIR)/bash-completion/completions/yettuvam'
+	install -D -m 644 share/_yettuvam '$(DESTDIR)$(SHAREDIR)/zsh/site-functions/_yettuvam'
+	install -D -m 644 share/yettuvam.fish '$(DESTDIR)$(SHAREDIR)/fish/vendor_completions.d/yettuvam.fish'
 	if [ -x '$(OIL)' ]; then install -D '$(OIL)' '$(DESTDIR)$(BINDIR)/oil'; fi
 
 uninstall:
 	rm -f '$(DESTDIR)$(INCLUDEDIR)/yettuvam.h' '$(DESTDIR)$(LIBDIR)/libyettuvam.a' '$(DESTDIR)$(PKGCONFIGDIR)/yettuvam.pc' \
-		'$(DESTDIR)$(BINDIR)/yettuvam' '$(DESTDIR)$(BINDIR)/oil'
+		'$(DESTDIR)$(BINDIR)/yettuvam' '$(DESTDIR)$(BINDIR)/oil' '$(DESTDIR)$(MANDIR)/man1/yettuvam.1' \
+		'$(DESTDIR)$(SHAREDIR)/bash-completion/completions/yettuvam' '$(DESTDIR)$(SHAREDIR)/zsh/site-functions/_yettuvam' \
+		'$(DESTDIR)$(SHAREDIR)/fish/vendor_completions.d/yettuvam.fish'
 	rm -rf '$(DESTDIR)$(CMAKEDIR)' '$(DESTDIR)$(DOCDIR)'
 
 dist:

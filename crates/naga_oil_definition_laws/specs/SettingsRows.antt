@@ -128,4 +128,4 @@ number_is_answered : Answers {X = ℕ} {Y = ℕ} (λ n. n) (Ok 3) (Ok 3)
 number_is_answered = refl
 
 another_number_is_refused : Answers {X = ℕ} {Y = ℕ} (λ n. n) (Ok 3) (Ok 4) → ⊥
-another_number_is_refused h = let same : ◌≡◌ {A = Result ℕ Refused} (Ok 3) (Ok 4) = h in absurd cc
+another_number_is_refused h = let same : ◌≡◌ {A = Result ℕ Refused} (Ok 4) (Ok 3) = h in absurd cc
