@@ -7,6 +7,7 @@ Prints each place where a list and the tree differ. The status is 1 if there is 
 import functools
 import os
 import re
+import subprocess
 import sys
 
 README_LIMIT = 10000
@@ -360,11 +361,20 @@ def check_readme():
         report(f'README.md has {size} bytes, and {README_LIMIT} at most are wanted')
 
 
+def check_share():
+    """The man page and the completions are what the program's help says."""
+    if not os.path.exists('share/make.py'):
+        return
+    made = subprocess.run([sys.executable, '-B', 'share/make.py', '--check'], capture_output=True, text=True)
+    for line in made.stdout.splitlines() + made.stderr.splitlines():
+        report(line)
+
+
 def main():
     here = os.path.dirname(os.path.dirname(os.path.abspath(__file__)))
     os.chdir(sys.argv[1] if len(sys.argv) > 1 else here)
     for check in (check_modules, check_definitions, check_rules, check_edits, check_promises, check_dependencies,
-                  check_calls, check_code, check_readme):
+                  check_calls, check_code, check_readme, check_share):
         check()
     for line in found:
         print(line)
