@@ -84,16 +84,16 @@ fn built_on(alloc: Global, text: &[u8], room: usize) -> Result<String, AllocErro
         bytes: 7,
         count: 7,
     };
-    let module_ = Source {
+    let modules = [Source {
         path: b"m.wgsl",
         text: b"#define_import_path m\nfn g() -> i32 { return 2; }\n",
-    };
+    }];
     let task = Task {
         shader: Source {
             path: b"top.wgsl",
             text,
         },
-        modules: &[module_],
+        modules: &modules,
         definitions: &[],
         imports: &[],
         override_any: false,
