@@ -7,6 +7,7 @@ ghost use Rattle.yettuvam_c.specs.Answer.{reply_of};
 ghost use Rattle.yettuvam_c.specs.Built as spec;
 ghost use Rattle.yettuvam_c.specs.Built.{IsBuilt, RefusesNames, RefusesSources, RefusesTask};
 ghost use Rattle.yettuvam_c.specs.Given.{RefusesSource};
+ghost use Rattle.yettuvam_c.specs.Laid.{plain};
 ghost use Rattle.yettuvam_files.specs.Files.{texts_of};
 
 use super::answer::{FAULTY, OK, source_texts};

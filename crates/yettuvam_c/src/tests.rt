@@ -1,5 +1,5 @@
 // The calls, on pages with room and without.
-use super::page::{Define, Field, Page, Source, Task};
+use super::page::{Define, Field, Page, Source};
 use super::parts::{BOOL, INT, UINT};
 use super::*;
 use std::test::Fail;
@@ -71,34 +71,6 @@ fn metadata_on(alloc: Global, text: &[u8], allow_defines: bool) -> Result<String
         text,
     };
     let status = yettuvam_metadata(alloc, &source, allow_defines, &mut page);
-    shown(alloc, status, &page)
-}
-
-// The status and the fields of a shader that is built over one module, on a page with this room.
-fn built_on(alloc: Global, text: &[u8], room: usize) -> Result<String, AllocError> {
-    let mut out = Vec::from_elem(alloc, 0u8, room)?;
-    let mut fields = Vec::from_elem(alloc, NO_FIELD, 2)?;
-    let mut page = Page {
-        out: out.as_mut_slice(),
-        fields: fields.as_mut_slice(),
-        bytes: 7,
-        count: 7,
-    };
-    let modules = [Source {
-        path: b"m.wgsl",
-        text: b"#define_import_path m\nfn g() -> i32 { return 2; }\n",
-    }];
-    let task = Task {
-        shader: Source {
-            path: b"top.wgsl",
-            text,
-        },
-        modules: &modules,
-        definitions: &[],
-        imports: &[],
-        override_any: false,
-    };
-    let status = yettuvam_build(alloc, &task, &mut page);
     shown(alloc, status, &page)
 }
 
@@ -177,28 +149,5 @@ fn faults_of_metadata(rt: HostRuntime) -> Result<(), Fail> {
     is(
         metadata_on(alloc, b"\nenable  ;\n", false),
         "1: 96 bytes, 1 fields\n11 1 0 \"error: Invalid WGSL directive 'enable  ;' at line 1: No extensions specified\\n  at lake.wgsl:2:1\\n\"\n",
-    )
-}
-
-#[test]
-fn a_shader_over_a_module(rt: HostRuntime) -> Result<(), Fail> {
-    let alloc = rt.alloc();
-    let text = b"#import m\nfn f() -> i32 { return m::g(); }\n";
-    is(
-        built_on(alloc, text, 200),
-        "0: 105 bytes, 1 fields\n1 0 0 \"fn gX_naga_oil_mod_XNUX() -> i32 {\\n    return 2;\\n}\\n\\nfn f() -> i32 {\\n    return gX_naga_oil_mod_XNUX();\\n}\\n\"\n",
-    )?;
-    is(built_on(alloc, text, 20), "5: 105 bytes, 1 fields\n")
-}
-
-#[test]
-fn a_shader_with_an_unknown_name(rt: HostRuntime) -> Result<(), Fail> {
-    is(
-        built_on(
-            rt.alloc(),
-            b"#import m\nfn f() -> i32 { return m::h(); }\n",
-            200,
-        ),
-        "1: 123 bytes, 1 fields\n12 0 0 \"error: unknown name\\n  --> top.wgsl:2:24\\n   |\\n 2 | fn f() -> i32 { return m::h(); }\\n   |                        ^^^^ `m::h`\\n\"\n",
     )
 }
